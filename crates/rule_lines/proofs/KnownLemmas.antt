@@ -1,0 +1,65 @@
+-- The rules of a text without a fault: each instruction sets what may be set.
+use Rattle.std.proofs.Common.{◌≡◌, ℕ, ◌+◌, Bool, true, false, cond, not, is_none, Option, None, Some, List, [], ◌∷◌, ◌++◌, refl, sym, ap, ◌∙◌}
+use Rattle.std.proofs.lemmas.Bool.{not-false, or_parts}
+use Rattle.std.specs.List.{flat_map}
+use Rattle.std.specs.Str.{is_utf8}
+use Rattle.rule_lines.specs.declared.fault.LineKind.{LineKind}
+use Rattle.rule_lines.specs.declared.fault.LineKind.TheVariants.{BadSetting}
+use Rattle.rule_lines.specs.declared.instr.Instr.{Instr}
+use Rattle.rule_lines.specs.declared.instr.Verdict.{Verdict}
+use Rattle.rule_lines.specs.Codes.{IsInstr}
+use Rattle.rule_lines.specs.Faults.{fault_beside, fault_in, fault_under, first_faulty, or_later}
+use Rattle.rule_lines.specs.Lines.{Line, has_byte, trimmed}
+use Rattle.rule_lines.specs.Pairs.{Rule, address_in, instr_of, instructions_in, is_ignored, pairs_in, pairs_under, pairs_with, settings_after, verdict_of}
+use Rattle.rule_lines.specs.Rows.{AreRules}
+use Rattle.rule_lines.specs.Spread.{spread}
+use Rattle.rule_lines.proofs.FaultLemmas.{fault_beside-none}
+use Rattle.rule_lines.proofs.SettingLemmas.{IsInstr-instr_of}
+
+-- rules after rules
+AreRules-append : (rules more : List Rule) → AreRules rules → AreRules more → AreRules (rules ++ more)
+AreRules-append [] more known known' = known'
+AreRules-append (rule ∷ rules) more known known' = (known.0, AreRules-append rules more known.1 known')
+
+-- one instruction under many addresses
+AreRules-pairs_with : (instr : Instr) (addresses : List (List ℕ)) → IsInstr instr → AreRules (pairs_with instr addresses)
+AreRules-pairs_with instr [] known = tt
+AreRules-pairs_with instr (address ∷ addresses) known = (known, AreRules-pairs_with instr addresses known)
+
+-- a rule line without a fault has none of the kinds from the third on
+fault_under-none : (limit : ℕ) (line : List ℕ) (verdict : Option Verdict) → fault_under limit line verdict ≡ None → fault_beside limit line ≡ None
+fault_under-none limit line None none = absurd cc
+fault_under-none limit line (Some verdict) none = settled (is_none (settings_after (is_utf8 line) verdict (instructions_in line))) none
+  where
+    settled : (bad : Bool) → ◌≡◌ {A = Option LineKind} (cond bad (Some BadSetting) (fault_beside limit line)) None → fault_beside limit line ≡ None
+    settled true none = absurd cc
+    settled false none = none
+
+-- a line that is not ignored has a colon
+has_byte-rule : (line : List ℕ) → is_ignored line ≡ false → has_byte 58 line ≡ true
+has_byte-rule [] rule = absurd cc
+has_byte-rule (b ∷ bs) rule = not-false _ (or_parts _ _ rule).1
+
+-- the pairs of a rule line that is text without a zero byte
+AreRules-under : (line : List ℕ) → is_utf8 line ≡ true → has_byte 0 line ≡ false → has_byte 58 line ≡ true → (instr : Option Instr) → instr_of (is_utf8 line) (instructions_in line) ≡ instr → AreRules (pairs_under instr (address_in line))
+AreRules-under line text clean colon None is = tt
+AreRules-under line text clean colon (Some instr) is =
+    AreRules-pairs_with instr (spread (address_in line)) (IsInstr-instr_of line instr text clean colon (ap (λ t. instr_of t (instructions_in line)) (sym text) ∙ is))
+
+-- a line without a fault
+AreRules-line : (limit : ℕ) (line : List ℕ) (ignored : Bool) → is_ignored line ≡ ignored → ◌≡◌ {A = Option LineKind} (cond ignored None (fault_under limit line (verdict_of (instructions_in line)))) None → AreRules (cond ignored [] (pairs_under (instr_of (is_utf8 line) (instructions_in line)) (address_in line)))
+AreRules-line limit line true is none = tt
+AreRules-line limit line false is none =
+    let text = fault_beside-none limit line (fault_under-none limit line (verdict_of (instructions_in line)) none) in
+    AreRules-under line text.0 text.1 (has_byte-rule line is) (instr_of (is_utf8 line) (instructions_in line)) refl
+
+-- lines without a fault
+pub AreRules-lines : (limit n : ℕ) (lines : List Line) → first_faulty limit n lines ≡ None → AreRules (flat_map (λ (line : Line). pairs_in (trimmed line.bytes)) lines)
+AreRules-lines limit n [] none = tt
+AreRules-lines limit n (line ∷ lines) none =
+    let parts = neither (fault_in limit (trimmed line.bytes)) none in
+    AreRules-append (pairs_in (trimmed line.bytes)) _ (AreRules-line limit (trimmed line.bytes) (is_ignored (trimmed line.bytes)) refl parts.0) (AreRules-lines limit (n + 1) lines parts.1)
+  where
+    neither : (fault : Option LineKind) → or_later n fault (first_faulty limit (n + 1) lines) ≡ None → (fault ≡ None) × (first_faulty limit (n + 1) lines ≡ None)
+    neither None none = (refl, none)
+    neither (Some kind) none = absurd cc

@@ -1,0 +1,16 @@
+pub mod Cases
+pub mod CodeLemmas
+pub mod CutLemmas
+pub mod DecodeLemmas
+pub mod FaultLemmas
+pub mod FoldLemmas
+pub mod FoundLemmas
+pub mod KnownLemmas
+pub mod LineLemmas
+pub mod NumberLemmas
+pub mod ParseLemmas
+pub mod RangeLemmas
+pub mod ReadLemmas
+pub mod RowLemmas
+pub mod SettingLemmas
+pub mod SplitLemmas

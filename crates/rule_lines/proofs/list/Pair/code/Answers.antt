@@ -1,0 +1,10 @@
+-- The code is that of the instruction.
+use Rattle.std.proofs.Common.{◌∙◌, sym, ap}
+use Rattle.rule_lines.specs.Codes.{code_of}
+use Rattle.rule_lines.specs.Pairs.{Rule}
+use Rattle.rule_lines.proofs.RowLemmas.{code_of-the_instr}
+use Rattle.rule_lines.proofs.list.Pair.code.Goals as goal
+
+pub returns : goal.returns
+returns c =
+    sym (code_of-the_instr c.self.inside.code.now c.self.invariant) ∙ ap (λ (rule : Rule). code_of rule.instr) c.self.view_is

@@ -1,0 +1,151 @@
+//! The instructions of a rule line, read into their code.
+ghost use Rattle.std.specs.Prelude.{◌≡◌, ◌++◌, ◌<◌, ◌≤◌, ℕ, suc, List, if◌then◌else◌, IfOk, IfSome, MatchOption, true, false, Ok, Err, flat_map, length, drop};
+ghost use Rattle.std.specs.Str.{continuation_len};
+ghost use Rattle.rule_lines.specs.Codes.{code_of, setting_code};
+ghost use Rattle.rule_lines.specs.Pairs.{verdict_of, word_length, settings_after};
+ghost use Rattle.rule_lines.specs.Settings.{cut_at, first_character, value_at, setting_at, settings_of};
+
+use crate::code::{append_setting, append_verdict, split_at_byte};
+use crate::fault::LineKind;
+use crate::instr::Verdict;
+use memchr::memmem;
+use std::alloc::AllocError;
+
+/// The word of the verdict that allows.
+const ALLOW_WORD: &[u8] = b"allow";
+
+/// The word of the verdict that denies.
+const DENY_WORD: &[u8] = b"deny";
+
+/// A setting, and the bytes after it.
+#[derive(Clone, Copy)]
+struct FirstSetting<'a> {
+    name: &'a [u8],
+    value: &'a [u8],
+    rest: &'a [u8],
+}
+
+/// What stands before the first place of a mark, and after it.
+fn split_at_mark<'a>(mark: &[u8], bytes: &'a [u8]) -> Option<(&'a [u8], &'a [u8])>
+    requires { 0 < length mark.now }
+    ensures { MatchOption result
+        (cut_at mark.now bytes.now ≡ None)
+        (λ parts. cut_at mark.now bytes.now ≡ Some (record { before = parts.0.now; after = parts.1.now })) }
+{
+    let place = memmem::find(bytes, mark)?;
+    Some((&bytes[..place], &bytes[place + mark.len()..]))
+}
+
+/// How long the first character is: in a text it is one of UTF-8, and else a byte.
+fn character_len(is_text: bool, first: u8) -> usize
+    ensures { result ≡ (if is_text then suc (continuation_len first) else 1) }
+{
+    match first {
+        _ if !is_text => 1,
+        0..128 => 1,
+        128..224 => 2,
+        224..240 => 3,
+        _ => 4,
+    }
+}
+
+/// The first character.
+fn quote_of(is_text: bool, bytes: &[u8]) -> &[u8]
+    ensures { result.now ≡ first_character is_text bytes.now }
+{
+    match bytes.first() {
+        Some(first) => &bytes[..character_len(is_text, *first).min(bytes.len())],
+        None => bytes,
+    }
+}
+
+/// The value that is quoted at the front, and what follows it.
+fn read_value(is_text: bool, bytes: &[u8]) -> Option<(&[u8], &[u8])>
+    ensures { MatchOption result
+        ((name : List ℕ) → value_at is_text name bytes.now ≡ None)
+        (λ read. (name : List ℕ) → value_at is_text name bytes.now
+        ≡ Some (record { setting = record { name = name; value = read.0.now }; rest = read.1.now })) }
+{
+    if bytes.is_empty() {
+        return None;
+    }
+    let quote = quote_of(is_text, bytes);
+    split_at_mark(quote, &bytes[quote.len()..])
+}
+
+/// The setting at the front.
+fn first_setting(is_text: bool, bytes: &[u8]) -> Option<FirstSetting<'_>>
+    ensures read { MatchOption result
+        (setting_at is_text bytes.now ≡ None)
+        (λ first. setting_at is_text bytes.now
+        ≡ Some (record { setting = record { name = first.name.now; value = first.value.now }; rest = first.rest.now })) }
+    ensures shorter { IfSome result (λ first. length first.rest.now ≤ length bytes.now) }
+{
+    let (name, quoted) = split_at_byte(b'=', bytes)?;
+    if name.is_empty() {
+        return None;
+    }
+    let (value, rest) = read_value(is_text, quoted)?;
+    Some(FirstSetting { name, value, rest })
+}
+
+/// Adds the codes of the settings that the bytes are, and answers true, or answers false where they are no series of
+/// settings. A quote is a character in a text, and else a byte. Where the answer is not `Ok(true)`, `code` may have any
+/// more bytes at its end.
+pub fn append_settings(is_text: bool, bytes: &[u8], code: &mut Vec<u8>) -> Result<bool, AllocError>
+    ensures { IfOk result (λ known. MatchOption (settings_of is_text bytes.now)
+        (known ≡ false)
+        (λ settings. (known ≡ true) × (code.new.items ≡ code.old.items ++ flat_map setting_code settings))) }
+{
+    let mut rest = bytes;
+    while let Some((comma, assignment)) = rest.split_first() {
+        if *comma != b',' {
+            return Ok(false);
+        }
+        let Some(first) = first_setting(is_text, assignment) else {
+            return Ok(false);
+        };
+        append_setting(first.name, first.value, code)?;
+        rest = first.rest;
+    }
+    Ok(true)
+}
+
+/// The verdict that instructions begin with, and what follows its word.
+fn read_verdict(instructions: &[u8]) -> Option<(Verdict, &[u8])>
+    ensures { MatchOption result
+        (verdict_of instructions.now ≡ None)
+        (λ read. (verdict_of instructions.now ≡ Some read.0) × (read.1.now ≡ drop (word_length read.0) instructions.now)) }
+{
+    if instructions.starts_with(ALLOW_WORD) {
+        Some((Verdict::Allow, &instructions[ALLOW_WORD.len()..]))
+    } else if instructions.starts_with(DENY_WORD) {
+        Some((Verdict::Deny, &instructions[DENY_WORD.len()..]))
+    } else {
+        None
+    }
+}
+
+/// Adds the code of the instruction that the bytes say, or answers which of the first two kinds of fault they have; then,
+/// as after want of memory, `code` may have any more bytes at its end.
+pub fn append_code(
+    is_text: bool,
+    instructions: &[u8],
+    code: &mut Vec<u8>,
+) -> Result<Result<(), LineKind>, AllocError>
+    ensures { IfOk result (λ read. MatchOption (verdict_of instructions.now)
+        (read ≡ Err LineKind.NoVerdict)
+        (λ verdict. MatchOption (settings_after is_text verdict instructions.now)
+        (read ≡ Err LineKind.BadSetting)
+        (λ settings. (read ≡ Ok tt) × (code.new.items ≡ code.old.items ++ code_of (record { verdict = verdict; settings = settings }))))) }
+{
+    let Some((verdict, settings)) = read_verdict(instructions) else {
+        return Ok(Err(LineKind::NoVerdict));
+    };
+    append_verdict(verdict, code)?;
+    if append_settings(is_text, settings, code)? {
+        Ok(Ok(()))
+    } else {
+        Ok(Err(LineKind::BadSetting))
+    }
+}

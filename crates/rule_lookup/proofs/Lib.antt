@@ -1,0 +1,5 @@
+pub mod AddressLemmas
+pub mod CodeFaults
+pub mod DecisionLemmas
+pub mod FormLemmas
+pub mod ListedLemmas

@@ -1,0 +1,41 @@
+use Rattle.std.proofs.Common.{◌≡◌, ℕ, ◌<◌, List, arith, ap, ◌∙◌, map, string_bytes, length, get_or}
+use Rattle.std.proofs.lemmas.Result.{err_from_is_err_and}
+use Rattle.rule_lookup.specs.Forms.{forms_of}
+use Rattle.rule_lookup.proofs.DecisionLemmas.{form_at, first-later, decided-here, refused-here, refused-look_up}
+use Rattle.rule_lookup.proofs.decision.decide_by.Goals as goal
+
+pub returns-in_err-code-clause-refused : goal.returns-in_err-code-clause-refused
+returns-in_err-code-clause-refused g c =
+    let finds = g.S.PairSource.finds c.args.source.now in
+    let trust = g.S.PairSource.trust c.args.source.now in
+    let form = string_bytes c.form-item.result in
+    let at = form_at c.deref-form-items.result.now (forms_of c.args.peer.now) c.loop-form.form-index c.form-item.result c.loop-form.invariant.all (omega arith) c.form-item.is in
+    let p = err_from_is_err_and c.from_residual-in_err-code.result c.from_residual-in_err-code.ensures.1 in
+    rw (p.1, p.2) (refused-look_up finds trust (forms_of c.args.peer.now) c.loop-form.form-index form at.0 at.1 c.in_err-code.field-0.0 c.loop-form.invariant.first (rw c.as_str.ensures.value at c.in_err-code.ensures.refused))
+
+pub returns-in-Some-clause-decided : goal.returns-in-Some-clause-decided
+returns-in-Some-clause-decided g c =
+    let finds = g.S.PairSource.finds c.args.source.now in
+    let trust = g.S.PairSource.trust c.args.source.now in
+    let form = string_bytes c.form-item.result in
+    let at = form_at c.deref-form-items.result.now (forms_of c.args.peer.now) c.loop-form.form-index c.form-item.result c.loop-form.invariant.all (omega arith) c.form-item.is in
+    decided-here finds trust (forms_of c.args.peer.now) c.loop-form.form-index form at.0 at.1 c.in-Some.code.items c.by_code.result c.loop-form.invariant.first
+    (rw (c.in-Some.is, c.as_str.ensures.value) at c.in_ok-code.ensures.found) (rw (c.as_str-in-Some.ensures.value, c.as_slice.ensures.value) at c.by_code.ensures.decided)
+
+pub returns-in-Some-clause-refused : goal.returns-in-Some-clause-refused
+returns-in-Some-clause-refused g c =
+    let finds = g.S.PairSource.finds c.args.source.now in
+    let trust = g.S.PairSource.trust c.args.source.now in
+    let form = string_bytes c.form-item.result in
+    let at = form_at c.deref-form-items.result.now (forms_of c.args.peer.now) c.loop-form.form-index c.form-item.result c.loop-form.invariant.all (omega arith) c.form-item.is in
+    refused-here finds trust (forms_of c.args.peer.now) c.loop-form.form-index form at.0 at.1 c.in-Some.code.items c.by_code.result c.loop-form.invariant.first
+    (rw (c.in-Some.is, c.as_str.ensures.value) at c.in_ok-code.ensures.found) (rw (c.as_str-in-Some.ensures.value, c.as_slice.ensures.value) at c.by_code.ensures.refused)
+
+pub loop-form-preserved : goal.loop-form-preserved
+loop-form-preserved g c =
+    let at = form_at c.deref-form-items.result.now (forms_of c.args.peer.now) c.loop-form.form-index c.form-item.result c.loop-form.invariant.all (omega arith) c.form-item.is in
+    record {
+      all = c.loop-form.invariant.all;
+      first = first-later (g.S.PairSource.finds c.args.source.now) (g.S.PairSource.trust c.args.source.now) (forms_of c.args.peer.now) c.loop-form.form-index (string_bytes c.form-item.result) at.0 at.1 c.loop-form.invariant.first
+          (rw (c.in_default.is, c.as_str.ensures.value) at c.in_ok-code.ensures.found);
+    }

@@ -1,0 +1,12 @@
+use Rattle.std.proofs.Common.{◌≡◌, map, drop, find, string_bytes}
+use Rattle.rule_lines.specs.Lookups.{WhereKnown}
+use Rattle.rule_lookup.specs.Decisions.{is_there}
+use Rattle.rule_lookup.specs.Forms.{forms_of}
+use Rattle.rule_lookup.proofs.decision.decide_by.Given as goal
+
+-- the source has nothing under the forms so far
+abbrev pub invariant-loop-form : goal.invariant-loop-form
+invariant-loop-form g l = record {
+  all : map string_bytes l.form-items ≡ forms_of l.peer;
+  first : WhereKnown (g.S.PairSource.trust l.source) (find (λ form. is_there (g.S.PairSource.finds l.source form)) (drop l.form-index (forms_of l.peer)) ≡ find (λ form. is_there (g.S.PairSource.finds l.source form)) (forms_of l.peer));
+}

@@ -1,0 +1,17 @@
+-- IPv4 addresses as text: four decimal numbers from 0 to 255 without leading zeros, with dots between them.
+use Rattle.std.specs.Prelude.{ℕ, ◌==◌, List, [], ◌∷◌, Option, Some, None, option_map, option_and_then, find, bytes_eq, decimal}
+use Rattle.std.specs.List.{range_with_len, slice_split}
+
+-- the number from 0 to 255 that is written so
+abbrev pub octet_in : List ℕ → Option ℕ
+octet_in word = find (λ n. bytes_eq (decimal n) word) (range_with_len 0 256)
+
+-- the numbers that four words are
+abbrev pub octets_in : List (List ℕ) → Option (List ℕ)
+octets_in (a ∷ b ∷ c ∷ d ∷ []) =
+    option_and_then (λ x. option_and_then (λ y. option_and_then (λ z. option_map (λ w. x ∷ y ∷ z ∷ w ∷ []) (octet_in d)) (octet_in c)) (octet_in b)) (octet_in a)
+octets_in words = None
+
+-- the address that a text is
+unfoldable pub address_in : List ℕ → Option (List ℕ)
+address_in text = octets_in (slice_split (λ b. b == 46) text)

@@ -1,0 +1,121 @@
+-- Which rule decides a peer.
+use Rattle.std.specs.Prelude.{◌≡◌, ◌≢◌, ℕ, Bool, true, false, is_some, List, [], ◌∷◌, Option, Some, None, Result, Ok, Err, option_map, find, bytes_eq}
+use Rattle.std.specs.Borrow.{Bor}
+use Rattle.rule_lines.specs.declared.code.CodeFault.TheVariants.{NotCode}
+use Rattle.rule_lines.specs.declared.instr.Instr.{Instr}
+use Rattle.rule_lines.specs.declared.instr.Verdict.{Verdict}
+use Rattle.rule_lines.specs.declared.instr.Verdict.TheVariants.{Allow, Deny}
+use Rattle.rule_lines.specs.declared.source.FindFault.TheVariants.{Short, Device, OutOfMemory as NoMemoryToFind}
+use Rattle.rule_lines.specs.Codes.{decoded}
+use Rattle.rule_lines.specs.Lookups.{Finding, Has, Absent, Broken, Trust, Sound, WhereKnown}
+use Rattle.rule_lines.specs.Pairs.{Rule, pairs_of}
+use Rattle.rule_lookup.specs.declared.decision.Decision.{Decision}
+use Rattle.rule_lookup.specs.declared.decision.DecideFault.{DecideFault}
+use Rattle.rule_lookup.specs.declared.decision.DecideFault.TheVariants.{Find, Code, OutOfMemory}
+use Rattle.rule_lookup.specs.declared.decision.Found.TheVariants as found
+use Rattle.rule_lookup.specs.declared.decision.Missing.{Missing}
+use Rattle.rule_lookup.specs.declared.decision.Missing.TheVariants as missing
+use Rattle.rule_lookup.specs.Forms.{forms_of}
+use Rattle.rule_lookup.specs.Peers.{Client}
+
+-- the verdict where there is no rules file
+abbrev pub verdict_without : Missing → Verdict
+verdict_without missing.Drop = Deny
+verdict_without missing.Allow = Allow
+
+-- the decision where there is no rules file, and where no form has a rule
+abbrev pub without_file : Missing → Decision
+without_file kind = record { found = found.NoFile; verdict = verdict_without kind; settings = [] }
+
+abbrev pub by_default : Decision
+by_default = record { found = found.Default; verdict = Allow; settings = [] }
+
+-- the decision by the rule with this address
+abbrev pub by_rule : List ℕ → Instr → Decision
+by_rule address instr =
+    record { found = found.Address address; verdict = instr.verdict; settings = instr.settings }
+
+-- a source has something under a form: a value, or damage
+abbrev pub is_there : Finding → Bool
+is_there Absent = false
+is_there (Has code) = true
+is_there Broken = true
+
+-- what the value under a form decides, if it is a code
+abbrev pub by_code : List ℕ → Option Instr → Result Decision DecideFault
+by_code form None = Err (Code NotCode)
+by_code form (Some instr) = Ok (by_rule form instr)
+
+-- what is under a form decides
+abbrev pub by_finding : List ℕ → Finding → Result Decision DecideFault
+by_finding form Absent = Ok by_default
+by_finding form (Has code) = by_code form (decoded code)
+by_finding form Broken = Err (Find Short)
+
+-- the first form under which a source has something decides
+abbrev pub by_first : (List ℕ → Finding) → Option (List ℕ) → Result Decision DecideFault
+by_first finds None = Ok by_default
+by_first finds (Some form) = by_finding form (finds form)
+
+abbrev pub decision_by : (List ℕ → Finding) → Client → Result Decision DecideFault
+decision_by finds peer = by_first finds (find (λ form. is_there (finds form)) (forms_of peer))
+
+-- the same where there may be no file
+abbrev pub decision_from : Option (List ℕ → Finding) → Missing → Client → Result Decision DecideFault
+decision_from None kind peer = Ok (without_file kind)
+decision_from (Some finds) kind peer = decision_by finds peer
+
+-- what a source finds, and how far that is known; it is known that no source finds nothing
+abbrev pub finds_of : {S : Type 0} → (S → List ℕ → Finding) → Option (Bor S) → Option (List ℕ → Finding)
+finds_of {S} finds source = option_map (λ (s : Bor S). finds s.now) source
+
+abbrev pub trust_of : {S : Type 0} → (S → Trust) → Option (Bor S) → Trust
+trust_of trust None = Sound
+trust_of trust (Some s) = trust s.now
+
+-- a decision fails where it does by its definition; for a device fault only where the source is not sound
+abbrev pub DecisionFails : Trust → Result Decision DecideFault → DecideFault → Type 0
+DecisionFails trust expected (Find Short) = WhereKnown trust (expected ≡ Err (Find Short))
+DecisionFails trust expected (Find Device) = trust ≢ Sound
+DecisionFails trust expected (Find NoMemoryToFind) = ⊥
+DecisionFails trust expected (Code fault) = WhereKnown trust (expected ≡ Err (Code fault))
+DecisionFails trust expected OutOfMemory = Unit {0}
+
+-- whether a rule has this address
+abbrev pub is_for : List ℕ → Rule → Bool
+is_for form rule = bytes_eq rule.address form
+
+-- the first rule with this address
+abbrev pub rule_for : List ℕ → List Rule → Option Rule
+rule_for form rules = find (is_for form) rules
+
+-- the decision of a rule that was found
+abbrev pub by_rule_found : List ℕ → Option Rule → Decision
+by_rule_found form None = by_default
+by_rule_found form (Some rule) = by_rule form rule.instr
+
+abbrev pub by_first_listed : List Rule → Option (List ℕ) → Decision
+by_first_listed rules None = by_default
+by_first_listed rules (Some form) = by_rule_found form (rule_for form rules)
+
+-- the decision of a list of rules: the first form that a rule has, and the first rule that has it
+abbrev pub decision_in : List Rule → Client → Decision
+decision_in rules peer = by_first_listed rules (find (λ form. is_some (rule_for form rules)) (forms_of peer))
+
+-- the decision of a text
+abbrev pub decision_of : List ℕ → Client → Decision
+decision_of text peer = decision_in (pairs_of text) peer
+
+-- a look-up under one form fails
+abbrev pub LookupFails : Trust → Finding → DecideFault → Type 0
+LookupFails trust found (Find Short) = WhereKnown trust (found ≡ Broken)
+LookupFails trust found (Find Device) = trust ≢ Sound
+LookupFails trust found (Find NoMemoryToFind) = ⊥
+LookupFails trust found (Code fault) = ⊥
+LookupFails trust found OutOfMemory = Unit {0}
+
+-- what was found under a form is refused where it is no code
+abbrev pub CodeFails : List ℕ → List ℕ → DecideFault → Type 0
+CodeFails form code (Find fault) = ⊥
+CodeFails form code (Code fault) = by_code form (decoded code) ≡ Err (Code fault)
+CodeFails form code OutOfMemory = Unit {0}

@@ -1,0 +1,231 @@
+//! Decisions.
+ghost use Rattle.std.specs.Prelude.{◌≡◌, Ok, IfOk, IfErr, option_map, vec_items};
+ghost use Rattle.rule_lines.specs.Codes.{decoded};
+ghost use Rattle.rule_lines.specs.Lookups.{WhereKnown, Answers};
+ghost use Rattle.rule_lookup.specs.Decisions.{decision_by, decision_from, finds_of, trust_of, by_default, without_file, DecisionFails, LookupFails, CodeFails, by_code};
+ghost use Rattle.rule_lookup.specs.declared.decision.DecideFault.TheVariants.{OutOfMemory};
+
+use crate::form::forms;
+use crate::peer::Peer;
+use rule_lines::{
+    CodeFault, DecodeFault, FindFault, Instr, PairSource, Settings, Verdict, decode_instr,
+};
+use std::alloc::{AllocError, AllocFailed, Global};
+use std::marker::Model;
+use thiserror::Error;
+
+/// What a missing rules file means.
+#[derive(Clone, Copy, PartialEq, Eq, Debug)]
+pub enum Missing {
+    /// A connection is denied.
+    Drop,
+    /// A connection is allowed.
+    Allow,
+}
+
+/// The address of a rule.
+#[derive(Debug, Drop)]
+pub struct Address {
+    text: String,
+}
+
+impl Model for Address {
+    ghost use Rattle.std.specs.Prelude.{List, ℕ, string_bytes};
+
+    ghost Value = { List ℕ };
+
+    ghost view = { λ a. string_bytes a.text };
+}
+
+impl Address {
+    /// An address with this text.
+    pub fn new(alloc: Global, text: &str) -> Result<Address, AllocError>
+        ensures { IfOk result (λ a. a ≡ text.now) }
+    {
+        Ok(Address {
+            text: String::from_str(alloc, text)?,
+        })
+    }
+
+    /// Its text.
+    pub fn as_str(&self) -> &str
+        ensures { result.now ≡ self.now }
+    {
+        self.text.as_str()
+    }
+
+    /// An equal address.
+    pub fn copy(&self) -> Result<Address, AllocError>
+        ensures { IfOk result (λ a. a ≡ self.now) }
+    {
+        Ok(Address {
+            text: self.text.clone()?,
+        })
+    }
+}
+
+/// By what a decision was made.
+#[derive(Debug, Drop)]
+pub enum Found {
+    /// By the first rule with this address.
+    Address(Address),
+    /// No lookup form has a rule.
+    Default,
+    /// There is no rules file.
+    NoFile,
+}
+
+impl Found {
+    fn copy(&self) -> Result<Found, AllocError>
+        ensures { IfOk result (λ f. f ≡ self.now) }
+    {
+        match self {
+            Found::Address(address) => Ok(Found::Address(address.copy()?)),
+            Found::Default => Ok(Found::Default),
+            Found::NoFile => Ok(Found::NoFile),
+        }
+    }
+}
+
+/// What was decided of a connection.
+#[derive(Debug, Drop)]
+pub struct Decision {
+    /// By what it was decided.
+    pub found: Found,
+    /// Whether the connection may be made.
+    pub verdict: Verdict,
+    /// The settings of the rule alone that decided.
+    pub settings: Settings,
+}
+
+impl Decision {
+    /// An equal decision.
+    pub fn copy(&self, alloc: Global) -> Result<Decision, AllocError>
+        ensures { IfOk result (λ d. d ≡ self.now) }
+    {
+        Ok(Decision {
+            found: self.found.copy()?,
+            verdict: self.verdict,
+            settings: self.settings.copy(alloc)?,
+        })
+    }
+
+    fn by_default(alloc: Global) -> Decision
+        ensures { result ≡ by_default }
+    {
+        Decision {
+            found: Found::Default,
+            verdict: Verdict::Allow,
+            settings: Settings::new(alloc),
+        }
+    }
+
+    fn without_file(alloc: Global, missing: Missing) -> Decision
+        ensures { result ≡ without_file missing }
+    {
+        let verdict = match missing {
+            Missing::Drop => Verdict::Deny,
+            Missing::Allow => Verdict::Allow,
+        };
+        Decision {
+            found: Found::NoFile,
+            verdict,
+            settings: Settings::new(alloc),
+        }
+    }
+}
+
+/// Why there is no decision.
+#[derive(Clone, Copy, PartialEq, Eq, Debug, Error)]
+pub enum DecideFault {
+    /// A look-up failed.
+    #[error("{0}")]
+    Find(FindFault),
+    /// The value that was found is no code.
+    #[error("{0}")]
+    Code(CodeFault),
+    /// There was no memory for the decision.
+    #[error("out of memory")]
+    OutOfMemory,
+}
+
+impl From<AllocError> for DecideFault {
+    ghost from_gives = { λ _ e. e ≡ OutOfMemory };
+
+    fn from(_error: AllocError) -> DecideFault {
+        DecideFault::OutOfMemory
+    }
+}
+
+impl<T: Drop> From<AllocFailed<T>> for DecideFault {
+    ghost from_gives = { λ _ e. e ≡ OutOfMemory };
+
+    fn from(_error: AllocFailed<T>) -> DecideFault {
+        DecideFault::OutOfMemory
+    }
+}
+
+/// The decision for a peer: by the first of its lookup forms under which the source has something. Without a source it is
+/// that of a missing rules file. A fault is that of this form; want of memory is always `OutOfMemory` itself.
+pub fn decide<S: PairSource>(
+    alloc: Global,
+    source: Option<&S>,
+    missing: Missing,
+    peer: &Peer,
+) -> Result<Decision, DecideFault>
+    ensures decided { IfOk result (λ decision. WhereKnown (trust_of S.trust source.entry)
+        (decision_from (finds_of S.finds source.entry) missing peer.now ≡ Ok decision)) }
+    ensures refused { IfErr result (DecisionFails (trust_of S.trust source.entry)
+        (decision_from (finds_of S.finds source.entry) missing peer.now)) }
+{
+    match source {
+        None => Ok(Decision::without_file(alloc, missing)),
+        Some(source) => decide_by(alloc, source, peer),
+    }
+}
+
+fn decide_by<S: PairSource>(alloc: Global, source: &S, peer: &Peer) -> Result<Decision, DecideFault>
+    ensures decided { IfOk result (λ decision. WhereKnown (S.trust source.now) (decision_by (S.finds source.now) peer.now ≡ Ok decision)) }
+    ensures refused { IfErr result (DecisionFails (S.trust source.now) (decision_by (S.finds source.now) peer.now)) }
+{
+    let forms = forms(alloc, peer)?;
+    for form in &forms {
+        if let Some(code) = found_under(alloc, source, form.as_str())? {
+            return by_code(alloc, form.as_str(), code.as_slice());
+        }
+    }
+    Ok(Decision::by_default(alloc))
+}
+
+/// What the source has under a form.
+fn found_under<S: PairSource>(
+    alloc: Global,
+    source: &S,
+    form: &str,
+) -> Result<Option<Vec<u8>>, DecideFault>
+    ensures found { IfOk result (λ o. Answers (S.trust source.now) (S.finds source.now form.now) (option_map vec_items o)) }
+    ensures refused { IfErr result (LookupFails (S.trust source.now) (S.finds source.now form.now)) }
+{
+    match source.find(alloc, form.as_bytes()) {
+        Ok(code) => Ok(code),
+        Err(FindFault::Short) => Err(DecideFault::Find(FindFault::Short)),
+        Err(FindFault::Device) => Err(DecideFault::Find(FindFault::Device)),
+        Err(FindFault::OutOfMemory) => Err(DecideFault::OutOfMemory),
+    }
+}
+
+/// The decision by a rule with this address whose instruction has this code.
+fn by_code(alloc: Global, form: &str, code: &[u8]) -> Result<Decision, DecideFault>
+    ensures decided { IfOk result (λ decision. by_code form.now (decoded code.now) ≡ Ok decision) }
+    ensures refused { IfErr result (CodeFails form.now code.now) }
+{
+    match decode_instr(alloc, code) {
+        Ok(Instr { verdict, settings }) => Ok(Decision {
+            found: Found::Address(Address::new(alloc, form)?),
+            verdict,
+            settings,
+        }),
+        Err(DecodeFault::Code(CodeFault::NotCode)) => Err(DecideFault::Code(CodeFault::NotCode)),
+        Err(DecodeFault::OutOfMemory) => Err(DecideFault::OutOfMemory),
+    }
+}

@@ -1,0 +1,6 @@
+-- What the tools print: the lines of a decision, the scripts of `rulesim`, and what `rulesim` prints for them.
+pub mod Answers
+pub mod Commands
+pub mod Kept
+pub mod Scripts
+pub mod Sim

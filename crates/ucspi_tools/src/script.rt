@@ -1,0 +1,151 @@
+//! The lines of a script of `rulesim`.
+ghost use Rattle.std.specs.Prelude.{◌≡◌, ◌==◌, map, length, Some, IfOk, IfErr};
+ghost use Rattle.std.specs.Borrow.{Bor};
+ghost use Rattle.std.specs.Prelude.{List, ℕ};
+ghost use Rattle.std.specs.List.{slice_split};
+ghost use Rattle.rule_lookup.specs.Peers.{given};
+ghost use Rattle.ucspi_tools.specs.Commands.{meaning, RefusesAs};
+ghost use Rattle.ucspi_tools.specs.Scripts.{alone, command_of, command_in, words_of, option_in, peer_of, peer_in};
+ghost use Rattle.ucspi_tools.specs.declared.script.LineEnd.TheVariants.{OutOfMemory};
+
+use rule_lookup::{Peer, PeerFault, parse_address};
+use std::alloc::{AllocError, Global};
+
+/// What a line asks for.
+#[derive(Debug, Drop)]
+pub enum Command<'a> {
+    /// Nothing: it is empty or a comment.
+    Skip,
+    /// That this be added to the pending text as a line.
+    Add(&'a [u8]),
+    /// That the pending text be installed.
+    Install,
+    /// A decision for this peer.
+    Ask(Peer),
+}
+
+/// Why a line gives no command.
+#[derive(Clone, Copy, PartialEq, Eq, Debug)]
+pub enum LineEnd {
+    /// It is none.
+    Bad,
+    /// There was no memory for it.
+    OutOfMemory,
+}
+
+impl From<AllocError> for LineEnd {
+    ghost from_gives = { λ _ e. e ≡ OutOfMemory };
+
+    fn from(_error: AllocError) -> LineEnd {
+        LineEnd::OutOfMemory
+    }
+}
+
+/// The command of a line, which has no line feed.
+pub fn read_command(alloc: Global, line: &[u8]) -> Result<Command<'_>, LineEnd>
+    ensures read { IfOk result (λ command. command_of line.now ≡ Some (meaning command)) }
+    ensures refused { IfErr result (RefusesAs (command_of line.now)) }
+{
+    let Some((first, rest)) = line.split_first() else {
+        return Ok(Command::Skip);
+    };
+    match *first {
+        b'#' => Ok(Command::Skip),
+        b'|' => Ok(Command::Add(rest)),
+        _ => match str::from_utf8(line) {
+            Ok(text) => read_words(alloc, text),
+            Err(_) => Err(LineEnd::Bad),
+        },
+    }
+}
+
+/// The command that the words of a line are.
+fn read_words(alloc: Global, line: &str) -> Result<Command<'static>, LineEnd>
+    ensures read { IfOk result (λ command. command_in (words_of line.now) ≡ Some (meaning command)) }
+    ensures refused { IfErr result (RefusesAs (command_in (words_of line.now))) }
+{
+    let words = words_in(alloc, line)?;
+    command_named(alloc, words.as_slice())
+}
+
+/// The words of a line, one space between each two.
+fn words_in(alloc: Global, line: &str) -> Result<Vec<&str>, AllocError>
+    ensures { IfOk result (λ words. map (λ (w : Bor (List ℕ)). w.now) words.items ≡ words_of line.now) }
+{
+    line.split(' ').collect(alloc)
+}
+
+fn command_named(alloc: Global, words: &[&str]) -> Result<Command<'static>, LineEnd>
+    ensures read { IfOk result (λ command. command_in (map (λ (w : Bor (List ℕ)). w.now) words.now) ≡ Some (meaning command)) }
+    ensures refused { IfErr result (RefusesAs (command_in (map (λ (w : Bor (List ℕ)). w.now) words.now))) }
+{
+    let Some((name, words)) = words.split_first() else {
+        return Err(LineEnd::Bad);
+    };
+    if *name == "install" {
+        return alone(Command::Install, words);
+    }
+    if *name == "ask" {
+        return Ok(Command::Ask(read_peer(alloc, words)?));
+    }
+    Err(LineEnd::Bad)
+}
+
+/// A command that has no more words.
+fn alone(command: Command<'static>, words: &[&str]) -> Result<Command<'static>, LineEnd>
+    ensures read { IfOk result (λ read. alone (meaning command.entry) (map (λ (w : Bor (List ℕ)). w.now) words.now) ≡ Some (meaning read)) }
+    ensures refused { IfErr result (RefusesAs (alone (meaning command.entry) (map (λ (w : Bor (List ℕ)). w.now) words.now))) }
+{
+    if words.is_empty() {
+        Ok(command)
+    } else {
+        Err(LineEnd::Bad)
+    }
+}
+
+/// The peer that the words after `ask` name.
+fn read_peer(alloc: Global, words: &[&str]) -> Result<Peer, LineEnd>
+    ensures read { IfOk result (λ peer. peer_in (map (λ (w : Bor (List ℕ)). w.now) words.now) ≡ Some peer) }
+    ensures refused { IfErr result (RefusesAs (peer_in (map (λ (w : Bor (List ℕ)). w.now) words.now))) }
+{
+    match words {
+        [ip] => make_peer(alloc, ip, None, None),
+        [ip, word] => match (option_in("info=", word), option_in("host=", word)) {
+            (Some(info), _) => make_peer(alloc, ip, Some(info), None),
+            (None, Some(host)) => make_peer(alloc, ip, None, Some(host)),
+            (None, None) => Err(LineEnd::Bad),
+        },
+        [ip, first, second] => match (option_in("info=", first), option_in("host=", second)) {
+            (Some(info), Some(host)) => make_peer(alloc, ip, Some(info), Some(host)),
+            _ => Err(LineEnd::Bad),
+        },
+        _ => Err(LineEnd::Bad),
+    }
+}
+
+/// What stands after the mark in a word that begins with it.
+fn option_in<'a>(mark: &str, word: &'a str) -> Option<&'a str>
+    ensures { given result ≡ option_in mark.now word.now }
+{
+    word.strip_prefix(mark)
+}
+
+fn make_peer(
+    alloc: Global,
+    ip: &str,
+    info: Option<&str>,
+    host: Option<&str>,
+) -> Result<Peer, LineEnd>
+    ensures read { IfOk result (λ peer. peer_of ip.now (given info.entry) (given host.entry) ≡ Some peer) }
+    ensures refused { IfErr result (RefusesAs (peer_of ip.now (given info.entry) (given host.entry))) }
+{
+    let Some(ip) = parse_address(ip) else {
+        return Err(LineEnd::Bad);
+    };
+    match Peer::new(alloc, ip, 0, host, info) {
+        Ok(peer) => Ok(peer),
+        Err(PeerFault::OutOfMemory) => Err(LineEnd::OutOfMemory),
+        Err(PeerFault::BadHost) => Err(LineEnd::Bad),
+        Err(PeerFault::BadInfo) => Err(LineEnd::Bad),
+    }
+}
