@@ -1,1 +1,3 @@
 pub mod AppendLemmas
+pub mod RunLemmas
+pub mod ScriptLemmas

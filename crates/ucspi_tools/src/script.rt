@@ -49,13 +49,15 @@ pub fn read_command(alloc: Global, line: &[u8]) -> Result<Command<'_>, LineEnd>
     let Some((first, rest)) = line.split_first() else {
         return Ok(Command::Skip);
     };
-    match *first {
-        b'#' => Ok(Command::Skip),
-        b'|' => Ok(Command::Add(rest)),
-        _ => match str::from_utf8(line) {
-            Ok(text) => read_words(alloc, text),
-            Err(_) => Err(LineEnd::Bad),
-        },
+    if *first == b'#' {
+        return Ok(Command::Skip);
+    }
+    if *first == b'|' {
+        return Ok(Command::Add(rest));
+    }
+    match str::from_utf8(line) {
+        Ok(text) => read_words(alloc, text),
+        Err(_) => Err(LineEnd::Bad),
     }
 }
 

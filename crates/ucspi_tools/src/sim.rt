@@ -89,11 +89,10 @@ fn run_lines<R: BufRead, W: Write>(alloc: Global, reader: &mut R, writer: &mut W
             Err(error) => return read_end(&error),
         }
         match answer(alloc, &mut sim, line.as_slice()) {
-            Ok(out) => {
-                if write_out(writer, out.as_slice()).is_err() {
-                    return SimEnd::WriteFault;
-                }
-            }
+            Ok(out) => match write_out(writer, out.as_slice()) {
+                Ok(()) => {}
+                Err(_) => return SimEnd::WriteFault,
+            },
             Err(LineEnd::Bad) => return SimEnd::BadCommand(number),
             Err(LineEnd::OutOfMemory) => return SimEnd::OutOfMemory,
         }

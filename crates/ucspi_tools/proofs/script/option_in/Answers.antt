@@ -1,4 +1,5 @@
+use Rattle.ucspi_tools.proofs.ScriptLemmas.{option_in-stripped}
 use Rattle.ucspi_tools.proofs.script.option_in.Goals as goal
 
 pub returns : goal.returns
-returns c = ?
+returns c = option_in-stripped c.args.mark.now c.args.word.now _ _ c.strip_prefix.result c.strip_prefix.ensures.cases
