@@ -2,5 +2,6 @@
 pub mod Answers
 pub mod Commands
 pub mod Kept
+pub mod Programs
 pub mod Scripts
 pub mod Sim

@@ -2,7 +2,9 @@
 #![tactic(auto)]
 
 pub mod answer;
+pub mod program;
 pub mod script;
 pub mod sim;
 
+pub use program::run_program;
 pub use sim::{SimEnd, run_rulesim};

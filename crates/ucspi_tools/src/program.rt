@@ -1,0 +1,124 @@
+//! The program `ucspi`: its words, and the tool that they ask for.
+ghost use Rattle.std.specs.Prelude.{◌≡◌, ℕ, Vec, map};
+ghost use Rattle.std.specs.declared.alloc.Global.{Global};
+ghost use Rattle.ucspi_tools.specs.Programs.{choice_of, exit_of};
+
+use crate::sim::{SimEnd, run_rulesim};
+use std::alloc::{AllocError, Global};
+use std::env::FillError;
+use std::io;
+use std::io::{BufReader, BufWriter};
+use std::rt::Env;
+
+/// The exit code of wrong words and bad input.
+pub const BAD_INPUT: u8 = 100;
+
+/// The exit code of faults of the system, want of memory among them.
+pub const SYSTEM_FAULT: u8 = 111;
+
+/// The size of a buffer over a standard stream, in bytes.
+const BUFFER: usize = 64 * 1024;
+
+/// What words ask for.
+#[derive(Clone, Copy, PartialEq, Eq, Debug)]
+pub enum Choice {
+    /// A run of `rulesim`.
+    Rulesim,
+    /// The usage line of `rulesim`.
+    RulesimUsage,
+    /// The usage line of `ucspi`.
+    Usage,
+}
+
+/// Runs the tool that the command line asks for, over the standard streams, and answers the exit code.
+pub fn run_program<R: Env + Input + Print + Eprint + AllocGlobal>(rt: &R) -> u8 {
+    let Ok(words) = command_words(rt.alloc(), rt) else {
+        return tell(rt, "ucspi: out of memory", SYSTEM_FAULT);
+    };
+    match choose(words.as_slice()) {
+        Choice::Rulesim => simulate(rt),
+        Choice::RulesimUsage => tell(rt, "rulesim: usage: rulesim", BAD_INPUT),
+        Choice::Usage => tell(rt, "ucspi: usage: ucspi TOOL ...", BAD_INPUT),
+    }
+}
+
+/// Prints a line on standard error, and answers the exit code that goes with it.
+fn tell<R: Eprint>(rt: &R, text: &str, code: u8) -> u8
+    ensures { result ≡ code }
+{
+    let _ = rt.eprintln(text);
+    code
+}
+
+/// Runs `rulesim` on standard input and output.
+fn simulate<R: Input + Print + Eprint + AllocGlobal>(rt: &R) -> u8 {
+    let Ok(mut reader) = BufReader::with_capacity(rt.alloc(), BUFFER, rt.reader()) else {
+        return end_of(rt, SimEnd::OutOfMemory);
+    };
+    let Ok(mut writer) = BufWriter::with_capacity(rt.alloc(), BUFFER, io::writer(rt)) else {
+        return end_of(rt, SimEnd::OutOfMemory);
+    };
+    end_of(rt, run_rulesim(rt.alloc(), &mut reader, &mut writer))
+}
+
+/// Prints why a run of `rulesim` ended, unless it came to its end, and answers the exit code.
+fn end_of<R: Eprint>(rt: &R, end: SimEnd) -> u8
+    ensures { result ≡ exit_of end }
+{
+    match end {
+        SimEnd::Ended => 0,
+        SimEnd::BadCommand(line) => {
+            let _ = eprintln!(rt; "rulesim: line {line}: bad command");
+            BAD_INPUT
+        }
+        SimEnd::ReadFault => tell(rt, "rulesim: read fault", SYSTEM_FAULT),
+        SimEnd::WriteFault => tell(rt, "rulesim: write fault", SYSTEM_FAULT),
+        SimEnd::OutOfMemory => tell(rt, "rulesim: out of memory", SYSTEM_FAULT),
+    }
+}
+
+/// What words, after the program's name, ask for.
+pub fn choose(words: &[Vec<u8>]) -> Choice
+    ensures { result ≡ choice_of (map (λ (word : Vec ℕ Global). word.items) words.now) }
+{
+    let Some((tool, words)) = words.split_first() else {
+        return Choice::Rulesim;
+    };
+    if tool.as_slice() != b"rulesim".as_slice() {
+        return Choice::Usage;
+    }
+    if words.is_empty() {
+        Choice::Rulesim
+    } else {
+        Choice::RulesimUsage
+    }
+}
+
+/// The words of the command line after the program's name, each as the bytes that it is.
+fn command_words<E: Env>(alloc: Global, env: &E) -> Result<Vec<Vec<u8>>, AllocError> {
+    let mut words = Vec::new(alloc);
+    for i in 1..usize::MAX {
+        match command_word(alloc, env, i)? {
+            Some(word) => words.push(word)?,
+            None => return Ok(words),
+        }
+    }
+    Ok(words)
+}
+
+/// The word at a place of the command line, in a buffer that grows until the word fits.
+fn command_word<E: Env>(alloc: Global, env: &E, i: usize) -> Result<Option<Vec<u8>>, AllocError> {
+    let mut size = 256usize;
+    for _ in 0..40 {
+        let mut word = vec![in alloc; 0u8; size]?;
+        match env.arg(i, word.as_mut_slice()) {
+            Ok(len) => {
+                word.truncate(len);
+                return Ok(Some(word));
+            }
+            Err(FillError::NotPresent) => return Ok(None),
+            Err(FillError::TooLong) => size = size.saturating_mul(2),
+        }
+    }
+    Err(AllocError)
+}
