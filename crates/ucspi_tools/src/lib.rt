@@ -8,3 +8,6 @@ pub mod sim;
 
 pub use program::run_program;
 pub use sim::{SimEnd, run_rulesim};
+
+#[cfg(test)]
+mod tests;
