@@ -3,8 +3,10 @@
 
 use rule_lines::{Limits, ParseFault, RuleList, parse};
 use std::alloc::{AllocError, Global};
-use std::env;
 use std::process::ExitCode;
+use std::rt::Clock;
+use std::time::Instant;
+use std::{env, io};
 
 /// How many calls are timed.
 const CALLS: usize = 1_000_000;
@@ -40,13 +42,16 @@ fn get_many(list: &RuleList) -> usize {
     total
 }
 
-/// Runs a benchmark: `parse` makes a list, and `get` also gets rules from it.
-fn run(rt: &impl Print, alloc: Global, name: &str, size: usize) -> bool {
-    match (name, list_of(alloc, size)) {
-        ("parse", Ok(list)) => rt.println(list.len()).is_ok(),
-        ("get", Ok(list)) => rt.println(get_many(&list)).is_ok(),
-        _ => false,
-    }
+/// Runs a benchmark of this size: `get` prints how many microseconds a million calls of `RuleList::get` take, on the list of
+/// a text of so many lines.
+fn run<R: Print + Clock>(rt: &R, alloc: Global, name: &str, size: usize) -> io::Result<()> {
+    let (true, Ok(list)) = (name == "get", list_of(alloc, size)) else {
+        return Err(io::Error::from(io::ErrorKind::InvalidInput));
+    };
+    let began = Instant::now(rt)?;
+    let bytes = get_many(&list);
+    let taken = began.elapsed(rt)?;
+    println!(rt; "{} microseconds, {bytes} bytes", taken.as_micros())
 }
 
 fn main(rt: HostRuntime) -> ExitCode {
@@ -58,7 +63,7 @@ fn main(rt: HostRuntime) -> ExitCode {
         return ExitCode::SUCCESS;
     };
     match size.as_str().parse::<usize>() {
-        Ok(size) if run(&rt, rt.alloc(), name.as_str(), size) => ExitCode::SUCCESS,
+        Ok(size) if run(&rt, rt.alloc(), name.as_str(), size).is_ok() => ExitCode::SUCCESS,
         _ => ExitCode::FAILURE,
     }
 }
