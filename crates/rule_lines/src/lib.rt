@@ -20,3 +20,8 @@ pub use limits::Limits;
 pub use list::{Pair, RuleList};
 pub use source::{FindFault, ListPairs, PairSource};
 pub use text::parse;
+
+#[cfg(test)]
+mod plain;
+#[cfg(test)]
+mod tests;

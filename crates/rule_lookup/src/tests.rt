@@ -5,11 +5,11 @@ ghost use Rattle.rule_lines.specs.Lookups.Trust.{Unknown};
 ghost use Rattle.rule_lines.specs.Lookups.Finding.{Absent};
 
 use crate::address::parse_address;
-use crate::decision::{DecideFault, Found, Missing, decide};
+use crate::decision::{DecideFault, Decision, Found, Missing, decide};
 use crate::form::forms;
 use crate::peer::{Peer, PeerFault};
-use rule_lines::{CodeFault, FindFault, ListPairs, PairSource, Verdict};
-use std::alloc::Global;
+use rule_lines::{CodeFault, FindFault, Limits, ListPairs, PairSource, Setting, Verdict, parse};
+use std::alloc::{AllocError, Global};
 use std::test::Fail;
 
 #[test]
@@ -140,25 +140,234 @@ impl PairSource for Same {
     }
 }
 
+/// The fault of a decision, if it has one other than want of memory.
+fn fault_over(
+    alloc: Global,
+    source: &Same,
+    peer: &Peer,
+) -> Result<Option<DecideFault>, AllocError> {
+    match decide(alloc, Some(source), Missing::Drop, peer) {
+        Ok(_) => Ok(None),
+        Err(DecideFault::OutOfMemory) => Err(AllocError),
+        Err(fault) => Ok(Some(fault)),
+    }
+}
+
 #[test]
 fn sources_with_faults(rt: HostRuntime) -> Result<(), Fail> {
     let peer = Peer::new(rt.alloc(), [1, 2, 3, 4], 0, None, None)?;
     for fault in [FindFault::Short, FindFault::Device] {
         let source = Same { code: None, fault };
-        let outcome = decide(rt.alloc(), Some(&source), Missing::Drop, &peer);
-        assert!(rt; matches!(outcome, Err(DecideFault::Find(named)) if named == fault));
+        let found = fault_over(rt.alloc(), &source, &peer)?;
+        assert!(rt; found == Some(DecideFault::Find(fault)));
     }
     let full = Same {
         code: None,
         fault: FindFault::OutOfMemory,
     };
-    let outcome = decide(rt.alloc(), Some(&full), Missing::Drop, &peer);
-    assert!(rt; matches!(outcome, Err(DecideFault::OutOfMemory)));
+    assert!(rt; fault_over(rt.alloc(), &full, &peer).is_err());
     let lax = Same {
         code: Some(b"+A\0"),
         fault: FindFault::Short,
     };
-    let outcome = decide(rt.alloc(), Some(&lax), Missing::Drop, &peer);
-    assert!(rt; matches!(outcome, Err(DecideFault::Code(CodeFault::NotCode))));
+    let found = fault_over(rt.alloc(), &lax, &peer)?;
+    assert!(rt; found == Some(DecideFault::Code(CodeFault::NotCode)));
+    Ok(())
+}
+
+/// Adds a setting in words.
+fn push_setting(words: &mut String, setting: &Setting) -> Result<(), AllocError> {
+    words.push_str(" ")?;
+    words.push_str(setting.name())?;
+    words.push_str("=")?;
+    words.push_str(setting.value())
+}
+
+/// A decision in words: by what it was made, its verdict, and its settings.
+fn in_words(alloc: Global, decision: &Decision) -> Result<String, AllocError> {
+    let mut words = String::new(alloc);
+    match &decision.found {
+        Found::Address(address) => {
+            words.push_str("rule ")?;
+            words.push_str(address.as_str())?;
+            words.push_str(":")?;
+        }
+        Found::Default => words.push_str("default:")?,
+        Found::NoFile => words.push_str("no file:")?,
+    }
+    match decision.verdict {
+        Verdict::Allow => words.push_str(" allow")?,
+        Verdict::Deny => words.push_str(" deny")?,
+    }
+    for setting in decision.settings.as_slice() {
+        push_setting(&mut words, setting)?;
+    }
+    Ok(words)
+}
+
+/// What the rules of a text decide of a peer, in words.
+fn decided(alloc: Global, text: &str, peer: &Peer) -> Result<String, Fail> {
+    let list = parse(alloc, text.as_bytes(), &Limits::profile())?;
+    let source = ListPairs::new(&list);
+    let decision = decide(alloc, Some(&source), Missing::Drop, peer)?;
+    Ok(in_words(alloc, &decision)?)
+}
+
+#[test]
+fn decisions_for_an_address(rt: HostRuntime) -> Result<(), Fail> {
+    let addresses = "1.2.3.37-53:allow\n:deny\n";
+    let prefixes = "10.2-3.:deny\n10.3.0.1:allow\n";
+    let settings = "18.23.0.32:allow,R=\"2\"\n127.:allow,R=\"3\"\n:allow,R=\"4\"\n";
+    for (text, ip, wanted) in [
+        (addresses, [1, 2, 3, 36], "rule : deny"),
+        (addresses, [1, 2, 3, 37], "rule 1.2.3.37: allow"),
+        (addresses, [1, 2, 3, 53], "rule 1.2.3.53: allow"),
+        (addresses, [1, 2, 3, 54], "rule : deny"),
+        (prefixes, [10, 3, 0, 1], "rule 10.3.0.1: allow"),
+        (prefixes, [10, 3, 0, 2], "rule 10.3.: deny"),
+        (prefixes, [10, 2, 0, 1], "rule 10.2.: deny"),
+        (prefixes, [10, 4, 0, 1], "default: allow"),
+        (prefixes, [10, 30, 0, 1], "default: allow"),
+        (settings, [18, 23, 0, 32], "rule 18.23.0.32: allow R=2"),
+        (settings, [127, 0, 0, 1], "rule 127.: allow R=3"),
+        (settings, [10, 119, 75, 38], "rule : allow R=4"),
+        ("", [1, 1, 1, 1], "default: allow"),
+        ("#:deny\n", [1, 1, 1, 1], "default: allow"),
+        (":deny\n", [10, 0, 0, 1], "rule : deny"),
+        ("4.:deny\n4.:allow\n", [4, 1, 1, 1], "rule 4.: deny"),
+        ("4.:allow\n4.:deny\n", [4, 1, 1, 1], "rule 4.: allow"),
+        (
+            "1.0-255.:allow\n1.3.:deny\n",
+            [1, 3, 0, 1],
+            "rule 1.3.: allow",
+        ),
+        (
+            "1.:deny,A=\"x\",B=\"\",A=\"y\"",
+            [1, 2, 3, 4],
+            "rule 1.: deny A=x B= A=y",
+        ),
+        (
+            "1.:deny,A=\"1\"\n1.2.:allow\n",
+            [1, 2, 3, 4],
+            "rule 1.2.: allow",
+        ),
+        (
+            ":deny,A=\"1\"\n1.2.3.4:allow,B=\"2\"\n1.2.:deny,C=\"3\"\n",
+            [1, 2, 3, 4],
+            "rule 1.2.3.4: allow B=2",
+        ),
+        (
+            "1.2.3:deny\n2.3.4:deny\n.:deny\n=:deny\n",
+            [1, 2, 3, 4],
+            "default: allow",
+        ),
+    ] {
+        let peer = Peer::new(rt.alloc(), ip, 0, None, None)?;
+        let words = decided(rt.alloc(), text, &peer)?;
+        assert_eq!(rt; words.as_str(), wanted, "at {text:?}");
+    }
+    Ok(())
+}
+
+#[test]
+fn decisions_for_a_name(rt: HostRuntime) -> Result<(), Fail> {
+    let users =
+        "joe@127.0.0.1:allow,R=\"1\"\n18.23.0.32:allow,R=\"2\"\n127.:allow,R=\"3\"\n:allow,R=\"4\"\n";
+    for (text, host, info, wanted) in [
+        (users, None, Some("joe"), "rule joe@127.0.0.1: allow R=1"),
+        (users, None, Some("bill"), "rule 127.: allow R=3"),
+        (
+            users,
+            Some("a"),
+            Some("joe"),
+            "rule joe@127.0.0.1: allow R=1",
+        ),
+        (users, None, None, "rule 127.: allow R=3"),
+        (
+            "=A.Example:deny",
+            Some("a.EXAMPLE"),
+            None,
+            "rule =a.example: deny",
+        ),
+        ("Joe@=A:deny", Some("A"), Some("Joe"), "rule Joe@=a: deny"),
+        ("Joe@127.0.0.1:deny", None, Some("joe"), "default: allow"),
+        (
+            "a=B@127.0.0.1:deny",
+            None,
+            Some("a=b"),
+            "rule a=b@127.0.0.1: deny",
+        ),
+        (
+            "a=b@127.0.0.1:deny",
+            None,
+            Some("a=B"),
+            "rule a=b@127.0.0.1: deny",
+        ),
+        ("=:deny", Some("a"), None, "rule =: deny"),
+        ("=:deny", None, Some("a"), "default: allow"),
+        ("=b:deny\n=.c:deny\n", Some("a.b"), None, "default: allow"),
+        ("=.b:deny", Some(".b"), None, "rule =.b: deny"),
+    ] {
+        let peer = Peer::new(rt.alloc(), [127, 0, 0, 1], 0, host, info)?;
+        let words = decided(rt.alloc(), text, &peer)?;
+        assert_eq!(rt; words.as_str(), wanted, "at {text:?}");
+    }
+    Ok(())
+}
+
+/// Adds a rule for an address before the others of a text.
+fn add_before(alloc: Global, text: &mut String, address: &str) -> Result<(), AllocError> {
+    let mut longer = String::from_str(alloc, address)?;
+    longer.push_str(":deny\n")?;
+    longer.push_str(text.as_str())?;
+    *text = longer;
+    Ok(())
+}
+
+/// Whatever the order of the rules in their text, the first form that has one decides.
+#[test]
+fn the_order_of_the_forms(rt: HostRuntime) -> Result<(), Fail> {
+    let host = Some("A.B.Example");
+    let peer = Peer::new(rt.alloc(), [1, 2, 3, 4], 0, host, Some("joe"))?;
+    let mut falling = String::new(rt.alloc());
+    let mut rising = String::new(rt.alloc());
+    for (address, wanted) in [
+        ("", "rule : deny"),
+        ("=", "rule =: deny"),
+        ("=.example", "rule =.example: deny"),
+        ("=.b.example", "rule =.b.example: deny"),
+        ("1.", "rule 1.: deny"),
+        ("1.2.", "rule 1.2.: deny"),
+        ("1.2.3.", "rule 1.2.3.: deny"),
+        ("=a.b.example", "rule =a.b.example: deny"),
+        ("1.2.3.4", "rule 1.2.3.4: deny"),
+        ("joe@=a.b.example", "rule joe@=a.b.example: deny"),
+        ("joe@1.2.3.4", "rule joe@1.2.3.4: deny"),
+    ] {
+        add_before(rt.alloc(), &mut falling, address)?;
+        rising.push_str(address)?;
+        rising.push_str(":deny\n")?;
+        for text in [&falling, &rising] {
+            let words = decided(rt.alloc(), text.as_str(), &peer)?;
+            assert_eq!(rt; words.as_str(), wanted);
+        }
+    }
+    Ok(())
+}
+
+#[test]
+fn a_copy_of_a_decision(rt: HostRuntime) -> Result<(), Fail> {
+    let list = parse(rt.alloc(), b"1.:deny,A=\"x\"", &Limits::profile())?;
+    let source = ListPairs::new(&list);
+    for (ip, wanted) in [
+        ([1, 2, 3, 4], "rule 1.: deny A=x"),
+        ([2, 2, 3, 4], "default: allow"),
+    ] {
+        let peer = Peer::new(rt.alloc(), ip, 0, None, None)?;
+        let decision = decide(rt.alloc(), Some(&source), Missing::Allow, &peer)?;
+        let copy = decision.copy(rt.alloc())?;
+        assert_eq!(rt; in_words(rt.alloc(), &decision)?.as_str(), wanted);
+        assert_eq!(rt; in_words(rt.alloc(), &copy)?.as_str(), wanted);
+    }
     Ok(())
 }

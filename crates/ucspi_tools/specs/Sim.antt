@@ -78,11 +78,18 @@ run_from n (line ∷ lines) state = run_line n (command_of line.bytes) state (ru
 abbrev pub sim : List ℕ → Run
 sim script = run_from 1 (lines_of script) start
 
--- what was written from one moment to another is what a run prints, and it ended as the run does; a fault of the reader
--- or of the writer, or want of memory, says nothing
+-- what was written from one moment to another is a front of what a run prints
+pub record PrintsFront (before now : Option (List ℕ)) (run : Run) : Type 0 where
+  pub front : List ℕ
+  pub rest : List ℕ
+  pub written : Appends before now front
+  pub all : run.output ≡ front ++ rest
+
+-- what was written from one moment to another is what a run prints, and it ended as the run does; at a fault of the reader,
+-- or for want of memory, a front of it was written, and a fault of the writer says nothing of what was
 abbrev pub Prints : Option (List ℕ) → Option (List ℕ) → Run → SimEnd → Type 0
 Prints before now run Ended = Appends before now run.output × (run.bad ≡ None)
 Prints before now run (BadCommand n) = Appends before now run.output × (run.bad ≡ Some n)
-Prints before now run ReadFault = Unit {0}
+Prints before now run ReadFault = PrintsFront before now run
 Prints before now run WriteFault = Unit {0}
-Prints before now run OutOfMemory = Unit {0}
+Prints before now run OutOfMemory = PrintsFront before now run
