@@ -7,7 +7,7 @@ use lib.Utf8.{encode}
 use Rattle.rule_lines.specs.Pairs.{Rule, pairs_of}
 use Rattle.rule_lines.specs.Faults.{fault_of}
 use Rattle.rule_lines.specs.Codes.{code_of, decoded}
-use Rattle.rule_lines.specs.declared.fault.LineKind.TheVariants.{NoVerdict, BadSetting, BadRange, NotText, NulByte, LongLine, LongText}
+use Rattle.rule_lines.specs.declared.fault.LineKind.TheVariants.{NoVerdict, BadSetting, BadRange, NotText, LongLine, LongText}
 use Rattle.rule_lines.specs.declared.limits.Limits.{Limits}
 
 profile : Limits

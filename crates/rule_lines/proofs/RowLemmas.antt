@@ -1,5 +1,5 @@
 -- Rows of a list and their rules: how many they are, what stays as bytes and rows are added, and which of them a row has.
-use Rattle.std.proofs.Common.{◌≡◌, ℕ, zero, suc, ◌+◌, ◌-◌, ◌<◌, ◌≤◌, Bool, true, false, cond, List, [], ◌∷◌, ◌++◌, length, take, drop, get_or, Option, Some, None, is_some, unwrap_or, slice_range, slice_get, decimal, bytes_eq, inl, inr, refl, sym, ap, ◌∙◌, subst, arith, length-append, length-drop, leb, add-one, sub-one, option_map}
+use Rattle.std.proofs.Common.{◌≡◌, ℕ, zero, suc, ◌+◌, ◌-◌, ◌<◌, ◌≤◌, Bool, true, false, cond, List, [], ◌∷◌, ◌++◌, length, take, drop, get_or, Option, Some, None, is_some, unwrap_or, slice_range, slice_get, decimal, bytes_eq, Result, Ok, Err, OnErr, inl, inr, refl, sym, ap, ◌∙◌, subst, arith, length-append, length-drop, leb, add-one, sub-one, option_map}
 use Rattle.std.specs.Option.{SomeIff}
 use Rattle.std.specs.List.{find, Contains}
 use Rattle.std.specs.List.Sorted.{IsNonDecreasingBy, IsPartitionPoint}
@@ -104,12 +104,15 @@ pub AreRows-kept : (bytes all : List ℕ) (rows : List Row) (total : ℕ) → ta
 AreRows-kept bytes all rows total kept are =
     subst (λ bs. AreRows bs 0 rows total) (sym (append-drop-from_take bytes all kept)) (AreRows-append bytes (drop (length bytes) all) rows 0 total are)
 
+-- rows keep their rules among bytes that begin with theirs
+pub rules_in-same : (bytes all : List ℕ) (rows : List Row) (total : ℕ) → take (length bytes) all ≡ bytes → AreRows bytes 0 rows total → rules_in all rows ≡ rules_in bytes rows
+rules_in-same bytes all rows total kept are =
+    ap (λ bs. rules_in bs rows) (append-drop-from_take bytes all kept) ∙ rules_in-append bytes (drop (length bytes) all) rows 0 total are
+
 -- the rules of one row more, whose parts were added at the end of the bytes
 pub rules_in-kept : (bytes all : List ℕ) (rows : List Row) (row : Row) (total : ℕ) → take (length bytes) all ≡ bytes → AreRows bytes 0 rows total → rules_in all (rows ++ row ∷ []) ≡ rules_in bytes rows ++ rules_under all row
 rules_in-kept bytes all rows row total kept are =
-    let more = drop (length bytes) all in
-    let same = ap (λ bs. rules_in bs rows) (append-drop-from_take bytes all kept) ∙ rules_in-append bytes more rows 0 total are in
-    rules_in-push all rows row ∙ ap (λ rules. rules ++ rules_under all row) same
+    rules_in-push all rows row ∙ ap (λ rules. rules ++ rules_under all row) (rules_in-same bytes all rows total kept are)
 
 -- each of the rows is one
 pub IsRow-at : (bytes : List ℕ) (rows : List Row) (before total : ℕ) → AreRows bytes before rows total → (i : ℕ) (d : Row) → i < length rows → IsRow bytes (get_or rows i d).before (get_or rows i d)
@@ -281,3 +284,8 @@ IsCode-from_some bytes None is some = cc
 pub SomeIff-Some : {X : Type 0} (r : Option X) (P : Type 0) (sum x : X) → r ≡ Some x → SomeIff r P sum → x ≡ sum
 SomeIff-Some (Some y) P sum x is says = let same : x ≡ y = cc in same ∙ says.1
 SomeIff-Some None P sum x is says = cc
+
+-- what holds, holds after an error
+pub OnErr-always : {T E P : Type 0} (r : Result T E) → P → OnErr r P
+OnErr-always (Ok x) p = tt
+OnErr-always (Err e) p = p

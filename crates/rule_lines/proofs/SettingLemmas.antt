@@ -1,5 +1,5 @@
 -- What the settings of a rule line are.
-use Rattle.std.proofs.Common.{◌≡◌, ℕ, zero, suc, ◌+◌, ◌/◌, ◌<◌, ◌≤◌, true, false, eqb, ltb, List, [], ◌∷◌, ◌++◌, length, take, drop, get_or, Some, refl, sym, ap, ◌∙◌, subst, arith, IsTrue, codes, take_at, drop_at, length-append, ⊎_elim}
+use Rattle.std.proofs.Common.{◌≡◌, ℕ, zero, suc, ◌+◌, ◌/◌, ◌<◌, ◌≤◌, Bool, true, false, not, ◌&&◌, nat_lt, eqb, ltb, List, [], ◌∷◌, ◌++◌, length, take, drop, get_or, Some, refl, sym, ap, ◌∙◌, subst, arith, IsTrue, codes, take_at, drop_at, length-append, ⊎_elim}
 use Rattle.std.specs.Prelude.{◌==◌, nat_eq, option_map, option_and_then}
 use Rattle.std.specs.List.{starts_with}
 use Rattle.std.specs.Str.{IsUtf8, is_utf8, IsCharBoundary, continuation_len}
@@ -196,3 +196,17 @@ IsInstr-instr_of line instr text zeros colon is =
     let found = option_map_found (with_settings word.0) (settings_after true word.0 instructions) instr word.2 in
     let rest = drop (word_length word.0) instructions in
     subst IsInstr found.2 (settings_within-clean (length rest) rest found.0 (drop_word-clean instructions word.0 behind word.1) found.1)
+
+-- the tests of two texts, without that of being text
+joined : (a b c d : Bool) → ((a && b && c && true) && (d && true)) ≡ ((a && b && c) && d)
+joined true true true true = refl
+joined true true true false = refl
+joined true true false d = refl
+joined true false c d = refl
+joined false b c d = refl
+
+-- texts are a setting by their bytes alone
+pub is_setting-texts : (name value : List ℕ) → IsUtf8 name → IsUtf8 value → is_setting (record { name = name; value = value }) ≡ ((nat_lt 0 (length name) && not (has_byte 61 name) && not (has_byte 0 name)) && not (has_byte 0 value))
+is_setting-texts name value name_text value_text =
+    rw (is_utf8-from_IsUtf8 name name_text, is_utf8-from_IsUtf8 value value_text)
+    (joined (nat_lt 0 (length name)) (not (has_byte 61 name)) (not (has_byte 0 name)) (not (has_byte 0 value)))

@@ -9,7 +9,7 @@ use Rattle.rule_lines.specs.declared.instr.Instr.{Instr}
 use Rattle.rule_lines.specs.Lines.{Line, pieces_of, has_byte}
 use Rattle.rule_lines.specs.Settings.{Assignment, AreSettings, is_setting}
 
--- an instruction sets what may be set
+-- each setting of the instruction is one that it may have
 abbrev pub IsInstr : Instr → Type 0
 IsInstr instr = AreSettings instr.settings
 

@@ -12,7 +12,7 @@ pub data Finding : Type 0 where
   Absent : Finding
   Broken : Finding
 
--- how far what a source finds is known to be what it answers: not at all, but for device faults, or for certain
+-- how far a source is known to answer what it finds: not at all; where its device does not fail; always
 pub data Trust : Type 0 where
   Unknown : Trust
   Honest : Trust
@@ -35,11 +35,12 @@ Fails trust found Short = WhereKnown trust (found ≡ Broken)
 Fails trust found Device = trust ≢ Sound
 Fails trust found OutOfMemory = Unit {0}
 
--- what a list of pairs finds under a key: the code of the first one with this address
+-- the code of a rule that was found, or that there is none
 abbrev pub code_under : Option Rule → Finding
 code_under None = Absent
 code_under (Some rule) = Has (code_of rule.instr)
 
+-- what a list of pairs finds under a key: the code of the first one with this address
 abbrev pub found_among : List Rule → List ℕ → Finding
 found_among rules key = code_under (find (λ (rule : Rule). bytes_eq rule.address key) rules)
 

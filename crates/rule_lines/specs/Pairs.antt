@@ -1,5 +1,5 @@
 -- Which lines are rules, and the pairs of a text: its rules, one for each address, in order.
-use Rattle.std.specs.Prelude.{ℕ, Bool, true, not, ◌||◌, ◌==◌, nat_eq, List, [], ◌∷◌, map, length, drop, codes, Option, Some, None, option_map, option_and_then, flat_map, if◌then◌else◌}
+use Rattle.std.specs.Prelude.{ℕ, Bool, true, not, ◌||◌, ◌==◌, nat_eq, List, [], ◌∷◌, map, drop, codes, Option, Some, None, option_map, option_and_then, flat_map, if◌then◌else◌}
 use Rattle.std.specs.List.{starts_with, before_first, after_first}
 use Rattle.std.specs.Str.{is_utf8}
 use Rattle.rule_lines.specs.declared.instr.Verdict.{Verdict}
@@ -14,10 +14,11 @@ abbrev pub is_ignored : List ℕ → Bool
 is_ignored [] = true
 is_ignored (b ∷ bs) = b == 35 || not (has_byte 58 (b ∷ bs))
 
--- what stands before the first colon, and after it
+-- what stands before the first colon
 abbrev pub address_in : List ℕ → List ℕ
 address_in line = before_first (λ b. b == 58) line
 
+-- what stands after the first colon
 abbrev pub instructions_in : List ℕ → List ℕ
 instructions_in line = after_first (λ b. b == 58) line
 
@@ -59,6 +60,6 @@ pairs_under (Some instr) address = pairs_with instr (spread address)
 abbrev pub pairs_in : List ℕ → List Rule
 pairs_in line = if is_ignored line then [] else pairs_under (instr_of (is_utf8 line) (instructions_in line)) (address_in line)
 
--- the pairs of a text
+-- the pairs of an accepted text; faulty lines are not left out here, since such a text has none
 abbrev pub pairs_of : List ℕ → List Rule
 pairs_of text = flat_map (λ (line : Line). pairs_in (trimmed line.bytes)) (lines_of text)

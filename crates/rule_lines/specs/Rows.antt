@@ -55,6 +55,6 @@ abbrev pub AreRows : List ℕ → ℕ → List Row → ℕ → Type 0
 AreRows bytes before [] total = before ≡ total
 AreRows bytes before (row ∷ rows) total = IsRow bytes before row × AreRows bytes (before + count_of row.numbers) rows total
 
--- each instruction of the rules sets what may be set
+-- each rule has an instruction that may be
 abbrev pub AreRules : List Rule → Type 0
 AreRules rules = AllByRecursion (λ (rule : Rule). IsInstr rule.instr) rules

@@ -17,10 +17,11 @@ is_name name = nat_lt 0 (length name) && not (has_byte 61 name) && not (has_byte
 abbrev pub is_value : List ℕ → Bool
 is_value value = not (has_byte 0 value) && is_utf8 value
 
+-- a name, set to a value
 abbrev pub is_setting : Assignment → Bool
 is_setting setting = is_name setting.name && is_value setting.value
 
--- what an instruction may set
+-- each is a setting that an instruction may have
 abbrev pub AreSettings : List Assignment → Type 0
 AreSettings settings = AllByRecursion (λ setting. IsTrue (is_setting setting)) settings
 

@@ -1,5 +1,6 @@
 //! Instructions: a verdict and settings.
-ghost use Rattle.std.specs.Prelude.{◌≡◌, ◌++◌, ◌∷◌, [], IsTrue, IfOk, OnOk, OnErr, string_bytes};
+ghost use Rattle.std.specs.Prelude.{◌≡◌, ◌++◌, ◌∷◌, ◌&&◌, [], not, nat_lt, length, IsTrue, IfOk, OnOk, OnErr, string_bytes};
+ghost use Rattle.rule_lines.specs.Lines.{has_byte};
 ghost use Rattle.rule_lines.specs.Settings.{Assignment, AreSettings, is_setting};
 
 use std::alloc::{AllocError, Global};
@@ -83,6 +84,13 @@ impl Settings {
         }
     }
 
+    /// Whether a setting may have this name and this value.
+    pub fn may_have(name: &str, value: &str) -> bool
+        ensures { result ≡ is_setting (record { name = name.now; value = value.now }) }
+    {
+        is_name(name.as_bytes()) && is_value(value.as_bytes())
+    }
+
     /// Adds a setting at the end. For want of memory nothing is added.
     pub fn push(&mut self, alloc: Global, name: &str, value: &str) -> Result<(), AllocError>
         requires { IsTrue (is_setting (record { name = name.now; value = value.now })) }
@@ -114,6 +122,20 @@ impl Settings {
         }
         Ok(Settings { list })
     }
+}
+
+/// Whether the bytes of a text may be a name: not empty, and with neither a `=` nor a zero byte.
+fn is_name(name: &[u8]) -> bool
+    ensures { result ≡ (nat_lt 0 (length name.now) && not (has_byte 61 name.now) && not (has_byte 0 name.now)) }
+{
+    !name.is_empty() && !name.contains(&b'=') && !name.contains(&0)
+}
+
+/// Whether the bytes of a text may be a value: with no zero byte.
+fn is_value(value: &[u8]) -> bool
+    ensures { result ≡ not (has_byte 0 value.now) }
+{
+    !value.contains(&0)
 }
 
 /// What a rule says: a verdict, and the settings that a child of an allowed connection gets.

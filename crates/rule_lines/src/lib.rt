@@ -6,11 +6,12 @@ pub mod code;
 pub mod fault;
 pub mod instr;
 mod instructions;
+pub mod laws;
 pub mod limits;
 pub mod lines;
 pub mod list;
 pub mod source;
-pub mod spread;
+mod spread;
 pub mod text;
 
 pub use code::{CodeFault, DecodeFault, decode_instr, encode_instr};

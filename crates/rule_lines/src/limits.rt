@@ -1,3 +1,4 @@
+//! How long texts, lines and compiled files may be.
 ghost use Rattle.std.specs.Prelude.{◌≡◌};
 
 /// How long a rule text, one of its lines and the compiled file may be, in bytes. A length equal to its limit is allowed.

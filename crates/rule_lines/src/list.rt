@@ -162,7 +162,7 @@ impl<'a> Pair<'a> {
 
 impl RuleList {
     /// No rules.
-    pub fn new(alloc: Global) -> RuleList
+    pub(crate) fn new(alloc: Global) -> RuleList
         ensures { result ≡ [] }
     {
         RuleList {
@@ -230,11 +230,12 @@ impl RuleList {
         None
     }
 
-    /// Adds the rules of a line: its addresses, each with the instruction that has this code. After an `Err` the list may
-    /// have any rules.
-    pub fn push(&mut self, addresses: Spread<'_>, code: &[u8]) -> Result<(), AllocError>
+    /// Adds the rules of a line: its addresses, each with the instruction that has this code. For want of memory nothing is
+    /// added.
+    pub(crate) fn push(&mut self, addresses: Spread<'_>, code: &[u8]) -> Result<(), AllocError>
         requires { is_some (decoded code.now) ≡ true }
-        ensures { OnOk result (self.new ≡ self.old ++ pairs_with (the_instr code.now) (spread_of addresses.entry)) }
+        ensures ok { OnOk result (self.new ≡ self.old ++ pairs_with (the_instr code.now) (spread_of addresses.entry)) }
+        ensures err { OnErr result (self.new ≡ self.old) }
     {
         let count = count_in(&addresses);
         if count == 0 {

@@ -12,7 +12,7 @@ use Rattle.std.proofs.lemmas.Option.{none-some, same_Some, option_and_then_some}
 use Rattle.std.proofs.lemmas.Slice.Eq.{bytes_eq-Decides}
 use Rattle.std.proofs.lemmas.Str.Parse.{digit_at}
 use Rattle.std.proofs.NetLemmas.Options.{map_some}
-use Rattle.rule_lookup.specs.Addresses.{octet_in, octets_in, address_in}
+use Rattle.rule_lookup.specs.Addresses.{octet_in, octets_in, ipv4_in}
 
 -- the text of a number has no dot
 no_dot : (n : ℕ) → n < 256 → All (λ b. (b == 46) ≡ false) (decimal n)
@@ -105,9 +105,9 @@ IsDotted-octets_in (a ∷ b ∷ c ∷ d ∷ []) octets e =
 IsDotted-octets_in (a ∷ b ∷ c ∷ d ∷ e ∷ more) octets is = absurd (none-some octets is)
 
 -- a text that writes four numbers is that address
-pub address_in-IsDotted : (text octets : List ℕ) → IsDotted text octets → address_in text ≡ Some octets
-unfolding address_in
-address_in-IsDotted text octets h =
+pub ipv4_in-IsDotted : (text octets : List ℕ) → IsDotted text octets → ipv4_in text ≡ Some octets
+unfolding ipv4_in
+ipv4_in-IsDotted text octets h =
     let (fits_a, fits_b, fits_c, fits_d) = h.fit in
     ap (λ (t : List ℕ). octets_in (slice_split (λ x. x == 46) t)) h.spelled
     ∙ ap octets_in (slice_split-dotted_text h.a h.b h.c h.d fits_a fits_b fits_c fits_d)
@@ -115,14 +115,14 @@ address_in-IsDotted text octets h =
     ∙ ap Some (sym h.value)
 
 -- an address is written so
-pub IsDotted-address_in : (text octets : List ℕ) → address_in text ≡ Some octets → IsDotted text octets
-unfolding address_in
-IsDotted-address_in text octets e =
+pub IsDotted-ipv4_in : (text octets : List ℕ) → ipv4_in text ≡ Some octets → IsDotted text octets
+unfolding ipv4_in
+IsDotted-ipv4_in text octets e =
     rw (← join_with_byte-slice_split 46 text) (IsDotted-octets_in (slice_split (λ b. b == 46) text) octets e)
 
 -- a text that writes no four numbers is no address
-pub address_in_none : (text : List ℕ) → ((octets : List ℕ) → ¬ IsDotted text octets) → address_in text ≡ None
-address_in_none text none = by_cases (address_in text) refl where
-  by_cases : (o : Option (List ℕ)) → address_in text ≡ o → o ≡ None
+pub address_in_none : (text : List ℕ) → ((octets : List ℕ) → ¬ IsDotted text octets) → ipv4_in text ≡ None
+address_in_none text none = by_cases (ipv4_in text) refl where
+  by_cases : (o : Option (List ℕ)) → ipv4_in text ≡ o → o ≡ None
   by_cases None is = refl
-  by_cases (Some octets) is = absurd (none octets (IsDotted-address_in text octets is))
+  by_cases (Some octets) is = absurd (none octets (IsDotted-ipv4_in text octets is))

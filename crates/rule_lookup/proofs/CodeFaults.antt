@@ -1,5 +1,5 @@
 -- Bytes that are no code have no instruction.
-use Rattle.std.proofs.Common.{◌≡◌, ℕ, List, Option, Some, None, refl, sym, ap, ◌∙◌}
+use Rattle.std.proofs.Common.{◌≡◌, ℕ, List, Option, Some, None, refl}
 use Rattle.rule_lines.proofs.CodeLemmas.{code_of-decoded, IsInstr-decoded}
 use Rattle.rule_lines.specs.declared.instr.Instr.{Instr}
 use Rattle.rule_lines.specs.Codes.{decoded, IsCode}

@@ -1,10 +1,10 @@
 -- The first form under which a source has something decides.
-use Rattle.std.proofs.Common.{◌≡◌, ℕ, ◌+◌, ◌<◌, Bool, true, false, cond, List, [], ◌∷◌, Option, Some, None, Result, Ok, Err, IfOk, IfErr, String, string_bytes, arith, map, length, get_or, drop, find, refl, sym, ap, ◌∙◌}
+use Rattle.std.proofs.Common.{◌≡◌, ℕ, ◌+◌, ◌<◌, true, cond, List, Some, Result, Ok, Err, IfOk, IfErr, String, string_bytes, arith, map, length, get_or, drop, find, refl, sym, ap, ◌∙◌}
 use Rattle.std.proofs.lemmas.List.{at_drop_more, length-map, get_or-map}
 use Rattle.std.specs.declared.alloc.Global.{Global}
 use Rattle.rule_lines.specs.declared.source.FindFault.TheVariants.{Short, Device, OutOfMemory as NoMemoryToFind}
 use Rattle.rule_lines.specs.Codes.{decoded}
-use Rattle.rule_lines.specs.Lookups.{Finding, Has, Absent, Broken, Trust, Unknown, Honest, Sound, WhereKnown, Answers}
+use Rattle.rule_lines.specs.Lookups.{Finding, Has, Absent, Broken, Trust, Unknown, Honest, Sound, WhereKnown}
 use Rattle.rule_lookup.specs.declared.decision.Decision.{Decision}
 use Rattle.rule_lookup.specs.declared.decision.DecideFault.{DecideFault}
 use Rattle.rule_lookup.specs.declared.decision.DecideFault.TheVariants.{Find, Code, OutOfMemory}

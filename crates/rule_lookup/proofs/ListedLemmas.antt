@@ -1,11 +1,9 @@
 -- A decision over a list of rules.
-use Rattle.std.proofs.Common.{◌≡◌, ℕ, Bool, true, false, cond, List, [], ◌∷◌, Option, Some, None, Ok, find, refl, sym, ap, ◌∙◌}
-use Rattle.std.specs.Prelude.{is_some, bytes_eq}
-use Rattle.std.specs.List.{AllByRecursion}
+use Rattle.std.proofs.Common.{◌≡◌, ℕ, Bool, true, false, cond, List, [], ◌∷◌, Option, Some, None, Ok, find, refl, ap, ◌∙◌}
+use Rattle.std.specs.Prelude.{is_some}
 use Rattle.rule_lines.proofs.CodeLemmas.{decoded-code_of}
-use Rattle.rule_lines.specs.declared.instr.Instr.{Instr}
-use Rattle.rule_lines.specs.Codes.{code_of, decoded, IsInstr}
-use Rattle.rule_lines.specs.Lookups.{Finding, code_under, found_among}
+use Rattle.rule_lines.specs.Codes.{IsInstr}
+use Rattle.rule_lines.specs.Lookups.{code_under, found_among}
 use Rattle.rule_lines.specs.Pairs.{Rule}
 use Rattle.rule_lines.specs.Rows.{AreRules}
 use Rattle.rule_lookup.specs.Decisions.{is_there, is_for, rule_for, by_first, by_first_listed, by_finding, by_rule_found, by_code, decision_by, decision_in}

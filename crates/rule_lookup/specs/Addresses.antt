@@ -1,5 +1,5 @@
 -- IPv4 addresses as text: four decimal numbers from 0 to 255 without leading zeros, with dots between them.
-use Rattle.std.specs.Prelude.{ℕ, ◌==◌, List, [], ◌∷◌, Option, Some, None, option_map, option_and_then, find, bytes_eq, decimal}
+use Rattle.std.specs.Prelude.{ℕ, ◌==◌, List, [], ◌∷◌, Option, None, option_map, option_and_then, find, bytes_eq, decimal}
 use Rattle.std.specs.List.{range_with_len, slice_split}
 
 -- the number from 0 to 255 that is written so
@@ -13,5 +13,5 @@ octets_in (a ∷ b ∷ c ∷ d ∷ []) =
 octets_in words = None
 
 -- the address that a text is
-unfoldable pub address_in : List ℕ → Option (List ℕ)
-address_in text = octets_in (slice_split (λ b. b == 46) text)
+unfoldable pub ipv4_in : List ℕ → Option (List ℕ)
+ipv4_in text = octets_in (slice_split (λ b. b == 46) text)

@@ -1,5 +1,5 @@
 -- Which rule decides a peer.
-use Rattle.std.specs.Prelude.{◌≡◌, ◌≢◌, ℕ, Bool, true, false, is_some, List, [], ◌∷◌, Option, Some, None, Result, Ok, Err, option_map, find, bytes_eq}
+use Rattle.std.specs.Prelude.{◌≡◌, ◌≢◌, ℕ, Bool, true, false, is_some, List, [], Option, Some, None, Result, Ok, Err, option_map, find, bytes_eq}
 use Rattle.std.specs.Borrow.{Bor}
 use Rattle.rule_lines.specs.declared.code.CodeFault.TheVariants.{NotCode}
 use Rattle.rule_lines.specs.declared.instr.Instr.{Instr}
@@ -23,10 +23,11 @@ abbrev pub verdict_without : Missing → Verdict
 verdict_without missing.Drop = Deny
 verdict_without missing.Allow = Allow
 
--- the decision where there is no rules file, and where no form has a rule
+-- the decision where there is no rules file
 abbrev pub without_file : Missing → Decision
 without_file kind = record { found = found.NoFile; verdict = verdict_without kind; settings = [] }
 
+-- the decision where no form has a rule
 abbrev pub by_default : Decision
 by_default = record { found = found.Default; verdict = Allow; settings = [] }
 
@@ -52,11 +53,12 @@ by_finding form Absent = Ok by_default
 by_finding form (Has code) = by_code form (decoded code)
 by_finding form Broken = Err (Find Short)
 
--- the first form under which a source has something decides
+-- what a form decides, if there is one
 abbrev pub by_first : (List ℕ → Finding) → Option (List ℕ) → Result Decision DecideFault
 by_first finds None = Ok by_default
 by_first finds (Some form) = by_finding form (finds form)
 
+-- the decision by a source: that of the first form under which it has something
 abbrev pub decision_by : (List ℕ → Finding) → Client → Result Decision DecideFault
 decision_by finds peer = by_first finds (find (λ form. is_there (finds form)) (forms_of peer))
 
@@ -65,10 +67,11 @@ abbrev pub decision_from : Option (List ℕ → Finding) → Missing → Client 
 decision_from None kind peer = Ok (without_file kind)
 decision_from (Some finds) kind peer = decision_by finds peer
 
--- what a source finds, and how far that is known; it is known that no source finds nothing
+-- what a source finds, if there is a source
 abbrev pub finds_of : {S : Type 0} → (S → List ℕ → Finding) → Option (Bor S) → Option (List ℕ → Finding)
 finds_of {S} finds source = option_map (λ (s : Bor S). finds s.now) source
 
+-- how far a source is known to answer that; without a source there is nothing to doubt
 abbrev pub trust_of : {S : Type 0} → (S → Trust) → Option (Bor S) → Trust
 trust_of trust None = Sound
 trust_of trust (Some s) = trust s.now
@@ -94,6 +97,7 @@ abbrev pub by_rule_found : List ℕ → Option Rule → Decision
 by_rule_found form None = by_default
 by_rule_found form (Some rule) = by_rule form rule.instr
 
+-- what a form decides by the first rule that has it, if there is such a form
 abbrev pub by_first_listed : List Rule → Option (List ℕ) → Decision
 by_first_listed rules None = by_default
 by_first_listed rules (Some form) = by_rule_found form (rule_for form rules)

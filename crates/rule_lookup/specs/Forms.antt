@@ -25,15 +25,17 @@ user_at_host (Some user) (Some host) = (user ++ 64 ∷ 61 ∷ host) ∷ []
 user_at_host (Some user) None = []
 user_at_host None host = []
 
--- 4, 6 and 7: `=` before the host, before each proper suffix of it that begins with a dot, and alone, if it is known
+-- 4: `=` before the host, if it is known
 abbrev pub host_alone : Option (List ℕ) → List (List ℕ)
 host_alone None = []
 host_alone (Some host) = (61 ∷ host) ∷ []
 
+-- 6: `=` before each proper suffix of the host that begins with a dot, if it is known
 abbrev pub host_ends : Option (List ℕ) → List (List ℕ)
 host_ends None = []
 host_ends (Some host) = map (λ end. 61 ∷ end) (dotted_ends (drop 1 host))
 
+-- 7: `=` alone, if the host is known
 abbrev pub any_host : Option (List ℕ) → List (List ℕ)
 any_host None = []
 any_host (Some host) = (61 ∷ []) ∷ []

@@ -14,13 +14,13 @@ pub record Client : Type 0 where
   pub info : Option (List ℕ)
 
 -- a name has 1 to 255 bytes, none of them zero
-abbrev pub is_name : List ℕ → Bool
-is_name name = nat_lt 0 (length name) && nat_le (length name) 255 && not (has_byte 0 name)
+abbrev pub is_peer_name : List ℕ → Bool
+is_peer_name name = nat_lt 0 (length name) && nat_le (length name) 255 && not (has_byte 0 name)
 
 -- the same of a name that may be unknown
 abbrev pub may_be_name : Option (Bor (List ℕ)) → Bool
 may_be_name None = true
-may_be_name (Some name) = is_name name.now
+may_be_name (Some name) = is_peer_name name.now
 
 -- a host's name in lower case
 abbrev pub lowered : Option (Bor (List ℕ)) → Option (List ℕ)

@@ -1,5 +1,5 @@
 //! Decisions.
-ghost use Rattle.std.specs.Prelude.{◌≡◌, Ok, IfOk, IfErr, option_map, vec_items};
+ghost use Rattle.std.specs.Prelude.{◌≡◌, Ok, IfOk, IfErr, IfNone, option_map, vec_items};
 ghost use Rattle.rule_lines.specs.Codes.{decoded};
 ghost use Rattle.rule_lines.specs.Lookups.{WhereKnown, Answers};
 ghost use Rattle.rule_lookup.specs.Decisions.{decision_by, decision_from, finds_of, trust_of, by_default, without_file, DecisionFails, LookupFails, CodeFails, by_code};
@@ -166,13 +166,15 @@ impl<T: Drop> From<AllocFailed<T>> for DecideFault {
 }
 
 /// The decision for a peer: by the first of its lookup forms under which the source has something. Without a source it is
-/// that of a missing rules file. A fault is that of this form; want of memory is always `OutOfMemory` itself.
+/// that of a missing rules file, which takes no memory. A fault is that of this form; want of memory is always `OutOfMemory`
+/// itself.
 pub fn decide<S: PairSource>(
     alloc: Global,
     source: Option<&S>,
     missing: Missing,
     peer: &Peer,
 ) -> Result<Decision, DecideFault>
+    ensures no_file { IfNone source.entry (result ≡ Ok (without_file missing)) }
     ensures decided { IfOk result (λ decision. WhereKnown (trust_of S.trust source.entry)
         (decision_from (finds_of S.finds source.entry) missing peer.now ≡ Ok decision)) }
     ensures refused { IfErr result (DecisionFails (trust_of S.trust source.entry)

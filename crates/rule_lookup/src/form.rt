@@ -8,8 +8,9 @@ use crate::peer::Peer;
 use std::alloc::{AllocError, Global};
 use std::net::Ipv4Addr;
 
-/// The addresses under which a peer's rule is looked up, in the order of `docs/RULES.md`. ASCII letters from the first `=`
-/// of a form on are in lower case.
+/// The addresses under which a peer's rule is looked up, in the order of `docs/RULES.md`: the user at the address and at
+/// the host, the address, the host, the prefixes of the address, the suffixes of the host, any host, and the empty one. ASCII
+/// letters from the first `=` of a form on are in lower case.
 pub fn forms(alloc: Global, peer: &Peer) -> Result<Vec<String>, AllocError>
     ensures { IfOk result (λ forms. map string_bytes forms.items ≡ forms_of peer.now) }
 {

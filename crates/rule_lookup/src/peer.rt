@@ -1,6 +1,6 @@
 //! The other end of a connection.
 ghost use Rattle.std.specs.Prelude.{◌≡◌, IfOk, IfErr, option_map, string_bytes, true};
-ghost use Rattle.rule_lookup.specs.Peers.{Client, is_name, may_be_name, lowered, given, RefusesNames};
+ghost use Rattle.rule_lookup.specs.Peers.{Client, is_peer_name, may_be_name, lowered, given, RefusesNames};
 ghost use Rattle.rule_lookup.specs.declared.peer.PeerFault.TheVariants.{OutOfMemory};
 
 use std::alloc::{AllocError, AllocFailed, Global};
@@ -13,7 +13,7 @@ pub enum PeerFault {
     /// The host's name is empty, longer than 255 bytes, or has a zero byte.
     #[error("bad host")]
     BadHost,
-    /// The user's name is.
+    /// The user's name is empty, longer than 255 bytes, or has a zero byte.
     #[error("bad user")]
     BadInfo,
     /// There was no memory for the names.
@@ -125,8 +125,8 @@ impl Peer {
     }
 }
 
-fn is_name(name: &[u8]) -> bool
-    ensures { result ≡ is_name name.now }
+fn is_peer_name(name: &[u8]) -> bool
+    ensures { result ≡ is_peer_name name.now }
 {
     !name.is_empty() && name.len() <= 255 && !name.contains(&0)
 }
@@ -136,7 +136,7 @@ fn may_be_name(name: Option<&str>) -> bool
 {
     match name {
         None => true,
-        Some(text) => is_name(text.as_bytes()),
+        Some(text) => is_peer_name(text.as_bytes()),
     }
 }
 

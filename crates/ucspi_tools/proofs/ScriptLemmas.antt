@@ -7,7 +7,7 @@ use Rattle.std.specs.Char.{to_ascii_lowercase}
 use Rattle.std.proofs.lemmas.List.{take_at, drop_at}
 use Rattle.std.proofs.lemmas.Bool.{eq-eqb, eqb-true, false≢true}
 use Rattle.rule_lookup.specs.Peers.{Client, given, lowered, may_be_name}
-use Rattle.rule_lookup.specs.Addresses.{address_in}
+use Rattle.rule_lookup.specs.Addresses.{ipv4_in}
 use Rattle.std.specs.Str.{is_utf8}
 use Rattle.std.specs.Prelude.{IsUtf8}
 use Rattle.std.proofs.lemmas.Str.{is_utf8-from_IsUtf8, IsUtf8-from_is_utf8}
@@ -61,26 +61,26 @@ cond-none true = refl
 cond-none false = refl
 
 module _ (ip : List ℕ) (info host : Option (Bor (List ℕ))) where
-  pub peer_of-made : (octets : List ℕ) → address_in ip ≡ Some octets → may_be_name host ≡ true → may_be_name info ≡ true → peer_of ip (given info) (given host) ≡ Some (record { ip = octets; port = 0; host = lowered host; info = given info })
+  pub peer_of-made : (octets : List ℕ) → ipv4_in ip ≡ Some octets → may_be_name host ≡ true → may_be_name info ≡ true → peer_of ip (given info) (given host) ≡ Some (record { ip = octets; port = 0; host = lowered host; info = given info })
   peer_of-made octets address host_fits info_fits =
-      ap (λ b. cond (b && fits (given info)) (option_map (peer_at (given info) (given host)) (address_in ip)) None) (fits-given host ∙ host_fits)
-      ∙ ap (λ b. cond b (option_map (peer_at (given info) (given host)) (address_in ip)) None) (fits-given info ∙ info_fits)
+      ap (λ b. cond (b && fits (given info)) (option_map (peer_at (given info) (given host)) (ipv4_in ip)) None) (fits-given host ∙ host_fits)
+      ∙ ap (λ b. cond b (option_map (peer_at (given info) (given host)) (ipv4_in ip)) None) (fits-given info ∙ info_fits)
       ∙ ap (option_map (peer_at (given info) (given host))) address
       ∙ ap (λ (name : Option (List ℕ)). Some (record { ip = octets; port = 0; host = name; info = given info })) (lowered-given host)
 
-  pub peer_of-no_address : address_in ip ≡ None → peer_of ip (given info) (given host) ≡ None
+  pub peer_of-no_address : ipv4_in ip ≡ None → peer_of ip (given info) (given host) ≡ None
   peer_of-no_address address =
       ap (λ (o : Option (List ℕ)). cond (fits (given host) && fits (given info)) (option_map (peer_at (given info) (given host)) o) None) address
       ∙ cond-none (fits (given host) && fits (given info))
 
   pub peer_of-bad_host : may_be_name host ≡ false → peer_of ip (given info) (given host) ≡ None
   peer_of-bad_host unfit =
-      ap (λ b. cond (b && fits (given info)) (option_map (peer_at (given info) (given host)) (address_in ip)) None) (fits-given host ∙ unfit)
+      ap (λ b. cond (b && fits (given info)) (option_map (peer_at (given info) (given host)) (ipv4_in ip)) None) (fits-given host ∙ unfit)
 
   pub peer_of-bad_info : may_be_name host ≡ true → may_be_name info ≡ false → peer_of ip (given info) (given host) ≡ None
   peer_of-bad_info host_fits unfit =
-      ap (λ b. cond (b && fits (given info)) (option_map (peer_at (given info) (given host)) (address_in ip)) None) (fits-given host ∙ host_fits)
-      ∙ ap (λ b. cond b (option_map (peer_at (given info) (given host)) (address_in ip)) None) (fits-given info ∙ unfit)
+      ap (λ b. cond (b && fits (given info)) (option_map (peer_at (given info) (given host)) (ipv4_in ip)) None) (fits-given host ∙ host_fits)
+      ∙ ap (λ b. cond b (option_map (peer_at (given info) (given host)) (ipv4_in ip)) None) (fits-given info ∙ unfit)
 
 -- a line that is a command's
 module _ (first : ℕ) (line rest : List ℕ) (is : line ≡ first ∷ rest) (no_comment : eqb first 35 ≡ false) (no_bar : eqb first 124 ≡ false) where

@@ -3,8 +3,8 @@ use Rattle.std.specs.Prelude.{ℕ, Bool, true, false, ◌&&◌, ◌==◌, nat_eq
 use Rattle.std.specs.Char.{to_ascii_lowercase}
 use Rattle.std.specs.List.{starts_with, slice_split}
 use Rattle.std.specs.Str.{is_utf8}
-use Rattle.rule_lookup.specs.Addresses.{address_in}
-use Rattle.rule_lookup.specs.Peers.{Client, is_name}
+use Rattle.rule_lookup.specs.Addresses.{ipv4_in}
+use Rattle.rule_lookup.specs.Peers.{Client, is_peer_name}
 
 -- what a line asks for: nothing, a line more of the pending text, that this be installed, or a decision
 pub data Command : Type 0 where
@@ -30,7 +30,7 @@ host_in word = option_in (codes "host=") word
 -- a name that may be left out
 abbrev pub fits : Option (List ℕ) → Bool
 fits None = true
-fits (Some name) = is_name name
+fits (Some name) = is_peer_name name
 
 -- a peer of a script has port 0
 abbrev pub peer_at : Option (List ℕ) → Option (List ℕ) → List ℕ → Client
@@ -40,7 +40,7 @@ peer_at info host ip =
 -- the peer that an address and names make, if they make one
 abbrev pub peer_of : List ℕ → Option (List ℕ) → Option (List ℕ) → Option Client
 peer_of ip info host =
-    if fits host && fits info then option_map (peer_at info host) (address_in ip) else None
+    if fits host && fits info then option_map (peer_at info host) (ipv4_in ip) else None
 
 -- with one option, of the user or of the host
 abbrev pub peer_with : List ℕ → Option (List ℕ) → Option (List ℕ) → Option Client

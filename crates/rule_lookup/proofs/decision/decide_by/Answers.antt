@@ -1,4 +1,4 @@
-use Rattle.std.proofs.Common.{◌≡◌, ℕ, ◌<◌, List, arith, ap, ◌∙◌, map, string_bytes, length, get_or}
+use Rattle.std.proofs.Common.{arith, string_bytes}
 use Rattle.std.proofs.lemmas.Result.{err_from_is_err_and}
 use Rattle.rule_lookup.specs.Forms.{forms_of}
 use Rattle.rule_lookup.proofs.DecisionLemmas.{form_at, first-later, decided-here, refused-here, refused-look_up}

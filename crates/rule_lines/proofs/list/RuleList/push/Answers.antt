@@ -1,7 +1,7 @@
 -- Bytes are added at the end alone, so the rows before keep their rules.
 use Rattle.std.proofs.Common.{◌≡◌, ◌∙◌, ◌++◌, ◌∷◌, [], ◌+◌, ap, arith, subst}
 use Rattle.rule_lines.specs.Rows.{AreRows, rules_under, count_of}
-use Rattle.rule_lines.proofs.RowLemmas.{AreRows-kept, AreRows-push, rules_in-kept, SomeIff-Some}
+use Rattle.rule_lines.proofs.RowLemmas.{AreRows-kept, AreRows-push, rules_in-kept, rules_in-same, OnErr-always, SomeIff-Some}
 use Rattle.rule_lines.proofs.list.RuleList.push.Goals as goal
 
 pub invariant_of-self : goal.invariant_of-self
@@ -25,9 +25,21 @@ invariant_of-self-2 c =
     let len : list.len + count_of c.in_ok-row.row.numbers ≡ c.in_ok-len.len = omega (arith, c.in_ok-row.ensures.count, c.count_in-count.ensures, sum) in
     rw c.in_ok-push.ensures.items (subst (λ n. AreRows all 0 rows n) len pushed)
 
-pub returns : goal.returns
-returns c =
+pub returns-clause-ok : goal.returns-clause-ok
+returns-clause-ok c =
     let list = c.self.inside in
     let all = c.append_row.new.bytes.items in
     let pushed = rules_in-kept list.bytes.items all list.rows.items c.in_ok-row.row list.len c.append_row.ensures.kept c.self.invariant in
     rw c.in_ok-push.ensures.items (pushed ∙ (ap (λ rules. rules ++ rules_under all c.in_ok-row.row) c.self.view_is ∙ ap (λ rules. c.args.self.now ++ rules) c.in_ok-row.ensures.rules))
+
+pub returns-in_err-row-clause-err : goal.returns-in_err-row-clause-err
+returns-in_err-row-clause-err c =
+    let list = c.self.inside in
+    let same = rules_in-same list.bytes.items c.append_row.new.bytes.items list.rows.items list.len c.append_row.ensures.kept c.self.invariant in
+    OnErr-always c.from_residual-in_err-row.result (same ∙ c.self.view_is)
+
+pub returns-in_err-push-clause-err : goal.returns-in_err-push-clause-err
+returns-in_err-push-clause-err c =
+    let list = c.self.inside in
+    let same = rules_in-same list.bytes.items c.append_row.new.bytes.items list.rows.items list.len c.append_row.ensures.kept c.self.invariant in
+    OnErr-always c.from_residual-in_err-push.result (rw c.in_err-push.ensures.items (same ∙ c.self.view_is))
