@@ -1,14 +1,14 @@
 -- A run of `rulesim`, line by line.
-use Rattle.std.proofs.Common.{◌≡◌, ℕ, suc, ◌+◌, ◌-◌, ◌<◌, Bool, true, false, ◌&&◌, cond, eqb, nat_lt, arith, List, [], ◌∷◌, ◌++◌, length, get_or, take, Option, Some, None, IfSome, refl, sym, ap, subst, ◌∙◌}
+use Rattle.std.proofs.Common.{◌≡◌, ℕ, suc, ◌+◌, ◌-◌, ◌<◌, Bool, true, false, ◌&&◌, cond, eqb, arith, List, [], ◌∷◌, ◌++◌, length, get_or, take, Option, Some, None, IfSome, refl, sym, ap, subst, ◌∙◌}
 use Rattle.std.proofs.lemmas.List.{append-nil, append_assoc}
 use Rattle.std.proofs.lemmas.Bool.{eqb-true, lt-ltb}
-use Rattle.std.specs.Io.BufRead.{take_through, drop_through, strip_last, ends_with_byte, DropsThrough}
+use Rattle.std.specs.Io.BufRead.{take_through, drop_through, strip_last, DropsThrough}
 use Rattle.std.specs.Io.KnownBytes.{Appends, IsAtEnd}
 use Rattle.rule_lines.specs.Lines.{empty_line, lines_of, onto_line}
 use Rattle.ucspi_tools.specs.declared.sim.SimEnd.TheVariants.{Ended, BadCommand}
 use Rattle.ucspi_tools.specs.Commands.{IsAt, Carries}
 use Rattle.ucspi_tools.specs.Kept.{Kept}
-use Rattle.ucspi_tools.specs.Scripts.{Command, command_of}
+use Rattle.ucspi_tools.specs.Scripts.{command_of}
 use Rattle.ucspi_tools.specs.Sim.{State, start, after, printed, Run, printing, run_line, run_from, sim, Prints}
 
 -- a front before the last byte is no part of what is stripped

@@ -1,5 +1,5 @@
 -- The lines of a script, as commands.
-use Rattle.std.specs.Prelude.{ℕ, Bool, true, false, ◌&&◌, ◌==◌, nat_eq, List, [], ◌∷◌, map, length, drop, Option, Some, None, option_map, codes, bytes_eq, if◌then◌else◌}
+use Rattle.std.specs.Prelude.{ℕ, Bool, true, ◌&&◌, ◌==◌, nat_eq, List, [], ◌∷◌, map, length, drop, Option, Some, None, option_map, codes, bytes_eq, if◌then◌else◌}
 use Rattle.std.specs.Char.{to_ascii_lowercase}
 use Rattle.std.specs.List.{starts_with, slice_split}
 use Rattle.std.specs.Str.{is_utf8}

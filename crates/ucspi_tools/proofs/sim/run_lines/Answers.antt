@@ -1,4 +1,4 @@
-use Rattle.std.proofs.Common.{◌≡◌, ◌<◌, ℕ, List, arith, length}
+use Rattle.std.proofs.Common.{◌<◌, arith, length}
 use Rattle.ucspi_tools.proofs.RunLemmas.{at_bad_line, at_line}
 use Rattle.ucspi_tools.proofs.sim.run_lines.Goals as goal
 
