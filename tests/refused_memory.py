@@ -58,6 +58,11 @@ SCRIPTS = {
         b"install\nask 127.0.0.1 info=joe\nask 10.3.0.1\nask 1.1.1.1 host=a.B.example\n"
         b"ask 1.1.1.1 info=joe host=b.org\n|1.2.3.4:allowed\ninstall\nask 4.4.4.4\n# done\n\ninstall\nask 1.1.1.1\n"
     ),
+    "events": (
+        b"events 3 2\nevent admitted 1 1.1.1.1\nevent admitted 2 1.1.1.1\nevent opened 1 yes\nevent decided 1 allow\n"
+        b"event started 1\nevent retired 1\nevent dropped 2\nreplay\nevent admitted 3 1.1.1.1\nevent admitted 4 1.1.1.1\nreplay\n"
+        b"event stop\nevent phase fresh\nreplay\nevents 1\nevent admitted 1 2.2.2.2\nevent stop\nreplay\n"
+    ),
     "a bad command": b"|:deny\ninstall\nask 1.1.1.1\nask 1.1\n",
 }
 MOST_REQUESTS = 5000

@@ -2,14 +2,19 @@
 #![tactic(auto)]
 
 use rule_lines::{Limits, ParseFault, RuleList, parse};
+use rule_lookup::{DropCause, Peer, PeerFault};
+use server_core::{Event, replay};
 use std::alloc::{AllocError, Global};
 use std::process::ExitCode;
 use std::rt::Clock;
 use std::time::Instant;
 use std::{env, io};
 
-/// How many calls are timed.
+/// How many calls of `RuleList::get` are timed.
 const CALLS: usize = 1_000_000;
+
+/// The limit of connections alive at once, and of those from one address, of `replay`.
+const LIMIT: u64 = 10_000;
 
 /// A text of this many lines, each a range of 256 addresses.
 fn ranges(alloc: Global, lines: usize) -> Result<String, AllocError> {
@@ -42,16 +47,71 @@ fn get_many(list: &RuleList) -> usize {
     total
 }
 
-/// Runs a benchmark of this size: `get` prints how many microseconds a million calls of `RuleList::get` take, on the list of
-/// a text of so many lines.
-fn run<R: Print + Clock>(rt: &R, alloc: Global, name: &str, size: usize) -> io::Result<()> {
-    let (true, Ok(list)) = (name == "get", list_of(alloc, size)) else {
-        return Err(io::Error::from(io::ErrorKind::InvalidInput));
+/// Prints how many microseconds a million calls of `RuleList::get` take, on the list of a text of so many lines.
+fn time_get<R: Print + Clock>(rt: &R, alloc: Global, lines: usize) -> io::Result<()> {
+    let Ok(list) = list_of(alloc, lines) else {
+        return Err(io::Error::from(io::ErrorKind::OutOfMemory));
     };
     let began = Instant::now(rt)?;
     let bytes = get_many(&list);
     let taken = began.elapsed(rt)?;
     println!(rt; "{} microseconds, {bytes} bytes", taken.as_micros())
+}
+
+/// An event of a connection that is let in. There are 256 addresses.
+fn admission(alloc: Global, serial: u64) -> Result<Event, PeerFault> {
+    let peer = Peer::new(alloc, [10, 0, 0, (serial % 256) as u8], 0, None, None)?;
+    Ok(Event::Admitted { serial, peer })
+}
+
+/// The event at a place, from 0: as many connections are let in as may live, and from then on one is dropped for each that
+/// comes.
+fn event_at(alloc: Global, place: u64) -> Result<Event, PeerFault> {
+    let Some(past) = place.checked_sub(LIMIT) else {
+        return admission(alloc, place + 1);
+    };
+    if past % 2 == 1 {
+        return admission(alloc, LIMIT + past / 2 + 1);
+    }
+    Ok(Event::Dropped {
+        serial: past / 2 + 1,
+        cause: DropCause::Directory,
+    })
+}
+
+/// A list of this many such events.
+fn turnover(alloc: Global, events: usize) -> Result<Vec<Event>, PeerFault> {
+    let mut list = Vec::new(alloc);
+    for place in 0..events {
+        list.push(event_at(alloc, place as u64)?)?;
+    }
+    Ok(list)
+}
+
+/// Prints how many microseconds a `replay` of so many events takes, most of them while as many connections live as may.
+fn time_replay<R: Print + Clock>(rt: &R, alloc: Global, events: usize) -> io::Result<()> {
+    let Ok(list) = turnover(alloc, events) else {
+        return Err(io::Error::from(io::ErrorKind::OutOfMemory));
+    };
+    let began = Instant::now(rt)?;
+    let Ok(report) = replay(alloc, LIMIT, LIMIT, list.as_slice()) else {
+        return Err(io::Error::from(io::ErrorKind::InvalidData));
+    };
+    let taken = began.elapsed(rt)?;
+    println!(rt;
+        "{} microseconds, {} admitted",
+        taken.as_micros(),
+        report.admitted
+    )
+}
+
+/// Runs a benchmark of this size.
+fn run<R: Print + Clock>(rt: &R, alloc: Global, name: &str, size: usize) -> io::Result<()> {
+    match name {
+        "get" => time_get(rt, alloc, size),
+        "replay" => time_replay(rt, alloc, size),
+        _ => Err(io::Error::from(io::ErrorKind::InvalidInput)),
+    }
 }
 
 fn main(rt: HostRuntime) -> ExitCode {

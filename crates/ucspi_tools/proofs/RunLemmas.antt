@@ -1,15 +1,15 @@
 -- A run of `rulesim`, line by line.
-use Rattle.std.proofs.Common.{◌≡◌, ℕ, suc, ◌+◌, ◌-◌, ◌<◌, Bool, true, false, ◌&&◌, cond, eqb, arith, List, [], ◌∷◌, ◌++◌, length, get_or, take, Option, Some, None, IfSome, refl, sym, ap, subst, ◌∙◌}
+use Rattle.std.proofs.Common.{◌≡◌, ℕ, suc, ◌+◌, ◌-◌, ◌<◌, Bool, true, false, ◌&&◌, cond, eqb, arith, List, [], ◌∷◌, ◌++◌, length, get_or, take, Option, Some, None, IfSome, ◌⊎◌, inl, inr, refl, sym, ap, subst, ◌∙◌}
 use Rattle.std.proofs.lemmas.List.{append-nil, append_assoc}
 use Rattle.std.proofs.lemmas.Bool.{eqb-true, lt-ltb}
 use Rattle.std.specs.Io.BufRead.{take_through, drop_through, strip_last, DropsThrough}
 use Rattle.std.specs.Io.KnownBytes.{Appends, IsAtEnd}
 use Rattle.rule_lines.specs.Lines.{empty_line, lines_of, onto_line}
-use Rattle.ucspi_tools.specs.declared.sim.SimEnd.TheVariants.{Ended, BadCommand}
+use Rattle.ucspi_tools.specs.declared.sim.SimEnd.{SimEnd}
+use Rattle.ucspi_tools.specs.declared.sim.SimEnd.TheVariants.{Ended, BadCommand, ReadFault, OutOfMemory}
 use Rattle.ucspi_tools.specs.Commands.{IsAt, Carries}
 use Rattle.ucspi_tools.specs.Kept.{Kept}
-use Rattle.ucspi_tools.specs.Scripts.{command_of}
-use Rattle.ucspi_tools.specs.Sim.{State, start, after, printed, Run, printing, run_line, run_from, sim, Prints}
+use Rattle.ucspi_tools.specs.Sim.{State, start, after, command_at, printed, Run, printing, run_line, run_from, sim, Prints, PrintsFront}
 
 -- a front before the last byte is no part of what is stripped
 cond-onto : (x : ℕ) (b : Bool) (before all : List ℕ) → cond b (x ∷ before) (x ∷ all) ≡ x ∷ cond b before all
@@ -109,6 +109,27 @@ runs_from_start before None kept at = tt
 runs_from_start before (Some all) kept at =
     record { left = all; remains = refl; state = start; at = at; done = []; written = Appends-none before; same = refl }
 
+-- what was written so far is a front of what the script prints
+front_so_far : (before now rest : Option (List ℕ)) (script : List ℕ) (n : ℕ) (kept : Kept) → RunsOn before now rest script n kept → PrintsFront before now (sim script)
+front_so_far before now rest script n kept so_far = record {
+  front = so_far.done;
+  rest = (run_from n (lines_of so_far.left) so_far.state).output;
+  written = so_far.written;
+  all = sym (ap (λ (r : Run). r.output) so_far.same);
+}
+
+module _ (before now rest : Option (List ℕ)) (n : ℕ) (kept : Kept) where
+  pub at_no_memory : (script : Option (List ℕ)) → IfSome script (λ all. RunsOn before now rest all n kept) → IfSome script (λ all. Prints before now (sim all) OutOfMemory)
+  at_no_memory None so_far = tt
+  at_no_memory (Some all) so_far = front_so_far before now rest all n kept so_far
+
+  pub at_fault : (script : Option (List ℕ)) (end : SimEnd) → (end ≡ ReadFault) ⊎ (end ≡ OutOfMemory) → IfSome script (λ all. RunsOn before now rest all n kept) → IfSome script (λ all. Prints before now (sim all) end)
+  at_fault None end is so_far = tt
+  at_fault (Some all) end (inl is) so_far =
+      subst (λ e. Prints before now (sim all) e) (sym is) (front_so_far before now rest all n kept so_far)
+  at_fault (Some all) end (inr is) so_far =
+      subst (λ e. Prints before now (sim all) e) (sym is) (front_so_far before now rest all n kept so_far)
+
 -- two texts are printed one after the other
 printing-twice : (xs ys : List ℕ) (run : Run) → printing (xs ++ ys) run ≡ printing xs (printing ys run)
 printing-twice xs ys run =
@@ -124,13 +145,13 @@ module _ (before now rest : Option (List ℕ)) (script : List ℕ) (n : ℕ) (ke
         nothing_left over = rw so_far.remains at over
 
   module _ (line : List ℕ) (x : ℕ) (xs : List ℕ) (left_is : so_far.left ≡ x ∷ xs) (line_is : line ≡ take_through 10 (x ∷ xs)) where
-    next : run_from n (lines_of so_far.left) so_far.state ≡ run_line n (command_of (strip_last 10 line)) so_far.state (run_from (n + 1) (lines_of (drop_through 10 (x ∷ xs))))
+    next : run_from n (lines_of so_far.left) so_far.state ≡ run_line n (command_at so_far.state (strip_last 10 line)) so_far.state (run_from (n + 1) (lines_of (drop_through 10 (x ∷ xs))))
     next =
         ap (λ (l : List ℕ). run_from n (lines_of l) so_far.state) left_is
         ∙ ap (λ lines. run_from n lines so_far.state) (first_line x xs).lines
-        ∙ ap (λ (l : List ℕ). run_line n (command_of (strip_last 10 l)) so_far.state (run_from (n + 1) (lines_of (drop_through 10 (x ∷ xs))))) (sym line_is)
+        ∙ ap (λ (l : List ℕ). run_line n (command_at so_far.state (strip_last 10 l)) so_far.state (run_from (n + 1) (lines_of (drop_through 10 (x ∷ xs))))) (sym line_is)
 
-    pub runs_to_bad : command_of (strip_last 10 line) ≡ None → Prints before now (sim script) (BadCommand n)
+    pub runs_to_bad : command_at so_far.state (strip_last 10 line) ≡ None → Prints before now (sim script) (BadCommand n)
     runs_to_bad bad =
         let all : printing so_far.done (record { output = []; bad = Some n }) ≡ sim script =
         sym (ap (printing so_far.done) (next ∙ ap (λ c. run_line n c so_far.state (run_from (n + 1) (lines_of (drop_through 10 (x ∷ xs))))) bad)) ∙ so_far.same in
@@ -167,11 +188,11 @@ module _ (before now rest : Option (List ℕ)) (n : ℕ) (kept : Kept) (line cle
   line_front script so_far =
       front_of so_far.left line ((rw so_far.remains at read) ∙ ap (λ (c : List ℕ). c ++ take_through 10 so_far.left) none) some
 
-  pub at_bad_line : (script : Option (List ℕ)) → command_of (strip_last 10 line) ≡ None → IfSome script (λ all. RunsOn before now rest all n kept) → IfSome script (λ all. Prints before now (sim all) (BadCommand n))
+  pub at_bad_line : (script : Option (List ℕ)) → ((state : State) → IsAt kept state → command_at state (strip_last 10 line) ≡ None) → IfSome script (λ all. RunsOn before now rest all n kept) → IfSome script (λ all. Prints before now (sim all) (BadCommand n))
   at_bad_line None bad so_far = tt
   at_bad_line (Some all) bad so_far =
       let f = line_front all so_far in
-      runs_to_bad before now rest all n kept so_far line f.x f.xs f.left_is f.line_is bad
+      runs_to_bad before now rest all n kept so_far line f.x f.xs f.left_is f.line_is (bad so_far.state so_far.at)
 
   pub at_line : (script later rest_later : Option (List ℕ)) (kept_later : Kept) (out : List ℕ) → ((state : State) → IsAt kept state → Carries (strip_last 10 line) state kept_later out) → DropsThrough rest rest_later 10 → Appends now later out → IfSome script (λ all. RunsOn before now rest all n kept) → IfSome script (λ all. RunsOn before later rest_later all (n + 1) kept_later)
   at_line None later rest_later kept_later out carried drops wrote so_far = tt

@@ -1,4 +1,4 @@
--- The lines that tell a decision, and those that tell what became of a rule text.
+-- The lines that tell a decision, those that tell what became of a rule text, and those that tell what events come to.
 use Rattle.std.specs.Prelude.{ℕ, List, ◌++◌, codes, decimal, flat_map}
 use Rattle.rule_lines.specs.declared.fault.LineKind.{LineKind}
 use Rattle.rule_lines.specs.declared.fault.LineKind.TheVariants.{NoVerdict, BadSetting, BadRange, NotText, NulByte, LongLine, LongText}
@@ -6,6 +6,7 @@ use Rattle.rule_lines.specs.declared.instr.Verdict.{Verdict}
 use Rattle.rule_lines.specs.declared.instr.Verdict.TheVariants.{Allow, Deny}
 use Rattle.rule_lines.specs.Settings.{Assignment}
 use Rattle.rule_lookup.specs.declared.decision.Decision.{Decision}
+use Rattle.server_core.specs.declared.report.Report.{Report}
 use Rattle.rule_lookup.specs.declared.decision.Found.{Found}
 use Rattle.rule_lookup.specs.declared.decision.Found.TheVariants.{Address, Default, NoFile}
 
@@ -52,3 +53,12 @@ fault_text line BadRange = numbered line BadRange
 fault_text line NotText = numbered line NotText
 fault_text line NulByte = numbered line NulByte
 fault_text line LongLine = numbered line LongLine
+
+-- the sums of a list of events
+abbrev pub report_line : Report → List ℕ
+report_line report =
+    codes "admitted " ++ decimal report.admitted ++ codes " live " ++ decimal report.live ++ codes " retired " ++ decimal report.retired ++ codes " most " ++ decimal report.most ++ codes "\n"
+
+-- the place of an event that may not happen
+abbrev pub illegal_line : ℕ → List ℕ
+illegal_line place = codes "illegal " ++ decimal place ++ codes "\n"

@@ -5,13 +5,19 @@ use Rattle.std.specs.List.{starts_with, slice_split}
 use Rattle.std.specs.Str.{is_utf8}
 use Rattle.rule_lookup.specs.Addresses.{ipv4_in}
 use Rattle.rule_lookup.specs.Peers.{Client, is_peer_name}
+use Rattle.server_core.specs.declared.event.Event.{Event}
+use Rattle.ucspi_tools.specs.Events.{alone, event_in, limits_in}
 
--- what a line asks for: nothing, a line more of the pending text, that this be installed, or a decision
+-- what a line asks for: nothing; a line more of the pending text, that this be installed, or a decision; an empty list of
+-- events under a limit and a limit per address, an event more, or what the list comes to
 pub data Command : Type 0 where
   Skip : Command
   Add : List ℕ → Command
   Install : Command
   Ask : Client → Command
+  BeginEvents : ℕ → ℕ → Command
+  AddEvent : Event → Command
+  Replay : Command
 
 -- the words of a line, one space between each two
 abbrev pub words_of : List ℕ → List (List ℕ)
@@ -61,17 +67,19 @@ peer_in (ip ∷ word ∷ []) = peer_with ip (info_in word) (host_in word)
 peer_in (ip ∷ first ∷ second ∷ []) = peer_with_both ip (info_in first) (host_in second)
 peer_in words = None
 
--- a command without more words
-abbrev pub alone : Command → List (List ℕ) → Option Command
-alone command [] = Some command
-alone command (word ∷ words) = None
+-- the command with a name, and the words after that
+abbrev pub command_named : List ℕ → List (List ℕ) → Option Command
+command_named name words =
+    if bytes_eq name (codes "install") then alone Install words
+    else (if bytes_eq name (codes "ask") then option_map Ask (peer_in words)
+    else (if bytes_eq name (codes "events") then option_map (λ p. BeginEvents p.0 p.1) (limits_in words)
+    else (if bytes_eq name (codes "event") then option_map AddEvent (event_in words)
+    else (if bytes_eq name (codes "replay") then alone Replay words else None))))
 
 -- the command that words are
 abbrev pub command_in : List (List ℕ) → Option Command
 command_in [] = None
-command_in (name ∷ words) =
-    if bytes_eq name (codes "install") then alone Install words
-    else (if bytes_eq name (codes "ask") then option_map Ask (peer_in words) else None)
+command_in (name ∷ words) = command_named name words
 
 -- the command of a line: none where the line is bad
 abbrev pub command_of : List ℕ → Option Command

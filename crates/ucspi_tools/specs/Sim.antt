@@ -1,5 +1,5 @@
 -- What `rulesim` prints for a script.
-use Rattle.std.specs.Prelude.{◌≡◌, ℕ, ◌+◌, List, [], ◌∷◌, ◌++◌, Option, Some, None, codes}
+use Rattle.std.specs.Prelude.{◌≡◌, ℕ, ◌+◌, Bool, true, List, [], ◌∷◌, ◌++◌, Option, Some, None, option_map, option_and_then, is_some, codes, if◌then◌else◌}
 use Rattle.std.specs.Io.KnownBytes.{Appends}
 use Rattle.rule_lines.specs.declared.fault.LineFault.{LineFault}
 use Rattle.rule_lines.specs.declared.limits.Limits.{Limits}
@@ -7,23 +7,43 @@ use Rattle.rule_lines.specs.Faults.{fault_of}
 use Rattle.rule_lines.specs.Lines.{Line, lines_of}
 use Rattle.rule_lookup.specs.Decisions.{decision_of}
 use Rattle.rule_lookup.specs.Peers.{Client}
+use Rattle.server_core.specs.declared.event.Event.{Event}
+use Rattle.server_core.specs.Reports.{first_illegal, report_of}
+use Rattle.server_core.specs.ServerState.{start as server_at_start}
 use Rattle.ucspi_tools.specs.declared.sim.SimEnd.{SimEnd}
 use Rattle.ucspi_tools.specs.declared.sim.SimEnd.TheVariants.{Ended, BadCommand, ReadFault, WriteFault, OutOfMemory}
-use Rattle.ucspi_tools.specs.Answers.{answer_lines, fault_text}
-use Rattle.ucspi_tools.specs.Scripts.{Command, Skip, Add, Install, Ask, command_of}
+use Rattle.ucspi_tools.specs.Answers.{answer_lines, fault_text, illegal_line, report_line}
+use Rattle.ucspi_tools.specs.Events.{History, with_event}
+use Rattle.ucspi_tools.specs.Scripts.{Command, Skip, Add, Install, Ask, BeginEvents, AddEvent, Replay, command_of}
 
 -- the limits of the tools
 abbrev pub profile : Limits
 profile = record { text = 67108864; line = 65536; file = 1073741824 }
 
--- the text that is being written, and the one that stands
+-- the text that is being written, the one that stands, and the list of events that was begun
 pub record State : Type 0 where
   pub pending : List ℕ
   pub standing : Option (List ℕ)
+  pub history : Option History
 
--- at first nothing is written and nothing stands
+-- at first nothing is written, nothing stands, and no list was begun
 abbrev pub start : State
-start = record { pending = []; standing = None }
+start = record { pending = []; standing = None; history = None }
+
+-- an event, or what the list comes to, needs a list that was begun
+abbrev pub is_in_place : State → Command → Bool
+is_in_place state Skip = true
+is_in_place state (Add text) = true
+is_in_place state Install = true
+is_in_place state (Ask peer) = true
+is_in_place state (BeginEvents limit per_address) = true
+is_in_place state (AddEvent event) = is_some state.history
+is_in_place state Replay = is_some state.history
+
+-- the command of a line that stands here: none where the line is bad
+abbrev pub command_at : State → List ℕ → Option Command
+command_at state line =
+    option_and_then (λ command. if is_in_place state command then Some command else None) (command_of line)
 
 -- an accepted text comes to stand, in place of the one before
 abbrev pub standing_after : Option LineFault → State → Option (List ℕ)
@@ -35,8 +55,12 @@ abbrev pub after : State → Command → State
 after state Skip = state
 after state (Add text) = record state { pending = state.pending ++ text ++ 10 ∷ [] }
 after state Install =
-    record { pending = []; standing = standing_after (fault_of profile state.pending) state }
+    record state { pending = []; standing = standing_after (fault_of profile state.pending) state }
 after state (Ask peer) = state
+after state (BeginEvents limit per_address) =
+    record state { history = Some (record { limit = limit; per_address = per_address; events = [] }) }
+after state (AddEvent event) = record state { history = option_map (with_event event) state.history }
+after state Replay = state
 
 -- what an installation prints
 abbrev pub installed : Option LineFault → List ℕ
@@ -48,12 +72,25 @@ abbrev pub answered : Option (List ℕ) → Client → List ℕ
 answered None peer = codes "no file\n"
 answered (Some text) peer = answer_lines (decision_of text peer)
 
+-- what a list of events comes to: the first that may not happen where it stands, or the sums of all
+abbrev pub outcome : Option ℕ → List Event → List ℕ
+outcome None events = report_line (report_of events)
+outcome (Some place) events = illegal_line place
+
+abbrev pub replayed : Option History → List ℕ
+replayed None = []
+replayed (Some history) =
+    outcome (first_illegal (server_at_start history.limit history.per_address) history.events) history.events
+
 -- what a command prints
 abbrev pub printed : State → Command → List ℕ
 printed state Skip = []
 printed state (Add text) = []
 printed state Install = installed (fault_of profile state.pending)
 printed state (Ask peer) = answered state.standing peer
+printed state (BeginEvents limit per_address) = []
+printed state (AddEvent event) = []
+printed state Replay = replayed state.history
 
 -- what lines print, and the number of the first bad one
 pub record Run : Type 0 where
@@ -72,7 +109,7 @@ run_line n (Some command) state later = printing (printed state command) (later 
 -- the run of lines, the first of which is line n
 abbrev pub run_from : ℕ → List Line → State → Run
 run_from n [] state = record { output = []; bad = None }
-run_from n (line ∷ lines) state = run_line n (command_of line.bytes) state (run_from (n + 1) lines)
+run_from n (line ∷ lines) state = run_line n (command_at state line.bytes) state (run_from (n + 1) lines)
 
 -- the run of a script
 abbrev pub sim : List ℕ → Run

@@ -1,10 +1,11 @@
-//! The lines that tell a decision, and a fault of a rule text.
+//! The lines that tell a decision, a fault of a rule text, and what events come to.
 ghost use Rattle.std.specs.Prelude.{◌≡◌, ◌++◌, OnOk, codes, decimal, flat_map};
-ghost use Rattle.ucspi_tools.specs.Answers.{answer_lines, found_line, setting_line, verdict_lines, kind_text, numbered, fault_text};
+ghost use Rattle.ucspi_tools.specs.Answers.{answer_lines, found_line, setting_line, verdict_lines, kind_text, numbered, fault_text, report_line, illegal_line};
 
 use itoa::Buffer;
 use rule_lines::{LineFault, LineKind, Setting, Settings, Verdict};
 use rule_lookup::{Decision, Found};
+use server_core::Report;
 use std::alloc::AllocError;
 
 /// Adds the lines that tell a decision: the rule's address or the default, the settings of an allowed connection, and the
@@ -103,4 +104,31 @@ fn kind_text(kind: LineKind) -> &'static str
         LineKind::LongLine => "long line",
         LineKind::LongText => "text too long",
     }
+}
+
+/// Adds the line with the sums of a list of events. After an `Err` a part of it may stand at the end of `out`.
+pub fn append_report(out: &mut Vec<u8>, report: &Report) -> Result<(), AllocError>
+    ensures { OnOk result (out.new.items ≡ out.old.items ++ report_line report.now) }
+{
+    append_number(out, b"admitted ", report.admitted)?;
+    append_number(out, b" live ", report.live)?;
+    append_number(out, b" retired ", report.retired)?;
+    append_number(out, b" most ", report.most)?;
+    out.extend_from_slice(b"\n")
+}
+
+/// Adds the line with the place of the first event that may not happen. After an `Err` a part of it may stand at the end of
+/// `out`.
+pub fn append_illegal(out: &mut Vec<u8>, place: u64) -> Result<(), AllocError>
+    ensures { OnOk result (out.new.items ≡ out.old.items ++ illegal_line place) }
+{
+    append_number(out, b"illegal ", place)?;
+    out.extend_from_slice(b"\n")
+}
+
+fn append_number(out: &mut Vec<u8>, label: &[u8], number: u64) -> Result<(), AllocError>
+    ensures { OnOk result (out.new.items ≡ out.old.items ++ label.now ++ decimal number) }
+{
+    out.extend_from_slice(label)?;
+    out.extend_from_slice(Buffer::new().format(number).as_bytes())
 }

@@ -2,6 +2,7 @@
 #![tactic(auto)]
 
 pub mod answer;
+mod event_words;
 pub mod program;
 pub mod script;
 pub mod sim;

@@ -1,14 +1,15 @@
 //! The lines of a script of `rulesim`.
-ghost use Rattle.std.specs.Prelude.{◌≡◌, ◌==◌, map, length, Some, IfOk, IfErr};
-ghost use Rattle.std.specs.Borrow.{Bor};
-ghost use Rattle.std.specs.Prelude.{List, ℕ};
+ghost use Rattle.std.specs.Prelude.{◌≡◌, ◌==◌, length, Some, IfOk, IfErr};
 ghost use Rattle.std.specs.List.{slice_split};
 ghost use Rattle.rule_lookup.specs.Peers.{given};
-ghost use Rattle.ucspi_tools.specs.Commands.{meaning, RefusesAs};
-ghost use Rattle.ucspi_tools.specs.Scripts.{alone, command_of, command_in, words_of, option_in, peer_of, peer_in};
+ghost use Rattle.ucspi_tools.specs.Commands.{meaning, RefusesAs, texts};
+ghost use Rattle.ucspi_tools.specs.Events.{alone, limits_in};
+ghost use Rattle.ucspi_tools.specs.Scripts.{command_of, command_in, command_named, words_of, option_in, peer_of, peer_in};
 ghost use Rattle.ucspi_tools.specs.declared.script.LineEnd.TheVariants.{OutOfMemory};
 
+use crate::event_words::{limit_in, read_event};
 use rule_lookup::{Peer, PeerFault, parse_address};
+use server_core::Event;
 use std::alloc::{AllocError, Global};
 
 /// What a line asks for.
@@ -22,6 +23,12 @@ pub enum Command<'a> {
     Install,
     /// A decision for this peer.
     Ask(Peer),
+    /// An empty list of events, under these limits.
+    Events { limit: u64, per_address: u64 },
+    /// That this be added to the list of events.
+    Event(Event),
+    /// What the list of events comes to.
+    Replay,
 }
 
 /// Why a line gives no command.
@@ -67,36 +74,62 @@ fn read_words(alloc: Global, line: &str) -> Result<Command<'static>, LineEnd>
     ensures refused { IfErr result (RefusesAs (command_in (words_of line.now))) }
 {
     let words = words_in(alloc, line)?;
-    command_named(alloc, words.as_slice())
+    command_from(alloc, words.as_slice())
 }
 
 /// The words of a line, one space between each two.
 fn words_in(alloc: Global, line: &str) -> Result<Vec<&str>, AllocError>
-    ensures { IfOk result (λ words. map (λ (w : Bor (List ℕ)). w.now) words.items ≡ words_of line.now) }
+    ensures { IfOk result (λ words. texts words.items ≡ words_of line.now) }
 {
     line.split(' ').collect(alloc)
 }
 
-fn command_named(alloc: Global, words: &[&str]) -> Result<Command<'static>, LineEnd>
-    ensures read { IfOk result (λ command. command_in (map (λ (w : Bor (List ℕ)). w.now) words.now) ≡ Some (meaning command)) }
-    ensures refused { IfErr result (RefusesAs (command_in (map (λ (w : Bor (List ℕ)). w.now) words.now))) }
+fn command_from(alloc: Global, words: &[&str]) -> Result<Command<'static>, LineEnd>
+    ensures read { IfOk result (λ command. command_in (texts words.now) ≡ Some (meaning command)) }
+    ensures refused { IfErr result (RefusesAs (command_in (texts words.now))) }
 {
     let Some((name, words)) = words.split_first() else {
         return Err(LineEnd::Bad);
     };
-    if *name == "install" {
-        return alone(Command::Install, words);
+    command_named(alloc, name, words)
+}
+
+/// The command with a name, and the words after that.
+fn command_named(alloc: Global, name: &str, words: &[&str]) -> Result<Command<'static>, LineEnd>
+    ensures read { IfOk result (λ command. command_named name.now (texts words.now) ≡ Some (meaning command)) }
+    ensures refused { IfErr result (RefusesAs (command_named name.now (texts words.now))) }
+{
+    match name {
+        "install" => alone(Command::Install, words),
+        "ask" => Ok(Command::Ask(read_peer(alloc, words)?)),
+        "events" => {
+            let (limit, per_address) = read_limits(words).ok_or(LineEnd::Bad)?;
+            Ok(Command::Events { limit, per_address })
+        }
+        "event" => Ok(Command::Event(read_event(alloc, words)?)),
+        "replay" => alone(Command::Replay, words),
+        _ => Err(LineEnd::Bad),
     }
-    if *name == "ask" {
-        return Ok(Command::Ask(read_peer(alloc, words)?));
+}
+
+/// The limit that the first word is, and the limit per address, which is the same where it is left out.
+fn read_limits(words: &[&str]) -> Option<(u64, u64)>
+    ensures { result ≡ limits_in (texts words.now) }
+{
+    match words {
+        [limit] => {
+            let limit = limit_in(limit)?;
+            Some((limit, limit))
+        }
+        [limit, per_address] => Some((limit_in(limit)?, limit_in(per_address)?)),
+        _ => None,
     }
-    Err(LineEnd::Bad)
 }
 
 /// A command that has no more words.
 fn alone(command: Command<'static>, words: &[&str]) -> Result<Command<'static>, LineEnd>
-    ensures read { IfOk result (λ read. alone (meaning command.entry) (map (λ (w : Bor (List ℕ)). w.now) words.now) ≡ Some (meaning read)) }
-    ensures refused { IfErr result (RefusesAs (alone (meaning command.entry) (map (λ (w : Bor (List ℕ)). w.now) words.now))) }
+    ensures read { IfOk result (λ read. alone (meaning command.entry) (texts words.now) ≡ Some (meaning read)) }
+    ensures refused { IfErr result (RefusesAs (alone (meaning command.entry) (texts words.now))) }
 {
     if words.is_empty() {
         Ok(command)
@@ -107,8 +140,8 @@ fn alone(command: Command<'static>, words: &[&str]) -> Result<Command<'static>, 
 
 /// The peer that the words after `ask` name.
 fn read_peer(alloc: Global, words: &[&str]) -> Result<Peer, LineEnd>
-    ensures read { IfOk result (λ peer. peer_in (map (λ (w : Bor (List ℕ)). w.now) words.now) ≡ Some peer) }
-    ensures refused { IfErr result (RefusesAs (peer_in (map (λ (w : Bor (List ℕ)). w.now) words.now))) }
+    ensures read { IfOk result (λ peer. peer_in (texts words.now) ≡ Some peer) }
+    ensures refused { IfErr result (RefusesAs (peer_in (texts words.now))) }
 {
     match words {
         [ip] => make_peer(alloc, ip, None, None),

@@ -1,18 +1,21 @@
-//! `rulesim`: questions about rule texts, by a script.
-ghost use Rattle.std.specs.Prelude.{◌≡◌, ◌++◌, ◌⊎◌, OnOk, IfOk, IfErr, IfSome};
+//! `rulesim`: questions about rule texts and lists of events, by a script.
+ghost use Rattle.std.specs.Prelude.{◌≡◌, ◌++◌, ◌⊎◌, Some, OnOk, IfOk, IfErr, IfSome};
 ghost use Rattle.std.specs.Io.BufRead.{strip_last};
 ghost use Rattle.std.specs.Io.KnownBytes.{Appends};
 ghost use Rattle.rule_lines.specs.Rows.{AreRules};
 ghost use Rattle.rule_lookup.specs.Decisions.{decision_in};
 ghost use Rattle.ucspi_tools.specs.Commands.{IsAt, Carries, meaning, RefusesAs};
-ghost use Rattle.ucspi_tools.specs.Scripts.{Add, Install, Ask, command_of};
-ghost use Rattle.ucspi_tools.specs.Sim.{State, start, after, printed, sim, Prints};
+ghost use Rattle.ucspi_tools.specs.Events.{with_event};
+ghost use Rattle.ucspi_tools.specs.Scripts.{Add, Install, Ask, AddEvent, Replay};
+ghost use Rattle.ucspi_tools.specs.Sim.{State, start, after, command_at, is_in_place, printed, replayed, sim, Prints};
 
-use crate::answer::{append_answer, append_fault};
+use crate::answer::{append_answer, append_fault, append_illegal, append_report};
 use crate::script::{Command, LineEnd, read_command};
 use rule_lines::{Limits, ListPairs, ParseFault, RuleList, parse};
 use rule_lookup::laws::listed;
 use rule_lookup::{DecideFault, Decision, Missing, Peer, decide};
+use server_core::laws::first_illegal;
+use server_core::{Event, ReplayFault, replay};
 use std::alloc::{AllocError, Global};
 use std::io::{BufRead, Error, ErrorKind, Write};
 use std::marker::Model;
@@ -35,11 +38,28 @@ pub enum SimEnd {
     OutOfMemory,
 }
 
-/// What a script leads to: the pending text, and the rules of the text that stands.
+/// A list of events under a limit and a limit per address.
+#[derive(Drop)]
+struct History {
+    limit: u64,
+    per_address: u64,
+    events: Vec<Event>,
+}
+
+impl Model for History {
+    ghost use Rattle.ucspi_tools.specs.Events.{History as Listed};
+
+    ghost Value = { Listed };
+
+    ghost view = { λ h. record { limit = h.limit; per_address = h.per_address; events = h.events.items } };
+}
+
+/// What a script leads to: the pending text, the rules of the text that stands, and the list of events that was begun.
 #[derive(Drop)]
 struct Sim {
     pending: Vec<u8>,
     standing: Option<RuleList>,
+    history: Option<History>,
 }
 
 impl Model for Sim {
@@ -47,19 +67,31 @@ impl Model for Sim {
 
     ghost Value = { Kept };
 
-    ghost view = { λ s. record { pending = s.pending.items; standing = s.standing } };
+    ghost view = { λ s. record { pending = s.pending.items; standing = s.standing; history = s.history } };
 
     ghost invariant = { λ s. StandingRules s.standing };
 }
 
 impl Sim {
-    /// Nothing is pending, and nothing stands.
+    /// Nothing is pending, nothing stands, and no list of events was begun.
     fn new(alloc: Global) -> Sim
         ensures { IsAt result start }
     {
         Sim {
             pending: Vec::new(alloc),
             standing: None,
+            history: None,
+        }
+    }
+
+    /// Whether a command may stand here: an event, or what the list comes to, needs a list that was begun.
+    fn may_take(&self, command: &Command<'_>) -> bool
+        ensures { (state : State) → IsAt self.now state → result ≡ is_in_place state (meaning command.now) }
+    {
+        match command {
+            Command::Event(_) | Command::Replay => self.history.is_some(),
+            Command::Skip | Command::Add(_) | Command::Install => true,
+            Command::Ask(_) | Command::Events { .. } => true,
         }
     }
 }
@@ -123,9 +155,12 @@ fn write_out<W: Write>(writer: &mut W, out: &[u8]) -> Result<(), Error>
 /// Carries out a line, which may have a line feed at its end, and gives what it prints.
 fn answer(alloc: Global, sim: &mut Sim, line: &[u8]) -> Result<Vec<u8>, LineEnd>
     ensures done { IfOk result (λ out. (state : State) → IsAt sim.old state → Carries (strip_last 10 line.now) state sim.new out.items) }
-    ensures refused { IfErr result (RefusesAs (command_of (strip_last 10 line.now))) }
+    ensures refused { (state : State) → IsAt sim.old state → IfErr result (RefusesAs (command_at state (strip_last 10 line.now))) }
 {
     let command = read_command(alloc, without_feed(line))?;
+    if !sim.may_take(&command) {
+        return Err(LineEnd::Bad);
+    }
     let mut out = Vec::new(alloc);
     execute(alloc, sim, command, &mut out)?;
     Ok(out)
@@ -154,6 +189,16 @@ fn execute(
         Command::Add(text) => add_line(sim, text),
         Command::Install => install(alloc, sim, out),
         Command::Ask(peer) => ask(alloc, sim, &peer, out),
+        Command::Events { limit, per_address } => {
+            sim.history = Some(History {
+                limit,
+                per_address,
+                events: Vec::new(alloc),
+            });
+            Ok(())
+        }
+        Command::Event(event) => add_event(sim, event),
+        Command::Replay => answer_replay(alloc, sim, out),
     }
 }
 
@@ -180,6 +225,38 @@ fn install(alloc: Global, sim: &mut Sim, out: &mut Vec<u8>) -> Result<(), AllocE
             out.extend_from_slice(b"\n")
         }
         Err(ParseFault::OutOfMemory) => Err(AllocError),
+    }
+}
+
+/// Adds an event to the list, if one was begun.
+fn add_event(sim: &mut Sim, event: Event) -> Result<(), AllocError>
+    ensures { (state : State) → IsAt sim.old state → OnOk result (IsAt sim.new (after state (AddEvent event))) }
+{
+    if let Some(history) = &mut sim.history {
+        history.events.push(event)?;
+    }
+    Ok(())
+}
+
+fn answer_replay(alloc: Global, sim: &Sim, out: &mut Vec<u8>) -> Result<(), AllocError>
+    ensures { (state : State) → IsAt sim.now state → OnOk result (out.new.items ≡ out.old.items ++ printed state Replay) }
+{
+    match &sim.history {
+        None => Ok(()),
+        Some(history) => append_outcome(alloc, history, out),
+    }
+}
+
+/// Adds what a list of events comes to.
+fn append_outcome(alloc: Global, history: &History, out: &mut Vec<u8>) -> Result<(), AllocError>
+    ensures { OnOk result (out.new.items ≡ out.old.items ++ replayed (Some history.now)) }
+{
+    first_illegal();
+    let events = history.events.as_slice();
+    match replay(alloc, history.limit, history.per_address, events) {
+        Ok(report) => append_report(out, &report),
+        Err(ReplayFault::IllegalEvent(place)) => append_illegal(out, place),
+        Err(ReplayFault::OutOfMemory) => Err(AllocError),
     }
 }
 

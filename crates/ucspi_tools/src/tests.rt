@@ -1,6 +1,7 @@
 //! Scripts of `rulesim`, and what they print.
 use crate::program::{Choice, choose};
 use crate::sim::{SimEnd, run_rulesim};
+use std::alloc::{AllocError, Global};
 use std::io::{BufRead, Error, ErrorKind, Read, Write};
 use std::process::Abort;
 use std::test::Fail;
@@ -78,6 +79,7 @@ fn bad_commands(rt: HostRuntime) -> Result<(), Fail> {
         "ask 1.1.1.1 host=a\0b",
         "other",
         "event stop",
+        "replay",
     ];
     for line in lines {
         let mut script = Vec::from_slice(rt.alloc(), b"|:deny\ninstall\n")?;
@@ -86,6 +88,197 @@ fn bad_commands(rt: HostRuntime) -> Result<(), Fail> {
         expect(&rt, script.as_slice(), "installed\n", SimEnd::BadCommand(3));
     }
     expect(&rt, b"install\xff\n", "", SimEnd::BadCommand(1));
+    Ok(())
+}
+
+/// The lines of a script that replays these events.
+fn replay_of(alloc: Global, limits: &str, events: &[&str]) -> Result<String, AllocError> {
+    let mut script = String::from_str(alloc, "events ")?;
+    script.push_str(limits)?;
+    for event in events {
+        script.push_str("\nevent ")?;
+        script.push_str(event)?;
+    }
+    script.push_str("\nreplay\n")?;
+    Ok(script)
+}
+
+/// A connection until its child was started, and what comes after that.
+const STARTED: &str =
+    "events 1\nevent admitted 1 10.0.0.1\nevent opened 1 no\nevent decided 1 allow\nevent started 1\n";
+
+#[test]
+fn lists_of_events(rt: HostRuntime) -> Result<(), Fail> {
+    let cases = [
+        ("event admitted 2 10.0.0.2\n", "illegal 5\n"),
+        (
+            "event ended 1 0\nevent admitted 2 10.0.0.2\n",
+            "admitted 2 live 1 retired 0 most 1\n",
+        ),
+        ("event retired 1\n", "admitted 1 live 1 retired 1 most 1\n"),
+        (
+            "event retired 1\nevent admitted 2 10.0.0.1\n",
+            "illegal 6\n",
+        ),
+        (
+            "event retired 1\nevent stop\nevent admitted 2 10.0.0.1\n",
+            "admitted 2 live 1 retired 0 most 1\n",
+        ),
+    ];
+    for (more, answer) in cases {
+        let script = format!(in rt.alloc(); "{STARTED}{more}replay\n")?;
+        expect(&rt, script.as_str().as_bytes(), answer, SimEnd::Ended);
+    }
+    Ok(())
+}
+
+#[test]
+fn short_lists_of_events(rt: HostRuntime) -> Result<(), Fail> {
+    let cases: [(&[&str], &str); 4] = [
+        (&[], "admitted 0 live 0 retired 0 most 0\n"),
+        (&["started 1"], "illegal 1\n"),
+        (&["phase fresh", "phase synced"], "illegal 2\n"),
+        (
+            &["phase fresh", "failed filling", "phase filling"],
+            "illegal 3\n",
+        ),
+    ];
+    for (events, answer) in cases {
+        let script = replay_of(rt.alloc(), "1", events)?;
+        expect(&rt, script.as_str().as_bytes(), answer, SimEnd::Ended);
+    }
+    Ok(())
+}
+
+#[test]
+fn lists_of_events_under_a_limit_per_address(rt: HostRuntime) -> Result<(), Fail> {
+    let three = [
+        "admitted 1 10.0.0.1",
+        "admitted 2 10.0.0.2",
+        "admitted 3 10.0.0.1",
+    ];
+    let after_a_drop = [
+        "admitted 1 10.0.0.1",
+        "admitted 2 10.0.0.2",
+        "dropped 1",
+        "admitted 3 10.0.0.1",
+    ];
+    let cases: [(&str, &[&str], &str); 4] = [
+        ("3 1", &three, "illegal 3\n"),
+        ("3 1", &after_a_drop, "admitted 3 live 2 retired 0 most 2\n"),
+        ("3 2", &three, "admitted 3 live 3 retired 0 most 3\n"),
+        ("3", &three, "admitted 3 live 3 retired 0 most 3\n"),
+    ];
+    for (limits, events, answer) in cases {
+        let script = replay_of(rt.alloc(), limits, events)?;
+        expect(&rt, script.as_str().as_bytes(), answer, SimEnd::Ended);
+    }
+    Ok(())
+}
+
+#[test]
+fn every_event_and_phase(rt: HostRuntime) -> Result<(), Fail> {
+    let events = [
+        "admitted 00001 10.0.0.1",
+        "opened 1 yes",
+        "decided 1 deny",
+        "dropped 1",
+        "admitted 2 10.0.0.1",
+        "opened 2 no",
+        "decided 2 allow",
+        "startfailed 2",
+        "phase fresh",
+        "phase filling",
+        "admitted 3 255.255.255.255",
+        "opened 3 yes",
+        "phase filling",
+        "decided 3 allow",
+        "started 3",
+        "phase synced",
+        "phase named",
+        "ended 3 signal",
+        "phase done",
+        "phase fresh",
+        "failed fresh",
+        "phase fresh",
+        "phase filling",
+        "failed synced",
+        "admitted 4 0.0.0.0",
+        "opened 4 no",
+        "decided 4 allow",
+        "started 4",
+        "ended 4 255",
+        "admitted 5 0.0.0.0",
+        "opened 5 no",
+        "decided 5 allow",
+        "started 5",
+        "retired 5",
+    ];
+    let script = replay_of(rt.alloc(), "00010000 10000", &events)?;
+    let answer = "admitted 5 live 1 retired 1 most 1\n";
+    expect(&rt, script.as_str().as_bytes(), answer, SimEnd::Ended);
+    Ok(())
+}
+
+#[test]
+fn an_answer_changes_nothing_and_a_list_begins_anew(rt: HostRuntime) {
+    let script =
+        b"events 1\nevent admitted 1 1.1.1.1\nreplay\nreplay\n|:deny\ninstall\nevent stop\nask 1.1.1.1\nreplay\nevents 1\nreplay\n";
+    let printed =
+        "admitted 1 live 1 retired 0 most 1\nadmitted 1 live 1 retired 0 most 1\ninstalled\nrule :\ndeny connection\nadmitted 1 live 0 retired 0 most 1\nadmitted 0 live 0 retired 0 most 0\n";
+    expect(&rt, script, printed, SimEnd::Ended);
+}
+
+#[test]
+fn bad_events(rt: HostRuntime) -> Result<(), Fail> {
+    let lines = [
+        "events",
+        "events 0",
+        "events 10001",
+        "events 1 0",
+        "events 1 10001",
+        "events 1 1 1",
+        "events +1",
+        "events 1 ",
+        "event",
+        "event ",
+        "event other",
+        "event admitted 1",
+        "event admitted 1 1.1.1",
+        "event admitted 1 01.1.1.1",
+        "event admitted 1 1.1.1.1 info=joe",
+        "event admitted 18446744073709551616 1.1.1.1",
+        "event admitted -1 1.1.1.1",
+        "event opened 1",
+        "event opened 1 maybe",
+        "event decided 1 allowed",
+        "event started",
+        "event started x",
+        "event started 1 2",
+        "event startfailed",
+        "event ended 1",
+        "event ended 1 256",
+        "event ended 1 Signal",
+        "event retired",
+        "event dropped 1 1",
+        "event phase",
+        "event phase Fresh",
+        "event phase fresh fresh",
+        "event failed other",
+        "event stop 1",
+        "event Stop",
+        "replay 1",
+        "Replay",
+    ];
+    for line in lines {
+        let mut script = Vec::from_slice(rt.alloc(), b"events 1\nreplay\n")?;
+        script.extend_from_slice(line.as_bytes())?;
+        script.extend_from_slice(b"\nreplay\n")?;
+        let printed = "admitted 0 live 0 retired 0 most 0\n";
+        expect(&rt, script.as_slice(), printed, SimEnd::BadCommand(3));
+    }
+    let greatest = b"events 1\nevent admitted 18446744073709551615 1.1.1.1\nreplay\n";
+    expect(&rt, greatest, "illegal 1\n", SimEnd::Ended);
     Ok(())
 }
 

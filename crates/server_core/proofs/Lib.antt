@@ -1,0 +1,12 @@
+pub mod Alive
+pub mod Counts
+pub mod Entries
+pub mod History
+pub mod Illegal
+pub mod KeptLemmas
+pub mod Limits
+pub mod ListLemmas
+pub mod LiveLemmas
+pub mod Marks
+pub mod Serials
+pub mod TableLemmas

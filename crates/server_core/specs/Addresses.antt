@@ -1,0 +1,15 @@
+-- How many connections are counted at an address.
+use Rattle.std.specs.Prelude.{◌≡◌, ℕ, List, None}
+use Rattle.std.specs.BTreeMap.{get}
+use Rattle.std.specs.Cmp.Lexicographic.{slice_cmp}
+use Rattle.std.specs.Map.{count_at}
+use Rattle.std.specs.Ordering.{nat_cmp}
+use Rattle.server_core.specs.declared.addresses.AddressCounts.{AddressCounts}
+
+-- the number at an address, or 0
+abbrev pub count_of : AddressCounts → List ℕ → ℕ
+count_of c q = count_at (get (slice_cmp nat_cmp) c.counts) q
+
+-- nothing is kept for an address
+abbrev pub IsForgotten : AddressCounts → List ℕ → Type 0
+IsForgotten c q = get (slice_cmp nat_cmp) c.counts q ≡ None

@@ -1,0 +1,21 @@
+-- What is true of the fields of each state.
+use Rattle.std.specs.Prelude.{◌≡◌, ℕ, ◌≤◌, List, All}
+use Rattle.std.specs.BTreeMap.{values}
+use Rattle.server_core.specs.Addresses.{count_of}
+use Rattle.server_core.specs.ServerState.{count_from}
+use Rattle.server_core.specs.declared.state.Connection.{Connection}
+use Rattle.server_core.specs.declared.state.State.TheInside.{Inside}
+
+-- a connection stands under its own serial
+abbrev pub HasOwnSerial : ℕ × Connection → Type 0
+HasOwnSerial e = e.0 ≡ e.1.serial
+
+-- a connection stands under no serial above the last
+abbrev pub IsUpTo : ℕ → ℕ × Connection → Type 0
+IsUpTo last e = e.0 ≤ last
+
+-- each connection stands under its own serial, none above the last, and of each address as many are counted as come from it
+pub record Kept (s : Inside) : Type 0 where
+  pub own : All HasOwnSerial s.connections.entries
+  pub up_to_last : All (IsUpTo s.last) s.connections.entries
+  pub counted : (q : List ℕ) → count_of s.addresses q ≡ count_from q (values s.connections)

@@ -1,0 +1,9 @@
+-- The state that events lead to and what its fields keep, the table of events that may happen, who is alive, and reports.
+pub mod ServerState
+pub mod Addresses
+pub mod Kept
+pub mod Table
+pub mod Live
+pub mod Reports
+pub use Rattle.rule_lookup.specs.Decisions
+pub use Rattle.rule_lookup.specs.Peers

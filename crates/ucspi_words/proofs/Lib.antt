@@ -1,0 +1,4 @@
+pub mod LetterLemmas
+pub mod OptionLemmas
+pub mod RuleLemmas
+pub mod WordLemmas
