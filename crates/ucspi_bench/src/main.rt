@@ -1,6 +1,7 @@
 //! Benchmarks of calls that no tool reaches: the words are a benchmark's name and a size. With no words it does nothing.
 #![tactic(auto)]
 
+use cdb_write::{AddFault, Maker};
 use rule_lines::{Limits, ParseFault, RuleList, parse};
 use rule_lookup::{DropCause, Peer, PeerFault};
 use server_core::{Event, replay};
@@ -105,10 +106,34 @@ fn time_replay<R: Print + Clock>(rt: &R, alloc: Global, events: usize) -> io::Re
     )
 }
 
+/// A maker with so many pairs: keys of 12 bytes, and values of 2.
+fn maker_of(alloc: Global, pairs: usize) -> Result<Maker, AddFault> {
+    let mut maker = Maker::new(alloc, Limits::profile().file);
+    for n in 0..pairs {
+        let key = format!(in alloc; "{n:012}")?;
+        maker.add(key.as_str().as_bytes(), b"D\0")?;
+    }
+    Ok(maker)
+}
+
+/// Prints how many microseconds it takes to add so many pairs and to make their file, and the file's length.
+fn time_maker<R: Print + Clock>(rt: &R, alloc: Global, pairs: usize) -> io::Result<()> {
+    let began = Instant::now(rt)?;
+    let Ok(maker) = maker_of(alloc, pairs) else {
+        return Err(io::Error::from(io::ErrorKind::OutOfMemory));
+    };
+    let Ok(image) = maker.image(alloc) else {
+        return Err(io::Error::from(io::ErrorKind::OutOfMemory));
+    };
+    let taken = began.elapsed(rt)?;
+    println!(rt; "{} microseconds, {} bytes", taken.as_micros(), image.len())
+}
+
 /// Runs a benchmark of this size.
 fn run<R: Print + Clock>(rt: &R, alloc: Global, name: &str, size: usize) -> io::Result<()> {
     match name {
         "get" => time_get(rt, alloc, size),
+        "maker" => time_maker(rt, alloc, size),
         "replay" => time_replay(rt, alloc, size),
         _ => Err(io::Error::from(io::ErrorKind::InvalidInput)),
     }

@@ -11,4 +11,6 @@ pub use program::run_program;
 pub use sim::{SimEnd, run_rulesim};
 
 #[cfg(test)]
+mod source_tests;
+#[cfg(test)]
 mod tests;

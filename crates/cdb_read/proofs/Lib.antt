@@ -1,0 +1,9 @@
+pub mod AnyKey
+pub mod FaultLemmas
+pub mod FirstFound
+pub mod Passing
+pub mod ProbeLemmas
+pub mod Probing
+pub mod ReadLemmas
+pub mod Records
+pub mod StoredRules

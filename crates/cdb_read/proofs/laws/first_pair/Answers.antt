@@ -1,0 +1,5 @@
+use Rattle.cdb_read.proofs.AnyKey.{reading_is}
+use Rattle.cdb_read.proofs.laws.first_pair.Goals as goal
+
+pub returns : goal.returns
+returns c file pairs cdb key = reading_is file pairs cdb key

@@ -1,0 +1,43 @@
+-- The parts of a lookup in a compiled file.
+use Rattle.std.specs.Prelude.{◌≡◌, ℕ, ◌+◌, ◌*◌, Bool, not, List, map, find, Option, Some, None, IsTrue, if◌then◌else◌}
+use Rattle.std.specs.List.{range_with_len}
+use Rattle.cdb_write.specs.Format.{hash_of, two_numbers_at}
+use Rattle.cdb_write.specs.Slots.{probe}
+use Rattle.cdb_read.specs.Reading.{found_at, has_other_key, is_passed, value_at}
+use Rattle.rule_lines.specs.Lookups.{Finding}
+use Rattle.rule_lines.specs.Lookups.Finding.{Has, Absent, Broken}
+use Rattle.rule_lines.specs.declared.source.FindFault.{FindFault}
+use Rattle.rule_lines.specs.declared.source.FindFault.TheVariants.{Short, Device, OutOfMemory}
+
+-- what the record at a place has for a key: nothing, if it is seen to have another key
+abbrev pub record_at : List ℕ → List ℕ → ℕ → Finding
+record_at file key place = if has_other_key file key place then Absent else value_at file key place
+
+-- the slots that a pointer names: where they stand, and how many they are
+abbrev pub slots_from : List ℕ → ℕ × ℕ → List (ℕ × ℕ)
+slots_from file pointer = map (λ i. two_numbers_at file (pointer.0 + 8 * i)) (range_with_len 0 pointer.1)
+
+-- what is found among slots: the first that is not passed decides
+abbrev pub found_in_probe : List ℕ → List ℕ → List (ℕ × ℕ) → Finding
+found_in_probe file key slots = found_at file key (find (λ (slot : ℕ × ℕ). not (is_passed file key slot)) slots)
+
+-- what is found among the slots that a pointer names, in the order in which the key's hash is looked for
+abbrev pub found_in_slots : List ℕ → List ℕ → ℕ × ℕ → Finding
+found_in_slots file key pointer = found_in_probe file key (probe (hash_of key) (slots_from file pointer))
+
+-- an answer says what is found
+abbrev pub IsAnswer : Finding → Option (List ℕ) → Type 0
+IsAnswer found (Some value) = found ≡ Has value
+IsAnswer found None = found ≡ Absent
+
+-- a fault where something is to be found in a file of which it is known, or not, that it is honest and that it is sound
+abbrev pub IsFault : Bool → Bool → Finding → FindFault → Type 0
+IsFault honest sound found Short = IsTrue honest → found ≡ Broken
+IsFault honest sound found Device = IsTrue sound → ⊥
+IsFault honest sound found OutOfMemory = Unit {0}
+
+-- a fault of a read inside such a file
+abbrev pub ReadFails : Bool → Bool → FindFault → Type 0
+ReadFails honest sound Short = IsTrue honest → ⊥
+ReadFails honest sound Device = IsTrue sound → ⊥
+ReadFails honest sound OutOfMemory = Unit {0}

@@ -1,0 +1,10 @@
+//! Lookups in compiled files (cdb), whatever their bytes.
+#![tactic(auto)]
+
+pub mod cdb_file;
+pub mod laws;
+
+pub use cdb_file::CdbFile;
+
+#[cfg(test)]
+mod tests;

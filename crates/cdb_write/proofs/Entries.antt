@@ -1,0 +1,140 @@
+-- The entries of the records: they rise, they fit their numbers, and so do those of one table.
+use Rattle.std.proofs.Common.{◌≡◌, ℕ, zero, suc, ◌+◌, ◌^◌, ◌<◌, ◌≤◌, Bool, true, List, [], ◌∷◌, ◌++◌, length, get_or, take, drop, refl, sym, ap, ◌∙◌, subst, arith, length-append, mod-lt}
+use Rattle.std.proofs.lemmas.Bool.{cond-true, cond_both}
+use Rattle.std.proofs.lemmas.List.{drop_more, get_or_at, get_or_default, get_or-take, length-take-le, take-append-drop, take_at}
+use Rattle.std.proofs.lemmas.List.Elements.{All-cons, All-filter, All-nil, filter-append}
+use Rattle.std.specs.List.{All, IsAmong, filter}
+use Rattle.cdb_write.specs.Format.{Pair, entries_from, entries_of, hash_of, record_of, records_of}
+use Rattle.cdb_write.specs.Image.{finished_length, records_length}
+use Rattle.cdb_write.specs.Slots.{table_entries}
+use Rattle.cdb_write.proofs.Probing.{empty}
+use Rattle.cdb_write.proofs.Placing.{IsBefore, Rising, entry}
+
+-- positions rise from above a place
+abbrev pub Above : ℕ → List (ℕ × ℕ) → Type 0
+Above place [] = Unit
+Above place (e ∷ es) = (place < e.1) × Above e.1 es
+
+-- what rises from above a place rises from above a lower one
+above-lower : (low high : ℕ) (es : List (ℕ × ℕ)) → low ≤ high → Above high es → Above low es
+above-lower low high [] l a = tt
+above-lower low high (e ∷ es) l a = ((omega (arith, a.0)), a.1)
+
+-- what a test keeps rises too
+above-filter : (test : ℕ × ℕ → Bool) (place : ℕ) (es : List (ℕ × ℕ)) → Above place es → Above place (filter test es)
+above-filter test place [] a = tt
+above-filter test place (e ∷ es) a =
+    cond_both (test e) (e ∷ filter test es) (filter test es) (Above place)
+    (λ kept. (a.0, above-filter test e.1 es a.1))
+    (λ out. above-lower place e.1 (filter test es) (omega (arith, a.0)) (above-filter test e.1 es a.1))
+
+-- each position is above the place
+above-at : (place k : ℕ) (es : List (ℕ × ℕ)) → Above place es → k < length es → place < (entry es k).1
+above-at place k [] a l = absurd (omega arith)
+above-at place zero (e ∷ es) a l = a.0
+above-at place (suc k) (e ∷ es) a l = omega (arith, a.0, above-at e.1 k es a.1 (omega arith))
+
+-- a later position is above an earlier one
+above-rising : (place j k : ℕ) (es : List (ℕ × ℕ)) → Above place es → j < k → k < length es → (entry es j).1 < (entry es k).1
+above-rising place j k [] a jk l = absurd (omega arith)
+above-rising place j zero (e ∷ es) a jk l = absurd (omega arith)
+above-rising place zero (suc k) (e ∷ es) a jk l = above-at e.1 k es a.1 (omega arith)
+above-rising place (suc j) (suc k) (e ∷ es) a jk l = above-rising e.1 j k es a.1 (omega arith) (omega arith)
+
+-- entries above place 0 rise
+rising_from_above : (es : List (ℕ × ℕ)) → Above 0 es → Rising es
+rising_from_above es a = record { above = λ j l. above-at 0 j es a l; rising = λ j k jk l. above-rising 0 j k es a jk l }
+
+-- the entries of records that stand from a place on are above any lower place
+above-entries : (low place : ℕ) (pairs : List Pair) → low < place → Above low (entries_from place pairs)
+above-entries low place [] l = tt
+above-entries low place (pair ∷ pairs) l = (l, above-entries place _ pairs (omega arith))
+
+-- the entries of all records rise
+pub rising_all : (pairs : List Pair) → Rising (entries_of pairs)
+rising_all pairs = rising_from_above (entries_of pairs) (above-entries 0 2048 pairs (omega arith))
+
+-- the entries of one table rise
+pub rising_table : (t : ℕ) (pairs : List Pair) → Rising (table_entries t pairs)
+rising_table t pairs = rising_from_above (table_entries t pairs) (above-filter _ 0 (entries_of pairs) (above-entries 0 2048 pairs (omega arith)))
+
+-- where the next record stands
+abbrev after : ℕ → Pair → ℕ
+after place pair = place + 8 + length pair.key + length pair.value
+
+-- from any place on there is an entry for each record
+length-entries_from : (place : ℕ) (pairs : List Pair) → length (entries_from place pairs) ≡ length pairs
+length-entries_from place [] = refl
+length-entries_from place (pair ∷ pairs) = ap suc (length-entries_from (after place pair) pairs)
+
+-- there is an entry for each record
+pub length-entries : (pairs : List Pair) → length (entries_of pairs) ≡ length pairs
+length-entries pairs = length-entries_from 2048 pairs
+
+-- from any place on an entry has the hash of its record's key
+hash-entries_from : (place i : ℕ) (pairs : List Pair) (e : ℕ × ℕ) (p : Pair) → i < length pairs
+    → (get_or (entries_from place pairs) i e).0 ≡ hash_of (get_or pairs i p).key
+hash-entries_from place i [] e p l = absurd (omega arith)
+hash-entries_from place zero (pair ∷ pairs) e p l = refl
+hash-entries_from place (suc i) (pair ∷ pairs) e p l = hash-entries_from (after place pair) i pairs e p (omega arith)
+
+-- an entry has the hash of its record's key
+pub hash-entries : (i : ℕ) (pairs : List Pair) (e : ℕ × ℕ) (p : Pair) → i < length pairs
+    → (get_or (entries_of pairs) i e).0 ≡ hash_of (get_or pairs i p).key
+hash-entries i pairs e p l = hash-entries_from 2048 i pairs e p l
+
+-- two numbers fit their 32 bits
+abbrev pub AreFit : ℕ × ℕ → Type 0
+AreFit p = (p.0 < 2 ^ 32) × (p.1 < 2 ^ 32)
+
+-- how long a record is
+length-record : (pair : Pair) (rest : List ℕ) → length (record_of pair ++ rest) ≡ 8 + length pair.key + length pair.value + length rest
+length-record pair rest = omega (arith, length-append (pair.key ++ pair.value) rest, length-append pair.key pair.value)
+
+-- the entries fit where the records end below 2 ^ 32
+fit-entries_from : (place : ℕ) (pairs : List Pair) → place + records_length pairs < 2 ^ 32 → All AreFit (entries_from place pairs)
+fit-entries_from place [] l = All-nil AreFit
+fit-entries_from place (pair ∷ pairs) l =
+    let size = length-record pair (records_of pairs) in
+    All-cons AreFit (hash_of pair.key, place) (entries_from (after place pair) pairs) (mod-lt _ (omega arith), (omega (arith, l)))
+    (fit-entries_from (after place pair) pairs (omega (arith, l, size)))
+
+-- the entries of a table fit where the whole file does
+pub fit_table : (t : ℕ) (pairs : List Pair) → finished_length pairs < 2 ^ 32 → All AreFit (table_entries t pairs)
+fit_table t pairs l = All-filter _ AreFit (entries_of pairs) (fit-entries_from 2048 pairs (omega arith))
+
+-- where an entry stands among those that a test keeps: behind the kept ones of those before it
+pub record Kept (test : ℕ × ℕ → Bool) (es : List (ℕ × ℕ)) (i : ℕ) : Type 0 where
+  pub at : ℕ
+  pub inside : at < length (filter test es)
+  pub here : entry (filter test es) at ≡ entry es i
+  pub earlier : take at (filter test es) ≡ filter test (take i es)
+
+-- each entry that passes is kept
+pub kept : (test : ℕ × ℕ → Bool) (es : List (ℕ × ℕ)) (i : ℕ) → i < length es → test (entry es i) ≡ true → Kept test es i
+kept test es i l passes =
+    let front = filter test (take i es) in
+    let back = filter test (drop (i + 1) es) in
+    let split : filter test es ≡ front ++ (entry es i ∷ back) =
+    ap (filter test) (sym (take-append-drop i es) ∙ ap (λ (r : List (ℕ × ℕ)). take i es ++ r) (drop_more es i empty l))
+    ∙ filter-append test (take i es) (entry es i ∷ drop (i + 1) es)
+    ∙ ap (λ (r : List (ℕ × ℕ)). front ++ r) (cond-true (test (entry es i)) (entry es i ∷ back) back passes) in
+    record {
+      at = length front;
+      inside = omega (arith, ap length split, length-append front (entry es i ∷ back));
+      here = ap (λ (r : List (ℕ × ℕ)). entry r (length front)) split ∙ get_or_at front (entry es i) back empty (length front) refl;
+      earlier = ap (take (length front)) split ∙ take_at front (entry es i ∷ back) (length front) refl;
+    }
+
+-- what a test keeps is among what there was
+among-filter : (test : ℕ × ℕ → Bool) (es : List (ℕ × ℕ)) → All (IsAmong es) (filter test es)
+among-filter test es = All-filter test (IsAmong es) es (λ k d l. (k, (l, get_or_default es k d _ l)))
+
+-- a kept entry before the place of another is among those before the other
+pub among_earlier : (test : ℕ × ℕ → Bool) (es : List (ℕ × ℕ)) (i : ℕ) (s : ℕ × ℕ) → (k : Kept test es i) → IsBefore (filter test es) k.at s → IsAmong (take i es) s
+among_earlier test es i s k b =
+    let front = filter test (take i es) in
+    let place = ap (λ (r : List (ℕ × ℕ)). entry r b.0) k.earlier in
+    let same : entry front b.0 ≡ s = sym place ∙ get_or-take k.at (filter test es) b.0 empty b.1 ∙ sym b.2 in
+    let size : length front ≡ k.at = sym (ap length k.earlier) ∙ length-take-le k.at (filter test es) (omega (arith, k.inside)) in
+    subst (IsAmong (take i es)) same (among-filter test (take i es) b.0 empty (omega (arith, size, b.1)))

@@ -1,0 +1,10 @@
+pub mod Entries
+pub mod Joined
+pub mod Places
+pub mod Placing
+pub mod Probing
+pub mod Reading
+pub mod RecordLemmas
+pub mod SlotLemmas
+pub mod Standing
+pub mod TableLemmas

@@ -1,0 +1,22 @@
+-- The file that is written, by what it holds.
+use Rattle.std.specs.Prelude.{◌≡◌, ℕ, ◌<◌, List, length, take, get_or, All}
+use Rattle.std.specs.List.{IsAmong, before_first}
+use Rattle.cdb_write.specs.Format.{Pair, entries_of}
+use Rattle.cdb_write.specs.Slots.{is_same, pointer_at, probe_at, slots_at}
+use Rattle.cdb_write.specs.IsCdb.{IsCdb}
+use Rattle.cdb_write.specs.Image.{finished_length, pointer_of}
+
+-- each slot that is passed before a record's own holds an earlier record
+abbrev pub IsPastEarlier : List ℕ → List Pair → Type 0
+IsPastEarlier file pairs =
+    (i : ℕ) (e : ℕ × ℕ) → i < length pairs
+    → All (IsAmong (take i (entries_of pairs))) (before_first (is_same (get_or (entries_of pairs) i e)) (probe_at file (get_or (entries_of pairs) i e).0))
+
+pub record Written (file : List ℕ) (pairs : List Pair) : Type 0 where
+  pub cdb : IsCdb file pairs
+  -- the tables stand in order directly after the records, each with twice as many slots as records
+  pub pointers : (t : ℕ) → t < 256 → pointer_at file t ≡ pointer_of pairs t
+  pub whole : length file ≡ finished_length pairs
+  -- an empty slot is eight zero bytes
+  pub zeros : (t : ℕ) → t < 256 → All (λ (s : ℕ × ℕ). s.1 ≡ 0 → s.0 ≡ 0) (slots_at file t)
+  pub past_earlier : IsPastEarlier file pairs

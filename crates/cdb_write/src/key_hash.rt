@@ -1,0 +1,14 @@
+//! The hash of a key.
+ghost use Rattle.std.specs.Prelude.{◌≡◌};
+ghost use Rattle.cdb_write.specs.Format.{hash_of};
+
+/// The hash of a key, as the cdb page has it: from 5381 on, for each byte `h = ((h << 5) + h) ^ c` in 32 bits. It takes no memory.
+pub fn hash(key: &[u8]) -> u32
+    ensures { result ≡ hash_of key.now }
+{
+    let mut h: u32 = 5381;
+    for byte in key {
+        h = h.wrapping_mul(33) ^ u32::from(*byte);
+    }
+    h
+}

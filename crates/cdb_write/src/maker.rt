@@ -1,0 +1,179 @@
+//! Making a file in memory.
+ghost use Rattle.std.specs.Prelude.{◌≡◌, ◌<◌, ◌≤◌, ◌^◌, ℕ, List, ◌++◌, flat_map, OnOk, OnErr, IfOk, IfErr};
+ghost use Rattle.std.specs.List.{range_with_len};
+ghost use Rattle.cdb_write.specs.Format.{entries_of};
+ghost use Rattle.cdb_write.specs.Image.{finished_length, image_of, pointers_of, table_bytes};
+ghost use Rattle.cdb_write.specs.Making.{RefusesPair, no_pairs, with_pair};
+ghost use Rattle.cdb_write.specs.Slots.{entries_in};
+ghost use Rattle.cdb_write.specs.Tables.{HoldsByTable};
+ghost use Rattle.cdb_write.specs.Written.{Written};
+ghost use Rattle.cdb_write.specs.declared.maker.AddFault.TheVariants.{OutOfMemory};
+
+use crate::append::{append_pairs, append_record};
+use crate::key_hash::hash;
+use crate::laws::pieces;
+use crate::slot::filled_slots;
+use crate::tables::{TABLE_COUNT, Tables};
+use std::alloc::{AllocError, AllocFailed, Global};
+use std::marker::Model;
+use thiserror::Error;
+
+/// The length of the pointers.
+const HEADER_LENGTH: usize = 2048;
+
+/// The length of the two lengths that begin a record.
+const LENGTHS_LENGTH: usize = 8;
+
+/// The length of the two slots that a table has for each record.
+const SLOTS_LENGTH: usize = 16;
+
+/// Why a pair was not added.
+#[derive(Clone, Copy, PartialEq, Eq, Debug, Error)]
+pub enum AddFault {
+    /// The finished file would pass the limit.
+    #[error("compiled file too large")]
+    TooLarge,
+    /// There was no memory for it.
+    #[error("out of memory")]
+    OutOfMemory,
+}
+
+impl From<AllocError> for AddFault {
+    ghost from_gives = { λ _ e. e ≡ OutOfMemory };
+
+    fn from(_error: AllocError) -> AddFault {
+        AddFault::OutOfMemory
+    }
+}
+
+impl<T: Drop> From<AllocFailed<T>> for AddFault {
+    ghost from_gives = { λ _ e. e ≡ OutOfMemory };
+
+    fn from(_error: AllocFailed<T>) -> AddFault {
+        AddFault::OutOfMemory
+    }
+}
+
+/// Pairs that are to be written as a file, in the order in which they were added.
+#[derive(Drop)]
+pub struct Maker {
+    limit: u64,
+    /// The records, as they will stand behind the pointers.
+    records: Vec<u8>,
+    /// The hash of each key, and the place of its record in the file.
+    entries: Vec<(u32, u32)>,
+}
+
+impl Model for Maker {
+    ghost use Rattle.std.specs.Prelude.{length};
+    ghost use Rattle.cdb_write.specs.Making.{Making, Stores, pairs_in};
+
+    ghost Value = { Making };
+
+    ghost view = { λ m. record { limit = m.limit; pairs = pairs_in (length m.entries.items) m.records.items } };
+
+    ghost invariant = { λ m.
+        Stores m.limit m.records.items m.entries.items (pairs_in (length m.entries.items) m.records.items) };
+}
+
+impl Maker {
+    /// No pairs. The finished file may have `limit` bytes; a limit under 2,048 counts as that, and one over 4,294,967,295 as
+    /// that. It takes no memory.
+    pub fn new(alloc: Global, limit: u64) -> Maker
+        ensures { result ≡ no_pairs limit }
+    {
+        Maker {
+            limit: limit.clamp(2048, 4294967295),
+            records: Vec::new(alloc),
+            entries: Vec::new(alloc),
+        }
+    }
+
+    /// Adds a pair at the end.
+    ///
+    /// # Errors
+    /// `TooLarge` where the finished file would pass the limit, `OutOfMemory` where there was no memory. Nothing changed then.
+    pub fn add(&mut self, key: &[u8], value: &[u8]) -> Result<(), AddFault>
+        ensures added { OnOk result (self.new ≡ with_pair self.old key.now value.now) }
+        ensures fits { OnOk result (finished_length self.new.pairs ≤ self.new.limit) }
+        ensures refused { IfErr result (RefusesPair self.old key.now value.now) }
+        ensures unchanged { OnErr result (self.new ≡ self.old) }
+    {
+        let finished = (self.finished_length() + LENGTHS_LENGTH + SLOTS_LENGTH)
+            .saturating_add(key.len())
+            .saturating_add(value.len());
+        if finished as u64 > self.limit {
+            return Err(AddFault::TooLarge);
+        }
+        let place = HEADER_LENGTH + self.records.len();
+        self.entries.reserve(1)?;
+        append_record(&mut self.records, key, value)?;
+        self.entries.push((hash(key), place as u32))?;
+        Ok(())
+    }
+
+    /// The length of the finished file.
+    fn finished_length(&self) -> usize
+        ensures length { result ≡ finished_length self.now.pairs }
+        ensures fits { result ≤ self.now.limit }
+        ensures limit { self.now.limit < 2 ^ 32 }
+    {
+        HEADER_LENGTH + self.records.len() + SLOTS_LENGTH * self.entries.len()
+    }
+
+    /// The entries by their tables.
+    fn tables(&self, alloc: Global) -> Result<Tables, AllocError>
+        ensures { IfOk result (λ tables. HoldsByTable tables (entries_of self.now.pairs)) }
+    {
+        let mut tables = Tables::new(alloc)?;
+        for entry in &self.entries {
+            tables.push(*entry)?;
+        }
+        Ok(tables)
+    }
+
+    /// Where each table will stand, and how many slots it will have.
+    fn pointers(&self, alloc: Global, tables: &Tables) -> Result<Vec<(u32, u32)>, AllocError>
+        requires { HoldsByTable tables.now (entries_of self.now.pairs) }
+        ensures { IfOk result (λ pointers. pointers.items ≡ pointers_of self.now.pairs) }
+    {
+        let mut pointers = Vec::with_capacity(alloc, TABLE_COUNT)?;
+        let mut place = (HEADER_LENGTH + self.records.len()) as u32;
+        for table in 0..TABLE_COUNT {
+            let slots = 2 * tables.get(table).len() as u32;
+            pointers.push((place, slots))?;
+            place += 8 * slots;
+        }
+        Ok(pointers)
+    }
+
+    /// The file of the pairs: the header, the records in order, and the tables in order.
+    ///
+    /// # Errors
+    /// There was no memory.
+    pub fn image(self, alloc: Global) -> Result<Vec<u8>, AllocError>
+        ensures image { IfOk result (λ file. file.items ≡ image_of self.pairs) }
+        ensures written { IfOk result (λ file. Written file.items self.pairs) }
+    {
+        let tables = self.tables(alloc)?;
+        let pointers = self.pointers(alloc, &tables)?;
+        let mut file = Vec::with_capacity(alloc, self.finished_length())?;
+        append_pairs(&mut file, &pointers)?;
+        file.extend_from_slice(&self.records)?;
+        append_tables(alloc, &mut file, &tables)?;
+        pieces();
+        Ok(file)
+    }
+}
+
+/// Appends the slots of each table.
+fn append_tables(alloc: Global, out: &mut Vec<u8>, tables: &Tables) -> Result<(), AllocError>
+    ensures { OnOk result ((entries : List (ℕ × ℕ)) → HoldsByTable tables.now entries
+        → out.new.items ≡ out.old.items ++ flat_map (λ t. table_bytes (entries_in t entries)) (range_with_len 0 256)) }
+{
+    for table in 0..TABLE_COUNT {
+        let slots = filled_slots(alloc, tables.get(table))?;
+        append_pairs(out, &slots)?;
+    }
+    Ok(())
+}

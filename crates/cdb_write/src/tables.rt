@@ -1,0 +1,64 @@
+//! Entries by their tables.
+ghost use Rattle.std.specs.Prelude.{◌≡◌, ℕ, ◌<◌, List, [], ◌∷◌, ◌++◌, OnErr, OnOk, IfOk};
+ghost use Rattle.cdb_write.specs.Slots.{entries_in};
+ghost use Rattle.cdb_write.specs.Tables.{HoldsByTable};
+
+use std::alloc::{AllocError, Global};
+use std::marker::Model;
+
+/// The number of tables.
+pub(crate) const TABLE_COUNT: usize = 256;
+
+/// The hashes and positions of records, in 256 lists by the table that each hash names.
+#[derive(Drop)]
+pub struct Tables {
+    lists: Vec<Vec<(u32, u32)>>,
+}
+
+impl Model for Tables {
+    ghost use Rattle.std.specs.Prelude.{◌≡◌, ℕ, List, length, map};
+
+    ghost Value = { List (List (ℕ × ℕ)) };
+
+    ghost view = { λ t. map (λ list. list.items) t.lists.items };
+
+    ghost invariant = { λ t. length t.lists.items ≡ 256 };
+}
+
+impl Tables {
+    /// 256 lists with nothing in them.
+    ///
+    /// # Errors
+    /// There was no memory.
+    pub fn new(alloc: Global) -> Result<Tables, AllocError>
+        ensures { IfOk result (λ tables. HoldsByTable tables []) }
+    {
+        let mut lists = Vec::with_capacity(alloc, TABLE_COUNT)?;
+        for _table in 0..TABLE_COUNT {
+            lists.push(Vec::new(alloc))?;
+        }
+        Ok(Tables { lists })
+    }
+
+    /// Adds an entry at the end of its table's list.
+    ///
+    /// # Errors
+    /// There was no memory. Nothing changed then.
+    pub fn push(&mut self, entry: (u32, u32)) -> Result<(), AllocError>
+        ensures added { OnOk result ((entries : List (ℕ × ℕ)) → HoldsByTable self.old entries
+            → HoldsByTable self.new (entries ++ entry ∷ [])) }
+        ensures unchanged { OnErr result (self.new ≡ self.old) }
+    {
+        let table = (entry.0 % 256) as usize;
+        self.lists[table].push(entry)?;
+        Ok(())
+    }
+
+    /// The entries of a table, in order.
+    pub fn get(&self, table: usize) -> &[(u32, u32)]
+        requires { table < 256 }
+        ensures { (entries : List (ℕ × ℕ)) → HoldsByTable self.now entries → result.now ≡ entries_in table entries }
+    {
+        &self.lists[table]
+    }
+}

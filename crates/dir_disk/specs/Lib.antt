@@ -1,0 +1,2 @@
+-- What reads of an opened file give.
+pub mod Files
