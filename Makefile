@@ -7,6 +7,7 @@
 PREFIX ?= /usr/local
 PROGRAM := crates/ucspi/out/ucspi
 BENCH := crates/ucspi_bench/out/ucspi_bench
+PROBE := crates/dir_probe/out/dir_probe
 SOURCES := HANDLES crates.txt $(shell find crates -name out -prune -o -type f -print)
 
 .PHONY: all run check bench install
@@ -26,8 +27,12 @@ run: $(PROGRAM)
 
 check:
 	rt ci
-	touch $(PROGRAM) $(BENCH)
+	touch $(PROGRAM) $(BENCH) $(PROBE)
 	tests/run
+
+$(PROBE): $(SOURCES)
+	cd crates/dir_probe && rt run </dev/null
+	touch $@
 
 bench: $(PROGRAM) $(BENCH)
 	bench/run

@@ -2,7 +2,7 @@
 ghost use Rattle.std.specs.Prelude.{◌≡◌, ◌<◌, ◌≤◌, ◌^◌, ℕ, List, ◌++◌, flat_map, OnOk, OnErr, IfOk, IfErr};
 ghost use Rattle.std.specs.List.{range_with_len};
 ghost use Rattle.cdb_write.specs.Format.{entries_of};
-ghost use Rattle.cdb_write.specs.Image.{finished_length, image_of, pointers_of, table_bytes};
+ghost use Rattle.cdb_write.specs.Image.{finished_length, image_of, table_bytes};
 ghost use Rattle.cdb_write.specs.Making.{RefusesPair, no_pairs, with_pair};
 ghost use Rattle.cdb_write.specs.Slots.{entries_in};
 ghost use Rattle.cdb_write.specs.Tables.{HoldsByTable};
@@ -132,21 +132,6 @@ impl Maker {
         Ok(tables)
     }
 
-    /// Where each table will stand, and how many slots it will have.
-    fn pointers(&self, alloc: Global, tables: &Tables) -> Result<Vec<(u32, u32)>, AllocError>
-        requires { HoldsByTable tables.now (entries_of self.now.pairs) }
-        ensures { IfOk result (λ pointers. pointers.items ≡ pointers_of self.now.pairs) }
-    {
-        let mut pointers = Vec::with_capacity(alloc, TABLE_COUNT)?;
-        let mut place = (HEADER_LENGTH + self.records.len()) as u32;
-        for table in 0..TABLE_COUNT {
-            let slots = 2 * tables.get(table).len() as u32;
-            pointers.push((place, slots))?;
-            place += 8 * slots;
-        }
-        Ok(pointers)
-    }
-
     /// The file of the pairs: the header, the records in order, and the tables in order.
     ///
     /// # Errors
@@ -156,7 +141,8 @@ impl Maker {
         ensures written { IfOk result (λ file. Written file.items self.pairs) }
     {
         let tables = self.tables(alloc)?;
-        let pointers = self.pointers(alloc, &tables)?;
+        let first = (HEADER_LENGTH + self.records.len()) as u32;
+        let pointers = tables.pointers(alloc, first)?;
         let mut file = Vec::with_capacity(alloc, self.finished_length())?;
         append_pairs(&mut file, &pointers)?;
         file.extend_from_slice(&self.records)?;

@@ -1,5 +1,7 @@
 //! Entries by their tables.
-ghost use Rattle.std.specs.Prelude.{◌≡◌, ℕ, ◌<◌, List, [], ◌∷◌, ◌++◌, OnErr, OnOk, IfOk};
+ghost use Rattle.std.specs.Prelude.{◌≡◌, ℕ, ◌+◌, ◌^◌, ◌<◌, List, [], ◌∷◌, ◌++◌, OnErr, OnOk, IfOk};
+ghost use Rattle.cdb_write.specs.Format.{Pair, entries_of};
+ghost use Rattle.cdb_write.specs.Image.{finished_length, pointers_of, records_length};
 ghost use Rattle.cdb_write.specs.Slots.{entries_in};
 ghost use Rattle.cdb_write.specs.Tables.{HoldsByTable};
 
@@ -60,5 +62,25 @@ impl Tables {
         ensures { (entries : List (ℕ × ℕ)) → HoldsByTable self.now entries → result.now ≡ entries_in table entries }
     {
         &self.lists[table]
+    }
+
+    /// The pointers of all tables, the first of which stands at this place, behind the records: where each stands, and how many slots
+    /// it has.
+    ///
+    /// # Errors
+    /// There was no memory.
+    pub fn pointers(&self, alloc: Global, first: u32) -> Result<Vec<(u32, u32)>, AllocError>
+        requires { (pairs : List Pair) × HoldsByTable self.now (entries_of pairs) × (first ≡ 2048 + records_length pairs) × (finished_length pairs < 2 ^ 32) }
+        ensures { IfOk result (λ pointers. (pairs : List Pair) → HoldsByTable self.now (entries_of pairs) → first ≡ 2048 + records_length pairs
+            → finished_length pairs < 2 ^ 32 → pointers.items ≡ pointers_of pairs) }
+    {
+        let mut pointers = Vec::with_capacity(alloc, TABLE_COUNT)?;
+        let mut place = first;
+        for table in 0..TABLE_COUNT {
+            let slots = 2 * self.get(table).len() as u32;
+            pointers.push((place, slots))?;
+            place += 8 * slots;
+        }
+        Ok(pointers)
     }
 }

@@ -1,8 +1,31 @@
 //! Files and directories as the tools see them, on a disk or in memory.
 #![tactic(auto)]
 
+mod choice;
+mod crash;
+pub mod dir;
+mod entries;
+pub mod fault;
+mod folder;
+pub mod fuse_dir;
+mod held;
+pub mod mem_dir;
+pub mod name;
+pub mod os_dir;
+pub mod os_file;
+pub mod replace;
 pub mod rules_file;
+mod stored;
 
+pub use choice::Choice;
+pub use dir::Dir;
+pub use fault::DirFault;
+pub use fuse_dir::FuseDir;
+pub use mem_dir::MemDir;
+pub use name::{Name, NameFault};
+pub use os_dir::{FolderFault, OsDir};
+pub use os_file::OsFile;
+pub use replace::replace_file;
 pub use rules_file::{DeviceFault, MemFile, RulesFile};
 
 #[cfg(test)]

@@ -1,8 +1,11 @@
 //! Opened files.
 ghost use Rattle.std.specs.Prelude.{◌≡◌, ◌≤◌, List, ℕ, Bool, true, length, IfOk, IfErr, IsOk, IsTrue};
+ghost use Rattle.std.specs.Arc.{arc_value};
 ghost use Rattle.dir_disk.specs.Files.{Gives};
 
+use crate::held::Held;
 use std::marker::Model;
+use std::sync::Arc;
 use thiserror::Error;
 
 /// A device failed.
@@ -38,17 +41,18 @@ pub trait RulesFile {
 }
 
 /// A file in memory.
-#[derive(Debug, Drop)]
+#[derive(Drop)]
 pub struct MemFile {
-    bytes: Vec<u8>,
+    bytes: Held,
 }
 
 impl Model for MemFile {
     ghost use Rattle.std.specs.Prelude.{List, ℕ};
+    ghost use Rattle.dir_disk.specs.Held.{held_bytes};
 
     ghost Value = { List ℕ };
 
-    ghost view = { λ f. f.bytes.items };
+    ghost view = { λ f. held_bytes f.bytes };
 }
 
 impl MemFile {
@@ -56,7 +60,18 @@ impl MemFile {
     pub fn new(bytes: Vec<u8>) -> MemFile
         ensures { result ≡ bytes.items }
     {
-        MemFile { bytes }
+        MemFile {
+            bytes: Held::Own(bytes),
+        }
+    }
+
+    /// A file that shares these bytes.
+    pub(crate) fn shared(bytes: Arc<Vec<u8>>) -> MemFile
+        ensures { result ≡ (arc_value bytes).items }
+    {
+        MemFile {
+            bytes: Held::Shared(bytes),
+        }
     }
 }
 
@@ -70,14 +85,15 @@ impl RulesFile for MemFile {
     ghost sound_is_honest = { λ sound. sound };
 
     fn len(&self) -> u64 {
-        self.bytes.len() as u64
+        self.bytes.as_slice().len() as u64
     }
 
     fn read_at(&self, place: u64, buf: &mut [u8]) -> Result<usize, DeviceFault> {
         let Ok(place) = usize::try_from(place) else {
             return Ok(0);
         };
-        let Some(rest) = self.bytes.get(place..) else {
+        let bytes = self.bytes.as_slice();
+        let Some(rest) = bytes.get(place..) else {
             return Ok(0);
         };
         let count = rest.len().min(buf.len());

@@ -38,7 +38,6 @@ pub struct State {
 }
 
 impl Model for State {
-    ghost use Rattle.server_core.specs.Reports.{is_admission};
     ghost use Rattle.server_core.specs.ServerState.{ServerState};
 
     ghost Value = { ServerState };

@@ -65,24 +65,18 @@ fn other_event(alloc: Global, name: &str, words: &[&str]) -> Option<Event>
     match name {
         "opened" => {
             let (serial, word) = serial_and_word(words)?;
-            Some(Event::Opened {
-                serial,
-                there: there_in(word)?,
-            })
+            let there = there_in(word)?;
+            Some(Event::Opened { serial, there })
         }
         "decided" => {
             let (serial, word) = serial_and_word(words)?;
-            Some(Event::Decided {
-                serial,
-                decision: decision_with(alloc, verdict_in(word)?),
-            })
+            let decision = decision_with(alloc, verdict_in(word)?);
+            Some(Event::Decided { serial, decision })
         }
         "ended" => {
             let (serial, word) = serial_and_word(words)?;
-            Some(Event::Ended {
-                serial,
-                status: status_in(word)?,
-            })
+            let status = status_in(word)?;
+            Some(Event::Ended { serial, status })
         }
         "started" => Some(Event::Started {
             serial: only_serial(words)?,

@@ -1,4 +1,4 @@
-use Rattle.std.proofs.Common.{◌^◌, ◌<◌, ◌++◌, flat_map, ap, sym, subst, ◌∙◌, arith}
+use Rattle.std.proofs.Common.{length, ◌^◌, ◌<◌, ◌++◌, flat_map, ap, sym, subst, ◌∙◌, arith}
 use Rattle.cdb_write.specs.Format.{entries_of, records_of, two_numbers}
 use Rattle.cdb_write.specs.Image.{finished_length}
 use Rattle.cdb_write.specs.Making.{Making}
@@ -6,10 +6,19 @@ use Rattle.cdb_write.specs.Written.{Written}
 use Rattle.cdb_write.proofs.TableLemmas.{image_of-parts}
 use Rattle.cdb_write.proofs.maker.Maker.image.Goals as goal
 
+pub pointers-requires : goal.pointers-requires
+pointers-requires c =
+    let records = ap length (c.self.invariant.records_are ∙ ap (λ (m : Making). records_of m.pairs) c.self.view_is) in
+    let long = ap (λ (m : Making). finished_length m.pairs) c.self.view_is in
+    let fits : finished_length c.args.self.pairs < 2 ^ 32 = omega (arith, c.self.invariant.fits, c.self.invariant.most, long) in
+    (c.args.self.pairs, c.in_ok-tables.ensures, omega (arith, records), fits)
+
 pub returns-clause-image : goal.returns-clause-image
 returns-clause-image c =
     let pairs = c.args.self.pairs in
-    let pointers = c.deref.ensures.value ∙ c.in_ok-pointers.ensures in
+    let behind = ap length (c.self.invariant.records_are ∙ ap (λ (m : Making). records_of m.pairs) c.self.view_is) in
+    let fits : finished_length pairs < 2 ^ 32 = omega (arith, c.finished_length.ensures.length, c.finished_length.ensures.fits, c.finished_length.ensures.limit) in
+    let pointers = c.deref.ensures.value ∙ c.in_ok-pointers.ensures pairs c.in_ok-tables.ensures (omega (arith, behind)) fits in
     let records = c.deref-2.ensures.value ∙ c.self.invariant.records_are ∙ ap (λ (m : Making). records_of m.pairs) c.self.view_is in
     let head = c.in_ok-append_pairs.ensures ∙ ap (λ bytes. bytes ++ flat_map two_numbers c.deref.result.now) c.in_ok-file.ensures.items in
     image_of-parts pairs c.deref.result.now c.deref-2.result.now _ _ _ pointers records head c.in_ok-extend_from_slice.ensures.items (c.in_ok-append_tables.ensures (entries_of pairs) c.in_ok-tables.ensures)

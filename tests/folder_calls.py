@@ -1,0 +1,125 @@
+"""Calls of a directory on a real folder, by the program dir_probe: what they answer, what they leave, and which system calls they make."""
+import os
+import pwd
+import re
+import resource
+import shutil
+import signal
+import subprocess
+import tempfile
+
+# every call of a whole replacement, and then what stands there
+REPLACEMENT = "fresh tmp append abc append def patch 1 XY sync rename tmp rules settle open rules open tmp failures"
+ANSWERS = ["done", "3", "3", "done", "done", "done", "done", '6 bytes, "aXYdef"', "none", "0"]
+DEVICE = "device fault"
+
+
+def limit_files():
+    """Files may have 100,000 bytes, and a write beyond fails."""
+    signal.signal(signal.SIGXFSZ, signal.SIG_IGN)
+    resource.setrlimit(resource.RLIMIT_FSIZE, (100_000, 100_000))
+
+
+class Probe:
+    """The program, in a place that anybody may run it from."""
+
+    def __init__(self, program, place):
+        self.program = shutil.copy(program, place)
+        os.chmod(place, 0o755)
+        os.chmod(self.program, 0o755)
+
+    def answers(self, folder, words, **how):
+        """The lines that these calls answer."""
+        command = [self.program, folder] + words.split()
+        ended = subprocess.run(command, stdout=subprocess.PIPE, stderr=subprocess.STDOUT, timeout=60, **how)
+        lines = ended.stdout.decode().split("\n")[:-1]
+        return lines if ended.returncode == 0 else lines + ["exit %d" % ended.returncode]
+
+
+def as_nobody():
+    """How a run is made as a user who may be refused."""
+    return {"user": pwd.getpwnam("nobody").pw_uid} if os.geteuid() == 0 else {}
+
+
+def cases(probe, folder):
+    """Name, answers, and the answers that are wanted."""
+    yield "a whole replacement", probe.answers(folder, REPLACEMENT), ANSWERS
+    with open(os.path.join(folder, "rules"), "rb") as rules:
+        yield "the file that it leaves", [rules.read()], [b"aXYdef"]
+    yield "its permissions", [os.stat(os.path.join(folder, "rules")).st_mode & 0o777], [0o644]
+    yield "the folder that it leaves", sorted(os.listdir(folder)), ["rules"]
+    yield "another replacement, of what stands there", probe.answers(folder, REPLACEMENT), ANSWERS
+    wanted = ["none", "no such name", "no such name", "0"]
+    yield "a name that is not there", probe.answers(folder, "open gone rename gone rules rename gone gone failures"), wanted
+    wanted = ["no scratch file"] * 3
+    yield "no scratch file", probe.answers(folder, "append x patch 0 x sync"), wanted
+    wanted = ["done", "done", "no scratch file"]
+    yield "a scratch file that is closed", probe.answers(folder, "fresh t sync append x"), wanted
+    wanted = ["done", "in 245", "done", "done", '1000000 bytes, "\\0\\0\\0\\0\\0\\0\\0\\0\\0\\0\\0\\0\\0\\0\\0\\0"']
+    yield "a long file", probe.answers(folder, "fresh t zeros 1000000 sync settle open t"), wanted
+    wanted = ['6 bytes, "aXYdef"', "done", '6 bytes, "aXYdef"']
+    yield "a name moved onto itself", probe.answers(folder, "open rules rename rules rules open rules"), wanted
+    yield "a folder that is not there", probe.answers(folder + "/gone", "failures"), ["no such folder"]
+    yield "a file in the place of the folder", probe.answers(folder + "/rules", "failures"), ["no such folder"]
+    yield "an empty path", probe.answers("", "failures"), ["no such folder"]
+    os.mkdir(os.path.join(folder, "inner"))
+    wanted = [DEVICE, DEVICE, DEVICE, "3"]
+    yield "a name that is a folder", probe.answers(folder, "open inner fresh inner rename rules inner failures"), wanted
+    yield "what stood there before", sorted(os.listdir(folder)), ["inner", "rules", "t"]
+
+
+def refused_cases(probe, folder):
+    """Faults that the system gives: no permission, and a device that takes no more."""
+    os.chmod(folder, 0o755)
+    wanted = [DEVICE, "no scratch file", DEVICE, "done", '6 bytes, "aXYdef"', "2"]
+    yield "a folder without write permission", probe.answers(folder, "fresh t append x rename rules t settle open rules failures", **as_nobody()), wanted
+    os.chmod(os.path.join(folder, "rules"), 0)
+    yield "a file without read permission", probe.answers(folder, "open rules failures", **as_nobody()), [DEVICE, "1"]
+    os.chmod(os.path.join(folder, "rules"), 0o644)
+    wanted = ["done", DEVICE, "no scratch file", "no scratch file", "1", '6 bytes, "aXYdef"']
+    yield "a device that takes no more", probe.answers(folder, "fresh t zeros 200000 append x sync failures open rules", preexec_fn=limit_files), wanted
+    wanted = ["done", "in 27", DEVICE, "no scratch file", "1"]
+    yield "a device that takes no more, met at the end", probe.answers(folder, "fresh t zeros 110000 sync sync failures", preexec_fn=limit_files), wanted
+    wanted = ["done", "in 27", DEVICE, "no scratch file"]
+    yield "a device that takes no more, met by a patch", probe.answers(folder, "fresh t zeros 110000 patch 0 x sync", preexec_fn=limit_files), wanted
+
+
+def system_calls(probe, folder, words):
+    """The system calls on the folder and its files, each as its name and its file."""
+    trace = os.path.join(folder, "..", "trace")
+    calls = "trace=openat,unlink,unlinkat,write,pwrite64,fsync,close,rename,renameat,renameat2"
+    subprocess.run(["strace", "-y", "-o", trace, "-e", calls, probe.program, folder] + words.split(), stdout=subprocess.DEVNULL, timeout=60, check=True)
+    found = []
+    with open(trace) as lines:
+        for line in lines:
+            names = re.findall(re.escape(folder) + r"/?([a-z]*)", line)
+            if names:
+                found.append(" ".join([line.split("(")[0]] + [name or "folder" for name in names]))
+    return found
+
+
+def trace_cases(probe, folder):
+    """The order of the system calls, and how many a long file takes."""
+    wanted = ["unlink tmp", "openat tmp tmp", "write tmp", "pwrite64 tmp", "fsync tmp", "close tmp", "rename tmp rules", "openat folder folder", "fsync folder", "close folder"]
+    words = "fresh tmp append abc append def patch 1 XY sync rename tmp rules settle"
+    yield "the system calls of a replacement", system_calls(probe, folder, words), wanted
+    calls = system_calls(probe, folder, "fresh tmp zeros 655360 sync")
+    yield "a write for each 65,536 bytes", [calls.count("write tmp")], [10]
+
+
+def check(program, failures):
+    """Runs the cases, and answers how many they were."""
+    tests = 0
+    with tempfile.TemporaryDirectory() as place:
+        probe = Probe(program, place)
+        folder = os.path.join(place, "folder")
+        os.mkdir(folder)
+        groups = [cases, refused_cases]
+        if shutil.which("strace"):
+            groups.append(trace_cases)
+        for group in groups:
+            for name, answered, wanted in group(probe, folder):
+                tests += 1
+                if answered != wanted:
+                    failures.append("%s: %r" % (name, answered))
+    return tests
