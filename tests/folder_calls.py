@@ -70,9 +70,10 @@ def cases(probe, folder):
 
 def refused_cases(probe, folder):
     """Faults that the system gives: no permission, and a device that takes no more."""
-    os.chmod(folder, 0o755)
+    os.chmod(folder, 0o555)
     wanted = [DEVICE, "no scratch file", DEVICE, "done", '6 bytes, "aXYdef"', "2"]
     yield "a folder without write permission", probe.answers(folder, "fresh t append x rename rules t settle open rules failures", **as_nobody()), wanted
+    os.chmod(folder, 0o755)
     os.chmod(os.path.join(folder, "rules"), 0)
     yield "a file without read permission", probe.answers(folder, "open rules failures", **as_nobody()), [DEVICE, "1"]
     os.chmod(os.path.join(folder, "rules"), 0o644)
