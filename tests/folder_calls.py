@@ -65,6 +65,9 @@ def cases(probe, folder):
     os.mkdir(os.path.join(folder, "inner"))
     wanted = [DEVICE, DEVICE, DEVICE, "3"]
     yield "a name that is a folder", probe.answers(folder, "open inner fresh inner rename rules inner failures"), wanted
+    os.mkfifo(os.path.join(folder, "pipe"))
+    yield "a name that is a pipe", probe.answers(folder, "open pipe fresh pipe"), [DEVICE, "done"]
+    os.remove(os.path.join(folder, "pipe"))
     yield "what stood there before", sorted(os.listdir(folder)), ["inner", "rules", "t"]
 
 
@@ -108,18 +111,28 @@ def trace_cases(probe, folder):
     yield "a write for each 65,536 bytes", [calls.count("write tmp")], [10]
 
 
-def check(program, failures):
+def install_cases(bench, folder):
+    """An installation of many rules writes no more often than once for each 65,536 bytes."""
+    trace = os.path.join(folder, "..", "writes")
+    subprocess.run(["strace", "-y", "-o", trace, "-e", "trace=write", bench, "install", "100000"], cwd=folder, stdout=subprocess.DEVNULL, timeout=60, check=True)
+    with open(trace) as lines:
+        writes = sum("/tmp>" in line for line in lines)
+    pieces = -(-os.path.getsize(os.path.join(folder, "rules")) // 65536)
+    yield "the writes of an installation", [writes], [pieces]
+
+
+def check(program, bench, failures):
     """Runs the cases, and answers how many they were."""
     tests = 0
     with tempfile.TemporaryDirectory() as place:
         probe = Probe(program, place)
         folder = os.path.join(place, "folder")
         os.mkdir(folder)
-        groups = [cases, refused_cases]
+        groups = [(cases, probe), (refused_cases, probe)]
         if shutil.which("strace"):
-            groups.append(trace_cases)
-        for group in groups:
-            for name, answered, wanted in group(probe, folder):
+            groups += [(trace_cases, probe), (install_cases, bench)]
+        for group, subject in groups:
+            for name, answered, wanted in group(subject, folder):
                 tests += 1
                 if answered != wanted:
                     failures.append("%s: %r" % (name, answered))

@@ -6,6 +6,7 @@ ghost use Rattle.dir_disk.specs.Entries.{pair_of, names_in, change_of, others as
 
 use std::alloc::{AllocError, Global};
 
+/// A name, and the number of the file that it stands for.
 #[derive(Drop)]
 pub struct Entry {
     pub name: Vec<u8>,
@@ -20,7 +21,7 @@ pub enum NameEdit {
     Moved(Vec<u8>, Vec<u8>, usize),
 }
 
-// The number at a name.
+/// The number at a name.
 pub fn number_at(names: &[Entry], name: &[u8]) -> Option<usize>
     ensures { result ≡ get (names_in names.now) name.now }
 {
@@ -64,14 +65,14 @@ fn others(alloc: Global, names: &[Entry], from: &[u8], to: &[u8]) -> Result<Vec<
     Ok(kept)
 }
 
-// The names without one.
+/// The names without one.
 pub fn without_name(alloc: Global, names: &[Entry], name: &[u8]) -> Result<Vec<Entry>, AllocError>
     ensures { IfOk result (λ left. names_in left.items ≡ remove (names_in names.now) name.now) }
 {
     others(alloc, names, name, name)
 }
 
-// The names without one, and with one that stands for this number.
+/// The names without one, and with one that stands for this number.
 pub fn with_name(
     alloc: Global,
     names: &[Entry],
@@ -89,7 +90,7 @@ pub fn with_name(
     Ok(kept)
 }
 
-// The names after a change.
+/// The names after a change.
 pub fn after_edit(alloc: Global, names: &[Entry], edit: &NameEdit) -> Result<Vec<Entry>, AllocError>
     ensures { IfOk result (λ left. names_in left.items ≡ after_change (names_in names.now) (change_of edit.now)) }
 {
@@ -100,7 +101,7 @@ pub fn after_edit(alloc: Global, names: &[Entry], edit: &NameEdit) -> Result<Vec
     }
 }
 
-// The same names.
+/// The same names.
 pub fn copied_names(alloc: Global, names: &[Entry]) -> Result<Vec<Entry>, AllocError>
     ensures { IfOk result (λ copy. map pair_of copy.items ≡ map pair_of names.now) }
 {
@@ -114,7 +115,7 @@ pub fn copied_names(alloc: Global, names: &[Entry]) -> Result<Vec<Entry>, AllocE
     Ok(copy)
 }
 
-// The names after these changes, in order.
+/// The names after these changes, in order.
 pub fn after_edits(
     alloc: Global,
     names: &[Entry],

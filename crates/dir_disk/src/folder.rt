@@ -12,7 +12,7 @@ use crate::stored::{Stored, close};
 use std::alloc::{AllocError, Global};
 use std::sync::Arc;
 
-// The names are those of `origin` after the edits, of which the first `settled` are settled.
+/// A directory in memory. The names are those of `origin` after the edits, of which the first `settled` are settled.
 #[derive(Drop)]
 pub struct Folder {
     pub origin: Vec<Entry>,
@@ -42,6 +42,7 @@ impl Folder {
     ghost use Rattle.dir_disk.specs.Folder.{directory_of, empty_directory};
     ghost use Rattle.dir_disk.specs.Directory.{number_of, scratch_of, content};
 
+    /// An empty directory.
     pub fn new(alloc: Global) -> Self
         ensures { directory_of result ≡ empty_directory }
     {
@@ -55,6 +56,7 @@ impl Folder {
         }
     }
 
+    /// The number of the file that a name stands for.
     pub fn number(&self, name: &[u8]) -> Option<usize>
         ensures { result ≡ number_of (directory_of self.now) name.now }
     {
@@ -103,6 +105,7 @@ impl Folder {
         }
     }
 
+    /// Puts bytes at the end of the scratch file.
     pub fn append(&mut self, number: usize, piece: &[u8]) -> Result<(), AllocError>
         requires { self.old.scratch ≡ Some number }
         ensures ok { OnOk result (directory_of self.new ≡ after (appends piece.now) (directory_of self.old)) }
@@ -114,6 +117,7 @@ impl Folder {
         Ok(())
     }
 
+    /// Overwrites bytes of the scratch file from a place on.
     pub fn patch(&mut self, number: usize, place: usize, bytes: &[u8])
         requires scratch { self.old.scratch ≡ Some number }
         requires inside { ForSome (scratch_of (directory_of self.old)) (λ file. place + length bytes.now ≤ length file.bytes) }
@@ -124,6 +128,7 @@ impl Folder {
         }
     }
 
+    /// Makes the scratch file lasting, and closes it.
     pub fn sync(&mut self, alloc: Global, number: usize) -> Result<(), AllocError>
         requires { self.old.scratch ≡ Some number }
         ensures ok { OnOk result (directory_of self.new ≡ after syncs (directory_of self.old)) }
@@ -135,12 +140,14 @@ impl Folder {
         Ok(())
     }
 
+    /// Makes all changes of names lasting.
     pub fn settle(&mut self)
         ensures { directory_of self.new ≡ after settles (directory_of self.old) }
     {
         self.settled = self.edits.len();
     }
 
+    /// Moves a name that stands for this number onto another.
     pub fn rename(
         &mut self,
         alloc: Global,

@@ -13,6 +13,7 @@ pub enum Held {
 impl Held {
     ghost use Rattle.dir_disk.specs.Held.{held_bytes};
 
+    /// The bytes.
     pub fn as_slice(&self) -> &[u8]
         ensures { result.now ≡ held_bytes self.now }
     {

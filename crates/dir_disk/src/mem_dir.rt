@@ -1,5 +1,8 @@
 //! Directories in memory.
-ghost use Rattle.std.specs.Prelude.{◌≡◌, map, length, true, IfOk};
+ghost use Rattle.std.specs.Prelude.{◌≡◌, ◌≤◌, ◌<◌, [], ◌∷◌, map, length, take, true, None, IsSome, Contains, IfOk, IfErr, OnOk};
+ghost use Rattle.dir_disk.specs.Calls.{appends};
+ghost use Rattle.dir_disk.specs.Outcomes.{Does, LeftBy};
+ghost use Rattle.dir_disk.specs.Moments.{Elapses, Includes, HasCause};
 ghost use Rattle.dir_disk.specs.Images.{IsImage};
 ghost use Rattle.dir_disk.specs.Folder.{directory_of, empty_directory};
 ghost use Rattle.dir_disk.specs.Stop.{stopped};
@@ -14,7 +17,8 @@ use std::alloc::{AllocError, Global};
 
 /// A directory in memory. Its calls do what they should, its device never fails, and `append` takes the whole piece.
 ///
-/// What a stop at any moment since it was made may have left is known of it, at no cost when it runs.
+/// What a stop at any moment since it was made may have left is known of it. When it runs that costs a copy of the name of each file
+/// that is made.
 #[derive(Drop)]
 pub struct MemDir {
     folder: Folder,
@@ -48,6 +52,8 @@ impl MemDir {
 }
 
 impl Dir for MemDir {
+    ghost use Rattle.dir_disk.specs.MemDir.{mem_state, mem_moment, mem_left_since};
+
     type File = MemFile;
 
     ghost state = { λ m. directory_of m.folder };
@@ -74,7 +80,20 @@ impl Dir for MemDir {
         Ok(())
     }
 
-    fn append(&mut self, alloc: Global, piece: &[u8]) -> Result<usize, DirFault> {
+    fn append(&mut self, alloc: Global, piece: &[u8]) -> Result<usize, DirFault>
+        ensures whole { IfOk result (λ count. count ≡ length piece.now) }
+        ensures taken { IfOk result (λ count. count ≤ length piece.now) }
+        ensures some { IfOk result (λ count. 0 < length piece.now → 0 < count) }
+        ensures does { Does (λ count. appends (take count piece.now)) (appends piece.now) (mem_state self.old) (mem_state self.new) result }
+        ensures scratch { OnOk result (IsSome (mem_state self.old).scratch) }
+        ensures no_scratch { result ≡ Err DirFault.NoScratch → (mem_state self.old).scratch ≡ None }
+        ensures faults { IfErr result (Contains (DirFault.NoScratch ∷ DirFault.Device ∷ DirFault.OutOfMemory ∷ [])) }
+        ensures cause { HasCause 0 0 result }
+        ensures time { Elapses (mem_moment self.old) (mem_moment self.new) (mem_left_since self.old) (mem_left_since self.new)
+            (LeftBy (appends piece.now) (mem_state self.old) (mem_state self.new)) }
+        ensures within { OnOk result (Includes (mem_moment self.old) (mem_left_since self.new)
+            (LeftBy (appends piece.now) (mem_state self.old) (mem_state self.new))) }
+    {
         let Some(number) = self.folder.scratch else {
             return Err(DirFault::NoScratch);
         };

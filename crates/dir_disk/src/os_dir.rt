@@ -137,21 +137,25 @@ fn create<R: Files>(files: &R, path: &str) -> io::Result<R::File> {
         .open(files, path)
 }
 
-// Opens a file to read it. What is no file, such as a folder, is not opened.
+// Opens a file to read it. What is no file, such as a folder or a named pipe, is not opened.
 fn open<R: Files>(files: &R, path: &str) -> io::Result<Option<OsFile<R::File>>>
 where
     R::File: FileExt,
 {
-    let file = match OpenOptions::new().read(true).open(files, path) {
-        Ok(file) => file,
+    match files.metadata(path) {
+        Ok(found) if !found.is_file() => return Err(io::Error::from(ErrorKind::IsADirectory)),
         Err(error) if error.kind() == ErrorKind::NotFound => return Ok(None),
         Err(error) => return Err(error),
-    };
-    let found = file.metadata()?;
-    if !found.is_file() {
-        return Err(io::Error::from(ErrorKind::IsADirectory));
+        Ok(_) => {}
     }
-    Ok(Some(OsFile::new(file, found.len())))
+    match OpenOptions::new().read(true).open(files, path) {
+        Ok(file) => {
+            let len = file.metadata()?.len();
+            Ok(Some(OsFile::new(file, len)))
+        }
+        Err(error) if error.kind() == ErrorKind::NotFound => Ok(None),
+        Err(error) => Err(error),
+    }
 }
 
 // Writes the bytes that are kept back at the end of a file.

@@ -37,6 +37,7 @@ pub trait RulesFile {
         ensures gives { IsTrue honest → IfOk result (λ n. Gives (bytes self.now) place n buf.old buf.new) }
         ensures sound { IsTrue sound → IsOk result };
 
+    /// A sound file is honest.
     ghost sound_is_honest: { IsTrue sound → IsTrue honest };
 }
 

@@ -14,7 +14,7 @@ pub enum Stored {
     Synced(Arc<Vec<u8>>),
 }
 
-// Makes a file lasting.
+/// Makes a file lasting.
 pub fn close(alloc: Global, file: &mut Stored) -> Result<(), AllocError>
     ensures ok { OnOk result (file_of file.new ≡ lasting (file_of file.old)) }
     ensures err { OnErr result (file_of file.new ≡ file_of file.old) }

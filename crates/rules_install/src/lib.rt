@@ -1,5 +1,16 @@
-//! The phases of an installation of a rule text.
+//! Installing a rule text: compiled into a scratch file, which takes the place of the rules file as a whole.
 #![tactic(auto)]
+
+pub mod fault;
+pub mod install;
+pub mod laws;
+pub mod names;
+mod pieces;
+pub mod whole;
+
+pub use fault::InstallFault;
+pub use install::Install;
+pub use names::{Names, SameName};
 
 /// How far an installation has come.
 #[derive(Clone, Copy, PartialEq, Eq, Debug)]
@@ -15,3 +26,6 @@ pub enum Phase {
     /// The new name lasts through a stop too.
     Done,
 }
+
+#[cfg(test)]
+mod tests;

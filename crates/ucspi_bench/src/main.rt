@@ -2,10 +2,15 @@
 #![tactic(auto)]
 
 use cdb_write::{AddFault, Maker};
+use dir_disk::{Name, OsDir};
 use rule_lines::{Limits, ParseFault, RuleList, parse};
 use rule_lookup::{DropCause, Peer, PeerFault};
+use rules_install::whole::install;
+use rules_install::{InstallFault, Names};
 use server_core::{Event, replay};
 use std::alloc::{AllocError, Global};
+use std::fs::Files;
+use std::os::unix::fs::FileExt;
 use std::process::ExitCode;
 use std::rt::Clock;
 use std::time::Instant;
@@ -129,9 +134,52 @@ fn time_maker<R: Print + Clock>(rt: &R, alloc: Global, pairs: usize) -> io::Resu
     println!(rt; "{} microseconds, {} bytes", taken.as_micros(), image.len())
 }
 
+/// A text of this many lines, each an address of its own.
+fn addresses(alloc: Global, lines: usize) -> Result<String, AllocError> {
+    let mut text = String::new(alloc);
+    for n in 0..lines {
+        let (high, middle, low) = (n / 65536, n / 256 % 256, n % 256);
+        let line = format!(in alloc; "10.{high}.{middle}.{low}:allow,RELAYCLIENT=\"\"\n")?;
+        text.push_str(line.as_str())?;
+    }
+    Ok(text)
+}
+
+/// Installs a text of so many lines in a folder, as the file `rules`.
+fn install_in<R: Files>(rt: &R, alloc: Global, text: &str, folder: &str) -> Result<(), InstallFault>
+where
+    R::File: FileExt,
+{
+    let (Ok(cdb), Ok(tmp)) = (Name::new(alloc, b"rules"), Name::new(alloc, b"tmp")) else {
+        return Err(InstallFault::OutOfMemory);
+    };
+    let (Ok(names), Ok(mut dir)) = (Names::new(cdb, tmp), OsDir::new(alloc, rt, folder)) else {
+        return Err(InstallFault::OutOfMemory);
+    };
+    install(alloc, &mut dir, names, &Limits::profile(), text.as_bytes())
+}
+
+/// Prints how many microseconds it takes to install a text of so many lines in the current folder.
+fn time_install<R: Print + Clock + Files>(rt: &R, alloc: Global, lines: usize) -> io::Result<()>
+where
+    R::File: FileExt,
+{
+    let text = addresses(alloc, lines)?;
+    let began = Instant::now(rt)?;
+    if install_in(rt, alloc, text.as_str(), ".").is_err() {
+        return Err(io::Error::from(io::ErrorKind::InvalidData));
+    }
+    let taken = began.elapsed(rt)?;
+    println!(rt; "{} microseconds", taken.as_micros())
+}
+
 /// Runs a benchmark of this size.
-fn run<R: Print + Clock>(rt: &R, alloc: Global, name: &str, size: usize) -> io::Result<()> {
+fn run<R: Print + Clock + Files>(rt: &R, alloc: Global, name: &str, size: usize) -> io::Result<()>
+where
+    R::File: FileExt,
+{
     match name {
+        "install" => time_install(rt, alloc, size),
         "get" => time_get(rt, alloc, size),
         "maker" => time_maker(rt, alloc, size),
         "replay" => time_replay(rt, alloc, size),

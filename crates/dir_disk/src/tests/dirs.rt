@@ -5,6 +5,7 @@ use crate::fault::DirFault;
 use crate::fuse_dir::FuseDir;
 use crate::mem_dir::MemDir;
 use crate::name::Name;
+use crate::replace::replace_file;
 use crate::rules_file::{MemFile, RulesFile};
 use std::alloc::{AllocError, Global};
 use std::test::Fail;
@@ -217,6 +218,27 @@ fn a_call_that_fails(rt: HostRuntime) -> Result<(), Fail> {
         let expected = u64::from((1..=6).contains(&call));
         assert_eq!(rt; failed, expected, "call {call}");
         assert_eq!(rt; dir.failures(), expected, "call {call}");
+    }
+    Ok(())
+}
+
+#[test]
+fn a_file_put_in_the_place_of_another(rt: HostRuntime) -> Result<(), Fail> {
+    let alloc = rt.alloc();
+    let (tmp, name) = (Name::new(alloc, b"tmp")?, Name::new(alloc, b"name")?);
+    for call in 0..7 {
+        let mut inner = MemDir::new(alloc);
+        put(alloc, &mut inner, &name, b"old")?;
+        inner.settle()?;
+        let mut dir = FuseDir::new(inner, call);
+        let answer = if tmp.as_str() == name.as_str() {
+            Ok(())
+        } else {
+            replace_file(alloc, &mut dir, &tmp, &name, b"new")
+        };
+        assert!(rt; answer.is_err() == (1..=5).contains(&call));
+        let settled: &[u8] = if answer.is_ok() { b"new" } else { b"old" };
+        assert!(rt; leaves(alloc, dir.inner(), Choice::Empty, &name, Some(settled))?);
     }
     Ok(())
 }

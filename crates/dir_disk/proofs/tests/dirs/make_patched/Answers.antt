@@ -9,6 +9,6 @@ patch-requires c = record {
     arith,
     c.if-branch-gt0.true,
     appended_room (directory_of c.args.dir.now.folder) (directory_of c.fresh.new.self.folder) (directory_of c.append.new.self.folder) c.args.name.now c.args.bytes.now c.in_ok-append.field-0 file
-        (c.in_ok-fresh.ensures.does honest) (c.in_ok-append.ensures.does honest) c.in_ok-append.ensures.taken is,
+        (c.in_ok-fresh.ensures.does honest) c.in_ok-append.ensures.does c.in_ok-append.ensures.taken is,
   );
 }

@@ -1,0 +1,12 @@
+pub mod FillBytes
+pub mod FillSteps
+pub mod PieceLemmas
+pub mod PlaceLemmas
+pub mod StepBegins
+pub mod StepCalls
+pub mod StepEnds
+pub mod StepFaults
+pub mod StepFits
+pub mod StepKeeps
+pub mod StepNoted
+pub mod WholeLemmas

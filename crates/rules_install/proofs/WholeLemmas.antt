@@ -1,0 +1,245 @@
+-- How a whole installation goes on from step to step, and how it ends.
+use Rattle.std.proofs.Common.{◌≡◌, ◌≢◌, inl, inr, Bool, true, false, ℕ, ◌+◌, ◌<◌, ◌≤◌, List, [], ◌∷◌, refl, sym, ◌∙◌, ap, subst, arith}
+use Rattle.std.specs.Prelude.{Option, None, Some, Result, Ok, Err, IfErr}
+use Rattle.dir_disk.specs.Directory.{Directory}
+use Rattle.dir_disk.specs.Images.{IsImage}
+use Rattle.dir_disk.specs.Lasting.{IsAmong, LastsAmong, HasAmong}
+use Rattle.dir_disk.specs.Moments.{LeavesOnly}
+use Rattle.dir_disk.specs.Replacing.{Stays}
+use Rattle.dir_disk.specs.declared.fault.DirFault.{DirFault}
+use Rattle.dir_disk.specs.declared.fault.DirFault.TheVariants.{NoScratch, NoName, Device, OutOfMemory as NoMemory}
+use Rattle.dir_disk.proofs.Lasting.{image_has, lasts_more}
+use Rattle.dir_disk.proofs.Moments.{started}
+use Rattle.dir_disk.proofs.Replacing.{stays_then, stays_more}
+use Rattle.rule_lines.specs.declared.limits.Limits.{Limits}
+use Rattle.rules_install.specs.NamePair.{NamePair}
+use Rattle.rules_install.specs.Filled.{whole_file, fillings_left}
+use Rattle.rules_install.specs.Installing.{Installing, next_of, next_phase}
+use Rattle.rules_install.specs.Steps.{Changes, Goes, HasFilled, IsSame, StepKeeps, BlamesDevice as StepBlames, answer_of, may_stand}
+use Rattle.rules_install.specs.Whole.{BlamesDevice, Ends, EndsRun, IsRefused, MayBeInstalled, may_have}
+use Rattle.rules_install.specs.declared.Phase.{Phase}
+use Rattle.rules_install.specs.declared.Phase.TheVariants.{Fresh, Filling, Synced, Named, Done}
+use Rattle.rules_install.specs.declared.fault.InstallFault.{InstallFault}
+use Rattle.rules_install.specs.declared.fault.InstallFault.TheVariants.{Line, TooLarge, Disk, Over, OutOfMemory}
+
+-- ---- the steps come to an end
+
+-- how many phases are left after this one
+abbrev pub phases_left : Option Phase → ℕ
+phases_left None = 4
+phases_left (Some Fresh) = 3
+phases_left (Some Filling) = 3
+phases_left (Some Synced) = 2
+phases_left (Some Named) = 1
+phases_left (Some Done) = 0
+
+falls : (reached : Option Phase) (patched : Bool) (before now : ℕ) → next_of reached patched ≢ Done → (next_of reached patched ≡ Filling → now < before) → (next_of reached patched ≢ Filling → now ≡ before)
+    → now + phases_left (Some (next_of reached patched)) < before + phases_left reached
+falls None patched before now undone more kept = let same : now ≡ before = kept (λ is. absurd (cc)) in omega arith
+falls (Some Fresh) true before now undone more kept = let same : now ≡ before = kept (λ is. absurd (cc)) in omega arith
+falls (Some Fresh) false before now undone more kept = let less : now < before = more refl in omega arith
+falls (Some Filling) true before now undone more kept = let same : now ≡ before = kept (λ is. absurd (cc)) in omega arith
+falls (Some Filling) false before now undone more kept = let less : now < before = more refl in omega arith
+falls (Some Synced) patched before now undone more kept = let same : now ≡ before = kept (λ is. absurd (cc)) in omega arith
+falls (Some Named) patched before now undone more kept = absurd (undone refl)
+falls (Some Done) patched before now undone more kept = absurd (undone refl)
+
+-- a step answered as it would for the other
+abbrev IsAnswer : Result Phase InstallFault → Result Phase InstallFault → Type 0
+IsAnswer result other = result ≡ other
+
+-- what is left falls with each step that answers a phase other than `Done`
+pub smaller : (s s' : Installing) (phase : Phase) → IsSame s s' → Goes (next_phase s) s s' (Ok phase) → phase ≢ Done
+    → (IsAnswer (Ok phase) (Ok Filling) → fillings_left s'.rules s'.filled s'.patched < fillings_left s.rules s.filled s.patched)
+    → ((IsAnswer (Ok phase) (Ok Filling) → ⊥) → HasFilled s s')
+    → fillings_left s'.rules s'.filled s'.patched + phases_left s'.reached < fillings_left s.rules s.filled s.patched + phases_left s.reached
+smaller s s' phase same goes undone more kept =
+    let left : fillings_left s'.rules s'.filled s'.patched + phases_left (Some (next_phase s)) < fillings_left s.rules s.filled s.patched + phases_left s.reached =
+    falls s.reached s.patched (fillings_left s.rules s.filled s.patched) (fillings_left s'.rules s'.filled s'.patched)
+    (λ is. undone (goes.0 ∙ is)) (λ is. more (ap Ok (goes.0 ∙ is)))
+    (λ other. let has = kept (λ is. other (cc)) in unmoved has)
+    in subst (λ (o : Option Phase). fillings_left s'.rules s'.filled s'.patched + phases_left o < fillings_left s.rules s.filled s.patched + phases_left s.reached) (sym goes.1) left
+  where
+    unmoved : HasFilled s s' → fillings_left s'.rules s'.filled s'.patched ≡ fillings_left s.rules s.filled s.patched
+    unmoved has = ap (λ rules. fillings_left rules s'.filled s'.patched) same.rules ∙ ap (λ filled. fillings_left s.rules filled s'.patched) has.filled ∙ ap (λ patched. fillings_left s.rules s.filled patched) has.patched
+
+-- ---- what stands under the name of the rules file
+
+-- what may stand there once this phase was reached, where one of these stood: from `Named` on the new file too
+abbrev pub so_far : Option Phase → List ℕ → List (Option (List ℕ)) → List (Option (List ℕ))
+so_far (Some Named) file olds = Some file ∷ olds
+so_far (Some Done) file olds = Some file ∷ olds
+so_far reached file olds = olds
+
+-- steps so far, from the start of a run
+pub record Progress {D : Type 0} (state : D → Directory) (moment : D → ℕ) (left_since : D → ℕ → Directory → Type 0) (start : Installing) (reached : Option Phase) (old now : D) : Type 0 where
+  pub lasts : (olds : List (Option (List ℕ))) → LastsAmong (state old) start.names.cdb olds → LastsAmong (state now) start.names.cdb (so_far reached (whole_file start.rules) olds)
+  pub any_moment : (olds : List (Option (List ℕ))) → LastsAmong (state old) start.names.cdb olds
+      → LeavesOnly moment left_since old now (HasAmong start.names.cdb (Some (whole_file start.rules) ∷ olds))
+
+old_among : (reached : Option Phase) (file : List ℕ) (olds : List (Option (List ℕ))) (w : Option (List ℕ)) → IsAmong olds w → IsAmong (so_far reached file olds) w
+old_among None file olds w among = among
+old_among (Some Fresh) file olds w among = among
+old_among (Some Filling) file olds w among = among
+old_among (Some Synced) file olds w among = among
+old_among (Some Named) file olds w among = inr among
+old_among (Some Done) file olds w among = inr among
+
+far_among : (reached : Option Phase) (file : List ℕ) (olds : List (Option (List ℕ))) (w : Option (List ℕ)) → IsAmong (so_far reached file olds) w → IsAmong (Some file ∷ olds) w
+far_among None file olds w among = inr among
+far_among (Some Fresh) file olds w among = inr among
+far_among (Some Filling) file olds w among = inr among
+far_among (Some Synced) file olds w among = inr among
+far_among (Some Named) file olds w among = among
+far_among (Some Done) file olds w among = among
+
+-- the step to the next phase
+next_far : (reached : Option Phase) (patched : Bool) (file : List ℕ) (olds : List (Option (List ℕ))) → may_stand (next_of reached patched) file (so_far reached file olds) ≡ so_far (Some (next_of reached patched)) file olds
+next_far None patched file olds = refl
+next_far (Some Fresh) true file olds = refl
+next_far (Some Fresh) false file olds = refl
+next_far (Some Filling) true file olds = refl
+next_far (Some Filling) false file olds = refl
+next_far (Some Synced) patched file olds = refl
+next_far (Some Named) patched file olds = refl
+next_far (Some Done) patched file olds = refl
+
+-- a fault on the way to a phase
+fault_far : (fault : DirFault) (phase : Phase) (file : List ℕ) (olds : List (Option (List ℕ))) → so_far (Some phase) file olds ≡ may_have (Err (Disk fault phase)) file olds
+fault_far fault Fresh file olds = refl
+fault_far fault Filling file olds = refl
+fault_far fault Synced file olds = refl
+fault_far fault Named file olds = refl
+fault_far fault Done file olds = refl
+
+-- before the names were changed
+before_far : (reached : Option Phase) (file : List ℕ) (olds : List (Option (List ℕ))) → reached ≢ Some Named → reached ≢ Some Done → so_far reached file olds ≡ olds
+before_far None file olds unnamed undone = refl
+before_far (Some Fresh) file olds unnamed undone = refl
+before_far (Some Filling) file olds unnamed undone = refl
+before_far (Some Synced) file olds unnamed undone = refl
+before_far (Some Named) file olds unnamed undone = absurd (unnamed refl)
+before_far (Some Done) file olds unnamed undone = absurd (undone refl)
+
+module _ {D : Type 0} (state : D → Directory) (moment : D → ℕ) (left_since : D → ℕ → Directory → Type 0) where
+  -- with no step, what stood under a name stands there whenever the machine stops
+  pub none_left : (old : D) (name file : List ℕ) (olds : List (Option (List ℕ))) → ((image : Directory) → left_since old (moment old) image → IsImage (state old) image)
+      → LastsAmong (state old) name olds → LeavesOnly moment left_since old old (HasAmong name (Some file ∷ olds))
+  none_left old name file olds only lasts =
+      started moment left_since old (HasAmong name (Some file ∷ olds)) (λ image left. inr (image_has (state old) image name olds lasts (only image left)))
+
+  pub progress_none : (s : Installing) (old : D) → ((image : Directory) → left_since old (moment old) image → IsImage (state old) image) → Progress state moment left_since s s.reached old old
+  progress_none s old only = record {
+    lasts = λ olds lasts. lasts_more (state old) s.names.cdb olds (so_far s.reached (whole_file s.rules) olds) (old_among s.reached (whole_file s.rules) olds) lasts;
+    any_moment = λ olds lasts. none_left old s.names.cdb (whole_file s.rules) olds only lasts;
+  }
+
+  -- a step more, by its answer
+  pub progress_more : (start s : Installing) (old mid new : D) → IsSame start s → Progress state moment left_since start s.reached old mid → StepKeeps state moment left_since (next_phase s) s mid new
+      → Progress state moment left_since start (Some (next_phase s)) old new
+  progress_more start s old mid new same so_far_is keeps = record { lasts = λ olds lasts. (stayed olds lasts).lasts; any_moment = λ olds lasts. (moments olds lasts).any_moment }
+    where
+      file : List ℕ
+      file = whole_file start.rules
+
+      -- what the step keeps, said of the start
+      stayed : (olds : List (Option (List ℕ))) → LastsAmong (state old) start.names.cdb olds → Stays state moment left_since start.names.cdb (so_far (Some (next_phase s)) file olds) mid new
+      stayed olds lasts =
+          let past = so_far s.reached file olds in
+          let name : s.names.cdb ≡ start.names.cdb = ap (λ n. n.cdb) same.names in
+          let here : LastsAmong (state mid) s.names.cdb past = subst (λ n. LastsAmong (state mid) n past) (sym name) (so_far_is.lasts olds lasts) in
+          let kept : Stays state moment left_since s.names.cdb (may_stand (next_phase s) (whole_file s.rules) past) mid new =
+          record { lasts = keeps.lasts past here; any_moment = keeps.any_moment past here } in
+          let contents : may_stand (next_phase s) (whole_file s.rules) past ≡ so_far (Some (next_phase s)) file olds =
+          ap (λ rules. may_stand (next_phase s) (whole_file rules) past) same.rules ∙ next_far s.reached s.patched file olds in
+          subst (λ c. Stays state moment left_since start.names.cdb c mid new) contents
+          (subst (λ n. Stays state moment left_since n (may_stand (next_phase s) (whole_file s.rules) past) mid new) name kept)
+
+      moments : (olds : List (Option (List ℕ))) → LastsAmong (state old) start.names.cdb olds → Stays state moment left_since start.names.cdb (Some file ∷ olds) old new
+      moments olds lasts = stays_then state moment left_since start.names.cdb (Some file ∷ olds) old mid new
+          (record {
+            lasts = lasts_more (state mid) start.names.cdb (so_far s.reached file olds) (Some file ∷ olds) (far_among s.reached file olds) (so_far_is.lasts olds lasts);
+            any_moment = so_far_is.any_moment olds lasts;
+          })
+          (stays_more state moment left_since start.names.cdb (so_far (Some (next_phase s)) file olds) (Some file ∷ olds) mid new (far_among (Some (next_phase s)) file olds) (stayed olds lasts))
+
+  -- after a step that failed, what is said of the whole run
+  pub failed_lasts : (start s s' : Installing) (old mid new : D) (fault : InstallFault) (olds : List (Option (List ℕ)))
+      → IsSame start s → Goes (next_phase s) s s' (Err fault)
+      → (s.reached ≡ Some Named → IsAnswer (Err fault) (Err OutOfMemory) → ⊥) → s.reached ≢ Some Done
+      → Changes s (next_phase s) (state mid) (state new) (Err fault)
+      → Progress state moment left_since start s.reached old mid → StepKeeps state moment left_since (next_phase s) s mid new
+      → LastsAmong (state old) start.names.cdb olds → LastsAmong (state new) start.names.cdb (may_have (Err fault) (whole_file start.rules) olds)
+  failed_lasts start s s' old mid new (Disk fault phase) olds same goes settling undone changes so_far_is keeps lasts =
+      let more = progress_more start s old mid new same so_far_is keeps in
+      let at : so_far (Some (next_phase s)) (whole_file start.rules) olds ≡ may_have (Err (Disk fault phase)) (whole_file start.rules) olds =
+      ap (λ p. so_far (Some p) (whole_file start.rules) olds) (sym goes.0) ∙ fault_far fault phase (whole_file start.rules) olds in
+      subst (λ contents. LastsAmong (state new) start.names.cdb contents) at (more.lasts olds lasts)
+  failed_lasts start s s' old mid new OutOfMemory olds same goes settling undone changes so_far_is keeps lasts =
+      let here : LastsAmong (state mid) start.names.cdb olds =
+      subst (λ contents. LastsAmong (state mid) start.names.cdb contents) (before_far s.reached (whole_file start.rules) olds (λ is. settling is refl) undone) (so_far_is.lasts olds lasts) in
+      subst (λ d. LastsAmong d start.names.cdb olds) (sym changes) here
+  failed_lasts start s s' old mid new (Line fault) olds same goes settling undone changes so_far_is keeps lasts = absurd goes
+  failed_lasts start s s' old mid new TooLarge olds same goes settling undone changes so_far_is keeps lasts = absurd goes
+  failed_lasts start s s' old mid new Over olds same goes settling undone changes so_far_is keeps lasts = absurd goes
+
+-- a step fails only as a run may
+pub ends_run : (next : Phase) (s s' : Installing) (fault : InstallFault) → Goes next s s' (Err fault) → EndsRun (Err fault)
+ends_run next s s' (Disk fault phase) goes = tt
+ends_run next s s' OutOfMemory goes = tt
+ends_run next s s' (Line fault) goes = absurd goes
+ends_run next s s' TooLarge goes = absurd goes
+ends_run next s s' Over goes = absurd goes
+
+-- the device is blamed for a failure since the start too
+pub blames_run : (before mid now : ℕ) (fault : InstallFault) → before ≤ mid → StepBlames mid now (Err fault) → BlamesDevice before now (Err fault)
+blames_run before mid now (Disk Device phase) le (inl less) = inl (omega arith)
+blames_run before mid now (Disk Device phase) le (inr most) = inr most
+blames_run before mid now (Disk NoScratch phase) le blames = tt
+blames_run before mid now (Disk NoName phase) le blames = tt
+blames_run before mid now (Disk NoMemory phase) le blames = tt
+blames_run before mid now (Line fault) le blames = tt
+blames_run before mid now TooLarge le blames = tt
+blames_run before mid now Over le blames = tt
+blames_run before mid now OutOfMemory le blames = tt
+
+pub same_self : (s : Installing) → IsSame s s
+same_self s = record { rules = refl; names = refl }
+
+pub same_then : (s t u : Installing) → IsSame s t → IsSame t u → IsSame s u
+same_then s t u first second = record { rules = second.rules ∙ first.rules; names = second.names ∙ first.names }
+
+-- what the last step says of the start
+pub done_lasts : (start s : Installing) (d : Directory) → IsSame start s → LastsAmong d s.names.cdb (Some (whole_file s.rules) ∷ []) → LastsAmong d start.names.cdb (Some (whole_file start.rules) ∷ [])
+done_lasts start s d same lasts =
+    subst (λ rules. LastsAmong d start.names.cdb (Some (whole_file rules) ∷ [])) same.rules
+    (subst (λ (n : NamePair). LastsAmong d n.cdb (Some (whole_file s.rules) ∷ [])) same.names lasts)
+
+-- a settling, which fails only where the device does, never answers want of memory
+pub settles_whole : {T : Type 0} (outcome : Result T DirFault) → IfErr outcome (λ fault. fault ≡ Device) → IsAnswer (answer_of Done outcome) (Err OutOfMemory) → ⊥
+settles_whole (Ok done) faults is = absurd (cc)
+settles_whole (Err fault) faults is = absurd (by fault faults is)
+  where
+    by : (other : DirFault) → other ≡ Device → IsAnswer (answer_of {T = Unit {0}} Done (Err other)) (Err OutOfMemory) → ⊥
+    by Device same is = absurd (cc)
+    by NoScratch same is = absurd (cc)
+    by NoName same is = absurd (cc)
+    by NoMemory same is = absurd (cc)
+
+-- ---- the answer of an installation
+
+pub ends_install : (limits : Limits) (text : List ℕ) (result : Result (Unit {0}) InstallFault) → EndsRun result → MayBeInstalled limits text → Ends limits text result
+ends_install limits text (Ok done) ends may = may
+ends_install limits text (Err (Disk fault phase)) ends may = may
+ends_install limits text (Err OutOfMemory) ends may = tt
+ends_install limits text (Err (Line fault)) ends may = absurd ends
+ends_install limits text (Err TooLarge) ends may = absurd ends
+ends_install limits text (Err Over) ends may = absurd ends
+
+pub not_refused : (result : Result (Unit {0}) InstallFault) → EndsRun result → IsRefused result → ⊥
+not_refused (Ok done) ends refused = refused
+not_refused (Err (Disk fault phase)) ends refused = refused
+not_refused (Err OutOfMemory) ends refused = refused
+not_refused (Err (Line fault)) ends refused = ends
+not_refused (Err TooLarge) ends refused = ends
+not_refused (Err Over) ends refused = ends

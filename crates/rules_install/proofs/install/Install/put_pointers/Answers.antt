@@ -1,0 +1,73 @@
+use Rattle.std.proofs.Common.{◌≡◌, ◌⊎◌, [], ◌∷◌, inl, inr, true, false, refl, sym, ◌∙◌, ap}
+use Rattle.std.specs.Prelude.{Err, is_ok, Contains}
+use Rattle.dir_disk.specs.declared.fault.DirFault.TheVariants.{NoScratch, Device, OutOfMemory as NoMemory}
+use Rattle.std.proofs.lemmas.Result.{err_from_is_err_and}
+use Rattle.dir_disk.specs.Calls.{patches}
+use Rattle.dir_disk.proofs.Lasting.{patches_keeps}
+use Rattle.rules_install.specs.Installs.{installing}
+use Rattle.rules_install.proofs.FillBytes.{pointers_less}
+use Rattle.rules_install.proofs.FillSteps.{advanced, filling_steps, filling_has, filling_more, patch_noted, pointers_fit, pointers_has, still_steps, unpatched}
+use Rattle.rules_install.proofs.StepFaults.{of_err, among_three}
+use Rattle.rules_install.proofs.StepFits.{has_number}
+use Rattle.rules_install.proofs.install.Install.put_pointers.Given.{Over}
+use Rattle.rules_install.proofs.install.Install.put_pointers.Goals as goal
+use Rattle.rules_install.proofs.install.Install.put_pointers.Goals.{After-drop-header, then-is_ok, else-is_ok}
+
+pub returns-in_err-header-clause-step : goal.returns-in_err-header-clause-step
+returns-in_err-header-clause-step g c =
+    let s = installing c.args.self.now in
+    let p = err_from_is_err_and c.from_residual.result c.from_residual.ensures.1 in
+    still_steps g.D.Dir.honest g.D.Dir.state g.D.Dir.moment g.D.Dir.left_since g.D.Dir.failed s s c.args.dir.now c.from_residual.result refl (p.1 ∙ ap Err p.2)
+    c.requires.fits (λ image honest left. g.met.D.Dir.only_now c.args.dir.now image honest left)
+
+pub returns-in_err-header-clause-more : goal.returns-in_err-header-clause-more
+returns-in_err-header-clause-more g c =
+    let p = err_from_is_err_and c.from_residual.result c.from_residual.ensures.1 in
+    rw p.1 tt
+
+pub patch-outcome-requires : goal.patch-outcome-requires
+patch-outcome-requires g c = record {
+  inside = λ honest file is.
+      pointers_fit (installing c.args.self.now) (g.D.Dir.state c.args.dir.now) c.requires.next (c.requires.fits honest c.requires.is_open) c.requires.whole
+      c.deref.result.now (c.deref.ensures.value ∙ c.in_ok-header.ensures) file is;
+}
+
+-- what is noted of the patch
+noted_is : (g : Over) (c : After-drop-header g) → installing c.note.new.self ≡ advanced (λ (x : Unit {0}). record (installing c.args.self.now) { patched = true }) (installing c.args.self.now) c.patch-outcome.result
+noted_is g c =
+    let s = installing c.args.self.now in
+    let outcome = c.patch-outcome.result in
+    let t = installing c.if-is_ok.self in
+    let cases : ((is_ok outcome ≡ true) × (t ≡ record s { patched = true })) ⊎ ((is_ok outcome ≡ false) × (t ≡ s)) =
+    elim c.if-is_ok.branch [
+      | then-is_ok w ↦ inl (sym c.is_ok.ensures.value ∙ w.if-is_ok.true, ap installing w.self-is)
+      | else-is_ok w ↦ inr (sym c.is_ok.ensures.value ∙ w.if-is_ok.false, ap installing w.self-is)
+    ] in
+    patch_noted s t (installing c.note.new.self) outcome c.note.ensures.noted cases
+
+pub returns-clause-step : goal.returns-clause-step
+returns-clause-step g c =
+    let s = installing c.args.self.now in
+    let d = g.D.Dir.state c.args.dir.now in
+    let header = c.deref.result.now in
+    let header_is = c.deref.ensures.value ∙ c.in_ok-header.ensures in
+    filling_steps g.D.Dir.honest g.D.Dir.state g.D.Dir.moment g.D.Dir.left_since g.D.Dir.failed s c.args.dir.now c.patch-outcome.new.self
+    (λ _. patches 0 header) (patches 0 header) (λ _. record s { patched = true }) c.patch-outcome.result (installing c.note.new.self) c.note.result
+    (noted_is g c) c.note.ensures.answer
+    (λ x. record { rules = refl; names = refl; is_open = c.requires.is_open })
+    (inr (0, header, refl)) (λ x. inr (0, header, refl))
+    c.requires.fits
+    (λ honest x is done. pointers_has s d (g.D.Dir.state c.patch-outcome.new.self) c.requires.next (c.requires.fits honest c.requires.is_open) c.requires.whole header header_is done)
+    (λ image honest left. g.met.D.Dir.only_now c.args.dir.now image honest left)
+    c.patch-outcome.ensures.time c.patch-outcome.ensures.does
+    (λ olds lasts. patches_keeps d s.names.cdb olds lasts 0 header) (λ x olds lasts. patches_keeps d s.names.cdb olds lasts 0 header)
+    c.patch-outcome.ensures.cause
+    (λ honest fault is. among_three NoScratch fault (of_err c.patch-outcome.result fault (Contains (NoScratch ∷ Device ∷ NoMemory ∷ [])) c.patch-outcome.ensures.faults is)
+    (λ none. has_number d.files d.scratch _ (filling_has s d c.requires.next (c.requires.fits honest c.requires.is_open)).1 (c.patch-outcome.ensures.no_scratch honest (is ∙ ap Err none))))
+
+pub returns-clause-more : goal.returns-clause-more
+returns-clause-more g c =
+    let s = installing c.args.self.now in
+    filling_more s (λ _. record s { patched = true }) c.patch-outcome.result (installing c.note.new.self) c.note.result
+    (noted_is g c) c.note.ensures.answer
+    (λ x is. pointers_less s.rules s.filled s.patched (unpatched s c.requires.next))

@@ -1,0 +1,91 @@
+use Rattle.std.proofs.Common.{◌≡◌, IsTrue, sym, ◌∙◌, subst, arith, rules}
+use Rattle.std.proofs.lemmas.Result.{err_from_is_err_and}
+use Rattle.std.specs.Prelude.{Some}
+use denote.Enum.Bare.{differs_true, differs_false}
+use Rattle.cdb_write.specs.Written.{Written}
+use Rattle.cdb_read.specs.Compiled.{stored}
+use Rattle.dir_disk.specs.Lasting.{LastsAmong}
+use Rattle.rules_install.specs.Filled.{whole_file}
+use Rattle.rules_install.specs.Installing.{next_phase}
+use Rattle.rules_install.specs.Installs.{installing}
+use Rattle.rules_install.specs.contracts.Phase.{the_type}
+use Rattle.rules_install.specs.declared.Phase.TheVariants.{Done}
+use Rattle.rules_install.proofs.WholeLemmas.{Progress, blames_run, done_lasts, ends_run, failed_lasts, progress_more, progress_none, same_self, same_then, smaller, so_far}
+use Rattle.rules_install.proofs.whole.run.Given.{Over}
+use Rattle.rules_install.proofs.whole.run.Goals as goal
+use Rattle.rules_install.proofs.whole.run.Goals.{After-step}
+
+-- up to a step, whatever it answers
+stepped : (g : Over) (c : After-step g) → IsTrue g.D.Dir.honest
+    → Progress g.D.Dir.state g.D.Dir.moment g.D.Dir.left_since (installing c.args.install.now) (Some (next_phase (installing c.loop.install))) c.args.dir.now c.step.new.dir
+stepped g c honest =
+    progress_more g.D.Dir.state g.D.Dir.moment g.D.Dir.left_since (installing c.args.install.now) (installing c.loop.install) c.args.dir.now c.loop.dir c.step.new.dir
+    c.loop.invariant.same (c.loop.invariant.progress honest) (c.step.ensures.old_or_new honest)
+
+pub loop-init : goal.loop-init
+loop-init g c = record {
+  is_open = c.requires.is_open;
+  same = same_self (installing c.args.install.now);
+  fits = c.requires.fits;
+  progress = λ honest. progress_none g.D.Dir.state g.D.Dir.moment g.D.Dir.left_since (installing c.args.install.now) c.args.dir.now (λ image left. g.met.D.Dir.only_now c.args.dir.now image honest left);
+  failures = omega arith;
+}
+
+pub returns-in_err-step-clause-ends : goal.returns-in_err-step-clause-ends
+returns-in_err-step-clause-ends g c =
+    let p = err_from_is_err_and c.from_residual.result c.from_residual.ensures.1 in
+    let s = installing c.loop.install in
+    rw (p.1, p.2) (ends_run (next_phase s) s (installing c.step.new.self) c.in_err-step.field-0.0 (c.in_err-step.ensures.goes c.loop.invariant.is_open))
+
+pub returns-in_err-step-clause-any_moment : goal.returns-in_err-step-clause-any_moment
+returns-in_err-step-clause-any_moment g c = λ honest olds lasts. (stepped g (goal.at.returns-in_err-step-clause-any_moment g c).After-step honest).any_moment olds lasts
+
+pub returns-in_err-step-clause-lasts : goal.returns-in_err-step-clause-lasts
+returns-in_err-step-clause-lasts g c = λ honest olds lasts.
+    let p = err_from_is_err_and c.from_residual.result c.from_residual.ensures.1 in
+    rw (p.1, p.2)
+    (failed_lasts g.D.Dir.state g.D.Dir.moment g.D.Dir.left_since (installing c.args.install.now) (installing c.loop.install) (installing c.step.new.self) c.args.dir.now c.loop.dir c.step.new.dir c.in_err-step.field-0.0 olds
+    c.loop.invariant.same (c.in_err-step.ensures.goes c.loop.invariant.is_open) c.in_err-step.ensures.settling
+    (λ done. let ok = (c.in_err-step.ensures.after_done c.loop.invariant.is_open done).0 in absurd (cc))
+    (c.in_err-step.ensures.changes honest c.loop.invariant.is_open (λ done. let ok = (c.in_err-step.ensures.after_done c.loop.invariant.is_open done).0 in absurd (cc)))
+    (c.loop.invariant.progress honest) (c.step.ensures.old_or_new honest) lasts)
+
+pub returns-in_err-step-clause-blames : goal.returns-in_err-step-clause-blames
+returns-in_err-step-clause-blames g c =
+    let p = err_from_is_err_and c.from_residual.result c.from_residual.ensures.1 in
+    rw (p.1, p.2) (blames_run (g.D.Dir.failed c.args.dir.now) (g.D.Dir.failed c.loop.dir) (g.D.Dir.failed c.step.new.dir) c.in_err-step.field-0.0 c.loop.invariant.failures c.in_err-step.ensures.blames)
+
+pub loop-smaller : goal.loop-smaller
+loop-smaller g c =
+    smaller (installing c.loop.install) (installing c.step.new.self) c.in_ok-step.field-0 c.step.ensures.same (c.in_ok-step.ensures.goes c.loop.invariant.is_open)
+    (differs_true the_type c.in_ok-step.field-0 Done (sym c.if-ne.ensures)) c.in_ok-step.ensures.more c.in_ok-step.ensures.kept
+
+pub loop-preserved : goal.loop-preserved
+loop-preserved g c =
+    let goes = c.in_ok-step.ensures.goes c.loop.invariant.is_open in record {
+      is_open = goes.2;
+      same = same_then (installing c.args.install.now) (installing c.loop.install) (installing c.step.new.self) c.loop.invariant.same c.step.ensures.same;
+      fits = c.step.ensures.fits;
+      progress = λ honest.
+          subst (λ reached. Progress g.D.Dir.state g.D.Dir.moment g.D.Dir.left_since (installing c.args.install.now) reached c.args.dir.now c.step.new.dir) (sym goes.1)
+          (stepped g (goal.at.loop-preserved g c).After-step honest);
+      failures = omega (arith, c.loop.invariant.failures, c.step.ensures.failures);
+    }
+
+pub returns-clause-any_moment : goal.returns-clause-any_moment
+returns-clause-any_moment g c = λ honest olds lasts. (stepped g (goal.at.returns-clause-any_moment g c).After-step honest).any_moment olds lasts
+
+pub returns-clause-lasts : goal.returns-clause-lasts
+returns-clause-lasts g c = λ honest olds lasts.
+    let done : next_phase (installing c.loop.install) ≡ Done =
+    sym (c.in_ok-step.ensures.goes c.loop.invariant.is_open).0 ∙ differs_false the_type (search rules) c.in_ok-step.field-0 Done (sym c.if-ne.ensures) in
+    subst (λ phase. LastsAmong (g.D.Dir.state c.step.new.dir) (installing c.args.install.now).names.cdb (so_far (Some phase) (whole_file (installing c.args.install.now).rules) olds)) done
+    ((stepped g (goal.at.returns-clause-lasts g c).After-step honest).lasts olds lasts)
+
+pub returns-clause-done : goal.returns-clause-done
+returns-clause-done g c = λ honest.
+    let done = differs_false the_type (search rules) c.in_ok-step.field-0 Done (sym c.if-ne.ensures) in
+    done_lasts (installing c.args.install.now) (installing c.loop.install) (g.D.Dir.state c.step.new.dir) c.loop.invariant.same (c.in_ok-step.ensures.done honest (cc))
+
+pub returns-clause-written : goal.returns-clause-written
+returns-clause-written g c = subst (λ list. Written (whole_file list) (stored list)) c.loop.invariant.same.rules c.step.ensures.written

@@ -1,0 +1,21 @@
+use Rattle.std.proofs.Common.{◌≡◌, IsTrue, false, ◌+◌, ◌≤◌}
+use Rattle.rules_install.specs.Filled.{fillings_left}
+use Rattle.rules_install.specs.Installing.{Fits}
+use Rattle.rules_install.specs.Installs.{installing}
+use Rattle.rules_install.specs.Steps.{IsSame}
+use Rattle.rules_install.proofs.WholeLemmas.{Progress, phases_left}
+use Rattle.rules_install.proofs.whole.run.Given as goal
+
+abbrev pub invariant-loop : goal.invariant-loop
+invariant-loop g l = record {
+  is_open : (installing l.install).over ≡ false;
+  same : IsSame (installing l.initial.install) (installing l.install);
+  fits : IsTrue g.D.Dir.honest → Fits (installing l.install) (g.D.Dir.state l.dir);
+  progress : IsTrue g.D.Dir.honest
+      → Progress g.D.Dir.state g.D.Dir.moment g.D.Dir.left_since (installing l.initial.install) (installing l.install).reached l.initial.dir l.dir;
+  failures : g.D.Dir.failed l.initial.dir ≤ g.D.Dir.failed l.dir;
+}
+
+abbrev pub decreases-loop : goal.decreases-loop
+decreases-loop g l =
+    fillings_left (installing l.install).rules (installing l.install).filled (installing l.install).patched + phases_left (installing l.install).reached

@@ -1,0 +1,22 @@
+-- The file that an installation makes, and how it is filled.
+use Rattle.std.specs.Prelude.{ℕ, ◌+◌, ◌-◌, Bool, List, ◌++◌, length, take, replicate, if◌then◌else◌}
+use Rattle.cdb_write.specs.Format.{records_of}
+use Rattle.cdb_write.specs.Image.{image_of, tables_of}
+use Rattle.cdb_read.specs.Compiled.{stored}
+use Rattle.rule_lines.specs.Pairs.{Rule}
+
+-- the compiled file of some rules
+abbrev pub whole_file : List Rule → List ℕ
+whole_file rules = image_of (stored rules)
+
+-- the same with zeros for its pointers, which come last
+abbrev pub blank_file : List Rule → List ℕ
+blank_file rules = replicate 2048 0 ++ records_of (stored rules) ++ tables_of (stored rules)
+
+-- what stands in the scratch file once so many bytes were appended, and the pointers were put in place or not
+abbrev pub filled_file : List Rule → ℕ → Bool → List ℕ
+filled_file rules filled patched = if patched then whole_file rules else take filled (blank_file rules)
+
+-- how often it can still be filled: with each byte, and with the pointers
+abbrev pub fillings_left : List Rule → ℕ → Bool → ℕ
+fillings_left rules filled patched = (length (blank_file rules) - filled) + (if patched then 0 else 1)

@@ -1,0 +1,65 @@
+-- An installation under way, and the directory as its steps leave it.
+use Rattle.std.specs.Prelude.{◌≡◌, ⊤, ℕ, Bool, true, false, List, slice_get, Option, None, Some, option_and_then}
+use Rattle.std.specs.FinMap.{get}
+use Rattle.dir_disk.specs.NameTable.{Names, CanBeLeft}
+use Rattle.dir_disk.specs.Directory.{Directory, FileState, number_of, scratch_of, file_at}
+use Rattle.rule_lines.specs.Pairs.{Rule}
+use Rattle.rules_install.specs.NamePair.{NamePair}
+use Rattle.rules_install.specs.Filled.{whole_file, filled_file}
+use Rattle.rules_install.specs.declared.Phase.{Phase}
+use Rattle.rules_install.specs.declared.Phase.TheVariants.{Fresh, Filling, Synced, Named, Done}
+
+pub record Installing : Type 0 where
+  pub rules : List Rule
+  pub names : NamePair
+  -- how many bytes were appended to the scratch file, and whether the pointers were put in place
+  pub filled : ℕ
+  pub patched : Bool
+  -- the last phase that a step answered
+  pub reached : Option Phase
+  -- whether a step answered a fault of the directory
+  pub over : Bool
+
+-- no step was made
+abbrev pub begun : List Rule → NamePair → Installing
+begun rules names = record { rules = rules; names = names; filled = 0; patched = false; reached = None; over = false }
+
+-- the phase to be reached next, where the file has or has not its pointers
+abbrev pub after_filling : Bool → Phase
+after_filling true = Synced
+after_filling false = Filling
+
+abbrev pub next_of : Option Phase → Bool → Phase
+next_of None patched = Fresh
+next_of (Some Fresh) patched = after_filling patched
+next_of (Some Filling) patched = after_filling patched
+next_of (Some Synced) patched = Named
+next_of (Some Named) patched = Done
+next_of (Some Done) patched = Done
+
+abbrev pub next_phase : Installing → Phase
+next_phase s = next_of s.reached s.patched
+
+abbrev pub synced_file : List Rule → FileState
+synced_file rules = record { bytes = whole_file rules; synced = true }
+
+-- the scratch file stands under its name, filled so far
+abbrev pub HasScratch : Installing → Directory → Type 0
+HasScratch s d = (number_of d s.names.tmp ≡ d.scratch) × (scratch_of d ≡ Some (record { bytes = filled_file s.rules s.filled s.patched; synced = false }))
+
+-- the file that stands under a name, where these are the names
+abbrev pub file_among : Names → List FileState → List ℕ → Option FileState
+file_among names files name = option_and_then (λ number. slice_get files number) (get names name)
+
+-- the directory is as the steps up to this phase left it
+abbrev pub FitsPhase : Installing → Directory → Option Phase → Type 0
+FitsPhase s d None = ⊤
+FitsPhase s d (Some Fresh) = HasScratch s d
+FitsPhase s d (Some Filling) = HasScratch s d
+FitsPhase s d (Some Synced) = file_at d s.names.tmp ≡ Some (synced_file s.rules)
+FitsPhase s d (Some Named) = file_at d s.names.cdb ≡ Some (synced_file s.rules)
+FitsPhase s d (Some Done) = (names : Names) → CanBeLeft d.names names → file_among names d.files s.names.cdb ≡ Some (synced_file s.rules)
+
+-- an installation that is not over finds the directory as its steps left it
+abbrev pub Fits : Installing → Directory → Type 0
+Fits s d = s.over ≡ false → FitsPhase s d s.reached

@@ -1,0 +1,10 @@
+-- Installations of rule texts: the file that each makes, its steps, and what stands under the name of the rules file.
+pub mod Filled
+pub mod Installing
+pub mod Installs
+pub mod NamePair
+pub mod ParseFaults
+pub mod Pieces
+pub mod Prepares
+pub mod Steps
+pub mod Whole

@@ -1,0 +1,94 @@
+-- What a step of an installation does, by its answer.
+use Rattle.std.specs.Prelude.{◌≡◌, ◌≢◌, ◌⊎◌, ◌<◌, ◌≤◌, ◌^◌, ◌-◌, ⊤, ℕ, Bool, IsTrue, true, false, List, ◌∷◌, Option, Some, Result, Ok, Err}
+use Rattle.dir_disk.specs.Directory.{Directory}
+use Rattle.dir_disk.specs.Calls.{Call, makes, appends, patches, syncs, renames, settles, after}
+use Rattle.dir_disk.specs.Outcomes.{Fails}
+use Rattle.dir_disk.specs.Lasting.{LastsAmong, HasAmong}
+use Rattle.dir_disk.specs.Moments.{LeavesOnly}
+use Rattle.dir_disk.specs.declared.fault.DirFault.{DirFault}
+use Rattle.dir_disk.specs.declared.fault.DirFault.TheVariants.{Device, OutOfMemory as NoMemory}
+use Rattle.rules_install.specs.Filled.{whole_file}
+use Rattle.rules_install.specs.Installing.{Installing, Fits}
+use Rattle.rules_install.specs.declared.Phase.{Phase}
+use Rattle.rules_install.specs.declared.Phase.TheVariants.{Fresh, Filling, Synced, Named, Done}
+use Rattle.rules_install.specs.declared.fault.InstallFault.{InstallFault}
+use Rattle.rules_install.specs.declared.fault.InstallFault.TheVariants.{Disk, OutOfMemory}
+
+-- the one call of the directory on the way to a phase
+abbrev pub IsCallOf : Installing → Phase → Call → Type 0
+IsCallOf s Fresh call = call ≡ makes s.names.tmp
+IsCallOf s Filling call = ((piece : List ℕ) × (call ≡ appends piece)) ⊎ ((place : ℕ) × (bytes : List ℕ) × (call ≡ patches place bytes))
+IsCallOf s Synced call = call ≡ syncs
+IsCallOf s Named call = call ≡ renames s.names.tmp s.names.cdb
+IsCallOf s Done call = call ≡ settles
+
+-- the directory after a step to a phase: after its call, or what that leaves where the device failed, or as before
+abbrev pub Changes : Installing → Phase → Directory → Directory → Result Phase InstallFault → Type 0
+Changes s next old new (Ok phase) = (call : Call) × IsCallOf s next call × (new ≡ after call old)
+Changes s next old new (Err (Disk Device phase)) = (call : Call) × IsCallOf s next call × Fails call old new
+Changes s next old new (Err fault) = new ≡ old
+
+-- the same installation, further on
+pub record IsSame (old new : Installing) : Type 0 where
+  pub rules : new.rules ≡ old.rules
+  pub names : new.names ≡ old.names
+
+-- the scratch file is filled as far as before
+pub record HasFilled (old new : Installing) : Type 0 where
+  pub filled : new.filled ≡ old.filled
+  pub patched : new.patched ≡ old.patched
+
+-- what a step to a phase answers, and how far the installation is then
+abbrev pub Goes : Phase → Installing → Installing → Result Phase InstallFault → Type 0
+Goes next old new (Ok phase) = (phase ≡ next) × (new.reached ≡ Some next) × (new.over ≡ false)
+Goes next old new (Err (Disk fault phase)) = (phase ≡ next) × (new.reached ≡ old.reached) × (new.over ≡ true) × (fault ≢ NoMemory)
+Goes next old new (Err OutOfMemory) = new ≡ old
+Goes next old new (Err fault) = ⊥
+
+-- what may stand under the name of the rules file in the step to a phase, where one of these stood
+abbrev pub may_stand : Phase → List ℕ → List (Option (List ℕ)) → List (Option (List ℕ))
+may_stand Named file olds = Some file ∷ olds
+may_stand phase file olds = olds
+
+-- A step to a phase keeps what stood under the name of the rules file, or with its rename puts the whole file there: at its end, and
+-- whenever the machine stops since it began.
+pub record StepKeeps {D : Type 0} (state : D → Directory) (moment : D → ℕ) (left_since : D → ℕ → Directory → Type 0) (next : Phase) (s : Installing) (old new : D) : Type 0 where
+  pub lasts : (olds : List (Option (List ℕ))) → LastsAmong (state old) s.names.cdb olds → LastsAmong (state new) s.names.cdb (may_stand next (whole_file s.rules) olds)
+  pub any_moment : (olds : List (Option (List ℕ))) → LastsAmong (state old) s.names.cdb olds
+      → LeavesOnly moment left_since old new (HasAmong s.names.cdb (may_stand next (whole_file s.rules) olds))
+
+-- the answer to what a call of the directory answered, on the way to a phase
+abbrev pub answer_of : {T : Type 0} → Phase → Result T DirFault → Result Phase InstallFault
+answer_of next (Ok done) = Ok next
+answer_of next (Err NoMemory) = Err OutOfMemory
+answer_of next (Err fault) = Err (Disk fault next)
+
+-- the installation after it
+abbrev pub noted : {T : Type 0} → Phase → Installing → Result T DirFault → Installing
+noted next s (Ok done) = record s { reached = Some next }
+noted next s (Err NoMemory) = s
+noted next s (Err fault) = record s { over = true }
+
+-- a fault of the directory is its device's
+abbrev pub IsOfDevice : Result Phase InstallFault → Type 0
+IsOfDevice (Err (Disk fault phase)) = fault ≡ Device
+IsOfDevice result = ⊤
+
+-- the device is blamed only where a failure was counted, or no more can be
+abbrev pub BlamesDevice : ℕ → ℕ → Result Phase InstallFault → Type 0
+BlamesDevice before now (Err (Disk Device phase)) = (before < now) ⊎ (now ≡ 2 ^ 64 - 1)
+BlamesDevice before now result = ⊤
+
+-- all that a step to a phase promises, where the directory was as the steps before left it
+pub record StepsTo {D : Type 0} (honest : Bool) (state : D → Directory) (moment : D → ℕ) (left_since : D → ℕ → Directory → Type 0) (failed : D → ℕ)
+    (next : Phase) (s s' : Installing) (old new : D) (result : Result Phase InstallFault) : Type 0 where
+  pub same : IsSame s s'
+  pub goes : Goes next s s' result
+  pub kept : (result ≡ Ok Filling → ⊥) → HasFilled s s'
+  pub fits : IsTrue honest → Fits s' (state new)
+  pub changes : IsTrue honest → Changes s next (state old) (state new) result
+  pub keeps : IsTrue honest → StepKeeps state moment left_since next s old new
+  pub settling : next ≡ Done → result ≢ Err OutOfMemory
+  pub device : IsTrue honest → IsOfDevice result
+  pub failures : failed old ≤ failed new
+  pub blames : BlamesDevice (failed old) (failed new) result

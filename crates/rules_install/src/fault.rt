@@ -1,0 +1,60 @@
+//! Why an installation fails.
+ghost use Rattle.std.specs.Prelude.{◌≡◌};
+ghost use Rattle.rules_install.specs.ParseFaults.{of_parse};
+ghost use Rattle.rules_install.specs.declared.fault.InstallFault.TheVariants.{OutOfMemory};
+
+use crate::Phase;
+use dir_disk::DirFault;
+use rule_lines::{LineFault, ParseFault};
+use std::alloc::{AllocError, AllocFailed};
+use thiserror::Error;
+
+/// Why an installation, or a step of one, fails.
+#[derive(Clone, Copy, PartialEq, Eq, Debug, Error)]
+pub enum InstallFault {
+    /// The text is not accepted. The directory is as before.
+    #[error("{0}")]
+    Line(LineFault),
+    /// The compiled file would pass its limit. The directory is as before.
+    #[error("compiled file too large")]
+    TooLarge,
+    /// A call of the directory failed, on the way to this phase. The rules file is the old one or, where the phase is `Named` or
+    /// `Done`, possibly the new one. With `Done` the new one stands there, but until the names are settled a stop may leave what
+    /// stood there at some moment since they last were. The installation is over.
+    #[error("{0}")]
+    Disk(DirFault, Phase),
+    /// An earlier step answered `Disk`. Nothing was done.
+    #[error("the installation is over")]
+    Over,
+    /// There was no memory, also for a call of the directory. A step has then changed nothing, and may be made again; after a whole
+    /// installation the rules file is the old one, and the scratch name may name an unfinished file.
+    #[error("out of memory")]
+    OutOfMemory,
+}
+
+impl From<AllocError> for InstallFault {
+    ghost from_gives = { λ _ fault. fault ≡ OutOfMemory };
+
+    fn from(_: AllocError) -> Self {
+        InstallFault::OutOfMemory
+    }
+}
+
+impl<T: Drop> From<AllocFailed<T>> for InstallFault {
+    ghost from_gives = { λ _ fault. fault ≡ OutOfMemory };
+
+    fn from(_: AllocFailed<T>) -> Self {
+        InstallFault::OutOfMemory
+    }
+}
+
+impl From<ParseFault> for InstallFault {
+    ghost from_gives = { λ given fault. fault ≡ of_parse given };
+
+    fn from(fault: ParseFault) -> Self {
+        match fault {
+            ParseFault::Line(fault) => InstallFault::Line(fault),
+            ParseFault::OutOfMemory => InstallFault::OutOfMemory,
+        }
+    }
+}

@@ -1,0 +1,268 @@
+//! An installation, step by step.
+ghost use Rattle.std.specs.Prelude.{◌≡◌, ◌≢◌, ◌++◌, drop, ◌^◌, ◌≤◌, ◌<◌, ◌⊎◌, ◌||◌, [], ◌∷◌, List, Option, length, IsTrue, true, false, None, Some, is_some, IfOk, IfErr, OnOk};
+ghost use Rattle.dir_disk.specs.Lasting.{LastsAmong};
+ghost use Rattle.cdb_write.specs.Image.{finished_length};
+ghost use Rattle.cdb_write.specs.Making.{limit_of};
+ghost use Rattle.cdb_write.specs.Written.{Written};
+ghost use Rattle.cdb_read.specs.Compiled.{stored};
+ghost use Rattle.rules_install.specs.Filled.{blank_file, fillings_left, whole_file};
+ghost use Rattle.rules_install.specs.Pieces.{from_piece};
+ghost use Rattle.rules_install.specs.Installing.{begun, next_phase, Fits};
+ghost use Rattle.rules_install.specs.Steps.{Changes, IsSame, Goes, HasFilled, IsOfDevice, StepKeeps, StepsTo, BlamesDevice, answer_of, noted};
+
+use crate::pieces::{Piece, Pieces};
+use crate::{InstallFault, Names, Phase};
+use dir_disk::{Dir, DirFault, Name};
+use rule_lines::{Limits, RuleList};
+use std::alloc::{AllocError, Global};
+
+/// An installation under way: the rules, the names, and how far it has come.
+#[derive(Drop)]
+pub struct Install {
+    pieces: Pieces,
+    names: Names,
+    // the piece under way, how much of it was appended, and the place of the next
+    rest: Vec<u8>,
+    taken: usize,
+    next: Piece,
+    // how many bytes were appended, and whether the pointers were put in place
+    filled: usize,
+    patched: bool,
+    reached: Option<Phase>,
+    over: bool,
+    ghost rest_is: { drop taken rest.items ++ from_piece pieces next ≡ drop filled (blank_file pieces) },
+    ghost taken_fits: { taken ≤ length rest.items },
+    ghost filled_fits: { filled ≤ length (blank_file pieces) },
+    ghost small: { finished_length (stored pieces) < 2 ^ 32 },
+    ghost whole: { patched ≡ true → filled ≡ length (blank_file pieces) },
+    ghost not_begun: { reached ≡ None → (filled ≡ 0) × (patched ≡ false) },
+}
+
+impl Install {
+    ghost use Rattle.rules_install.specs.Installs.{installing};
+
+    /// An installation of which no step was made. It makes no call of a directory.
+    ///
+    /// # Errors
+    /// `TooLarge` where the compiled file would pass `limits.file`, `OutOfMemory` where there was no memory.
+    pub fn begin(
+        alloc: Global,
+        list: RuleList,
+        names: Names,
+        limits: &Limits,
+    ) -> Result<Install, InstallFault>
+        ensures begun { IfOk result (λ install. installing install ≡ begun list names) }
+        ensures fits { IfOk result (λ _. finished_length (stored list) ≤ limit_of limits.now.file) }
+        ensures refused { result ≡ Err InstallFault.TooLarge → limit_of limits.now.file < finished_length (stored list) }
+        ensures faults { IfErr result (λ fault. (fault ≡ InstallFault.TooLarge) ⊎ (fault ≡ InstallFault.OutOfMemory)) }
+    {
+        Ok(Install {
+            pieces: Pieces::new(alloc, list, limits.file)?,
+            names,
+            rest: Vec::new(alloc),
+            taken: 0,
+            next: Piece::Zeros,
+            filled: 0,
+            patched: false,
+            reached: None,
+            over: false,
+        })
+    }
+
+    /// The name of the rules file.
+    pub fn cdb(&self) -> &Name
+        ensures { result.now ≡ (installing self.now).names.cdb }
+    {
+        self.names.cdb()
+    }
+
+    /// The rules.
+    pub fn list(&self) -> &RuleList
+        ensures { result.now ≡ (installing self.now).rules }
+    {
+        self.pieces.list()
+    }
+
+    /// Whether a step answered a phase or a fault of the directory.
+    pub fn stepped(&self) -> bool
+        ensures { result ≡ (is_some (installing self.now).reached || (installing self.now).over) }
+    {
+        self.reached.is_some() || self.over
+    }
+
+    // Takes note of what a call of the directory answered.
+    fn note(&mut self, outcome: Result<(), DirFault>, next: Phase) -> Result<Phase, InstallFault>
+        ensures answer { result ≡ answer_of next outcome }
+        ensures noted { installing self.new ≡ noted next (installing self.old) outcome }
+    {
+        match outcome {
+            Ok(()) => {
+                self.reached = Some(next);
+                Ok(next)
+            }
+            Err(fault) => match fault {
+                DirFault::OutOfMemory => Err(InstallFault::OutOfMemory),
+                _ => {
+                    self.over = true;
+                    Err(InstallFault::Disk(fault, next))
+                }
+            },
+        }
+    }
+
+    // Makes the scratch file.
+    fn make_scratch<D: Dir>(&mut self, alloc: Global, dir: &mut D) -> Result<Phase, InstallFault>
+        requires is_open { (installing self.old).over ≡ false }
+        requires next { next_phase (installing self.old) ≡ Phase.Fresh }
+        requires fits { IsTrue D.honest → Fits (installing self.old) (D.state dir.old) }
+        ensures { StepsTo D.honest D.state D.moment D.left_since D.failed Phase.Fresh (installing self.old) (installing self.new) dir.old dir.new result }
+    {
+        let outcome = dir.fresh(alloc, self.names.tmp());
+        self.note(outcome, Phase::Fresh)
+    }
+
+    // Makes the next piece, where none is under way and one is left.
+    fn make_piece(&mut self, alloc: Global) -> Result<(), AllocError>
+        ensures same { installing self.new ≡ installing self.old }
+        ensures left { OnOk result (length (self.new).rest.items ≡ (self.new).taken → (installing self.new).filled ≡ length (blank_file (installing self.new).rules)) }
+    {
+        if self.taken < self.rest.len() {
+            return Ok(());
+        }
+        if let Some((piece, next)) = self.pieces.get(alloc, self.next)? {
+            self.rest = piece;
+            self.taken = 0;
+            self.next = next;
+        }
+        Ok(())
+    }
+
+    // Appends a piece, or the rest of one; once there is none, puts the pointers in their place.
+    fn fill<D: Dir>(&mut self, alloc: Global, dir: &mut D) -> Result<Phase, InstallFault>
+        requires is_open { (installing self.old).over ≡ false }
+        requires next { next_phase (installing self.old) ≡ Phase.Filling }
+        requires fits { IsTrue D.honest → Fits (installing self.old) (D.state dir.old) }
+        ensures step { StepsTo D.honest D.state D.moment D.left_since D.failed Phase.Filling (installing self.old) (installing self.new) dir.old dir.new result }
+        ensures more { OnOk result (fillings_left (installing self.new).rules (installing self.new).filled (installing self.new).patched < fillings_left (installing self.old).rules (installing self.old).filled (installing self.old).patched) }
+    {
+        self.make_piece(alloc)?;
+        if self.taken == self.rest.len() {
+            return self.put_pointers(alloc, dir);
+        }
+        match dir.append(alloc, &self.rest[self.taken..]) {
+            Ok(count) => {
+                self.taken += count;
+                self.filled += count;
+                self.note(Ok(()), Phase::Filling)
+            }
+            Err(fault) => self.note(Err(fault), Phase::Filling),
+        }
+    }
+
+    // Puts the pointers in their place.
+    fn put_pointers<D: Dir>(&mut self, alloc: Global, dir: &mut D) -> Result<Phase, InstallFault>
+        requires is_open { (installing self.old).over ≡ false }
+        requires next { next_phase (installing self.old) ≡ Phase.Filling }
+        requires whole { (installing self.old).filled ≡ length (blank_file (installing self.old).rules) }
+        requires fits { IsTrue D.honest → Fits (installing self.old) (D.state dir.old) }
+        ensures step { StepsTo D.honest D.state D.moment D.left_since D.failed Phase.Filling (installing self.old) (installing self.new) dir.old dir.new result }
+        ensures more { OnOk result (fillings_left (installing self.new).rules (installing self.new).filled (installing self.new).patched < fillings_left (installing self.old).rules (installing self.old).filled (installing self.old).patched) }
+    {
+        let header = self.pieces.header(alloc)?;
+        let outcome = dir.patch(alloc, 0, &header);
+        if outcome.is_ok() {
+            self.patched = true;
+        }
+        self.note(outcome, Phase::Filling)
+    }
+
+    // Makes the scratch file lasting.
+    fn close<D: Dir>(&mut self, alloc: Global, dir: &mut D) -> Result<Phase, InstallFault>
+        requires is_open { (installing self.old).over ≡ false }
+        requires next { next_phase (installing self.old) ≡ Phase.Synced }
+        requires fits { IsTrue D.honest → Fits (installing self.old) (D.state dir.old) }
+        ensures { StepsTo D.honest D.state D.moment D.left_since D.failed Phase.Synced (installing self.old) (installing self.new) dir.old dir.new result }
+    {
+        let outcome = dir.sync(alloc);
+        self.note(outcome, Phase::Synced)
+    }
+
+    // Moves the scratch file onto the name of the rules file.
+    fn put_in_place<D: Dir>(&mut self, alloc: Global, dir: &mut D) -> Result<Phase, InstallFault>
+        requires is_open { (installing self.old).over ≡ false }
+        requires next { next_phase (installing self.old) ≡ Phase.Named }
+        requires fits { IsTrue D.honest → Fits (installing self.old) (D.state dir.old) }
+        ensures { StepsTo D.honest D.state D.moment D.left_since D.failed Phase.Named (installing self.old) (installing self.new) dir.old dir.new result }
+    {
+        let outcome = dir.rename(alloc, self.names.tmp(), self.names.cdb());
+        self.note(outcome, Phase::Named)
+    }
+
+    // Makes that lasting.
+    fn settle_names<D: Dir>(&mut self, dir: &mut D) -> Result<Phase, InstallFault>
+        requires is_open { (installing self.old).over ≡ false }
+        requires reached { (installing self.old).reached ≡ Some Phase.Named }
+        requires fits { IsTrue D.honest → Fits (installing self.old) (D.state dir.old) }
+        ensures { StepsTo D.honest D.state D.moment D.left_since D.failed Phase.Done (installing self.old) (installing self.new) dir.old dir.new result }
+    {
+        let outcome = dir.settle();
+        self.note(outcome, Phase::Done)
+    }
+
+    /// Goes to the next of the phases `Fresh`, `Filling` (once for each piece, the rest of one that was not taken whole, and the
+    /// pointers), `Synced`, `Named` and `Done`, by one call of the directory, and answers the phase reached. A step after `Done`
+    /// answers `Done` and does nothing.
+    ///
+    /// All steps are made on one directory, and since the first of them only they and `open` are called there.
+    ///
+    /// # Errors
+    /// `Disk` with the phase that was to be reached; `Over` after that, where nothing is done; `OutOfMemory`, after which nothing has
+    /// changed.
+    pub fn step<D: Dir>(&mut self, alloc: Global, dir: &mut D) -> Result<Phase, InstallFault>
+        requires fits { IsTrue D.honest → Fits (installing self.old) (D.state dir.old) }
+        ensures same { IsSame (installing self.old) (installing self.new) }
+        ensures over { (installing self.old).over ≡ true → (result ≡ Err InstallFault.Over) × (installing self.new ≡ installing self.old) × (dir.new ≡ dir.old) }
+        ensures after_done { (installing self.old).over ≡ false → (installing self.old).reached ≡ Some Phase.Done → (result ≡ Ok Phase.Done) × (installing self.new ≡ installing self.old) × (dir.new ≡ dir.old) }
+        ensures goes { (installing self.old).over ≡ false → Goes (next_phase (installing self.old)) (installing self.old) (installing self.new) result }
+        ensures more { result ≡ Ok Phase.Filling → fillings_left (installing self.new).rules (installing self.new).filled (installing self.new).patched < fillings_left (installing self.old).rules (installing self.old).filled (installing self.old).patched }
+        ensures kept { result ≢ Ok Phase.Filling → HasFilled (installing self.old) (installing self.new) }
+        // the step to `Done` takes no memory
+        ensures settling { (installing self.old).reached ≡ Some Phase.Named → result ≢ Err InstallFault.OutOfMemory }
+
+        // its one call of the directory
+        ensures changes { IsTrue D.honest → (installing self.old).over ≡ false → (installing self.old).reached ≢ Some Phase.Done
+            → Changes (installing self.old) (next_phase (installing self.old)) (D.state dir.old) (D.state dir.new) result }
+        ensures fits { IsTrue D.honest → Fits (installing self.new) (D.state dir.new) }
+
+        // whenever the machine stops since the step began, what stood under the name of the rules file stands there, or from the rename
+        // on the new file, whole
+        ensures old_or_new { IsTrue D.honest → StepKeeps D.state D.moment D.left_since (next_phase (installing self.old)) (installing self.old) dir.old dir.new }
+        // and once it is done, the new file alone
+        ensures done { IsTrue D.honest → result ≡ Ok Phase.Done → LastsAmong (D.state dir.new) (installing self.old).names.cdb (Some (whole_file (installing self.old).rules) ∷ []) }
+        // which is compiled of the rules
+        ensures written { Written (whole_file (installing self.old).rules) (stored (installing self.old).rules) }
+        ensures device { IsTrue D.honest → IsOfDevice result }
+        ensures failures { D.failed dir.old ≤ D.failed dir.new }
+        ensures blames { BlamesDevice (D.failed dir.old) (D.failed dir.new) result }
+    {
+        self.pieces.written();
+        if self.over {
+            return Err(InstallFault::Over);
+        }
+        let Some(reached) = self.reached else {
+            return self.make_scratch(alloc, dir);
+        };
+        match reached {
+            Phase::Fresh | Phase::Filling => {
+                if self.patched {
+                    self.close(alloc, dir)
+                } else {
+                    self.fill(alloc, dir)
+                }
+            }
+            Phase::Synced => self.put_in_place(alloc, dir),
+            Phase::Named => self.settle_names(dir),
+            Phase::Done => Ok(Phase::Done),
+        }
+    }
+}

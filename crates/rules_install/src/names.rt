@@ -1,0 +1,60 @@
+//! The names of an installation.
+ghost use Rattle.std.specs.Prelude.{◌≡◌, ◌≢◌, ◌↔◌, IfOk};
+
+use dir_disk::Name;
+use std::marker::Model;
+use thiserror::Error;
+
+/// The rules file and the scratch file have one name.
+#[derive(Clone, Copy, PartialEq, Eq, Debug, Error)]
+#[error("the rules file and the scratch file have one name")]
+pub struct SameName;
+
+/// The name of the rules file, and the other one under which a new file is made.
+#[derive(Debug, Drop)]
+pub struct Names {
+    cdb: Name,
+    tmp: Name,
+}
+
+impl Model for Names {
+    ghost use Rattle.std.specs.Prelude.{◌≢◌};
+    ghost use Rattle.rules_install.specs.NamePair.{NamePair};
+
+    ghost Value = { NamePair };
+
+    ghost view = { λ names. record { cdb = names.cdb; tmp = names.tmp } };
+
+    ghost invariant = { λ names. names.cdb ≢ names.tmp };
+}
+
+impl Names {
+    /// The two names, of the rules file and of the scratch file. It takes no memory.
+    ///
+    /// # Errors
+    /// They are one name.
+    pub fn new(cdb: Name, tmp: Name) -> Result<Names, SameName>
+        ensures names { IfOk result (λ names. names ≡ record { cdb = cdb; tmp = tmp }) }
+        ensures same { (result ≡ Err record {}) ↔ (cdb ≡ tmp) }
+    {
+        if cdb.as_str() == tmp.as_str() {
+            return Err(SameName);
+        }
+        Ok(Names { cdb, tmp })
+    }
+
+    /// The name of the rules file.
+    pub fn cdb(&self) -> &Name
+        ensures { result.now ≡ self.now.cdb }
+    {
+        &self.cdb
+    }
+
+    /// The name of the scratch file.
+    pub fn tmp(&self) -> &Name
+        ensures name { result.now ≡ self.now.tmp }
+        ensures other { self.now.cdb ≢ self.now.tmp }
+    {
+        &self.tmp
+    }
+}

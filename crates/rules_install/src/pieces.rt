@@ -1,0 +1,166 @@
+//! The pieces of which a compiled file is made.
+ghost use Rattle.std.specs.Prelude.{◌≡◌, ◌⊎◌, ◌<◌, ◌≤◌, ◌++◌, [], length, IfOk, IfErr, MatchOption};
+ghost use Rattle.cdb_write.specs.Image.{finished_length, pointers_of, header_bytes};
+ghost use Rattle.cdb_write.specs.Making.{limit_of};
+ghost use Rattle.cdb_read.specs.Compiled.{stored};
+ghost use Rattle.rules_install.specs.Pieces.{from_piece};
+ghost use Rattle.rules_install.specs.Prepares.{Prepares};
+
+use crate::InstallFault;
+use cdb_write::{Tables, hash, header, record_piece, table_piece};
+use rule_lines::{Pair, RuleList};
+use std::alloc::{AllocError, Global};
+use std::marker::Model;
+
+/// The length of the pointers.
+const HEADER_LENGTH: usize = 2048;
+
+/// The length of the two lengths that begin a record.
+const LENGTHS_LENGTH: u64 = 8;
+
+/// How many bytes a record takes beside its key and its value: two lengths, and two slots of its table.
+const RECORD_LENGTH: u64 = 24;
+
+/// The number of tables.
+const TABLE_COUNT: usize = 256;
+
+/// A piece: the place of the pointers, the record of a rule, or a table.
+#[derive(Clone, Copy, PartialEq, Eq, Debug)]
+pub enum Piece {
+    Zeros,
+    Record(usize),
+    Table(usize),
+}
+
+/// The pieces of the file of a list of rules. The list is kept, and the hash and the place of each record by their tables.
+#[derive(Drop)]
+pub struct Pieces {
+    list: RuleList,
+    tables: Tables,
+    /// Where the tables begin.
+    end: u32,
+}
+
+impl Model for Pieces {
+    ghost use Rattle.std.specs.Prelude.{List};
+    ghost use Rattle.rule_lines.specs.Pairs.{Rule};
+    ghost use Rattle.rules_install.specs.Prepares.{Prepares};
+
+    ghost Value = { List Rule };
+
+    ghost view = { λ p. p.list };
+
+    ghost invariant = { λ p. Prepares p.list p.tables p.end };
+}
+
+// The key of a rule.
+fn key_of(alloc: Global, pair: &Pair<'_>) -> Result<Vec<u8>, AllocError>
+    ensures { IfOk result (λ key. key.items ≡ pair.now.address) }
+{
+    let mut key = Vec::new(alloc);
+    pair.append_address(&mut key)?;
+    Ok(key)
+}
+
+/// Where the records of a list stand, by their tables, and where the tables begin, if the finished file keeps to the limit.
+fn place_records(alloc: Global, list: &RuleList, limit: u64) -> Result<(Tables, u32), InstallFault>
+    ensures prepared { IfOk result (λ placed. Prepares list.now placed.0 placed.1) }
+    ensures fits { IfOk result (λ _. finished_length (stored list.now) ≤ limit_of limit) }
+    ensures refused { result ≡ Err InstallFault.TooLarge → limit_of limit < finished_length (stored list.now) }
+    ensures faults { IfErr result (λ fault. (fault ≡ InstallFault.TooLarge) ⊎ (fault ≡ InstallFault.OutOfMemory)) }
+{
+    let limit = limit.clamp(2048, 4294967295);
+    let mut tables = Tables::new(alloc)?;
+    let mut end = HEADER_LENGTH as u64;
+    let mut finished = end;
+    let mut place = 0;
+    while let Some(pair) = list.get(place) {
+        let key = key_of(alloc, &pair)?;
+        let length = (key.len() as u64).saturating_add(pair.code().len() as u64);
+        finished = length.saturating_add(finished + RECORD_LENGTH);
+        if finished > limit {
+            return Err(InstallFault::TooLarge);
+        }
+        tables.push((hash(&key), end as u32))?;
+        end += LENGTHS_LENGTH + length;
+        place += 1;
+    }
+    Ok((tables, end as u32))
+}
+
+impl Pieces {
+    /// The pieces of the file of a list, if the file keeps to the limit.
+    pub fn new(alloc: Global, list: RuleList, limit: u64) -> Result<Pieces, InstallFault>
+        ensures kept { IfOk result (λ pieces. pieces ≡ list) }
+        ensures fits { IfOk result (λ _. finished_length (stored list) ≤ limit_of limit) }
+        ensures refused { result ≡ Err InstallFault.TooLarge → limit_of limit < finished_length (stored list) }
+        ensures faults { IfErr result (λ fault. (fault ≡ InstallFault.TooLarge) ⊎ (fault ≡ InstallFault.OutOfMemory)) }
+    {
+        let (tables, end) = place_records(alloc, &list, limit)?;
+        Ok(Pieces { list, tables, end })
+    }
+
+    /// The list.
+    pub fn list(&self) -> &RuleList
+        ensures { result.now ≡ self.now }
+    {
+        &self.list
+    }
+
+    /// The piece at a place, if there is one, and the place of the next.
+    pub fn get(&self, alloc: Global, place: Piece) -> Result<Option<(Vec<u8>, Piece)>, AllocError>
+        ensures { IfOk result (λ piece. MatchOption piece (from_piece self.now place ≡ [])
+            (λ p. (0 < length p.0.items) × (from_piece self.now place ≡ p.0.items ++ from_piece self.now p.1))) }
+    {
+        match place {
+            Piece::Zeros => {
+                let zeros = vec![in alloc; 0; HEADER_LENGTH]?;
+                Ok(Some((zeros, Piece::Record(0))))
+            }
+            Piece::Record(i) => match self.list.get(i) {
+                Some(pair) => {
+                    let record = record_piece(alloc, &key_of(alloc, &pair)?, pair.code())?;
+                    Ok(Some((record, Piece::Record(i + 1))))
+                }
+                None => self.table(alloc, 0),
+            },
+            Piece::Table(t) => self.table(alloc, t),
+        }
+    }
+
+    // The first table from this one on that has records, and the place of the next.
+    fn table(&self, alloc: Global, first: usize) -> Result<Option<(Vec<u8>, Piece)>, AllocError>
+        ensures { IfOk result (λ piece. MatchOption piece (from_piece self.now (Piece.Table first) ≡ [])
+            (λ p. (0 < length p.0.items) × (from_piece self.now (Piece.Table first) ≡ p.0.items ++ from_piece self.now p.1))) }
+    {
+        for t in first..TABLE_COUNT {
+            let entries = self.tables.get(t);
+            if !entries.is_empty() {
+                return Ok(Some((table_piece(alloc, entries)?, Piece::Table(t + 1))));
+            }
+        }
+        Ok(None)
+    }
+
+    /// The pointers of all tables.
+    pub fn header(&self, alloc: Global) -> Result<Vec<u8>, AllocError>
+        ensures { IfOk result (λ header. header.items ≡ header_bytes (pointers_of (stored self.now))) }
+    {
+        let pointers = self.tables.pointers(alloc, self.end)?;
+        header(alloc, &pointers)
+    }
+}
+
+impl Pieces {
+    ghost use Rattle.cdb_write.specs.Written.{Written};
+    ghost use Rattle.rules_install.specs.Filled.{whole_file};
+
+    /// A law: the file of the list is compiled of it.
+    pub fn written(&self)
+        ensures { Written (whole_file self.now) (stored self.now) }
+    {
+        // this tells the proof that the file has fewer than 2^32 bytes
+        let _ = &self.list;
+        cdb_write::laws::pieces();
+    }
+}
