@@ -2,7 +2,7 @@
 
 A small library, compiled here and loaded before the C library, counts the requests (malloc, calloc, realloc) and refuses
 one. Each run has to end as one with ample memory does, or with `out of memory` and exit code 111, after answers that are
-a front of the ample run's.
+a front of the ample run's; and a rules file is the new one where the run succeeded, else the old one.
 """
 import os
 import subprocess
@@ -53,10 +53,12 @@ void *realloc(void *block, size_t size)
 """
 
 SCRIPTS = {
-    "rules and questions": (
+    "rules, stops and questions": (
         b'|joe@127.0.0.1:allow,R="1",S=/two words/\n|10.2-3.:deny\n|=.example:allow,H="x"\n|:deny\n'
-        b"install\nask 127.0.0.1 info=joe\nask 10.3.0.1\nask 1.1.1.1 host=a.B.example\n"
+        b"install\nask 127.0.0.1 info=joe\nask 10.3.0.1\nreader r\nask 1.1.1.1 host=a.B.example\n"
         b"ask 1.1.1.1 info=joe host=b.org\n|1.2.3.4:allowed\ninstall\nask 4.4.4.4\n# done\n\ninstall\nask 1.1.1.1\n"
+        b"|:allow\nbegin\nto synced\naskby r 10.3.0.1\nto named\nstop empty\n|:deny\nbegin\nto done\nto fresh\nask 1.1.1.1\n"
+        b"stop junk\naskby r 1.1.1.1\nask 1.1.1.1\nbegin\nto named\nstop kept\nask 1.1.1.1 info=joe\n|x:y\nbegin\n"
     ),
     "events": (
         b"events 3 2\nevent admitted 1 1.1.1.1\nevent admitted 2 1.1.1.1\nevent opened 1 yes\nevent decided 1 allow\n"
@@ -65,6 +67,9 @@ SCRIPTS = {
     ),
     "a bad command": b"|:deny\ninstall\nask 1.1.1.1\nask 1.1\n",
 }
+OLD = b":deny\n"
+NEW = b'joe@10.0.0.1:allow,R="1",S=/two words/\n10.2-3.:deny\n=.example:allow,H="x"\n:deny\n'
+PEER = {"TCPREMOTEIP": "10.0.0.1", "TCPREMOTEHOST": "A.example", "TCPREMOTEINFO": "joe"}
 MOST_REQUESTS = 5000
 
 
@@ -78,39 +83,97 @@ def library(folder):
     return target
 
 
-def run(program, script, environment):
+def run(words, folder, given, environment):
     ended = subprocess.run(
-        [program], input=script, env=environment, stdout=subprocess.PIPE, stderr=subprocess.PIPE, timeout=60
+        words, cwd=folder, input=given, env=environment, stdout=subprocess.PIPE, stderr=subprocess.PIPE, timeout=60
     )
     return ended.returncode, ended.stdout, ended.stderr
 
 
-def is_out_of_memory(outcome, ample):
+def is_out_of_memory(tool, outcome, ample):
     code, output, errors = outcome
-    return (
-        code == 111
-        and errors in (b"rulesim: out of memory\n", b"ucspi: out of memory\n")
-        and ample[1].startswith(output)
-    )
+    texts = [("%s: out of memory\n" % name).encode() for name in (tool, "ucspi")]
+    return code == 111 and errors in texts and ample[1].startswith(output)
+
+
+class Refusals:
+    """Runs with one request refused, each in a folder of its own."""
+
+    def __init__(self, program, folder, failures):
+        self.program = program
+        self.folder = folder
+        self.failures = failures
+        self.preload = library(folder)
+        self.runs = 0
+
+    def install(self, name, text):
+        """Makes a folder with the rules file of a text."""
+        folder = os.path.join(self.folder, name)
+        os.makedirs(folder, exist_ok=True)
+        subprocess.run([self.program, "tcprules", "rules", "tmp"], cwd=folder, input=text, check=True)
+        return folder
+
+    def expect_all(self, name, words, given, look):
+        """Refuses the first request, then the second, until a run meets no refusal; `look` makes a folder and tells what stands in it."""
+        mark = os.path.join(self.folder, "mark")
+        environment = dict(os.environ, **PEER)
+        ample = run([self.program] + words, look.folder(), given, environment)
+        for request in range(1, MOST_REQUESTS):
+            changes = {"LD_PRELOAD": self.preload, "REFUSED_REQUEST": str(request), "REFUSAL_MARK": mark}
+            outcome = run([self.program] + words, look.folder(), given, dict(environment, **changes))
+            self.runs += 1
+            is_ample = outcome == ample
+            if not (is_ample or is_out_of_memory(words[0], outcome, ample)) or not look.is_right(is_ample):
+                self.failures.append("%s, request %d refused: %r" % (name, request, outcome))
+            if not os.path.exists(mark):
+                return
+            os.unlink(mark)
+        self.failures.append("%s: more than %d requests" % (name, MOST_REQUESTS))
+
+
+class Nothing:
+    """No files are looked at."""
+
+    def __init__(self, folder):
+        self.path = folder
+
+    def folder(self):
+        return self.path
+
+    def is_right(self, is_ample):
+        return True
+
+
+class RulesFile:
+    """A folder with the old rules file, where a run that succeeded leaves the new one, and any other the old one."""
+
+    def __init__(self, refusals):
+        self.refusals = refusals
+        self.new = self.file(refusals.install("new", NEW))
+        self.old = self.file(refusals.install("old", OLD))
+        self.path = os.path.join(refusals.folder, "old")
+
+    @staticmethod
+    def file(folder):
+        with open(os.path.join(folder, "rules"), "rb") as file:
+            return file.read()
+
+    def folder(self):
+        with open(os.path.join(self.path, "rules"), "wb") as file:
+            file.write(self.old)
+        return self.path
+
+    def is_right(self, is_ample):
+        return self.file(self.path) == (self.new if is_ample else self.old)
 
 
 def check(program, failures):
     """Counts the runs, and adds a line to the failures for each that ends otherwise."""
-    runs = 0
     with tempfile.TemporaryDirectory() as folder:
-        preload = library(folder)
-        mark = os.path.join(folder, "mark")
+        refusals = Refusals(program, folder, failures)
         for name, script in SCRIPTS.items():
-            ample = run(program, script, dict(os.environ))
-            for request in range(1, MOST_REQUESTS):
-                changes = {"LD_PRELOAD": preload, "REFUSED_REQUEST": str(request), "REFUSAL_MARK": mark}
-                outcome = run(program, script, dict(os.environ, **changes))
-                runs += 1
-                if outcome != ample and not is_out_of_memory(outcome, ample):
-                    failures.append("%s, request %d refused: %r" % (name, request, outcome))
-                if not os.path.exists(mark):
-                    break
-                os.unlink(mark)
-            else:
-                failures.append("%s: more than %d requests" % (name, MOST_REQUESTS))
-    return runs
+            refusals.expect_all(name, ["rulesim"], script, Nothing(folder))
+        refusals.expect_all("an installation", ["tcprules", "rules", "tmp"], NEW, RulesFile(refusals))
+        asked = Nothing(refusals.install("asked", NEW))
+        refusals.expect_all("a question", ["tcprulescheck", "rules"], b"", asked)
+        return refusals.runs

@@ -4,6 +4,7 @@ pub mod Installing
 pub mod Installs
 pub mod NamePair
 pub mod ParseFaults
+pub mod PhaseWords
 pub mod Pieces
 pub mod Prepares
 pub mod Steps

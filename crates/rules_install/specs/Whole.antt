@@ -25,6 +25,19 @@ Ends limits text (Err (Disk fault phase)) = MayBeInstalled limits text
 Ends limits text (Err OutOfMemory) = ⊤
 Ends limits text (Err Over) = ⊥
 
+-- a text is refused with this fault, or there was no memory
+abbrev pub RefusesText : Limits → List ℕ → InstallFault → Type 0
+RefusesText limits text (Line fault) = Refuses limits text (LineOf fault)
+RefusesText limits text TooLarge = IsAccepted limits text × (limit_of limits.file < finished_length (stored (pairs_of text)))
+RefusesText limits text OutOfMemory = ⊤
+RefusesText limits text (Disk fault phase) = ⊥
+RefusesText limits text Over = ⊥
+
+-- which answer comes of which text where its installation begins
+abbrev pub Begins : {T : Type 0} → Limits → List ℕ → Result T InstallFault → Type 0
+Begins limits text (Ok install) = MayBeInstalled limits text
+Begins limits text (Err fault) = RefusesText limits text fault
+
 -- all steps end with `Done`, a fault of the directory, or want of memory
 abbrev pub EndsRun : Result (Unit {0}) InstallFault → Type 0
 EndsRun (Ok done) = ⊤

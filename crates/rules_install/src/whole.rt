@@ -1,5 +1,5 @@
 //! A whole installation.
-ghost use Rattle.std.specs.Prelude.{◌≡◌, ◌∷◌, [], List, Option, ℕ, IsTrue, false, Some, OnOk};
+ghost use Rattle.std.specs.Prelude.{◌≡◌, ◌∷◌, [], List, Option, ℕ, IsTrue, false, Some, OnOk, IfOk};
 ghost use Rattle.dir_disk.specs.Lasting.{LastsAmong, HasAmong};
 ghost use Rattle.dir_disk.specs.Moments.{LeavesOnly};
 ghost use Rattle.cdb_write.specs.Written.{Written};
@@ -7,17 +7,39 @@ ghost use Rattle.cdb_read.specs.Compiled.{Compiled, stored};
 ghost use Rattle.rule_lines.specs.Pairs.{pairs_of};
 ghost use Rattle.rule_lines.specs.Rows.{AreRules};
 ghost use Rattle.rules_install.specs.Filled.{whole_file};
-ghost use Rattle.rules_install.specs.Installing.{Fits};
+ghost use Rattle.rules_install.specs.Installing.{begun, Fits};
 ghost use Rattle.rules_install.specs.Installs.{installing};
-ghost use Rattle.rules_install.specs.Whole.{BlamesDevice, Ends, EndsRun, IsRefused, may_have};
+ghost use Rattle.rules_install.specs.Whole.{Begins, BlamesDevice, Ends, EndsRun, IsRefused, may_have};
 
 use crate::{Install, InstallFault, Names, Phase};
 use dir_disk::Dir;
 use rule_lines::{Limits, parse};
 use std::alloc::Global;
 
-/// Makes all steps of an installation.
-fn run<D: Dir>(alloc: Global, dir: &mut D, install: &mut Install) -> Result<(), InstallFault>
+/// Begins to install a rule text. It makes no call of a directory.
+///
+/// # Errors
+/// `Line` and `TooLarge` where the text is not accepted, or its compiled file would be too large; `OutOfMemory`.
+pub fn prepare(
+    alloc: Global,
+    names: Names,
+    limits: &Limits,
+    text: &[u8],
+) -> Result<Install, InstallFault>
+    ensures begun { IfOk result (λ install. installing install ≡ begun (pairs_of text.now) names) }
+    // which answer comes of which text
+    ensures ends { Begins limits.now text.now result }
+    ensures known { IfOk result (λ _. AreRules (pairs_of text.now)) }
+{
+    Install::begin(alloc, parse(alloc, text, limits)?, names, limits)
+}
+
+/// Makes all steps of an installation that are left.
+///
+/// # Errors
+/// `Disk` with the phase that was to be reached, after which the installation is over; `OutOfMemory`, after which it may be finished
+/// again.
+pub fn finish<D: Dir>(alloc: Global, dir: &mut D, install: &mut Install) -> Result<(), InstallFault>
     requires is_open { (installing install.old).over ≡ false }
     requires fits { IsTrue D.honest → Fits (installing install.old) (D.state dir.old) }
     ensures ends { EndsRun result }
@@ -62,7 +84,6 @@ pub fn install<D: Dir>(
     ensures known { OnOk result (AreRules (pairs_of text.now)) }
     ensures blames { BlamesDevice (D.failed dir.old) (D.failed dir.new) result }
 {
-    let list = parse(alloc, text, limits)?;
-    let mut install = Install::begin(alloc, list, names, limits)?;
-    run(alloc, dir, &mut install)
+    let mut install = prepare(alloc, names, limits, text)?;
+    finish(alloc, dir, &mut install)
 }

@@ -1,5 +1,6 @@
 -- Texts that are added piece by piece.
 use Rattle.std.proofs.Common.{◌≡◌, ℕ, ◌+◌, ◌<◌, List, [], ◌∷◌, ◌++◌, length, get_or, take, flat_map, sym, ap, ◌∙◌}
+use Rattle.std.specs.Prelude.{Result, Ok, Err, OnOk, is_ok, if◌then◌else◌}
 use Rattle.std.proofs.lemmas.List.{append_assoc, flat_map_more, take_more}
 
 -- five pieces, one after another
@@ -12,3 +13,8 @@ pub append_more : {X : Type 0} (f : X → List ℕ) (xs : List X) (i : ℕ) (x :
 append_more f xs i x old before now inside at so_far added =
     added ∙ ap (λ (text : List ℕ). text ++ f x) so_far ∙ flat_map_more f old (take i xs) x
     ∙ ap (λ items. old ++ flat_map f items) (ap (λ y. take i xs ++ y ∷ []) at ∙ sym (take_more xs i x inside))
+
+-- an addition that may fail leaves all of the text where it did not
+pub on_ok_added : {T E : Type 0} (r : Result T E) (now all old : List ℕ) → now ≡ (if is_ok r then all else old) → OnOk r (now ≡ all)
+on_ok_added (Ok done) now all old is = is
+on_ok_added (Err fault) now all old is = tt

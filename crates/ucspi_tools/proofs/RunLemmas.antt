@@ -7,8 +7,9 @@ use Rattle.std.specs.Io.KnownBytes.{Appends, IsAtEnd}
 use Rattle.rule_lines.specs.Lines.{empty_line, lines_of, onto_line}
 use Rattle.ucspi_tools.specs.declared.sim.SimEnd.{SimEnd}
 use Rattle.ucspi_tools.specs.declared.sim.SimEnd.TheVariants.{Ended, BadCommand, ReadFault, OutOfMemory}
-use Rattle.ucspi_tools.specs.Commands.{IsAt, Carries}
-use Rattle.ucspi_tools.specs.Kept.{Kept}
+use Rattle.ucspi_tools.specs.Commands.{Carries}
+use Rattle.ucspi_tools.specs.Kept.{IsAt}
+use Rattle.ucspi_tools.specs.declared.simulation.Simulation.{Simulation}
 use Rattle.ucspi_tools.specs.Sim.{State, start, after, command_at, printed, Run, printing, run_line, run_from, sim, Prints, PrintsFront}
 
 -- a front before the last byte is no part of what is stripped
@@ -95,7 +96,7 @@ Appends-same : (before now : Option (List ℕ)) (xs ys : List ℕ) → xs ≡ ys
 Appends-same before now xs ys same = subst (Appends before now) same
 
 -- the run so far: the lines that are left, and what was written, are those of the whole script
-pub record RunsOn (before now rest : Option (List ℕ)) (script : List ℕ) (n : ℕ) (kept : Kept) : Type 0 where
+pub record RunsOn (before now rest : Option (List ℕ)) (script : List ℕ) (n : ℕ) (kept : Simulation) : Type 0 where
   pub left : List ℕ
   pub remains : rest ≡ Some left
   pub state : State
@@ -104,13 +105,13 @@ pub record RunsOn (before now rest : Option (List ℕ)) (script : List ℕ) (n :
   pub written : Appends before now done
   pub same : printing done (run_from n (lines_of left) state) ≡ sim script
 
-pub runs_from_start : (before script : Option (List ℕ)) (kept : Kept) → IsAt kept start → IfSome script (λ all. RunsOn before before script all 1 kept)
+pub runs_from_start : (before script : Option (List ℕ)) (kept : Simulation) → IsAt kept start → IfSome script (λ all. RunsOn before before script all 1 kept)
 runs_from_start before None kept at = tt
 runs_from_start before (Some all) kept at =
     record { left = all; remains = refl; state = start; at = at; done = []; written = Appends-none before; same = refl }
 
 -- what was written so far is a front of what the script prints
-front_so_far : (before now rest : Option (List ℕ)) (script : List ℕ) (n : ℕ) (kept : Kept) → RunsOn before now rest script n kept → PrintsFront before now (sim script)
+front_so_far : (before now rest : Option (List ℕ)) (script : List ℕ) (n : ℕ) (kept : Simulation) → RunsOn before now rest script n kept → PrintsFront before now (sim script)
 front_so_far before now rest script n kept so_far = record {
   front = so_far.done;
   rest = (run_from n (lines_of so_far.left) so_far.state).output;
@@ -118,7 +119,7 @@ front_so_far before now rest script n kept so_far = record {
   all = sym (ap (λ (r : Run). r.output) so_far.same);
 }
 
-module _ (before now rest : Option (List ℕ)) (n : ℕ) (kept : Kept) where
+module _ (before now rest : Option (List ℕ)) (n : ℕ) (kept : Simulation) where
   pub at_no_memory : (script : Option (List ℕ)) → IfSome script (λ all. RunsOn before now rest all n kept) → IfSome script (λ all. Prints before now (sim all) OutOfMemory)
   at_no_memory None so_far = tt
   at_no_memory (Some all) so_far = front_so_far before now rest all n kept so_far
@@ -130,13 +131,18 @@ module _ (before now rest : Option (List ℕ)) (n : ℕ) (kept : Kept) where
   at_fault (Some all) end (inr is) so_far =
       subst (λ e. Prints before now (sim all) e) (sym is) (front_so_far before now rest all n kept so_far)
 
+-- a fault of the writer says nothing of what was written
+pub at_write_fault : (script : Option (List ℕ)) → IfSome script (λ all. Unit {0})
+at_write_fault None = tt
+at_write_fault (Some all) = tt
+
 -- two texts are printed one after the other
 printing-twice : (xs ys : List ℕ) (run : Run) → printing (xs ++ ys) run ≡ printing xs (printing ys run)
 printing-twice xs ys run =
     ap (λ (text : List ℕ). record { output = text; bad = run.bad }) (append_assoc xs ys run.output)
 
 -- a line more, which was carried out
-module _ (before now rest : Option (List ℕ)) (script : List ℕ) (n : ℕ) (kept : Kept) (so_far : RunsOn before now rest script n kept) where
+module _ (before now rest : Option (List ℕ)) (script : List ℕ) (n : ℕ) (kept : Simulation) (so_far : RunsOn before now rest script n kept) where
   pub runs_to_end : IsAtEnd rest → Prints before now (sim script) Ended
   runs_to_end over =
       let all : printing so_far.done (run_from n [] so_far.state) ≡ sim script = ap (λ (l : List ℕ). printing so_far.done (run_from n (lines_of l) so_far.state)) (sym (nothing_left over)) ∙ so_far.same in
@@ -157,7 +163,7 @@ module _ (before now rest : Option (List ℕ)) (script : List ℕ) (n : ℕ) (ke
         sym (ap (printing so_far.done) (next ∙ ap (λ c. run_line n c so_far.state (run_from (n + 1) (lines_of (drop_through 10 (x ∷ xs))))) bad)) ∙ so_far.same in
         (Appends-same before now (so_far.done ++ []) (sim script).output (ap (λ r. r.output) all) (Appends-same before now so_far.done (so_far.done ++ []) (sym (append-nil so_far.done)) so_far.written), sym (ap (λ r. r.bad) all))
 
-    pub runs_on : (later rest_later : Option (List ℕ)) (kept_later : Kept) (out : List ℕ) → Carries (strip_last 10 line) so_far.state kept_later out → rest_later ≡ Some (drop_through 10 (x ∷ xs)) → Appends now later out → RunsOn before later rest_later script (n + 1) kept_later
+    pub runs_on : (later rest_later : Option (List ℕ)) (kept_later : Simulation) (out : List ℕ) → Carries (strip_last 10 line) so_far.state kept_later out → rest_later ≡ Some (drop_through 10 (x ∷ xs)) → Appends now later out → RunsOn before later rest_later script (n + 1) kept_later
     runs_on later rest_later kept_later out carried remains wrote = record {
       left = drop_through 10 (x ∷ xs);
       remains = remains;
@@ -183,7 +189,7 @@ front_of : (left line : List ℕ) → line ≡ take_through 10 left → 0 < leng
 front_of [] line is some = absurd (omega (arith, ap length is))
 front_of (x ∷ xs) line is some = record { x = x; xs = xs; left_is = refl; line_is = is }
 
-module _ (before now rest : Option (List ℕ)) (n : ℕ) (kept : Kept) (line cleared : List ℕ) (none : cleared ≡ []) (read : IfSome rest (λ xs. line ≡ cleared ++ take_through 10 xs)) (some : 0 < length line) where
+module _ (before now rest : Option (List ℕ)) (n : ℕ) (kept : Simulation) (line cleared : List ℕ) (none : cleared ≡ []) (read : IfSome rest (λ xs. line ≡ cleared ++ take_through 10 xs)) (some : 0 < length line) where
   line_front : (script : List ℕ) (so_far : RunsOn before now rest script n kept) → IsFront so_far.left line
   line_front script so_far =
       front_of so_far.left line ((rw so_far.remains at read) ∙ ap (λ (c : List ℕ). c ++ take_through 10 so_far.left) none) some
@@ -194,8 +200,12 @@ module _ (before now rest : Option (List ℕ)) (n : ℕ) (kept : Kept) (line cle
       let f = line_front all so_far in
       runs_to_bad before now rest all n kept so_far line f.x f.xs f.left_is f.line_is (bad so_far.state so_far.at)
 
-  pub at_line : (script later rest_later : Option (List ℕ)) (kept_later : Kept) (out : List ℕ) → ((state : State) → IsAt kept state → Carries (strip_last 10 line) state kept_later out) → DropsThrough rest rest_later 10 → Appends now later out → IfSome script (λ all. RunsOn before now rest all n kept) → IfSome script (λ all. RunsOn before later rest_later all (n + 1) kept_later)
+  pub at_line : (script later rest_later : Option (List ℕ)) (kept_later : Simulation) (out : List ℕ) → ((state : State) → IsAt kept state → Carries (strip_last 10 line) state kept_later out) → DropsThrough rest rest_later 10 → Appends now later out → IfSome script (λ all. RunsOn before now rest all n kept) → IfSome script (λ all. RunsOn before later rest_later all (n + 1) kept_later)
   at_line None later rest_later kept_later out carried drops wrote so_far = tt
   at_line (Some all) later rest_later kept_later out carried drops wrote so_far =
       let f = line_front all so_far in
       runs_on before now rest all n kept so_far line f.x f.xs f.left_is f.line_is later rest_later kept_later out (carried so_far.state so_far.at) (rw so_far.remains at drops ∙ ap (λ (l : List ℕ). Some (drop_through 10 l)) f.left_is) wrote
+
+pub at_end : (before now rest : Option (List ℕ)) (n : ℕ) (kept : Simulation) → IsAtEnd rest → (script : Option (List ℕ)) → IfSome script (λ all. RunsOn before now rest all n kept) → IfSome script (λ all. Prints before now (sim all) Ended)
+at_end before now rest n kept over None so_far = tt
+at_end before now rest n kept over (Some all) so_far = runs_to_end before now rest all n kept so_far over

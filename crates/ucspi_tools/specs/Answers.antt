@@ -1,11 +1,13 @@
 -- The lines that tell a decision, those that tell what became of a rule text, and those that tell what events come to.
-use Rattle.std.specs.Prelude.{ℕ, List, ◌++◌, codes, decimal, flat_map}
+use Rattle.std.specs.Prelude.{ℕ, List, ◌++◌, Option, Some, None, codes, decimal, flat_map}
 use Rattle.rule_lines.specs.declared.fault.LineKind.{LineKind}
 use Rattle.rule_lines.specs.declared.fault.LineKind.TheVariants.{NoVerdict, BadSetting, BadRange, NotText, NulByte, LongLine, LongText}
 use Rattle.rule_lines.specs.declared.instr.Verdict.{Verdict}
 use Rattle.rule_lines.specs.declared.instr.Verdict.TheVariants.{Allow, Deny}
 use Rattle.rule_lines.specs.Settings.{Assignment}
 use Rattle.rule_lookup.specs.declared.decision.Decision.{Decision}
+use Rattle.rules_install.specs.declared.Phase.{Phase}
+use Rattle.rules_install.specs.PhaseWords.{phase_text}
 use Rattle.server_core.specs.declared.report.Report.{Report}
 use Rattle.rule_lookup.specs.declared.decision.Found.{Found}
 use Rattle.rule_lookup.specs.declared.decision.Found.TheVariants.{Address, Default, NoFile}
@@ -53,6 +55,11 @@ fault_text line BadRange = numbered line BadRange
 fault_text line NotText = numbered line NotText
 fault_text line NulByte = numbered line NulByte
 fault_text line LongLine = numbered line LongLine
+
+-- the phase that was reached, if an installation was begun
+abbrev pub reached_line : Option Phase → List ℕ
+reached_line None = codes "none\n"
+reached_line (Some phase) = phase_text phase ++ codes "\n"
 
 -- the sums of a list of events
 abbrev pub report_line : Report → List ℕ

@@ -3,18 +3,27 @@ use Rattle.std.specs.Prelude.{ℕ, Bool, true, ◌&&◌, ◌==◌, nat_eq, List,
 use Rattle.std.specs.Char.{to_ascii_lowercase}
 use Rattle.std.specs.List.{starts_with, slice_split}
 use Rattle.std.specs.Str.{is_utf8}
+use Rattle.dir_disk.specs.declared.choice.Choice.{Choice}
+use Rattle.dir_disk.specs.declared.choice.Choice.TheVariants.{Kept, Empty, Junk}
 use Rattle.rule_lookup.specs.Addresses.{ipv4_in}
 use Rattle.rule_lookup.specs.Peers.{Client, is_peer_name}
+use Rattle.rules_install.specs.declared.Phase.{Phase}
 use Rattle.server_core.specs.declared.event.Event.{Event}
-use Rattle.ucspi_tools.specs.Events.{alone, event_in, limits_in}
+use Rattle.ucspi_tools.specs.Events.{alone, event_in, limits_in, only_phase}
 
--- what a line asks for: nothing; a line more of the pending text, that this be installed, or a decision; an empty list of
--- events under a limit and a limit per address, an event more, or what the list comes to
+-- what a line asks for: nothing; a line more of the pending text, that this be installed, or that its installation begin, or go on to a
+-- phase; a stop; a decision by the text that stands, a reader of it, or a decision by a reader's text; an empty list of events under a
+-- limit and a limit per address, an event more, or what the list comes to
 pub data Command : Type 0 where
   Skip : Command
   Add : List ℕ → Command
   Install : Command
+  Begin : Command
+  To : Phase → Command
+  Stop : Choice → Command
   Ask : Client → Command
+  Open : List ℕ → Command
+  AskBy : List ℕ → Client → Command
   BeginEvents : ℕ → ℕ → Command
   AddEvent : Event → Command
   Replay : Command
@@ -67,14 +76,48 @@ peer_in (ip ∷ word ∷ []) = peer_with ip (info_in word) (host_in word)
 peer_in (ip ∷ first ∷ second ∷ []) = peer_with_both ip (info_in first) (host_in second)
 peer_in words = None
 
+-- a choice, in its word
+abbrev pub choice_in : List ℕ → Option Choice
+choice_in word =
+    if bytes_eq word (codes "kept") then Some Kept
+    else (if bytes_eq word (codes "empty") then Some Empty
+    else (if bytes_eq word (codes "junk") then Some Junk else None))
+
+abbrev pub only_choice : List (List ℕ) → Option Choice
+only_choice (word ∷ []) = choice_in word
+only_choice words = None
+
+-- a reader's name, which is not empty
+abbrev pub reader_in : List ℕ → Option (List ℕ)
+reader_in [] = None
+reader_in (b ∷ bs) = Some (b ∷ bs)
+
+abbrev pub only_reader : List (List ℕ) → Option (List ℕ)
+only_reader (word ∷ []) = reader_in word
+only_reader words = None
+
+-- a reader's name, and the words of a peer
+abbrev pub question_of : Option (List ℕ) → Option Client → Option Command
+question_of None peer = None
+question_of (Some name) peer = option_map (AskBy name) peer
+
+abbrev pub question_in : List (List ℕ) → Option Command
+question_in [] = None
+question_in (name ∷ words) = question_of (reader_in name) (peer_in words)
+
 -- the command with a name, and the words after that
 abbrev pub command_named : List ℕ → List (List ℕ) → Option Command
 command_named name words =
     if bytes_eq name (codes "install") then alone Install words
+    else (if bytes_eq name (codes "begin") then alone Begin words
+    else (if bytes_eq name (codes "to") then option_map To (only_phase words)
+    else (if bytes_eq name (codes "stop") then option_map Stop (only_choice words)
     else (if bytes_eq name (codes "ask") then option_map Ask (peer_in words)
+    else (if bytes_eq name (codes "reader") then option_map Open (only_reader words)
+    else (if bytes_eq name (codes "askby") then question_in words
     else (if bytes_eq name (codes "events") then option_map (λ p. BeginEvents p.0 p.1) (limits_in words)
     else (if bytes_eq name (codes "event") then option_map AddEvent (event_in words)
-    else (if bytes_eq name (codes "replay") then alone Replay words else None))))
+    else (if bytes_eq name (codes "replay") then alone Replay words else None)))))))))
 
 -- the command that words are
 abbrev pub command_in : List (List ℕ) → Option Command

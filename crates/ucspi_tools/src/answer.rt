@@ -1,10 +1,11 @@
 //! The lines that tell a decision, a fault of a rule text, and what events come to.
 ghost use Rattle.std.specs.Prelude.{◌≡◌, ◌++◌, OnOk, codes, decimal, flat_map};
-ghost use Rattle.ucspi_tools.specs.Answers.{answer_lines, found_line, setting_line, verdict_lines, kind_text, numbered, fault_text, report_line, illegal_line};
+ghost use Rattle.ucspi_tools.specs.Answers.{answer_lines, found_line, setting_line, verdict_lines, kind_text, numbered, fault_text, reached_line, report_line, illegal_line};
 
 use itoa::Buffer;
 use rule_lines::{LineFault, LineKind, Setting, Settings, Verdict};
 use rule_lookup::{Decision, Found};
+use rules_install::Phase;
 use server_core::Report;
 use std::alloc::AllocError;
 
@@ -103,6 +104,19 @@ fn kind_text(kind: LineKind) -> &'static str
         LineKind::NulByte => "nul byte",
         LineKind::LongLine => "long line",
         LineKind::LongText => "text too long",
+    }
+}
+
+/// Adds the line with the phase that an installation reached, or `none`. After an `Err` a part of it may stand at the end of `out`.
+pub fn append_reached(out: &mut Vec<u8>, reached: Option<Phase>) -> Result<(), AllocError>
+    ensures { OnOk result (out.new.items ≡ out.old.items ++ reached_line reached) }
+{
+    match reached {
+        None => out.extend_from_slice(b"none\n"),
+        Some(phase) => {
+            out.extend_from_slice(phase.as_str().as_bytes())?;
+            out.extend_from_slice(b"\n")
+        }
     }
 }
 

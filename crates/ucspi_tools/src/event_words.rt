@@ -125,7 +125,7 @@ fn only_serial(words: &[&str]) -> Option<u64>
 }
 
 /// The phase that the only word is.
-fn only_phase(words: &[&str]) -> Option<Phase>
+pub fn only_phase(words: &[&str]) -> Option<Phase>
     ensures { result ≡ only_phase (texts words.now) }
 {
     match words {

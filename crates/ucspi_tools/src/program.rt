@@ -1,13 +1,17 @@
 //! The program `ucspi`: its words, and the tool that they ask for.
-ghost use Rattle.std.specs.Prelude.{◌≡◌, ℕ, Vec, map};
+ghost use Rattle.std.specs.Prelude.{◌≡◌, ℕ, Vec, map, MatchResult};
 ghost use Rattle.std.specs.declared.alloc.Global.{Global};
-ghost use Rattle.ucspi_tools.specs.Programs.{choice_of, exit_of};
+ghost use Rattle.ucspi_tools.specs.Programs.{check_exit, choice_of, exit_of, rules_exit, rulesim_by, tcprules_by, tcprulescheck_by, wanted};
 
 use crate::sim::{SimEnd, run_rulesim};
+use crate::tcprules::{TcprulesFault, run_tcprules};
+use crate::tcprulescheck::{CheckFault, run_tcprulescheck};
 use std::alloc::{AllocError, Global};
 use std::env::FillError;
+use std::fs::Files;
 use std::io;
 use std::io::{BufReader, BufWriter};
+use std::os::unix::fs::FileExt;
 use std::rt::Env;
 
 /// The exit code of wrong words and bad input.
@@ -19,26 +23,86 @@ pub const SYSTEM_FAULT: u8 = 111;
 /// The size of a buffer over a standard stream, in bytes.
 const BUFFER: usize = 64 * 1024;
 
+/// A tool.
+#[derive(Clone, Copy, PartialEq, Eq, Debug)]
+pub enum Tool {
+    Rulesim,
+    Tcprules,
+    Tcprulescheck,
+}
+
 /// What words ask for.
 #[derive(Clone, Copy, PartialEq, Eq, Debug)]
-pub enum Choice {
+pub enum Choice<'a> {
     /// A run of `rulesim`.
     Rulesim,
-    /// The usage line of `rulesim`.
-    RulesimUsage,
+    /// A run of `tcprules` with the paths of the rules file and of the scratch file.
+    Tcprules { cdb: &'a str, tmp: &'a str },
+    /// A run of `tcprulescheck` with the path of the rules file.
+    Tcprulescheck { cdb: &'a str },
+    /// The usage line of a tool.
+    UsageOf(Tool),
     /// The usage line of `ucspi`.
     Usage,
 }
 
-/// Runs the tool that the command line asks for, over the standard streams, and answers the exit code.
-pub fn run_program<R: Env + Input + Print + Eprint + AllocGlobal>(rt: &R) -> u8 {
+/// Runs the tool that the command line asks for, over the standard streams and the system's files, and answers the exit code.
+pub fn run_program<R>(rt: &R) -> u8
+where
+    R: Env + Input + Print + Eprint + AllocGlobal + Files,
+    R::File: FileExt,
+{
     let Ok(words) = command_words(rt.alloc(), rt) else {
         return tell(rt, "ucspi: out of memory", SYSTEM_FAULT);
     };
     match choose(words.as_slice()) {
         Choice::Rulesim => simulate(rt),
-        Choice::RulesimUsage => tell(rt, "rulesim: usage: rulesim", BAD_INPUT),
+        Choice::Tcprules { cdb, tmp } => {
+            rules_end(rt, run_tcprules(rt.alloc(), &mut rt.reader(), rt, cdb, tmp))
+        }
+        Choice::Tcprulescheck { cdb } => {
+            check_end(rt, run_tcprulescheck(rt, rt, &mut io::writer(rt), cdb))
+        }
+        Choice::UsageOf(tool) => tell(rt, usage_line(tool), BAD_INPUT),
         Choice::Usage => tell(rt, "ucspi: usage: ucspi TOOL ...", BAD_INPUT),
+    }
+}
+
+/// The usage line of a tool.
+fn usage_line(tool: Tool) -> &'static str {
+    match tool {
+        Tool::Rulesim => "rulesim: usage: rulesim",
+        Tool::Tcprules => "tcprules: usage: tcprules cdb tmp",
+        Tool::Tcprulescheck => "tcprulescheck: usage: tcprulescheck cdb",
+    }
+}
+
+/// Prints why `tcprules` failed, if it did, and answers the exit code.
+fn rules_end<R: Eprint>(rt: &R, end: Result<(), TcprulesFault>) -> u8
+    ensures { MatchResult end (λ _. result ≡ 0) (λ fault. result ≡ rules_exit fault) }
+{
+    let Err(fault) = end else {
+        return 0;
+    };
+    let _ = eprintln!(rt; "tcprules: {fault}");
+    match fault {
+        TcprulesFault::ReadFault | TcprulesFault::Device(_) => SYSTEM_FAULT,
+        TcprulesFault::OutOfMemory => SYSTEM_FAULT,
+        _ => BAD_INPUT,
+    }
+}
+
+/// Prints why `tcprulescheck` failed, if it did, and answers the exit code.
+fn check_end<R: Eprint>(rt: &R, end: Result<(), CheckFault>) -> u8
+    ensures { MatchResult end (λ _. result ≡ 0) (λ fault. result ≡ check_exit fault) }
+{
+    let Err(fault) = end else {
+        return 0;
+    };
+    let _ = eprintln!(rt; "tcprulescheck: {fault}");
+    match fault {
+        CheckFault::BadIp | CheckFault::BadHost | CheckFault::BadInfo => BAD_INPUT,
+        _ => SYSTEM_FAULT,
     }
 }
 
@@ -78,19 +142,54 @@ fn end_of<R: Eprint>(rt: &R, end: SimEnd) -> u8
 }
 
 /// What words, after the program's name, ask for.
-pub fn choose(words: &[Vec<u8>]) -> Choice
-    ensures { result ≡ choice_of (map (λ (word : Vec ℕ Global). word.items) words.now) }
+pub fn choose(words: &[Vec<u8>]) -> Choice<'_>
+    ensures { wanted result ≡ choice_of (map (λ (word : Vec ℕ Global). word.items) words.now) }
 {
     let Some((tool, words)) = words.split_first() else {
         return Choice::Rulesim;
     };
-    if tool.as_slice() != b"rulesim".as_slice() {
-        return Choice::Usage;
+    if tool.as_slice() == b"rulesim".as_slice() {
+        choose_rulesim(words)
+    } else if tool.as_slice() == b"tcprules".as_slice() {
+        choose_tcprules(words)
+    } else if tool.as_slice() == b"tcprulescheck".as_slice() {
+        choose_tcprulescheck(words)
+    } else {
+        Choice::Usage
     }
+}
+
+fn choose_rulesim(words: &[Vec<u8>]) -> Choice<'_>
+    ensures { wanted result ≡ rulesim_by (map (λ (word : Vec ℕ Global). word.items) words.now) }
+{
     if words.is_empty() {
         Choice::Rulesim
     } else {
-        Choice::RulesimUsage
+        Choice::UsageOf(Tool::Rulesim)
+    }
+}
+
+fn choose_tcprules(words: &[Vec<u8>]) -> Choice<'_>
+    ensures { wanted result ≡ tcprules_by (map (λ (word : Vec ℕ Global). word.items) words.now) }
+{
+    match words {
+        [cdb, tmp] => match (str::from_utf8(cdb), str::from_utf8(tmp)) {
+            (Ok(cdb), Ok(tmp)) => Choice::Tcprules { cdb, tmp },
+            _ => Choice::UsageOf(Tool::Tcprules),
+        },
+        _ => Choice::UsageOf(Tool::Tcprules),
+    }
+}
+
+fn choose_tcprulescheck(words: &[Vec<u8>]) -> Choice<'_>
+    ensures { wanted result ≡ tcprulescheck_by (map (λ (word : Vec ℕ Global). word.items) words.now) }
+{
+    match words {
+        [cdb] => match str::from_utf8(cdb) {
+            Ok(cdb) => Choice::Tcprulescheck { cdb },
+            Err(_) => Choice::UsageOf(Tool::Tcprulescheck),
+        },
+        _ => Choice::UsageOf(Tool::Tcprulescheck),
     }
 }
 

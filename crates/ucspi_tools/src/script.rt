@@ -4,11 +4,13 @@ ghost use Rattle.std.specs.List.{slice_split};
 ghost use Rattle.rule_lookup.specs.Peers.{given};
 ghost use Rattle.ucspi_tools.specs.Commands.{meaning, RefusesAs, texts};
 ghost use Rattle.ucspi_tools.specs.Events.{alone, limits_in};
-ghost use Rattle.ucspi_tools.specs.Scripts.{command_of, command_in, command_named, words_of, option_in, peer_of, peer_in};
+ghost use Rattle.ucspi_tools.specs.Scripts.{command_of, command_in, command_named, words_of, option_in, peer_of, peer_in, choice_in, only_choice, reader_in, only_reader, question_in};
 ghost use Rattle.ucspi_tools.specs.declared.script.LineEnd.TheVariants.{OutOfMemory};
 
-use crate::event_words::{limit_in, read_event};
+use crate::event_words::{limit_in, only_phase, read_event};
+use dir_disk::Choice;
 use rule_lookup::{Peer, PeerFault, parse_address};
+use rules_install::Phase;
 use server_core::Event;
 use std::alloc::{AllocError, Global};
 
@@ -21,8 +23,18 @@ pub enum Command<'a> {
     Add(&'a [u8]),
     /// That the pending text be installed.
     Install,
+    /// That the installation of the pending text begin.
+    Begin,
+    /// That the installation go on to this phase.
+    To(Phase),
+    /// A stop with this choice.
+    Stop(Choice),
     /// A decision for this peer.
     Ask(Peer),
+    /// That the rules file be opened, and kept under this name.
+    Reader(&'a str),
+    /// A decision for this peer, from the file that is kept under this name.
+    AskBy(&'a str, Peer),
     /// An empty list of events, under these limits.
     Events { limit: u64, per_address: u64 },
     /// That this be added to the list of events.
@@ -69,7 +81,7 @@ pub fn read_command(alloc: Global, line: &[u8]) -> Result<Command<'_>, LineEnd>
 }
 
 /// The command that the words of a line are.
-fn read_words(alloc: Global, line: &str) -> Result<Command<'static>, LineEnd>
+fn read_words(alloc: Global, line: &str) -> Result<Command<'_>, LineEnd>
     ensures read { IfOk result (λ command. command_in (words_of line.now) ≡ Some (meaning command)) }
     ensures refused { IfErr result (RefusesAs (command_in (words_of line.now))) }
 {
@@ -84,7 +96,7 @@ fn words_in(alloc: Global, line: &str) -> Result<Vec<&str>, AllocError>
     line.split(' ').collect(alloc)
 }
 
-fn command_from(alloc: Global, words: &[&str]) -> Result<Command<'static>, LineEnd>
+fn command_from<'a>(alloc: Global, words: &[&'a str]) -> Result<Command<'a>, LineEnd>
     ensures read { IfOk result (λ command. command_in (texts words.now) ≡ Some (meaning command)) }
     ensures refused { IfErr result (RefusesAs (command_in (texts words.now))) }
 {
@@ -95,13 +107,18 @@ fn command_from(alloc: Global, words: &[&str]) -> Result<Command<'static>, LineE
 }
 
 /// The command with a name, and the words after that.
-fn command_named(alloc: Global, name: &str, words: &[&str]) -> Result<Command<'static>, LineEnd>
+fn command_named<'a>(alloc: Global, name: &str, words: &[&'a str]) -> Result<Command<'a>, LineEnd>
     ensures read { IfOk result (λ command. command_named name.now (texts words.now) ≡ Some (meaning command)) }
     ensures refused { IfErr result (RefusesAs (command_named name.now (texts words.now))) }
 {
     match name {
         "install" => alone(Command::Install, words),
+        "begin" => alone(Command::Begin, words),
+        "to" => Ok(Command::To(only_phase(words).ok_or(LineEnd::Bad)?)),
+        "stop" => Ok(Command::Stop(only_choice(words).ok_or(LineEnd::Bad)?)),
         "ask" => Ok(Command::Ask(read_peer(alloc, words)?)),
+        "reader" => Ok(Command::Reader(only_reader(words).ok_or(LineEnd::Bad)?)),
+        "askby" => read_question(alloc, words),
         "events" => {
             let (limit, per_address) = read_limits(words).ok_or(LineEnd::Bad)?;
             Ok(Command::Events { limit, per_address })
@@ -110,6 +127,56 @@ fn command_named(alloc: Global, name: &str, words: &[&str]) -> Result<Command<'s
         "replay" => alone(Command::Replay, words),
         _ => Err(LineEnd::Bad),
     }
+}
+
+/// The choice that the only word is.
+fn only_choice(words: &[&str]) -> Option<Choice>
+    ensures { result ≡ only_choice (texts words.now) }
+{
+    match words {
+        [word] => choice_in(word),
+        _ => None,
+    }
+}
+
+fn choice_in(word: &str) -> Option<Choice>
+    ensures { result ≡ choice_in word.now }
+{
+    match word {
+        "kept" => Some(Choice::Kept),
+        "empty" => Some(Choice::Empty),
+        "junk" => Some(Choice::Junk),
+        _ => None,
+    }
+}
+
+/// The reader's name that the only word is.
+fn only_reader<'a>(words: &[&'a str]) -> Option<&'a str>
+    ensures { given result ≡ only_reader (texts words.now) }
+{
+    match words {
+        [word] => reader_in(word),
+        _ => None,
+    }
+}
+
+/// A reader's name, which is not empty.
+fn reader_in(word: &str) -> Option<&str>
+    ensures { given result ≡ reader_in word.now }
+{
+    if word.is_empty() { None } else { Some(word) }
+}
+
+/// The question to a reader that words are: its name, and the peer.
+fn read_question<'a>(alloc: Global, words: &[&'a str]) -> Result<Command<'a>, LineEnd>
+    ensures read { IfOk result (λ command. question_in (texts words.now) ≡ Some (meaning command)) }
+    ensures refused { IfErr result (RefusesAs (question_in (texts words.now))) }
+{
+    let Some((name, words)) = words.split_first() else {
+        return Err(LineEnd::Bad);
+    };
+    let name = reader_in(name).ok_or(LineEnd::Bad)?;
+    Ok(Command::AskBy(name, read_peer(alloc, words)?))
 }
 
 /// The limit that the first word is, and the limit per address, which is the same where it is left out.
@@ -127,7 +194,7 @@ fn read_limits(words: &[&str]) -> Option<(u64, u64)>
 }
 
 /// A command that has no more words.
-fn alone(command: Command<'static>, words: &[&str]) -> Result<Command<'static>, LineEnd>
+fn alone<'a>(command: Command<'a>, words: &[&str]) -> Result<Command<'a>, LineEnd>
     ensures read { IfOk result (λ read. alone (meaning command.entry) (texts words.now) ≡ Some (meaning read)) }
     ensures refused { IfErr result (RefusesAs (alone (meaning command.entry) (texts words.now))) }
 {

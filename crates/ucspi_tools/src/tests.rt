@@ -1,5 +1,5 @@
 //! Scripts of `rulesim`, and what they print.
-use crate::program::{Choice, choose};
+use crate::program::{Choice, Tool, choose};
 use crate::sim::{SimEnd, run_rulesim};
 use std::alloc::{AllocError, Global};
 use std::io::{BufRead, Error, ErrorKind, Read, Write};
@@ -80,6 +80,21 @@ fn bad_commands(rt: HostRuntime) -> Result<(), Fail> {
         "other",
         "event stop",
         "replay",
+        "begin now",
+        "to",
+        "to end",
+        "to fresh filling",
+        "stop",
+        "stop all",
+        "stop kept kept",
+        "reader",
+        "reader ",
+        "reader r s",
+        "askby",
+        "askby r",
+        "askby  1.1.1.1",
+        "askby r 1.1.1",
+        "askby r 1.1.1.1 host=",
     ];
     for line in lines {
         let mut script = Vec::from_slice(rt.alloc(), b"|:deny\ninstall\n")?;
@@ -406,8 +421,14 @@ fn words_of_the_program(rt: HostRuntime) -> Result<(), Fail> {
     for (words, choice) in [
         ("", Choice::Rulesim),
         ("rulesim", Choice::Rulesim),
-        ("rulesim x", Choice::RulesimUsage),
-        ("rulesim ", Choice::RulesimUsage),
+        ("rulesim x", Choice::UsageOf(Tool::Rulesim)),
+        ("rulesim ", Choice::UsageOf(Tool::Rulesim)),
+        ("tcprules a b", Choice::Tcprules { cdb: "a", tmp: "b" }),
+        ("tcprules a", Choice::UsageOf(Tool::Tcprules)),
+        ("tcprules a b c", Choice::UsageOf(Tool::Tcprules)),
+        ("tcprulescheck a", Choice::Tcprulescheck { cdb: "a" }),
+        ("tcprulescheck", Choice::UsageOf(Tool::Tcprulescheck)),
+        ("tcprulescheck a b", Choice::UsageOf(Tool::Tcprulescheck)),
         ("Rulesim", Choice::Usage),
         ("tcpclient", Choice::Usage),
     ] {

@@ -5,7 +5,7 @@ use Rattle.server_core.specs.ServerState.{start}
 use Rattle.ucspi_tools.specs.Answers.{report_line}
 use Rattle.ucspi_tools.specs.Events.{History}
 use Rattle.ucspi_tools.specs.Sim.{outcome, replayed}
-use Rattle.ucspi_tools.proofs.sim.append_outcome.Goals as goal
+use Rattle.ucspi_tools.proofs.simulation.append_outcome.Goals as goal
 
 pub returns-in-Ok : goal.returns-in-Ok
 returns-in-Ok c =

@@ -11,9 +11,9 @@ use Rattle.rules_install.specs.Installs.{installing}
 use Rattle.rules_install.specs.contracts.Phase.{the_type}
 use Rattle.rules_install.specs.declared.Phase.TheVariants.{Done}
 use Rattle.rules_install.proofs.WholeLemmas.{Progress, blames_run, done_lasts, ends_run, failed_lasts, progress_more, progress_none, same_self, same_then, smaller, so_far}
-use Rattle.rules_install.proofs.whole.run.Given.{Over}
-use Rattle.rules_install.proofs.whole.run.Goals as goal
-use Rattle.rules_install.proofs.whole.run.Goals.{After-step}
+use Rattle.rules_install.proofs.whole.finish.Given.{Over}
+use Rattle.rules_install.proofs.whole.finish.Goals as goal
+use Rattle.rules_install.proofs.whole.finish.Goals.{After-step}
 
 -- up to a step, whatever it answers
 stepped : (g : Over) (c : After-step g) → IsTrue g.D.Dir.honest

@@ -4,7 +4,7 @@ use Rattle.rules_install.specs.Installing.{Fits}
 use Rattle.rules_install.specs.Installs.{installing}
 use Rattle.rules_install.specs.Steps.{IsSame}
 use Rattle.rules_install.proofs.WholeLemmas.{Progress, phases_left}
-use Rattle.rules_install.proofs.whole.run.Given as goal
+use Rattle.rules_install.proofs.whole.finish.Given as goal
 
 abbrev pub invariant-loop : goal.invariant-loop
 invariant-loop g l = record {

@@ -1,0 +1,65 @@
+-- The words of a command line, as the bytes that they are.
+use Rattle.std.proofs.Common.{◌≡◌, ℕ, ◌<◌, ◌≤◌, Bool, true, false, ◌&&◌, cond, Vec, List, [], ◌∷◌, map, length, get_or, sym, ap, ◌∙◌, arith}
+use Rattle.std.specs.declared.alloc.Global.{Global}
+use Rattle.std.specs.Prelude.{IsUtf8}
+use Rattle.std.specs.Str.{is_utf8}
+use Rattle.std.proofs.lemmas.Bool.{false_from_ne_true}
+use Rattle.std.proofs.lemmas.Str.{is_utf8-from_IsUtf8, IsUtf8-from_is_utf8}
+use Rattle.ucspi_tools.specs.declared.program.Tool.TheVariants.{Tcprules, Tcprulescheck}
+use Rattle.ucspi_tools.specs.Programs.{installs, checks, usage_of, tcprules_by, tcprulescheck_by}
+
+-- the bytes of each word
+abbrev pub bytes_of : List (Vec ℕ Global) → List (List ℕ)
+bytes_of words = map (λ (word : Vec ℕ Global). word.items) words
+
+-- one word, and two
+one_word : (words : List (Vec ℕ Global)) (word : Vec ℕ Global) → 1 ≤ length words → length words < 2 → word ≡ get_or words 0 word → bytes_of words ≡ word.items ∷ []
+one_word [] word some few at = absurd (omega arith)
+one_word (w ∷ []) word some few at = ap (λ (v : Vec ℕ Global). v.items ∷ []) (sym at)
+one_word (w ∷ v ∷ words) word some few at = absurd (omega arith)
+
+two_words : (words : List (Vec ℕ Global)) (first second : Vec ℕ Global) → 2 ≤ length words → length words < 3 → first ≡ get_or words 0 first → second ≡ get_or words 1 second → bytes_of words ≡ first.items ∷ second.items ∷ []
+two_words [] first second some few at_first at_second = absurd (omega arith)
+two_words (w ∷ []) first second some few at_first at_second = absurd (omega arith)
+two_words (w ∷ v ∷ []) first second some few at_first at_second =
+    ap (λ (u : Vec ℕ Global). u.items ∷ v.items ∷ []) (sym at_first) ∙ ap (λ (u : Vec ℕ Global). first.items ∷ u.items ∷ []) (sym at_second)
+two_words (w ∷ v ∷ u ∷ words) first second some few at_first at_second = absurd (omega arith)
+
+-- bytes that are no text
+is_utf8-no_text : (bytes : List ℕ) → ¬ IsUtf8 bytes → is_utf8 bytes ≡ false
+is_utf8-no_text bytes no_text =
+    false_from_ne_true (is_utf8 bytes) (λ text. no_text (IsUtf8-from_is_utf8 bytes text))
+
+-- what `tcprulescheck` has for its one word
+module _ (words : List (Vec ℕ Global)) (word : Vec ℕ Global) (some : 1 ≤ length words) (few : length words < 2) (at : word ≡ get_or words 0 word) (bytes : List ℕ) (held : bytes ≡ word.items) where
+  check_by : (b : Bool) → is_utf8 bytes ≡ b → cond b (checks bytes) (usage_of Tcprulescheck) ≡ tcprulescheck_by (bytes_of words)
+  check_by b text =
+      ap (λ t. cond t (checks bytes) (usage_of Tcprulescheck)) (sym text)
+      ∙ sym (ap tcprulescheck_by (one_word words word some few at ∙ ap (λ (w : List ℕ). w ∷ []) (sym held)))
+
+  pub checks-text : (cdb : List ℕ) → cdb ≡ bytes → IsUtf8 bytes → checks cdb ≡ tcprulescheck_by (bytes_of words)
+  checks-text cdb read text = ap checks read ∙ check_by true (is_utf8-from_IsUtf8 bytes text)
+
+  pub checks-no_text : ¬ IsUtf8 bytes → usage_of Tcprulescheck ≡ tcprulescheck_by (bytes_of words)
+  checks-no_text no_text = check_by false (is_utf8-no_text bytes no_text)
+
+-- and `tcprules` for its two
+module _ (words : List (Vec ℕ Global)) (first second : Vec ℕ Global) (some : 2 ≤ length words) (few : length words < 3) (at_first : first ≡ get_or words 0 first) (at_second : second ≡ get_or words 1 second) (one other : List ℕ) (held_one : one ≡ first.items) (held_other : other ≡ second.items) where
+  install_by : (b : Bool) → (is_utf8 one && is_utf8 other) ≡ b → cond b (installs one other) (usage_of Tcprules) ≡ tcprules_by (bytes_of words)
+  install_by b texts =
+      ap (λ t. cond t (installs one other) (usage_of Tcprules)) (sym texts)
+      ∙ sym (ap tcprules_by (two_words words first second some few at_first at_second
+      ∙ ap (λ (w : List ℕ). w ∷ second.items ∷ []) (sym held_one) ∙ ap (λ (w : List ℕ). one ∷ w ∷ []) (sym held_other)))
+
+  pub installs-texts : (cdb tmp : List ℕ) → (cdb ≡ one) × IsUtf8 one → (tmp ≡ other) × IsUtf8 other → installs cdb tmp ≡ tcprules_by (bytes_of words)
+  installs-texts cdb tmp read_one read_other =
+      ap (λ (w : List ℕ). installs w tmp) read_one.0 ∙ ap (λ (w : List ℕ). installs one w) read_other.0
+      ∙ install_by true (ap (λ b. b && is_utf8 other) (is_utf8-from_IsUtf8 one read_one.1) ∙ is_utf8-from_IsUtf8 other read_other.1)
+
+  pub installs-first_no_text : ¬ IsUtf8 one → usage_of Tcprules ≡ tcprules_by (bytes_of words)
+  installs-first_no_text no_text =
+      install_by false (ap (λ b. b && is_utf8 other) (is_utf8-no_text one no_text))
+
+  pub installs-second_no_text : IsUtf8 one → ¬ IsUtf8 other → usage_of Tcprules ≡ tcprules_by (bytes_of words)
+  installs-second_no_text text no_text =
+      install_by false (ap (λ b. b && is_utf8 other) (is_utf8-from_IsUtf8 one text) ∙ is_utf8-no_text other no_text)

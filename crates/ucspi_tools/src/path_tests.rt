@@ -1,0 +1,56 @@
+//! Paths of `tcprules`, and what is wrong with them.
+use crate::path::{folder_path, split_path};
+use crate::tcprules::{TcprulesFault, read_places};
+use std::test::Fail;
+
+#[test]
+fn folders_and_last_parts(rt: HostRuntime) {
+    let cases = [
+        ("rules", ".", "rules"),
+        ("./rules", ".", "rules"),
+        ("/etc/tcp/rules", "/etc/tcp", "rules"),
+        ("/rules", "", "rules"),
+        ("a/", "a", ""),
+        ("", ".", ""),
+        ("a//b", "a/", "b"),
+    ];
+    for (path, folder, name) in cases {
+        let (found, last) = split_path(path);
+        assert_eq!(rt; found, folder);
+        assert_eq!(rt; last, name);
+    }
+    assert_eq!(rt; folder_path(""), "/");
+    assert_eq!(rt; folder_path("a"), "a");
+}
+
+/// What is wrong with two paths.
+fn fault_of(rt: &HostRuntime, cdb: &str, tmp: &str) -> Option<TcprulesFault> {
+    read_places(rt.alloc(), cdb, tmp).err()
+}
+
+#[test]
+fn places_in_the_order_of_their_checks(rt: HostRuntime) -> Result<(), Fail> {
+    let (folder, names) = read_places(rt.alloc(), "/a/rules", "/a/rules.tmp")?;
+    assert_eq!(rt; folder, "/a");
+    assert_eq!(rt; names.cdb().as_str(), "rules");
+    assert_eq!(rt; names.tmp().as_str(), "rules.tmp");
+    assert_eq!(rt; fault_of(&rt, "a/", "b/tmp"), Some(TcprulesFault::BadName));
+    assert_eq!(rt; fault_of(&rt, "rules", ".."), Some(TcprulesFault::BadName));
+    assert_eq!(rt;
+        fault_of(&rt, "a/rules", "b/rules"),
+        Some(TcprulesFault::OtherFolder)
+    );
+    assert_eq!(rt;
+        fault_of(&rt, "a/rules", "a//rules"),
+        Some(TcprulesFault::OtherFolder)
+    );
+    assert_eq!(rt;
+        fault_of(&rt, "a/rules", "a/rules"),
+        Some(TcprulesFault::SameName)
+    );
+    assert_eq!(rt;
+        fault_of(&rt, "rules", "./rules"),
+        Some(TcprulesFault::SameName)
+    );
+    Ok(())
+}
