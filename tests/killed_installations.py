@@ -12,18 +12,19 @@ import time
 KILLS = 500
 RULES = 100000
 
-# reads the rules file until it is told to end, and prints how often, or what it saw that was neither file
+# reads the rules file until it is told to end, and prints how often, and how many files it saw; or what it saw that was neither file
 READER = r"""
 import hashlib, os, select, sys
 wanted = sys.argv[2:]
-count = 0
+count, seen = 0, set()
 while not select.select([sys.stdin], [], [], 0)[0]:
     with open(sys.argv[1], "rb") as file:
         found = hashlib.sha256(file.read()).hexdigest()
     if found not in wanted:
         sys.exit("another file was seen: " + found)
     count += 1
-print(count)
+    seen.add(found)
+print(count, len(seen), "files")
 """
 
 
@@ -38,44 +39,59 @@ def digest(path):
         return hashlib.sha256(file.read()).hexdigest()
 
 
+class Installations:
+    """Two long texts, and a folder where they are installed in turn."""
+
+    def __init__(self, program, folder):
+        self.rules = os.path.join(folder, "rules")
+        self.scratch = os.path.join(folder, "rules.tmp")
+        self.words = [program, "tcprules", self.rules, self.scratch]
+        self.texts, self.files, self.lasted = [], [], 0.0
+        for place, verdict in enumerate(('allow,RELAYCLIENT=""', "deny")):
+            self.texts.append(os.path.join(folder, "text%d" % place))
+            with open(self.texts[place], "wb") as file:
+                file.write(text_of(verdict))
+            began = time.monotonic()
+            self.install(place)
+            self.lasted = max(self.lasted, time.monotonic() - began)
+            self.files.append(digest(self.rules))
+
+    def install(self, place):
+        with open(self.texts[place], "rb") as text:
+            return subprocess.run(self.words, stdin=text, check=True)
+
+    def kill(self, place, after):
+        """Kills an installation after some time, and tells whether it was still running."""
+        with open(self.texts[place], "rb") as text:
+            process = subprocess.Popen(self.words, stdin=text)
+        time.sleep(after)
+        process.kill()
+        return process.wait() != 0
+
+
 def check(program, failures):
-    """Counts the kills and the reader, and adds a line to the failures for each that found something else."""
+    """Counts the kills and what is looked at beside them, and adds a line to the failures for each that found something else."""
     chance = random.Random(7)
     with tempfile.TemporaryDirectory() as folder:
-        rules = os.path.join(folder, "rules")
-        words = [program, "tcprules", rules, os.path.join(folder, "rules.tmp")]
-        texts, wanted, lasted = [], [], 0.0
-        for place, verdict in enumerate(('allow,RELAYCLIENT=""', "deny")):
-            path = os.path.join(folder, "text%d" % place)
-            with open(path, "wb") as file:
-                file.write(text_of(verdict))
-            texts.append(path)
-            began = time.monotonic()
-            with open(path, "rb") as text:
-                subprocess.run(words, stdin=text, check=True)
-            lasted = max(lasted, time.monotonic() - began)
-            wanted.append(digest(rules))
+        runs = Installations(program, folder)
         reader = subprocess.Popen(
-            [sys.executable, "-c", READER, rules] + wanted,
+            [sys.executable, "-c", READER, runs.rules] + runs.files,
             stdin=subprocess.PIPE, stdout=subprocess.PIPE, stderr=subprocess.PIPE,
         )
-        killed = 0
-        for number in range(KILLS):
-            with open(texts[number % 2], "rb") as text:
-                process = subprocess.Popen(words, stdin=text)
-            time.sleep(chance.uniform(0, 1.1 * lasted))
-            process.kill()
-            killed += process.wait() != 0
-            if digest(rules) not in wanted:
-                failures.append("kill %d left another file" % number)
+        killed = unfinished = tries = 0
+        while killed < KILLS and tries < 10 * KILLS:
+            tries += 1
+            killed += runs.kill(tries % 2, chance.uniform(0, 1.1 * runs.lasted))
+            unfinished += os.path.exists(runs.scratch)
+            if digest(runs.rules) not in runs.files:
+                failures.append("kill %d left another file" % tries)
         said, errors = reader.communicate(b"end\n", timeout=60)
-        if reader.returncode != 0 or int(said) == 0:
-            failures.append("a reader of installed files: %r" % errors)
-        if killed < KILLS // 4:
-            failures.append("of %d installations only %d were killed" % (KILLS, killed))
-        for text, file in zip(texts, wanted):
-            with open(text, "rb") as given:
-                ended = subprocess.run(words, stdin=given)
-            if ended.returncode != 0 or digest(rules) != file:
+        if reader.returncode != 0 or said.split()[1:] != [b"2", b"files"]:
+            failures.append("a reader of installed files: %r" % ((said, errors),))
+        if killed < KILLS or unfinished < KILLS // 20:
+            failures.append("%d were killed, %d with a scratch file" % (killed, unfinished))
+        for place in (0, 1):
+            runs.install(place)
+            if digest(runs.rules) != runs.files[place]:
                 failures.append("an installation after the kills")
     return KILLS + 4

@@ -1,7 +1,7 @@
 """Runs the program with one request for memory refused: the first, then the second, until a run meets no refusal.
 
-A small library, compiled here and loaded before the C library, counts the requests (malloc, calloc, realloc) and refuses
-one. Each run has to end as one with ample memory does, or with `out of memory` and exit code 111, after answers that are
+A small library, compiled here and loaded before the C library, counts the requests (malloc and realloc, the only ones that the
+program makes) and refuses one. Each run has to end as one with ample memory does, or with `out of memory` and exit code 111, after answers that are
 a front of the ample run's; and a rules file is the new one where the run succeeded, else the old one.
 """
 import os
@@ -73,12 +73,12 @@ PEER = {"TCPREMOTEIP": "10.0.0.1", "TCPREMOTEHOST": "A.example", "TCPREMOTEINFO"
 MOST_REQUESTS = 5000
 
 
-def library(folder):
+def library(folder, text=SOURCE, name="refuse"):
     """Compiles the library, and gives its path."""
-    source = os.path.join(folder, "refuse.c")
-    target = os.path.join(folder, "refuse.so")
+    source = os.path.join(folder, name + ".c")
+    target = os.path.join(folder, name + ".so")
     with open(source, "w") as file:
-        file.write(SOURCE)
+        file.write(text)
     subprocess.run(["gcc", "-O1", "-fPIC", "-shared", "-o", target, source, "-ldl"], check=True)
     return target
 
@@ -92,8 +92,7 @@ def run(words, folder, given, environment):
 
 def is_out_of_memory(tool, outcome, ample):
     code, output, errors = outcome
-    texts = [("%s: out of memory\n" % name).encode() for name in (tool, "ucspi")]
-    return code == 111 and errors in texts and ample[1].startswith(output)
+    return code == 111 and errors == b"%s: out of memory\n" % tool.encode() and ample[1].startswith(output)
 
 
 class Refusals:
@@ -118,12 +117,16 @@ class Refusals:
         mark = os.path.join(self.folder, "mark")
         environment = dict(os.environ, **PEER)
         ample = run([self.program] + words, look.folder(), given, environment)
+        # while the words are read no tool is known
+        tool = "ucspi"
         for request in range(1, MOST_REQUESTS):
             changes = {"LD_PRELOAD": self.preload, "REFUSED_REQUEST": str(request), "REFUSAL_MARK": mark}
             outcome = run([self.program] + words, look.folder(), given, dict(environment, **changes))
             self.runs += 1
             is_ample = outcome == ample
-            if not (is_ample or is_out_of_memory(words[0], outcome, ample)) or not look.is_right(is_ample):
+            if is_out_of_memory(words[0], outcome, ample):
+                tool = words[0]
+            if not (is_ample or is_out_of_memory(tool, outcome, ample)) or not look.is_right(is_ample):
                 self.failures.append("%s, request %d refused: %r" % (name, request, outcome))
             if not os.path.exists(mark):
                 return

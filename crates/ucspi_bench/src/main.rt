@@ -15,6 +15,7 @@ use std::process::ExitCode;
 use std::rt::Clock;
 use std::time::Instant;
 use std::{env, io};
+use ucspi_env::HostTable;
 
 /// How many calls of `RuleList::get` are timed.
 const CALLS: usize = 1_000_000;
@@ -173,12 +174,65 @@ where
     println!(rt; "{} microseconds", taken.as_micros())
 }
 
+/// The address with a number.
+fn address(n: usize) -> [u8; 4] {
+    [
+        10,
+        (n / 65536 % 256) as u8,
+        (n / 256 % 256) as u8,
+        (n % 256) as u8,
+    ]
+}
+
+/// A host table of this many lines: an address and its name, and a name and its address, by turns.
+fn host_lines(alloc: Global, lines: usize) -> Result<String, AllocError> {
+    let mut text = String::new(alloc);
+    for n in 0..lines {
+        let [a, b, c, d] = address(n);
+        let line = match n % 2 {
+            0 => format!(in alloc; "{a}.{b}.{c}.{d} host{n}.example\n")?,
+            _ => format!(in alloc; "=host{n}.example {a}.{b}.{c}.{d}\n")?,
+        };
+        text.push_str(line.as_str())?;
+    }
+    Ok(text)
+}
+
+/// Asks for names all over a table of so many lines, and whether they are confirmed, and answers how often there was one.
+fn ask_many(table: &HostTable, lines: usize) -> usize {
+    let mut found = 0usize;
+    for call in 0..CALLS {
+        let ip = address(call.wrapping_mul(7919) % lines.max(1));
+        let known = table.name_of(ip).is_some() || table.confirms("host1.example", ip);
+        found = found.saturating_add(usize::from(known));
+    }
+    found
+}
+
+/// Prints how many microseconds it takes to read a host table of so many lines, and to ask a million times.
+fn time_hosts<R: Print + Clock>(rt: &R, alloc: Global, lines: usize) -> io::Result<()> {
+    let text = host_lines(alloc, lines)?;
+    let began = Instant::now(rt)?;
+    let Ok(table) = HostTable::read(alloc, text.as_str().as_bytes()) else {
+        return Err(io::Error::from(io::ErrorKind::InvalidData));
+    };
+    let read = began.elapsed(rt)?;
+    let found = ask_many(&table, lines);
+    let all = began.elapsed(rt)?;
+    println!(rt;
+        "read in {} microseconds, a million questions in {}, {found} found",
+        read.as_micros(),
+        all.as_micros().saturating_sub(read.as_micros())
+    )
+}
+
 /// Runs a benchmark of this size.
 fn run<R: Print + Clock + Files>(rt: &R, alloc: Global, name: &str, size: usize) -> io::Result<()>
 where
     R::File: FileExt,
 {
     match name {
+        "hosts" => time_hosts(rt, alloc, size),
         "install" => time_install(rt, alloc, size),
         "get" => time_get(rt, alloc, size),
         "maker" => time_maker(rt, alloc, size),

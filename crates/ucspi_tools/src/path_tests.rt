@@ -1,6 +1,8 @@
-//! Paths of `tcprules`, and what is wrong with them.
+//! The paths and the text of `tcprules`, and what is wrong with them.
 use crate::path::{folder_path, split_path};
-use crate::tcprules::{TcprulesFault, read_places};
+use crate::tcprules::{TcprulesFault, read_places, read_text};
+use crate::tests::FailingReader;
+use std::io::ErrorKind;
 use std::test::Fail;
 
 #[test]
@@ -52,5 +54,32 @@ fn places_in_the_order_of_their_checks(rt: HostRuntime) -> Result<(), Fail> {
         fault_of(&rt, "rules", "./rules"),
         Some(TcprulesFault::SameName)
     );
+    Ok(())
+}
+
+#[test]
+fn a_text_is_read_to_its_end_or_not_at_all(rt: HostRuntime) -> Result<(), Fail> {
+    let mut reader: &[u8] = b":deny\n";
+    assert_eq!(rt;
+        read_text(rt.alloc(), &mut reader, 5)?.as_slice(),
+        b":deny\n".as_slice()
+    );
+    let mut reader: &[u8] = b":deny\n#";
+    assert_eq!(rt;
+        read_text(rt.alloc(), &mut reader, 5)?.as_slice(),
+        b":deny\n".as_slice()
+    );
+    let mut reader = FailingReader {
+        text: b":allow\n",
+        kind: ErrorKind::Other,
+    };
+    let failed = read_text(rt.alloc(), &mut reader, 100).err();
+    assert_eq!(rt; failed, Some(TcprulesFault::ReadFault));
+    let mut reader = FailingReader {
+        text: b":allow\n",
+        kind: ErrorKind::OutOfMemory,
+    };
+    let failed = read_text(rt.alloc(), &mut reader, 100).err();
+    assert_eq!(rt; failed, Some(TcprulesFault::OutOfMemory));
     Ok(())
 }

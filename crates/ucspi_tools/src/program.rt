@@ -26,8 +26,11 @@ const BUFFER: usize = 64 * 1024;
 /// A tool.
 #[derive(Clone, Copy, PartialEq, Eq, Debug)]
 pub enum Tool {
+    /// Runs scripts.
     Rulesim,
+    /// Installs rules.
     Tcprules,
+    /// Tells which rule decides.
     Tcprulescheck,
 }
 
@@ -37,9 +40,17 @@ pub enum Choice<'a> {
     /// A run of `rulesim`.
     Rulesim,
     /// A run of `tcprules` with the paths of the rules file and of the scratch file.
-    Tcprules { cdb: &'a str, tmp: &'a str },
+    Tcprules {
+        /// The path of the rules file.
+        cdb: &'a str,
+        /// The path of the scratch file.
+        tmp: &'a str,
+    },
     /// A run of `tcprulescheck` with the path of the rules file.
-    Tcprulescheck { cdb: &'a str },
+    Tcprulescheck {
+        /// That path.
+        cdb: &'a str,
+    },
     /// The usage line of a tool.
     UsageOf(Tool),
     /// The usage line of `ucspi`.

@@ -36,7 +36,12 @@ pub enum Command<'a> {
     /// A decision for this peer, from the file that is kept under this name.
     AskBy(&'a str, Peer),
     /// An empty list of events, under these limits.
-    Events { limit: u64, per_address: u64 },
+    Events {
+        /// How many connections may be alive at once.
+        limit: u64,
+        /// How many of these from one address.
+        per_address: u64,
+    },
     /// That this be added to the list of events.
     Event(Event),
     /// What the list of events comes to.

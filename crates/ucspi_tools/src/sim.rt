@@ -48,7 +48,7 @@ fn run_lines<R: BufRead, W: Write>(alloc: Global, reader: &mut R, writer: &mut W
         return SimEnd::OutOfMemory;
     };
     let mut line = Vec::new(alloc);
-    for number in 1..MOST_LINES {
+    for number in 1..=MOST_LINES {
         line.clear();
         match reader.read_until(b'\n', &mut line) {
             Ok(0) => return SimEnd::Ended,

@@ -1,5 +1,5 @@
 //! `tcprules`: compiles a rule text from standard input, and installs it.
-ghost use Rattle.std.specs.Prelude.{◌≡◌, ◌⊎◌, None, IfOk, IfErr, IsSome};
+ghost use Rattle.std.specs.Prelude.{◌≡◌, ◌⊎◌, ◌<◌, ◌^◌, ◌-◌, ◌+◌, None, IfOk, IfErr, IfSome, IsSome, take};
 ghost use Rattle.dir_disk.specs.Names.{name_fault};
 ghost use Rattle.ucspi_tools.specs.Paths.{PlacesOf};
 ghost use Rattle.ucspi_tools.specs.Rules.{told_fault};
@@ -76,8 +76,8 @@ impl From<InstallFault> for TcprulesFault {
 /// Reads a rule text, compiles it, and installs the compiled file under the path `cdb`, with `tmp` as its scratch file.
 ///
 /// # Errors
-/// Before `Device` nothing was touched on the disk. After `Device` and `OutOfMemory` the rules file is the old one, or with the phases `Named` and
-/// `Done` possibly the new one; the scratch file may be left.
+/// In the order of `TcprulesFault`. After those that stand above `Device` there nothing was touched on the disk. After `Device` and `OutOfMemory`
+/// the rules file is the old one, or with the phases `Named` and `Done` possibly the new one; the scratch file may be left.
 pub fn run_tcprules<R: Read, F: Files + Drop>(
     alloc: Global,
     reader: &mut R,
@@ -136,9 +136,17 @@ fn read_name(alloc: Global, text: &str) -> Result<Name, TcprulesFault>
 }
 
 /// Reads a text, and one byte over its limit at most.
-fn read_text<R: Read>(alloc: Global, reader: &mut R, limit: u64) -> Result<Vec<u8>, TcprulesFault> {
+pub(crate) fn read_text<R: Read>(
+    alloc: Global,
+    reader: &mut R,
+    limit: u64,
+) -> Result<Vec<u8>, TcprulesFault>
+    requires { limit < 2 ^ 64 - 1 }
+    ensures text { IfOk result (λ text. IfSome (R.remaining reader.old) (λ all. text.items ≡ take (limit + 1) all)) }
+    ensures faults { IfErr result (λ fault. (fault ≡ TcprulesFault.ReadFault) ⊎ (fault ≡ TcprulesFault.OutOfMemory)) }
+{
     let mut text = Vec::new(alloc);
-    match reader.take(limit.saturating_add(1)).read_to_end(&mut text) {
+    match reader.take(limit + 1).read_to_end(&mut text) {
         Ok(_) => Ok(text),
         Err(error) if error.kind() == ErrorKind::OutOfMemory => Err(TcprulesFault::OutOfMemory),
         Err(_) => Err(TcprulesFault::ReadFault),

@@ -1,5 +1,6 @@
 //! `tcprulescheck`: which rule of a compiled file decides a peer.
-ghost use Rattle.std.specs.Prelude.{◌≡◌, IsTrue, IfOk, IfErr};
+ghost use Rattle.std.specs.Prelude.{◌≡◌, IsTrue, IfOk, IfErr, OnOk};
+ghost use Rattle.std.specs.Io.KnownBytes.{Appends};
 ghost use Rattle.dir_disk.specs.Directory.{content};
 ghost use Rattle.ucspi_tools.specs.Checks.{Blames, DecidesBy, FailsBy};
 ghost use Rattle.ucspi_tools.specs.declared.tcprulescheck.CheckFault.TheVariants.{OutOfMemory};
@@ -63,6 +64,9 @@ impl From<AllocError> for CheckFault {
 
 /// Writes what the compiled file at a path decides for the peer of the variables `TCPREMOTEIP`, `TCPREMOTEHOST` and `TCPREMOTEINFO`. One
 /// that is unset, empty or not UTF-8 counts as unknown; an unknown address is `0.0.0.0`.
+///
+/// # Errors
+/// In the order of `CheckFault`. Before `WriteFault` nothing was written.
 pub fn run_tcprulescheck<E: Env + AllocGlobal, F: Files + Drop, W: Write>(
     env: &E,
     files: F,
@@ -135,6 +139,10 @@ where
 }
 
 /// What the compiled file under a name decides, or that there is none.
+///
+/// # Errors
+/// `Device` where it could not be opened, `ReadFault` where it could not be read, `Damaged` where it is no compiled file or its value no
+/// instruction; `OutOfMemory`. The directory is as before.
 pub fn decide_at<D: Dir>(
     alloc: Global,
     dir: &mut D,
@@ -165,9 +173,12 @@ pub fn decide_at<D: Dir>(
 }
 
 /// Writes an answer, and flushes it.
-fn write_answer<W: Write>(writer: &mut W, answer: &[u8]) -> Result<(), CheckFault> {
-    match writer.write_all(answer).and_then(|()| writer.flush()) {
-        Ok(()) => Ok(()),
-        Err(_) => Err(CheckFault::WriteFault),
+fn write_answer<W: Write>(writer: &mut W, answer: &[u8]) -> Result<(), CheckFault>
+    ensures written { OnOk result (Appends (W.contents writer.old) (W.contents writer.new) answer.now) }
+    ensures fault { IfErr result (λ fault. fault ≡ CheckFault.WriteFault) }
+{
+    if writer.write_all(answer).is_err() || writer.flush().is_err() {
+        return Err(CheckFault::WriteFault);
     }
+    Ok(())
 }

@@ -322,9 +322,9 @@ fn names_of_full_length(rt: HostRuntime) -> Result<(), Fail> {
 
 /// A reader that gives its text, and then fails.
 #[derive(Drop)]
-struct FailingReader<'a> {
-    text: &'a [u8],
-    kind: ErrorKind,
+pub struct FailingReader<'a> {
+    pub text: &'a [u8],
+    pub kind: ErrorKind,
 }
 
 impl Read for FailingReader<'_> {

@@ -1,0 +1,13 @@
+use Rattle.std.proofs.Common.{◌≡◌, ◌++◌, codes, decimal}
+use Rattle.std.specs.Net.Text.{ipv4_text}
+use Rattle.rule_lookup.specs.Peers.{given}
+use Rattle.status_lines.specs.Texts.{field, local_text}
+use Rattle.status_lines.proofs.Appends.{first, next, last, renamed}
+use Rattle.status_lines.proofs.fields.push_local.Goals as goal
+
+pub returns : goal.returns
+returns c =
+    let so_far_1 = first c.args.out.now.items _ c.in_ok-push_host.ensures in
+    let so_far_2 = next _ so_far_1 c.in_ok-push_text.ensures in
+    let same : field (given c.host.result) ++ codes ":" ++ ipv4_text c.ip.result ++ codes ":" ++ decimal c.from.result ≡ local_text c.args.local.now = rw (c.host.ensures, c.ip.ensures, c.from.ensures, c.port.ensures) in
+    renamed _ c.push_number.new.out.items c.push_number.result same (last _ c.push_number.new.out.items c.push_number.result so_far_2 c.push_number.ensures)

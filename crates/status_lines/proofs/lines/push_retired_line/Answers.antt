@@ -1,0 +1,8 @@
+use Rattle.status_lines.proofs.Appends.{first, next, last}
+use Rattle.status_lines.proofs.lines.push_retired_line.Goals as goal
+
+pub returns : goal.returns
+returns c =
+    let so_far_1 = first c.args.out.now.items _ c.in_ok-push_text.ensures in
+    let so_far_2 = next _ so_far_1 c.in_ok-push_number.ensures in
+    last _ c.push_text-2.new.out.items c.push_text-2.result so_far_2 c.push_text-2.ensures

@@ -1,0 +1,6 @@
+pub mod KeyLemmas
+pub mod NameLemmas
+pub mod RoomLemmas
+pub mod RowLemmas
+pub mod VariableLemmas
+pub mod WordLemmas

@@ -1,0 +1,95 @@
+//! Variables.
+ghost use Rattle.std.specs.Prelude.{◌≡◌, ◌==◌, [], length, slice_get, option_map, IfOk, OnOk, OnErr};
+ghost use Rattle.rule_lookup.specs.Peers.{given};
+ghost use Rattle.ucspi_env.specs.Variables.{value_of, with_value, without_value};
+
+use std::alloc::{AllocError, Global};
+use std::collections::BTreeMap;
+use std::marker::Model;
+
+/// A value for each of some names.
+#[derive(Debug, Drop)]
+pub struct Environment {
+    variables: BTreeMap<String, String>,
+}
+
+impl Model for Environment {
+    ghost use Rattle.ucspi_env.specs.Variables.{Variables, variables_in};
+
+    ghost Value = { Variables };
+
+    ghost view = { λ e. variables_in e.variables };
+}
+
+impl Environment {
+    /// No variables.
+    pub fn new(alloc: Global) -> Environment
+        ensures { result ≡ [] }
+    {
+        Environment {
+            variables: BTreeMap::new(alloc),
+        }
+    }
+
+    /// Gives a name a value, in the place of the one before.
+    ///
+    /// # Errors
+    /// There was no memory, and the variables are as before.
+    pub fn put(&mut self, alloc: Global, name: &str, value: &str) -> Result<(), AllocError>
+        ensures put { OnOk result (self.new ≡ with_value self.old name.now value.now) }
+        ensures unchanged { OnErr result (self.new ≡ self.old) }
+    {
+        let name = String::from_str(alloc, name)?;
+        let value = String::from_str(alloc, value)?;
+        self.variables.insert(name, value)?;
+        Ok(())
+    }
+
+    /// Takes a name away, if it has a value.
+    pub(crate) fn remove(&mut self, name: &str)
+        ensures { self.new ≡ without_value self.old name.now }
+    {
+        let _ = self.variables.remove(name);
+    }
+
+    /// The value of a name.
+    pub fn get(&self, name: &str) -> Option<&str>
+        ensures { given result ≡ value_of self.now name.now }
+    {
+        let value = self.variables.get(name)?;
+        Some(value.as_str())
+    }
+
+    /// How many variables there are.
+    pub fn len(&self) -> usize
+        ensures { result ≡ length self.now }
+    {
+        self.variables.len()
+    }
+
+    /// Whether there are none.
+    pub fn is_empty(&self) -> bool
+        ensures { result ≡ (length self.now == 0) }
+    {
+        self.variables.is_empty()
+    }
+
+    /// The name and the value at a place, from 0, in the order of the names' bytes. It goes there from the first.
+    pub fn at(&self, place: usize) -> Option<(&str, &str)>
+        ensures { option_map (λ v. (v.0.now, v.1.now)) result ≡ slice_get self.now place }
+    {
+        let (name, value) = self.variables.iter().nth(place)?;
+        Some((name.as_str(), value.as_str()))
+    }
+
+    /// Equal variables.
+    pub fn copy(&self, alloc: Global) -> Result<Environment, AllocError>
+        ensures { IfOk result (λ copy. copy ≡ self.now) }
+    {
+        let mut copy = Environment::new(alloc);
+        for (name, value) in &self.variables {
+            copy.put(alloc, name.as_str(), value.as_str())?;
+        }
+        Ok(copy)
+    }
+}
