@@ -85,13 +85,15 @@ def check(program, failures):
             unfinished += os.path.exists(runs.scratch)
             if digest(runs.rules) not in runs.files:
                 failures.append("kill %d left another file" % tries)
-        said, errors = reader.communicate(b"end\n", timeout=60)
-        if reader.returncode != 0 or said.split()[1:] != [b"2", b"files"]:
-            failures.append("a reader of installed files: %r" % ((said, errors),))
-        if killed < KILLS or unfinished < KILLS // 20:
-            failures.append("%d were killed, %d with a scratch file" % (killed, unfinished))
         for place in (0, 1):
             runs.install(place)
             if digest(runs.rules) != runs.files[place]:
                 failures.append("an installation after the kills")
+            # time for the reader to see this file
+            time.sleep(0.5)
+        said, errors = reader.communicate(b"end\n", timeout=60)
+        if reader.returncode != 0 or said.split()[1:] != [b"2", b"files"]:
+            failures.append("a reader of installed files: %r" % ((said, errors),))
+        if killed < KILLS or unfinished == 0:
+            failures.append("%d were killed, %d with a scratch file" % (killed, unfinished))
     return KILLS + 4
