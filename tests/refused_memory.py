@@ -35,6 +35,12 @@ static int refuses(void)
     return 1;
 }
 
+/* a program that is started meets no refusals */
+__attribute__((constructor)) static void hide(void)
+{
+    unsetenv("LD_PRELOAD");
+}
+
 void *malloc(size_t size)
 {
     static void *(*next)(size_t);
@@ -70,6 +76,7 @@ SCRIPTS = {
 OLD = b":deny\n"
 NEW = b'joe@10.0.0.1:allow,R="1",S=/two words/\n10.2-3.:deny\n=.example:allow,H="x"\n:deny\n'
 PEER = {"TCPREMOTEIP": "10.0.0.1", "TCPREMOTEHOST": "A.example", "TCPREMOTEINFO": "joe"}
+STREAM = b"a\r\nb\n" + b"c" * 1000 + b"\n\r\nlast"
 MOST_REQUESTS = 5000
 
 
@@ -88,6 +95,10 @@ def run(words, folder, given, environment):
         words, cwd=folder, input=given, env=environment, stdout=subprocess.PIPE, stderr=subprocess.PIPE, timeout=60
     )
     return ended.returncode, ended.stdout, ended.stderr
+
+
+def lines_in(text):
+    return text.split(b"\n")
 
 
 def is_out_of_memory(tool, outcome, ample):
@@ -111,6 +122,27 @@ class Refusals:
         os.makedirs(folder, exist_ok=True)
         subprocess.run([self.program, "tcprules", "rules", "tmp"], cwd=folder, input=text, check=True)
         return folder
+
+    def expect_streams(self, name, words, given):
+        """The same of a tool that runs a program between pumps: a pump that met a refusal ends, so that what comes out is a front."""
+        mark = os.path.join(self.folder, "mark")
+        ample = run([self.program] + words, self.folder, given, dict(os.environ))
+        faults = [text % words[0].encode() for text in (b"%s: out of memory\n", b"%s: cannot start\n")] + [b"ucspi: out of memory\n"]
+        for request in range(1, MOST_REQUESTS):
+            changes = {"LD_PRELOAD": self.preload, "REFUSED_REQUEST": str(request), "REFUSAL_MARK": mark}
+            code, output, errors = run([self.program] + words, self.folder, given, dict(os.environ, **changes))
+            self.runs += 1
+            is_fault = code == 111 and errors in faults and output == b""
+            # a recorder that met a refusal leaves lines out; a program whose output is not read may end by a signal
+            is_cut = code in (ample[0], 111) and ample[1].startswith(output) and set(lines_in(errors)) <= set(lines_in(ample[2]))
+            if not (is_fault or is_cut):
+                self.failures.append("%s, request %d refused: %r" % (name, request, (code, output, errors)))
+            if not os.path.exists(mark):
+                if (code, output, sorted(lines_in(errors))) != (ample[0], ample[1], sorted(lines_in(ample[2]))):
+                    self.failures.append("%s, without a refusal: %r" % (name, (code, output, errors)))
+                return
+            os.unlink(mark)
+        self.failures.append("%s: more than %d requests" % (name, MOST_REQUESTS))
 
     def expect_all(self, name, words, given, look):
         """Refuses the first request, then the second, until a run meets no refusal; `look` makes a folder and tells what stands in it."""
@@ -179,4 +211,8 @@ def check(program, failures):
         refusals.expect_all("an installation", ["tcprules", "rules", "tmp"], NEW, RulesFile(refusals))
         asked = Nothing(refusals.install("asked", NEW))
         refusals.expect_all("a question", ["tcprulescheck", "rules"], b"", asked)
+        refusals.expect_all("addcr", ["addcr"], STREAM, Nothing(folder))
+        refusals.expect_all("delcr", ["delcr"], STREAM, Nothing(folder))
+        refusals.expect_streams("fixcrio", ["fixcrio", "cat"], STREAM)
+        refusals.expect_streams("recordio", ["recordio", "cat"], STREAM)
         return refusals.runs

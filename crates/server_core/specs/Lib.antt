@@ -5,5 +5,7 @@ pub mod Kept
 pub mod Table
 pub mod Live
 pub mod Reports
+pub mod Programs
 pub use Rattle.rule_lookup.specs.Decisions
 pub use Rattle.rule_lookup.specs.Peers
+pub use Rattle.ucspi_env.specs.Variables

@@ -5,5 +5,5 @@ use std::process::ExitCode;
 use ucspi_tools::run_program;
 
 fn main(rt: HostRuntime) -> ExitCode {
-    ExitCode::from(run_program(&rt))
+    ExitCode::from(run_program(&rt, rt.stderr()))
 }

@@ -1,8 +1,11 @@
 //! Benchmarks of calls that no tool reaches: the words are a benchmark's name and a size. With no words it does nothing.
 #![tactic(auto)]
 
+mod places;
+
 use cdb_write::{AddFault, Maker};
 use dir_disk::{Name, OsDir};
+use places::time_places;
 use rule_lines::{Limits, ParseFault, RuleList, parse};
 use rule_lookup::{DropCause, Peer, PeerFault};
 use rules_install::whole::install;
@@ -10,9 +13,11 @@ use rules_install::{InstallFault, Names};
 use server_core::{Event, replay};
 use std::alloc::{AllocError, Global};
 use std::fs::Files;
+use std::marker::Brand;
 use std::os::unix::fs::FileExt;
 use std::process::ExitCode;
 use std::rt::Clock;
+use std::sync::ledger::Blank;
 use std::time::Instant;
 use std::{env, io};
 use ucspi_env::HostTable;
@@ -226,6 +231,12 @@ fn time_hosts<R: Print + Clock>(rt: &R, alloc: Global, lines: usize) -> io::Resu
     )
 }
 
+/// Prints how many nanoseconds it takes to give a place where so many are out.
+fn time_places_out<R: Print + Clock>(rt: &R, alloc: Global, size: usize) -> io::Result<()> {
+    let limit = (size as u64).saturating_add(1);
+    time_places::<R, Brand>(rt, alloc, Blank::new(limit), limit)
+}
+
 /// Runs a benchmark of this size.
 fn run<R: Print + Clock + Files>(rt: &R, alloc: Global, name: &str, size: usize) -> io::Result<()>
 where
@@ -236,6 +247,7 @@ where
         "install" => time_install(rt, alloc, size),
         "get" => time_get(rt, alloc, size),
         "maker" => time_maker(rt, alloc, size),
+        "places" => time_places_out(rt, alloc, size),
         "replay" => time_replay(rt, alloc, size),
         _ => Err(io::Error::from(io::ErrorKind::InvalidInput)),
     }

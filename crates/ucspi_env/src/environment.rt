@@ -1,10 +1,11 @@
 //! Variables.
-ghost use Rattle.std.specs.Prelude.{◌≡◌, ◌==◌, [], length, slice_get, option_map, IfOk, OnOk, OnErr};
+ghost use Rattle.std.specs.Prelude.{◌≡◌, ◌==◌, [], length, slice_get, map, option_map, IfOk, OnOk, OnErr};
 ghost use Rattle.rule_lookup.specs.Peers.{given};
-ghost use Rattle.ucspi_env.specs.Variables.{value_of, with_value, without_value};
+ghost use Rattle.ucspi_env.specs.Variables.{value_of, variable_of, with_value, without_value};
 
 use std::alloc::{AllocError, Global};
 use std::collections::BTreeMap;
+use std::collections::btree_map::Iter;
 use std::marker::Model;
 
 /// A value for each of some names.
@@ -80,6 +81,13 @@ impl Environment {
     {
         let (name, value) = self.variables.iter().nth(place)?;
         Some((name.as_str(), value.as_str()))
+    }
+
+    /// The names and values, in the order of the names' bytes.
+    pub fn iter(&self) -> Iter<'_, String, String>
+        ensures { map variable_of result ≡ self.now }
+    {
+        self.variables.iter()
     }
 
     /// Equal variables.

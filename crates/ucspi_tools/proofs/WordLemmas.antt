@@ -1,12 +1,13 @@
 -- The words of a command line, as the bytes that they are.
-use Rattle.std.proofs.Common.{◌≡◌, ℕ, ◌<◌, ◌≤◌, Bool, true, false, ◌&&◌, cond, Vec, List, [], ◌∷◌, map, length, get_or, sym, ap, ◌∙◌, arith}
+use Rattle.std.proofs.Common.{◌≡◌, ℕ, zero, suc, refl, ◌<◌, ◌≤◌, Bool, true, false, ◌&&◌, cond, Vec, List, [], ◌∷◌, map, length, get_or, sym, ap, ◌∙◌, arith}
 use Rattle.std.specs.declared.alloc.Global.{Global}
 use Rattle.std.specs.Prelude.{IsUtf8}
+use Rattle.std.specs.List.{list_all}
 use Rattle.std.specs.Str.{is_utf8}
 use Rattle.std.proofs.lemmas.Bool.{false_from_ne_true}
 use Rattle.std.proofs.lemmas.Str.{is_utf8-from_IsUtf8, IsUtf8-from_is_utf8}
-use Rattle.ucspi_tools.specs.declared.program.Tool.TheVariants.{Tcprules, Tcprulescheck}
-use Rattle.ucspi_tools.specs.Programs.{installs, checks, usage_of, tcprules_by, tcprulescheck_by}
+use Rattle.ucspi_tools.specs.declared.choice.Tool.TheVariants.{Tcprules, Tcprulescheck}
+use Rattle.ucspi_tools.specs.Programs.{installs, checks, text_in, usage_of, tcprules_by, tcprulescheck_by}
 
 -- the bytes of each word
 abbrev pub bytes_of : List (Vec ℕ Global) → List (List ℕ)
@@ -26,9 +27,28 @@ two_words (w ∷ v ∷ []) first second some few at_first at_second =
 two_words (w ∷ v ∷ u ∷ words) first second some few at_first at_second = absurd (omega arith)
 
 -- bytes that are no text
-is_utf8-no_text : (bytes : List ℕ) → ¬ IsUtf8 bytes → is_utf8 bytes ≡ false
+pub is_utf8-no_text : (bytes : List ℕ) → ¬ IsUtf8 bytes → is_utf8 bytes ≡ false
 is_utf8-no_text bytes no_text =
     false_from_ne_true (is_utf8 bytes) (λ text. no_text (IsUtf8-from_is_utf8 bytes text))
+
+-- a word that is text, and one that is none, as a text
+pub text_in-text : (word : List ℕ) → IsUtf8 word → text_in word ≡ word
+text_in-text word text = ap (λ b. cond b word []) (is_utf8-from_IsUtf8 word text)
+
+pub text_in-no_text : (word : List ℕ) → ¬ IsUtf8 word → text_in word ≡ []
+text_in-no_text word no_text = ap (λ b. cond b word []) (is_utf8-no_text word no_text)
+
+-- with one word that is no text not all are
+and-false : (b : Bool) → (b && false) ≡ false
+and-false true = refl
+and-false false = refl
+
+pub not_all_texts : (words : List (Vec ℕ Global)) (i : ℕ) (word : Vec ℕ Global) → i < length words → word ≡ get_or words i word → is_utf8 word.items ≡ false → list_all is_utf8 (bytes_of words) ≡ false
+not_all_texts [] i word inside at no_text = absurd (omega arith)
+not_all_texts (w ∷ words) zero word inside at no_text =
+    ap (λ (v : Vec ℕ Global). is_utf8 v.items && list_all is_utf8 (bytes_of words)) (sym at) ∙ ap (λ b. b && list_all is_utf8 (bytes_of words)) no_text
+not_all_texts (w ∷ words) (suc i) word inside at no_text =
+    ap (λ b. is_utf8 w.items && b) (not_all_texts words i word (omega arith) at no_text) ∙ and-false (is_utf8 w.items)
 
 -- what `tcprulescheck` has for its one word
 module _ (words : List (Vec ℕ Global)) (word : Vec ℕ Global) (some : 1 ≤ length words) (few : length words < 2) (at : word ≡ get_or words 0 word) (bytes : List ℕ) (held : bytes ≡ word.items) where

@@ -1,18 +1,31 @@
 //! The program `ucspi`: its words, and the tool that they ask for.
-ghost use Rattle.std.specs.Prelude.{◌≡◌, ℕ, Vec, map, MatchResult};
-ghost use Rattle.std.specs.declared.alloc.Global.{Global};
-ghost use Rattle.ucspi_tools.specs.Programs.{check_exit, choice_of, exit_of, rules_exit, rulesim_by, tcprules_by, tcprulescheck_by, wanted};
+ghost use Rattle.std.specs.Prelude.{◌≡◌, [], ◌∷◌, IfOk, MatchResult};
+ghost use Rattle.rule_lookup.specs.Peers.{given};
+ghost use Rattle.wrapper_chain.specs.Chains.{stages_of};
+ghost use Rattle.ucspi_tools.specs.Programs.{between_exit, check_exit, exit_of, filter_exit, recorder_number, rules_exit};
 
+use crate::between::{BetweenFault, Lane, run_between};
+use crate::choice::{Choice, Tool, choose};
+use crate::filter::{FilterFault, run_filter};
+use crate::launcher::OsLauncher;
+use crate::shared::SharedWriter;
 use crate::sim::{SimEnd, run_rulesim};
+use crate::started::{command_words, inherited_variables, program_of};
 use crate::tcprules::{TcprulesFault, run_tcprules};
 use crate::tcprulescheck::{CheckFault, run_tcprulescheck};
+use byte_pump::{NoTap, Recorder};
+use rule_lookup::Status;
 use std::alloc::{AllocError, Global};
-use std::env::FillError;
 use std::fs::Files;
 use std::io;
-use std::io::{BufReader, BufWriter};
+use std::io::{BufReader, BufWriter, Write};
 use std::os::unix::fs::FileExt;
+use std::process::{OpenProcess, Processes};
 use std::rt::Env;
+use std::sync::{Mutex, Wait};
+use std::thread::Threads;
+use ucspi_words::number_in;
+use wrapper_chain::{AddCr, Chain, DelCr, FixCr, LineStage, Way};
 
 /// The exit code of wrong words and bad input.
 pub const BAD_INPUT: u8 = 100;
@@ -23,57 +36,32 @@ pub const SYSTEM_FAULT: u8 = 111;
 /// The size of a buffer over a standard stream, in bytes.
 const BUFFER: usize = 64 * 1024;
 
-/// A tool.
-#[derive(Clone, Copy, PartialEq, Eq, Debug)]
-pub enum Tool {
-    /// Runs scripts.
-    Rulesim,
-    /// Installs rules.
-    Tcprules,
-    /// Tells which rule decides.
-    Tcprulescheck,
-}
-
-/// What words ask for.
-#[derive(Clone, Copy, PartialEq, Eq, Debug)]
-pub enum Choice<'a> {
-    /// A run of `rulesim`.
-    Rulesim,
-    /// A run of `tcprules` with the paths of the rules file and of the scratch file.
-    Tcprules {
-        /// The path of the rules file.
-        cdb: &'a str,
-        /// The path of the scratch file.
-        tmp: &'a str,
-    },
-    /// A run of `tcprulescheck` with the path of the rules file.
-    Tcprulescheck {
-        /// That path.
-        cdb: &'a str,
-    },
-    /// The usage line of a tool.
-    UsageOf(Tool),
-    /// The usage line of `ucspi`.
-    Usage,
-}
-
-/// Runs the tool that the command line asks for, over the standard streams and the system's files, and answers the exit code.
-pub fn run_program<R>(rt: &R) -> u8
+/// Runs the tool that the command line asks for, over the standard streams and the system's files and programs, and answers the exit
+/// code. `errors` is standard error, for lines that are no text.
+pub fn run_program<R, E>(rt: &R, errors: E) -> u8
 where
-    R: Env + Input + Print + Eprint + AllocGlobal + Files,
+    R: Env + Input + Print + Eprint + AllocGlobal + Files + Processes + Threads + Wait + Sync,
     R::File: FileExt,
+    R::Reader: Send,
+    E: Write + Send + Drop,
+    <R::Started as OpenProcess>::Stdin: Send,
 {
-    let Ok(words) = command_words(rt.alloc(), rt) else {
+    let alloc = rt.alloc();
+    let Ok(words) = command_words(alloc, rt) else {
         return tell(rt, "ucspi: out of memory", SYSTEM_FAULT);
     };
     match choose(words.as_slice()) {
         Choice::Rulesim => simulate(rt),
         Choice::Tcprules { cdb, tmp } => {
-            rules_end(rt, run_tcprules(rt.alloc(), &mut rt.reader(), rt, cdb, tmp))
+            rules_end(rt, run_tcprules(alloc, &mut rt.reader(), rt, cdb, tmp))
         }
         Choice::Tcprulescheck { cdb } => {
             check_end(rt, run_tcprulescheck(rt, rt, &mut io::writer(rt), cdb))
         }
+        Choice::Addcr => filter_end(rt, "addcr", filter(rt, AddCr)),
+        Choice::Delcr => filter_end(rt, "delcr", filter(rt, DelCr::new())),
+        Choice::Fixcrio { words } => between_end(rt, "fixcrio", fix(rt, words)),
+        Choice::Recordio { words } => between_end(rt, "recordio", record_both(rt, errors, words)),
         Choice::UsageOf(tool) => tell(rt, usage_line(tool), BAD_INPUT),
         Choice::Usage => tell(rt, "ucspi: usage: ucspi TOOL ...", BAD_INPUT),
     }
@@ -85,6 +73,10 @@ fn usage_line(tool: Tool) -> &'static str {
         Tool::Rulesim => "rulesim: usage: rulesim",
         Tool::Tcprules => "tcprules: usage: tcprules cdb tmp",
         Tool::Tcprulescheck => "tcprulescheck: usage: tcprulescheck cdb",
+        Tool::Addcr => "addcr: usage: addcr",
+        Tool::Delcr => "delcr: usage: delcr",
+        Tool::Fixcrio => "fixcrio: usage: fixcrio prog [args]",
+        Tool::Recordio => "recordio: usage: recordio prog [args]",
     }
 }
 
@@ -152,83 +144,107 @@ fn end_of<R: Eprint>(rt: &R, end: SimEnd) -> u8
     }
 }
 
-/// What words, after the program's name, ask for.
-pub fn choose(words: &[Vec<u8>]) -> Choice<'_>
-    ensures { wanted result ≡ choice_of (map (λ (word : Vec ℕ Global). word.items) words.now) }
+/// Passes standard input through a stage to standard output.
+fn filter<R: Input + Print + AllocGlobal, S: LineStage>(rt: &R, stage: S) -> Result<(), FilterFault>
+where
+    S: Drop,
 {
-    let Some((tool, words)) = words.split_first() else {
-        return Choice::Rulesim;
+    let alloc = rt.alloc();
+    let mut chain = chain_of(alloc, stage)?;
+    run_filter(alloc, &mut rt.reader(), &mut io::writer(rt), &mut chain)
+}
+
+/// A chain of one stage.
+fn chain_of<S: LineStage + Drop>(alloc: Global, stage: S) -> Result<Chain<S>, AllocError>
+    ensures { IfOk result (λ chain. stages_of chain ≡ stage ∷ []) }
+{
+    let mut stages = Vec::new(alloc);
+    stages.push(stage)?;
+    Ok(Chain::new(alloc, stages))
+}
+
+/// Prints why `addcr` or `delcr` failed, if it did, and answers the exit code.
+fn filter_end<R: Eprint>(rt: &R, tool: &str, end: Result<(), FilterFault>) -> u8
+    ensures { result ≡ filter_exit end }
+{
+    let Err(fault) = end else {
+        return 0;
     };
-    if tool.as_slice() == b"rulesim".as_slice() {
-        choose_rulesim(words)
-    } else if tool.as_slice() == b"tcprules".as_slice() {
-        choose_tcprules(words)
-    } else if tool.as_slice() == b"tcprulescheck".as_slice() {
-        choose_tcprulescheck(words)
-    } else {
-        Choice::Usage
-    }
+    let _ = eprintln!(rt; "{tool}: {fault}");
+    SYSTEM_FAULT
 }
 
-fn choose_rulesim(words: &[Vec<u8>]) -> Choice<'_>
-    ensures { wanted result ≡ rulesim_by (map (λ (word : Vec ℕ Global). word.items) words.now) }
+/// Runs a program whose lines get a carriage return where they have none, both ways.
+fn fix<R>(rt: &R, words: &[Vec<u8>]) -> Result<Status, BetweenFault>
+where
+    R: Env + Input + Print + AllocGlobal + Processes + Threads + Wait + Sync,
+    R::Reader: Send,
+    <R::Started as OpenProcess>::Stdin: Send,
 {
-    if words.is_empty() {
-        Choice::Rulesim
-    } else {
-        Choice::UsageOf(Tool::Rulesim)
-    }
+    let alloc = rt.alloc();
+    let program = program_of(alloc, words)?;
+    let variables = inherited_variables(alloc, rt)?;
+    let input = Lane {
+        stream: rt.reader(),
+        chain: chain_of(alloc, FixCr::new())?,
+        tap: NoTap,
+    };
+    let output = Lane {
+        stream: io::writer(rt),
+        chain: chain_of(alloc, FixCr::new())?,
+        tap: NoTap,
+    };
+    let launcher = OsLauncher::new(rt);
+    run_between(rt, alloc, &launcher, (&program, &variables), input, output)
 }
 
-fn choose_tcprules(words: &[Vec<u8>]) -> Choice<'_>
-    ensures { wanted result ≡ tcprules_by (map (λ (word : Vec ℕ Global). word.items) words.now) }
+/// Runs a program, and records what goes both ways on `errors`.
+fn record_both<R, E>(rt: &R, errors: E, words: &[Vec<u8>]) -> Result<Status, BetweenFault>
+where
+    R: Env + Input + Print + AllocGlobal + Processes + Threads + Wait + Sync,
+    R::Reader: Send,
+    <R::Started as OpenProcess>::Stdin: Send,
+    E: Write + Send + Drop,
 {
-    match words {
-        [cdb, tmp] => match (str::from_utf8(cdb), str::from_utf8(tmp)) {
-            (Ok(cdb), Ok(tmp)) => Choice::Tcprules { cdb, tmp },
-            _ => Choice::UsageOf(Tool::Tcprules),
-        },
-        _ => Choice::UsageOf(Tool::Tcprules),
-    }
+    let alloc = rt.alloc();
+    let program = program_of(alloc, words)?;
+    let variables = inherited_variables(alloc, rt)?;
+    let number = recorder_number(variables.get("TCPREMOTEPORT"));
+    let errors = Mutex::new(errors);
+    let input = Lane {
+        stream: rt.reader(),
+        chain: Chain::<FixCr>::new(alloc, Vec::new(alloc)),
+        tap: Recorder::new(alloc, number, Way::Input, SharedWriter::new(rt, &errors)),
+    };
+    let output = Lane {
+        stream: io::writer(rt),
+        chain: Chain::<FixCr>::new(alloc, Vec::new(alloc)),
+        tap: Recorder::new(alloc, number, Way::Output, SharedWriter::new(rt, &errors)),
+    };
+    let launcher = OsLauncher::new(rt);
+    run_between(rt, alloc, &launcher, (&program, &variables), input, output)
 }
 
-fn choose_tcprulescheck(words: &[Vec<u8>]) -> Choice<'_>
-    ensures { wanted result ≡ tcprulescheck_by (map (λ (word : Vec ℕ Global). word.items) words.now) }
+/// The number of a recorder, by the text of the peer's port: 0 where that is no port.
+fn recorder_number(port: Option<&str>) -> u64
+    ensures { result ≡ recorder_number (given port.entry) }
 {
-    match words {
-        [cdb] => match str::from_utf8(cdb) {
-            Ok(cdb) => Choice::Tcprulescheck { cdb },
-            Err(_) => Choice::UsageOf(Tool::Tcprulescheck),
-        },
-        _ => Choice::UsageOf(Tool::Tcprulescheck),
+    match port {
+        Some(text) if text.len() <= 5 => number_in(text, 0, 65535).unwrap_or(0),
+        _ => 0,
     }
 }
 
-/// The words of the command line after the program's name, each as the bytes that it is.
-fn command_words<E: Env>(alloc: Global, env: &E) -> Result<Vec<Vec<u8>>, AllocError> {
-    let mut words = Vec::new(alloc);
-    for i in 1..usize::MAX {
-        match command_word(alloc, env, i)? {
-            Some(word) => words.push(word)?,
-            None => return Ok(words),
+/// Prints why a program could not be run between pumps, if it could not, and answers the exit code.
+fn between_end<R: Eprint>(rt: &R, tool: &str, end: Result<Status, BetweenFault>) -> u8
+    ensures { result ≡ between_exit end }
+{
+    match end {
+        Ok(Status::Code(code)) => code,
+        Ok(Status::Signal) => SYSTEM_FAULT,
+        Err(fault) => {
+            let _ = eprintln!(rt; "{tool}: {fault}");
+            SYSTEM_FAULT
         }
     }
-    Ok(words)
-}
-
-/// The word at a place of the command line, in a buffer that grows until the word fits.
-fn command_word<E: Env>(alloc: Global, env: &E, i: usize) -> Result<Option<Vec<u8>>, AllocError> {
-    let mut size = 256usize;
-    for _ in 0..40 {
-        let mut word = vec![in alloc; 0u8; size]?;
-        match env.arg(i, word.as_mut_slice()) {
-            Ok(len) => {
-                word.truncate(len);
-                return Ok(Some(word));
-            }
-            Err(FillError::NotPresent) => return Ok(None),
-            Err(FillError::TooLong) => size = size.saturating_mul(2),
-        }
-    }
-    Err(AllocError)
 }

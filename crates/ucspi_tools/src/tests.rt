@@ -1,11 +1,14 @@
 //! Scripts of `rulesim`, and what they print.
-use crate::program::{Choice, Tool, choose};
+use crate::choice::{Choice, Tool, choose};
+use crate::filter::{FilterFault, run_filter};
 use crate::sim::{SimEnd, run_rulesim};
+use crate::started::program_of;
 use std::alloc::{AllocError, Global};
 use std::io::{BufRead, Error, ErrorKind, Read, Write};
 use std::process::Abort;
 use std::test::Fail;
 use std::{io, str};
+use wrapper_chain::{AddCr, Chain};
 
 /// Runs a script, and compares what it prints and how it ends.
 fn expect<R: Abort + AllocGlobal>(rt: &R, script: &[u8], printed: &str, end: SimEnd) {
@@ -429,6 +432,12 @@ fn words_of_the_program(rt: HostRuntime) -> Result<(), Fail> {
         ("tcprulescheck a", Choice::Tcprulescheck { cdb: "a" }),
         ("tcprulescheck", Choice::UsageOf(Tool::Tcprulescheck)),
         ("tcprulescheck a b", Choice::UsageOf(Tool::Tcprulescheck)),
+        ("addcr", Choice::Addcr),
+        ("addcr x", Choice::UsageOf(Tool::Addcr)),
+        ("delcr", Choice::Delcr),
+        ("delcr x", Choice::UsageOf(Tool::Delcr)),
+        ("fixcrio", Choice::UsageOf(Tool::Fixcrio)),
+        ("recordio", Choice::UsageOf(Tool::Recordio)),
         ("Rulesim", Choice::Usage),
         ("tcpclient", Choice::Usage),
     ] {
@@ -440,5 +449,49 @@ fn words_of_the_program(rt: HostRuntime) -> Result<(), Fail> {
         }
         assert_eq!(rt; choose(list.as_slice()), choice, "at {words}");
     }
+    Ok(())
+}
+
+#[test]
+fn words_of_programs(rt: HostRuntime) -> Result<(), Fail> {
+    let alloc = rt.alloc();
+    let mut list = Vec::new(alloc);
+    for word in ["fixcrio", "sh", "-c", "exit 3"] {
+        list.push(Vec::from_slice(alloc, word.as_bytes())?)?;
+    }
+    match choose(list.as_slice()) {
+        Choice::Fixcrio { words } => {
+            let program = program_of(alloc, words)?;
+            assert_eq!(rt; program.path(), "sh");
+            assert_eq!(rt; program.args().len(), 2);
+        }
+        other => panic!(rt; "{other:?}"),
+    }
+    list.push(Vec::from_slice(alloc, b"\xff")?)?;
+    assert_eq!(rt; choose(list.as_slice()), Choice::UsageOf(Tool::Fixcrio));
+    Ok(())
+}
+
+#[test]
+fn a_stream_through_a_stage(rt: HostRuntime) -> Result<(), Fail> {
+    let alloc = rt.alloc();
+    let mut stages = Vec::new(alloc);
+    stages.push(AddCr)?;
+    let mut chain = Chain::new(alloc, stages);
+    let mut reader = b"a\nb".as_slice();
+    let mut out = Vec::new(alloc);
+    assert_eq!(rt;
+        run_filter(alloc, &mut reader, &mut out, &mut chain),
+        Ok(())
+    );
+    assert_eq!(rt; out.as_slice(), b"a\r\nb".as_slice());
+    chain.renew();
+    let mut failing = FailingReader {
+        text: b"a\n",
+        kind: ErrorKind::PermissionDenied,
+    };
+    let ended = run_filter(alloc, &mut failing, &mut out, &mut chain);
+    assert_eq!(rt; ended, Err(FilterFault::ReadFault));
+    assert_eq!(rt; out.as_slice(), b"a\r\nba\r\n".as_slice());
     Ok(())
 }

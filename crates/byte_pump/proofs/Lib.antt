@@ -1,0 +1,3 @@
+pub mod PassLemmas
+pub mod TurnLemmas
+pub mod WriteLemmas

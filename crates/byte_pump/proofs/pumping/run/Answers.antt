@@ -1,0 +1,58 @@
+use Rattle.std.proofs.Common.{refl, sym, ◌∙◌, subst, arith}
+use Rattle.std.proofs.KnownBytes.{Keeps-refl}
+use Rattle.wrapper_chain.specs.Chains.{has_failed}
+use Rattle.byte_pump.specs.Turns.{IsOfTurn, StaysOpen}
+use Rattle.byte_pump.proofs.PassLemmas.{turned_nothing}
+use Rattle.byte_pump.proofs.TurnLemmas.{turned_more, turned_steps}
+use Rattle.byte_pump.specs.declared.pumping.Why.TheVariants.{TurnsOver}
+use Rattle.byte_pump.proofs.pumping.run.Goals as goal
+
+pub loop-turn-init : goal.loop-turn-init
+loop-turn-init g c = record {
+  turned = turned_nothing g.T.Tap.sees g.T.Tap.ends _ _ _ _ _ _ 0 TurnsOver _ _ (Keeps-refl _) (λ later. refl) refl refl;
+  steps = omega arith;
+  goes_on = c.requires.goes_on;
+  wholes = refl;
+  same = refl;
+}
+
+pub loop-turn-preserved : goal.loop-turn-preserved
+loop-turn-preserved g c =
+    let so_far = c.loop-turn.invariant in
+    let told = c.in_default.ensures in
+    record {
+      turned = turned_more g.T.Tap.sees g.T.Tap.ends c.args.tap.now c.loop-turn.tap c.turn.new.tap TurnsOver so_far.same so_far.turned told.turned;
+      steps = omega arith;
+      goes_on = told.stays_open ∙ so_far.goes_on;
+      wholes = told.wholes ∙ so_far.wholes;
+      same = told.same ∙ so_far.same;
+    }
+
+pub returns-in-Err : goal.returns-in-Err
+returns-in-Err g c =
+    let so_far = c.loop-turn.invariant in
+    let told = c.in-Err.ensures in
+    let went_on = so_far.goes_on ∙ sym c.requires.goes_on in
+    record {
+      turned = turned_steps (omega arith) (turned_more g.T.Tap.sees g.T.Tap.ends c.args.tap.now c.loop-turn.tap c.turn.new.tap c.in-Err.why so_far.same so_far.turned told.turned);
+      over = λ is. absurd (subst IsOfTurn is told.reason);
+      within = (omega arith, omega arith);
+      not_failed = λ is. subst IsOfTurn is told.reason;
+      stays_open = subst (λ b. StaysOpen c.in-Err.why b (has_failed c.turn.new.chain)) went_on told.stays_open;
+      wholes = told.wholes ∙ so_far.wholes;
+    }
+
+pub returns : goal.returns
+returns g c =
+    let so_far = c.loop-turn.invariant in
+    record {
+      turned = turned_steps (omega arith) so_far.turned;
+      over = λ is. omega arith;
+      within = (omega arith, omega arith);
+      not_failed = λ is. cc;
+      stays_open = so_far.goes_on ∙ sym c.requires.goes_on;
+      wholes = so_far.wholes;
+    }
+
+pub turn-requires : goal.turn-requires
+turn-requires g c = record { room = omega arith; goes_on = c.loop-turn.invariant.goes_on }

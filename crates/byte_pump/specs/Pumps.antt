@@ -1,0 +1,70 @@
+-- What a pump does.
+use Rattle.std.specs.Prelude.{◌≡◌, ◌⊎◌, ◌-◌, ◌^◌, ◌≤◌, min, ℕ, Bool, true, false, List, ◌∷◌, ◌++◌, length}
+use Rattle.std.specs.List.{concat}
+use Rattle.std.specs.declared.option.Option.{Option}
+use Rattle.std.specs.Io.KnownBytes.{Appends, Consumes, IsAtEnd}
+use Rattle.wrapper_chain.specs.Stages.{Gives}
+use Rattle.wrapper_chain.specs.declared.recording.Way.{Way}
+use Rattle.wrapper_chain.specs.declared.recording.Way.TheVariants.{Input, Output}
+use Rattle.byte_pump.specs.declared.pumping.Why.{Why}
+use Rattle.byte_pump.specs.declared.pumping.Why.TheVariants.{End, ReadFault, WriteFault, ZeroWrite, TurnsOver, Failed, OutOfMemory}
+
+-- the number of these bytes, or the greatest number that fits
+abbrev pub count_of : List ℕ → ℕ
+count_of bytes = min (length bytes) (2 ^ 64 - 1)
+
+abbrev pub is_end : Why → Bool
+is_end End = true
+is_end ReadFault = false
+is_end WriteFault = false
+is_end ZeroWrite = false
+is_end TurnsOver = false
+is_end Failed = false
+is_end OutOfMemory = false
+
+-- a text and what comes first of what a chain writes of it, whatever comes after that text
+abbrev pub GivesFirst : (List ℕ → List ℕ) → List ℕ → List ℕ → Type 0
+GivesFirst writes text given = (rest : List ℕ → List ℕ) × Gives writes rest text given
+
+-- what the chain gave of what was read: at the end all that it writes of the whole text; between two pieces just what it has
+-- written of them; where a write failed either of these, the first only with nothing left to read; else what it gave before it failed
+abbrev pub Gave : Why → (left : Option (List ℕ)) → (old new : List ℕ → List ℕ) → (text given : List ℕ) → Type 0
+Gave End left old new text given = IsAtEnd left × (given ≡ old text)
+Gave ReadFault left old new text given = Gives old new text given
+Gave TurnsOver left old new text given = Gives old new text given
+Gave WriteFault left old new text given = Gives old new text given ⊎ (IsAtEnd left × (given ≡ old text))
+Gave ZeroWrite left old new text given = Gives old new text given ⊎ (IsAtEnd left × (given ≡ old text))
+Gave Failed left old new text given = GivesFirst old text given
+Gave OutOfMemory left old new text given = GivesFirst old text given
+
+-- all that the chain gave was written; where a write failed, not all of it
+abbrev pub IsWritten : Why → (given written : List ℕ) → Type 0
+IsWritten End given written = given ≡ written
+IsWritten ReadFault given written = given ≡ written
+IsWritten TurnsOver given written = given ≡ written
+IsWritten Failed given written = given ≡ written
+IsWritten OutOfMemory given written = given ≡ written
+IsWritten WriteFault given written = (left : ℕ) × (more : List ℕ) × (given ≡ written ++ left ∷ more)
+IsWritten ZeroWrite given written = (left : ℕ) × (more : List ℕ) × (given ≡ written ++ left ∷ more)
+
+-- the pieces that a tap of this way sees: those that were read, or those that the chain gave
+abbrev pub pieces_by : Way → (text given : List ℕ) → List ℕ
+pieces_by Input text given = text
+pieces_by Output text given = given
+
+-- A pump read a text, the chain gave bytes of it, and a front of these was written. `reader` and `writer` are what these have
+-- left and hold, before and after, where it is known; `steps` is how often the pump read.
+pub record Pumped (reader reader' writer writer' : Option (List ℕ)) (chain chain' : List ℕ → List ℕ) (way : Way) (Shows : List (List ℕ) → Type 0) (steps : ℕ) (why : Why) (taken put : ℕ) : Type 0 where
+  pub text : List ℕ
+  pub given : List ℕ
+  pub written : List ℕ
+  pub pieces : List (List ℕ)
+  pub reads : Consumes reader reader' text
+  pub writes : Appends writer writer' written
+  pub counts_text : taken ≡ count_of text
+  pub counts_written : put ≡ count_of written
+  pub gave : Gave why reader' chain chain' text given
+  pub all : IsWritten why given written
+  pub shown : Shows pieces
+  pub joined : concat pieces ≡ pieces_by way text given
+  pub one_each : length pieces ≤ steps

@@ -1,0 +1,66 @@
+//! How long a table of places takes to give one.
+ghost use Rattle.std.specs.Prelude.{◌≡◌};
+
+use child_table::Table;
+use rule_lookup::Peer;
+use std::alloc::Global;
+use std::io;
+use std::rt::Clock;
+use std::sync::ledger::{Blank, Ledger};
+use std::time::Instant;
+
+/// How many places are given and taken back while the time is taken.
+const TURNS: u64 = 1000;
+
+/// Prints how many nanoseconds it takes to give a place and to take it back, where so many others are out.
+pub fn time_places<R: Print + Clock, L: Ledger>(
+    rt: &R,
+    alloc: Global,
+    blank: Blank,
+    limit: u64,
+) -> io::Result<()>
+    requires name { blank.name ≡ L.name }
+    requires parts { (blank.parts ≡ L.parts) × (blank.parts ≡ limit) }
+{
+    let others = limit.saturating_sub(1);
+    let Ok(mut table) = Table::<L>::with_address_limit(alloc, blank, limit, others) else {
+        return Err(io::Error::from(io::ErrorKind::InvalidInput));
+    };
+    for n in 0..others {
+        take_for_good(alloc, &mut table, n);
+    }
+    let Ok(peer) = Peer::new(alloc, [10, 0, 0, 1], 4000, None, None) else {
+        return Err(io::Error::from(io::ErrorKind::OutOfMemory));
+    };
+    let began = Instant::now(rt)?;
+    let mut given = 0u64;
+    for _ in 0..TURNS {
+        given += u64::from(give_and_take(&mut table, &peer));
+    }
+    let taken = began.elapsed(rt)?;
+    println!(rt;
+        "{} nanoseconds, {given} given",
+        taken.as_nanos() / u128::from(TURNS)
+    )
+}
+
+/// Gives one of 256 addresses a place, which stays out.
+fn take_for_good<L: Ledger>(alloc: Global, table: &mut Table<L>, n: u64) {
+    let Ok(peer) = Peer::new(alloc, [10, 1, 0, (n % 256) as u8], 4000, None, None) else {
+        return;
+    };
+    if let Ok(place) = table.admit(&peer) {
+        place.strand();
+    }
+}
+
+/// Gives a peer a place and takes it back; whether it could be given.
+fn give_and_take<L: Ledger>(table: &mut Table<L>, peer: &Peer) -> bool {
+    match table.admit(peer) {
+        Ok(place) => {
+            table.leave(place);
+            true
+        }
+        Err(_) => false,
+    }
+}

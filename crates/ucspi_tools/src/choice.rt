@@ -1,0 +1,181 @@
+//! Which tool the words of a command line ask for.
+ghost use Rattle.std.specs.Prelude.{◌≡◌, ℕ, Vec, map};
+ghost use Rattle.std.specs.declared.alloc.Global.{Global};
+ghost use Rattle.std.specs.List.{list_all};
+ghost use Rattle.std.specs.Str.{is_utf8};
+ghost use Rattle.ucspi_tools.specs.Programs.{alone, choice_of, run_of, tcprules_by, tcprulescheck_by, tool_of, wanted, with_program};
+
+/// A tool.
+#[derive(Clone, Copy, PartialEq, Eq, Debug)]
+pub enum Tool {
+    /// Runs scripts.
+    Rulesim,
+    /// Installs rules.
+    Tcprules,
+    /// Tells which rule decides.
+    Tcprulescheck,
+    /// Puts a carriage return before each line feed.
+    Addcr,
+    /// Takes one carriage return away at the end of each line.
+    Delcr,
+    /// Runs a program and puts a carriage return before each line feed that has none, both ways.
+    Fixcrio,
+    /// Runs a program and records what goes both ways.
+    Recordio,
+}
+
+/// What words ask for.
+#[derive(Clone, Copy, PartialEq, Eq, Debug)]
+pub enum Choice<'a> {
+    /// A run of `rulesim`.
+    Rulesim,
+    /// A run of `tcprules` with the paths of the rules file and of the scratch file.
+    Tcprules {
+        /// The path of the rules file.
+        cdb: &'a str,
+        /// The path of the scratch file.
+        tmp: &'a str,
+    },
+    /// A run of `tcprulescheck` with the path of the rules file.
+    Tcprulescheck {
+        /// That path.
+        cdb: &'a str,
+    },
+    /// A run of `addcr`.
+    Addcr,
+    /// A run of `delcr`.
+    Delcr,
+    /// A run of `fixcrio` with a program.
+    Fixcrio {
+        /// Its path and arguments: at least the path, and each is UTF-8.
+        words: &'a [Vec<u8>],
+    },
+    /// A run of `recordio` with a program.
+    Recordio {
+        /// Its path and arguments: at least the path, and each is UTF-8.
+        words: &'a [Vec<u8>],
+    },
+    /// The usage line of a tool.
+    UsageOf(Tool),
+    /// The usage line of `ucspi`.
+    Usage,
+}
+
+/// What words, after the program's name, ask for.
+pub fn choose(words: &[Vec<u8>]) -> Choice<'_>
+    ensures { wanted result ≡ choice_of (map (λ (word : Vec ℕ Global). word.items) words.now) }
+{
+    let Some((tool, words)) = words.split_first() else {
+        return Choice::Rulesim;
+    };
+    match tool_named(tool) {
+        Some(tool) => choose_tool(tool, words),
+        None => Choice::Usage,
+    }
+}
+
+/// The tool of a name.
+fn tool_named(name: &[u8]) -> Option<Tool>
+    ensures { result ≡ tool_of name.now }
+{
+    if name == b"rulesim".as_slice() {
+        Some(Tool::Rulesim)
+    } else if name == b"tcprules".as_slice() {
+        Some(Tool::Tcprules)
+    } else if name == b"tcprulescheck".as_slice() {
+        Some(Tool::Tcprulescheck)
+    } else if name == b"addcr".as_slice() {
+        Some(Tool::Addcr)
+    } else if name == b"delcr".as_slice() {
+        Some(Tool::Delcr)
+    } else if name == b"fixcrio".as_slice() {
+        Some(Tool::Fixcrio)
+    } else if name == b"recordio".as_slice() {
+        Some(Tool::Recordio)
+    } else {
+        None
+    }
+}
+
+/// What the words of a tool ask for.
+fn choose_tool(tool: Tool, words: &[Vec<u8>]) -> Choice<'_>
+    ensures { wanted result ≡ run_of tool (map (λ (word : Vec ℕ Global). word.items) words.now) }
+{
+    match tool {
+        Tool::Rulesim => choose_alone(Choice::Rulesim, tool, words),
+        Tool::Addcr => choose_alone(Choice::Addcr, tool, words),
+        Tool::Delcr => choose_alone(Choice::Delcr, tool, words),
+        Tool::Tcprules => choose_tcprules(words),
+        Tool::Tcprulescheck => choose_tcprulescheck(words),
+        Tool::Fixcrio => choose_program(Choice::Fixcrio { words }, tool, words),
+        Tool::Recordio => choose_program(Choice::Recordio { words }, tool, words),
+    }
+}
+
+/// The run of a tool that has no words of its own.
+fn choose_alone<'a>(run: Choice<'a>, tool: Tool, words: &[Vec<u8>]) -> Choice<'a>
+    ensures { wanted result ≡ alone (wanted run.entry) tool (map (λ (word : Vec ℕ Global). word.items) words.now) }
+{
+    if words.is_empty() {
+        run
+    } else {
+        Choice::UsageOf(tool)
+    }
+}
+
+/// The run of a tool whose words are a program's.
+fn choose_program<'a>(run: Choice<'a>, tool: Tool, words: &[Vec<u8>]) -> Choice<'a>
+    ensures { wanted result ≡ with_program (wanted run.entry) tool (map (λ (word : Vec ℕ Global). word.items) words.now) }
+{
+    if !words.is_empty() && are_texts(words) {
+        run
+    } else {
+        Choice::UsageOf(tool)
+    }
+}
+
+/// Whether all words are UTF-8.
+fn are_texts(words: &[Vec<u8>]) -> bool
+    ensures { result ≡ list_all is_utf8 (map (λ (word : Vec ℕ Global). word.items) words.now) }
+{
+    for word in words {
+        if !is_text(word) {
+            return false;
+        }
+    }
+    true
+}
+
+/// Whether a word is UTF-8.
+fn is_text(word: &[u8]) -> bool
+    ensures { result ≡ is_utf8 word.now }
+{
+    match str::from_utf8(word) {
+        Ok(_) => true,
+        Err(_) => false,
+    }
+}
+
+fn choose_tcprules(words: &[Vec<u8>]) -> Choice<'_>
+    ensures { wanted result ≡ tcprules_by (map (λ (word : Vec ℕ Global). word.items) words.now) }
+{
+    match words {
+        [cdb, tmp] => match (str::from_utf8(cdb), str::from_utf8(tmp)) {
+            (Ok(cdb), Ok(tmp)) => Choice::Tcprules { cdb, tmp },
+            _ => Choice::UsageOf(Tool::Tcprules),
+        },
+        _ => Choice::UsageOf(Tool::Tcprules),
+    }
+}
+
+fn choose_tcprulescheck(words: &[Vec<u8>]) -> Choice<'_>
+    ensures { wanted result ≡ tcprulescheck_by (map (λ (word : Vec ℕ Global). word.items) words.now) }
+{
+    match words {
+        [cdb] => match str::from_utf8(cdb) {
+            Ok(cdb) => Choice::Tcprulescheck { cdb },
+            Err(_) => Choice::UsageOf(Tool::Tcprulescheck),
+        },
+        _ => Choice::UsageOf(Tool::Tcprulescheck),
+    }
+}

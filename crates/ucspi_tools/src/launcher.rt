@@ -1,0 +1,146 @@
+//! Programs of the system.
+ghost use Rattle.std.specs.Prelude.{◌≡◌, false, is_some, IfOk};
+
+use rule_lookup::{StartFault, Status};
+use server_core::{Job, Launcher, NoEnds, Program, WaitFault};
+use std::alloc::{AllocError, Global};
+use std::io::{Error, ErrorKind};
+use std::process::{Child, Command, ExitStatus, OpenProcess, Processes, Stdio};
+use std::snapshot::Snapshot;
+use ucspi_env::Environment;
+
+/// Starts programs of the system, as children of this process. A child gets descriptors 0, 1 and 2 alone: pipes to this process, and
+/// this process's standard error.
+#[derive(Clone, Copy, Drop)]
+pub struct OsLauncher<'a, P> {
+    processes: &'a P,
+}
+
+impl<'a, P: Processes> OsLauncher<'a, P> {
+    /// A launcher over the system's processes.
+    pub fn new(processes: &'a P) -> OsLauncher<'a, P> {
+        OsLauncher { processes }
+    }
+}
+
+/// A child of this process, and the ends of its pipes until they are given. It is neither waited for nor killed when it is let go.
+#[derive(Drop)]
+pub struct OsJob<P: OpenProcess> {
+    child: Child<P>,
+    ends: Option<(P::Stdin, P::Stdout)>,
+    program: Snapshot<Program>,
+    environment: Snapshot<Environment>,
+}
+
+impl<'a, P: Processes> Launcher for OsLauncher<'a, P> {
+    type Job = OsJob<P::Started>;
+
+    fn start(
+        &self,
+        alloc: Global,
+        program: &Program,
+        environment: &Environment,
+    ) -> Result<OsJob<P::Started>, StartFault> {
+        let Ok(mut command) = command_of(alloc, program, environment) else {
+            return Err(StartFault::OutOfMemory);
+        };
+        command.stdin(Stdio::piped()).stdout(Stdio::piped());
+        match command.spawn(self.processes) {
+            Ok(child) => Ok(job_of(child, program, environment)),
+            Err(error) => Err(start_fault(&error)),
+        }
+    }
+}
+
+/// The job that a child is, which runs this program with these variables.
+fn job_of<P: OpenProcess>(
+    mut child: Child<P>,
+    program: &Program,
+    environment: &Environment,
+) -> OsJob<P>
+    ensures program { result.program.value ≡ program.now }
+    ensures environment { result.environment.value ≡ environment.now }
+{
+    let ends = child.stdin.take().zip(child.stdout.take());
+    OsJob {
+        child,
+        ends,
+        program: Snapshot::of(program),
+        environment: Snapshot::of(environment),
+    }
+}
+
+/// The command that starts a program with these variables and no others.
+fn command_of(
+    alloc: Global,
+    program: &Program,
+    environment: &Environment,
+) -> Result<Command, AllocError> {
+    let mut command = Command::new(alloc, program.path())?;
+    for arg in program.args() {
+        command.arg(arg.as_str())?;
+    }
+    command.env_clear();
+    for (name, value) in environment.iter() {
+        command.env(name.as_str(), value.as_str())?;
+    }
+    Ok(command)
+}
+
+/// What the system's fault is for a program that should start.
+fn start_fault(error: &Error) -> StartFault {
+    match error.kind() {
+        ErrorKind::NotFound => StartFault::NotFound,
+        ErrorKind::PermissionDenied => StartFault::Refused,
+        ErrorKind::OutOfMemory => StartFault::OutOfMemory,
+        _ => StartFault::Other,
+    }
+}
+
+/// What the system's fault is for a child that should be waited for or killed.
+fn wait_fault(error: &Error) -> WaitFault {
+    match error.kind() {
+        ErrorKind::OutOfMemory => WaitFault::OutOfMemory,
+        _ => WaitFault::Failed,
+    }
+}
+
+/// How a child ended.
+fn status_of(status: ExitStatus) -> Status {
+    match status.code() {
+        Some(code) => Status::Code((code & 255) as u8),
+        None => Status::Signal,
+    }
+}
+
+impl<P: OpenProcess + Drop> Job for OsJob<P> {
+    type Input = P::Stdin;
+
+    type Output = P::Stdout;
+
+    ghost program = { λ job. job.program.value };
+
+    ghost environment = { λ job. job.environment.value };
+
+    ghost has_ends = { λ job. is_some job.ends };
+
+    fn ends(&mut self) -> Result<(P::Stdin, P::Stdout), NoEnds> {
+        self.ends.take().ok_or(NoEnds)
+    }
+
+    fn kill(&mut self) -> Result<(), WaitFault> {
+        match self.child.kill() {
+            Ok(()) => Ok(()),
+            Err(error) => Err(wait_fault(&error)),
+        }
+    }
+
+    fn wait(mut self) -> Result<Status, (OsJob<P>, WaitFault)> {
+        // a program that waits for input could not end
+        drop(self.ends.take());
+        match self.child.wait() {
+            Ok(status) => Ok(status_of(status)),
+            Err(error) => Err((self, wait_fault(&error))),
+        }
+    }
+}

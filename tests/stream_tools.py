@@ -1,0 +1,229 @@
+"""Runs addcr, delcr, fixcrio and recordio: what they make of streams, how they end, and what their programs are given."""
+import os
+import random
+import re
+import subprocess
+import tempfile
+
+USAGE = {
+    "addcr": b"addcr: usage: addcr\n",
+    "delcr": b"delcr: usage: delcr\n",
+    "fixcrio": b"fixcrio: usage: fixcrio prog [args]\n",
+    "recordio": b"recordio: usage: recordio prog [args]\n",
+}
+SIZE = 64 * 1024 * 1024
+
+
+def added(text):
+    return text.replace(b"\n", b"\r\n")
+
+
+def deleted(text):
+    text = text.replace(b"\r\n", b"\n")
+    return text[:-1] if text.endswith(b"\r") else text
+
+
+def fixed(text):
+    return re.sub(rb"(?<!\r)\n", b"\r\n", text)
+
+
+def recorded(number, way, text):
+    """The lines of a text that came in one piece, and that of its end."""
+    mark = b"%d %s " % (number, way)
+    lines = text.split(b"\n")
+    out = b"".join(mark + line + b" \n" for line in lines[:-1])
+    if lines[-1]:
+        out += mark + lines[-1] + b"+\n"
+    return out + mark + b"[EOF]\n"
+
+
+def lines_in(text):
+    """The lines of a text that ends with a line feed."""
+    return [line + b"\n" for line in text.split(b"\n")[:-1]]
+
+
+def big_text():
+    """A text with lines of many lengths, carriage returns among them."""
+    chance = random.Random(1)
+    parts = [b"\r\n", b"\n", b"\r\r\n", b"\r", b"", b"a", b"x" * 60, b"y" * 1000, b"z" * 70000, bytes(range(256))]
+    block = b"".join(chance.choice(parts) for _ in range(4000))
+    return (block * (SIZE // len(block) + 1))[:SIZE]
+
+
+class Streams:
+    """Runs of the program, and what is amiss with them."""
+
+    def __init__(self, program, failures):
+        self.program = program
+        self.failures = failures
+        self.tests = 0
+
+    def run(self, words, given=b"", **how):
+        how.setdefault("stdout", subprocess.PIPE)
+        if "stdin" not in how:
+            how["input"] = given
+        return subprocess.run([self.program] + words, stderr=subprocess.PIPE, timeout=120, **how)
+
+    def expect(self, name, ended, code, output, errors=b""):
+        self.tests += 1
+        got = (ended.returncode, ended.stdout, ended.stderr)
+        if got != (code, output, errors):
+            short = tuple(part if isinstance(part, int) or part is None else part[:200] for part in got)
+            self.failures.append("%s: %r" % (name, short))
+
+    def check_texts(self):
+        texts = [b"", b"\n", b"a", b"a\n", b"a\nb", b"a\r\nb", b"a\r\r\nb\r", b"\r", b"\r\r", b"\n\n\r\n", b"\0\xff\n"]
+        for text in texts:
+            self.expect("addcr on %r" % text, self.run(["addcr"], text), 0, added(text))
+            self.expect("delcr on %r" % text, self.run(["delcr"], text), 0, deleted(text))
+            both = fixed(text)
+            self.expect("fixcrio cat on %r" % text, self.run(["fixcrio", "cat"], text), 0, both)
+        self.expect("what cat is given", self.run(["fixcrio", "od", "-An", "-c"], b"\n"), 0, b"  \\r  \\n\r\n")
+
+    def check_words(self):
+        for tool, usage in USAGE.items():
+            wrong = [[b"\xff"], ["sh", b"\xff"]] if tool in ("fixcrio", "recordio") else [["x"], [""], [b"\xff"]]
+            for words in wrong + ([[]] if tool in ("fixcrio", "recordio") else []):
+                self.expect("%s %r" % (tool, words), self.run([tool] + words), 100, b"", usage)
+
+    def check_programs(self):
+        for tool in ("fixcrio", "recordio"):
+            cannot = b"%s: cannot start\n" % tool.encode()
+            self.expect(tool + ": no such program", self.run([tool, "/nonexistent/program"]), 111, b"", cannot)
+            self.expect(tool + ": no program of this name", self.run([tool, "no-such-program-here"]), 111, b"", cannot)
+            self.expect(tool + ": an empty name", self.run([tool, ""]), 111, b"", cannot)
+            self.expect(tool + ": a name like an option", self.run([tool, "-x"]), 111, b"", cannot)
+            self.expect(tool + ": a folder", self.run([tool, "/"]), 111, b"", cannot)
+            with tempfile.NamedTemporaryFile() as file:
+                self.expect(tool + ": not executable", self.run([tool, file.name]), 111, b"", cannot)
+        self.expect("exit 3", self.run(["fixcrio", "sh", "-c", "exit 3"]), 3, b"")
+        self.expect("exit 255", self.run(["fixcrio", "sh", "-c", "exit 255"]), 255, b"")
+        self.expect("a signal", self.run(["fixcrio", "sh", "-c", "kill -9 $$"]), 111, b"")
+        self.expect("another signal", self.run(["fixcrio", "sh", "-c", "echo a; kill -15 $$"]), 111, b"a\r\n")
+        big = b"line\n" * 200000
+        self.expect("a program that reads nothing", self.run(["fixcrio", "true"], big), 0, b"")
+        self.expect("one that reads a little", self.run(["fixcrio", "sh", "-c", "read a; echo $a"], b"a\n"), 0, b"a\r\n")
+        first = self.run(["fixcrio", "head", "-c", "7"], big)
+        self.expect("one that ends before its input", first, 0, b"line\r\nl")
+        apart = self.run(["fixcrio", "sh", "-c", "echo out; echo err >&2"])
+        self.expect("standard error is left alone", apart, 0, b"out\r\n", b"err\n")
+        after = self.run(["fixcrio", "sh", "-c", "exec >&-; sleep 0.3; exit 5"])
+        self.expect("one that closes its output before it ends", after, 5, b"")
+        deep = self.run(["fixcrio", self.program, "fixcrio", "cat"], b"a\nb")
+        self.expect("a fixcrio under another", deep, 0, b"a\r\nb")
+
+    def check_what_programs_get(self):
+        env = {"PATH": os.environ["PATH"], "A": "b=c", "EMPTY": "", "TCPREMOTEIP": "1.2.3.4"}
+        ended = self.run(["fixcrio", "env"], env=dict(env, BAD=b"\xff"))
+        lines = b"".join(b"%s=%s\r\n" % (name.encode(), env[name].encode()) for name in sorted(env))
+        got = b"".join(sorted(lines_in(ended.stdout)))
+        self.expect("variables", subprocess.CompletedProcess([], ended.returncode, got, ended.stderr), 0, lines)
+        reading, writing = os.pipe()
+        os.set_inheritable(writing, True)
+        ended = self.run(["fixcrio", "sh", "-c", "for n in 0 1 2 3 4 5 6 7 8 9; do test -e /proc/$$/fd/$n && echo $n; done; :"], close_fds=False)
+        os.close(reading)
+        os.close(writing)
+        self.expect("descriptors", ended, 0, b"0\r\n1\r\n2\r\n")
+        piped = self.run(["fixcrio", "sh", "-c", "yes | head -n 1"])
+        self.expect("signals at their defaults", piped, 0, b"y\r\n")
+
+    def check_streams(self):
+        for tool in ("addcr", "delcr"):
+            name = tool.encode()
+            with tempfile.TemporaryDirectory() as folder:
+                descriptor = os.open(folder, os.O_RDONLY)
+                self.expect(tool + ": a folder", self.run([tool], stdin=descriptor), 111, b"", name + b": read fault\n")
+                os.close(descriptor)
+            with open("/dev/full", "wb") as full:
+                ended = self.run([tool], b"a\n", stdout=full)
+                self.expect(tool + ": a full device", ended, 111, None, name + b": write fault\n")
+            reading, writing = os.pipe()
+            os.close(reading)
+            ended = self.run([tool], b"a\n", stdout=writing)
+            os.close(writing)
+            self.expect(tool + ": a closed pipe", ended, 111, None, name + b": write fault\n")
+            for close, fault in (("<&-", b": read fault\n"), (">&-", b": write fault\n")):
+                shell = ["sh", "-c", 'echo a | { "$0" %s %s; }' % (tool, close), self.program]
+                ended = subprocess.run(shell, stdout=subprocess.PIPE, stderr=subprocess.PIPE, timeout=60)
+                self.expect(tool + ": without a descriptor", ended, 111, b"", name + fault)
+        with tempfile.TemporaryDirectory() as folder:
+            descriptor = os.open(folder, os.O_RDONLY)
+            self.expect("fixcrio: a folder", self.run(["fixcrio", "cat"], stdin=descriptor), 0, b"")
+            os.close(descriptor)
+        reading, writing = os.pipe()
+        os.close(reading)
+        ended = self.run(["fixcrio", "sh", "-c", "read a; echo $a; exit 4"], b"a\n", stdout=writing)
+        os.close(writing)
+        self.expect("fixcrio: a closed pipe", ended, 4, None)
+        shell = ["sh", "-c", 'echo a | { "$0" fixcrio sh -c "cat; exit 6" >&-; }', self.program]
+        ended = subprocess.run(shell, stdout=subprocess.PIPE, stderr=subprocess.PIPE, timeout=60)
+        self.expect("fixcrio: without standard output", ended, 6, b"")
+        shell = ["sh", "-c", '"$0" fixcrio sh -c "cat; exit 7" <&-', self.program]
+        ended = subprocess.run(shell, stdout=subprocess.PIPE, stderr=subprocess.PIPE, timeout=60)
+        self.expect("fixcrio: without standard input", ended, 7, b"")
+
+    def check_records(self):
+        for port, number in ((None, 0), ("1024", 1024), ("00025", 25), ("65535", 65535), ("65536", 0), ("000025", 0), ("", 0), ("x1", 0)):
+            env = {"PATH": os.environ["PATH"]}
+            if port is not None:
+                env["TCPREMOTEPORT"] = port
+            ended = self.run(["recordio", "sh", "-c", "read a; printf 'x\\ny'"], b"ab\n", env=env)
+            ways = {b"<": [], b">": []}
+            for line in lines_in(ended.stderr):
+                ways.setdefault(line.split(b" ", 2)[1], []).append(line)
+            wanted = {way: recorded(number, way, text) for way, text in ((b"<", b"ab\n"), (b">", b"x\ny"))}
+            got = {way: b"".join(lines) for way, lines in ways.items()}
+            self.tests += 1
+            if (ended.returncode, ended.stdout, got) != (0, b"x\ny", wanted):
+                self.failures.append("recordio at port %r: %r" % (port, (ended.stdout, ended.stderr)))
+        for given in (b"", b"ab\ncd", b"\n\n", b"\0\xff\r\n"):
+            ended = self.run(["recordio", "cat"], given)
+            lines = lines_in(ended.stderr)
+            got = tuple(b"".join(line for line in lines if line.startswith(mark)) for mark in (b"0 < ", b"0 > "))
+            self.tests += 1
+            if (ended.returncode, ended.stdout) != (0, given) or got != (recorded(0, b"<", given), recorded(0, b">", given)):
+                self.failures.append("recordio on %r: %r" % (given, (ended.stdout, ended.stderr)))
+
+    def check_one_by_one(self):
+        """A line comes out before the next one goes in."""
+        for words, answers in ((["addcr"], (b"a\r\n", b"b\r\n")), (["fixcrio", "cat"], (b"a\r\n", b"b\r\n")), (["recordio", "cat"], (b"a\n", b"b\n"))):
+            self.tests += 1
+            how = {"stdin": subprocess.PIPE, "stdout": subprocess.PIPE, "stderr": subprocess.PIPE}
+            with subprocess.Popen([self.program] + words, **how) as typed:
+                got = []
+                for line in (b"a\n", b"b\n"):
+                    typed.stdin.write(line)
+                    typed.stdin.flush()
+                    got.append(typed.stdout.readline())
+                typed.communicate(timeout=60)
+            if tuple(got) != answers or typed.returncode != 0:
+                self.failures.append("%s line by line: %r" % (words, got))
+
+    def check_big(self):
+        text = big_text()
+        self.expect("addcr on 64 MiB", self.run(["addcr"], text), 0, added(text))
+        self.expect("delcr on 64 MiB", self.run(["delcr"], text), 0, deleted(text))
+        self.expect("fixcrio on 64 MiB", self.run(["fixcrio", "cat"], text), 0, fixed(text))
+        ended = self.run(["recordio", "cat"], text)
+        # a piece ends where a read does, so a line may be cut: its parts are joined again
+        self.tests += 1
+        for way in (b"<", b">"):
+            mark = b"0 %s " % way
+            lines = [line[len(mark):] for line in ended.stderr.split(b"\n") if line.startswith(mark)]
+            joined = b"".join(line[:-1] + (b"\n" if line.endswith(b" ") else b"") for line in lines[:-1])
+            if (ended.returncode, ended.stdout) != (0, text) or lines[-1] != b"[EOF]" or joined != text:
+                self.failures.append("recordio on 64 MiB, way %s" % way.decode())
+
+
+def check(program, failures):
+    """Counts the tests, and adds a line to the failures for each that went wrong."""
+    streams = Streams(program, failures)
+    streams.check_words()
+    streams.check_texts()
+    streams.check_programs()
+    streams.check_what_programs_get()
+    streams.check_streams()
+    streams.check_records()
+    streams.check_one_by_one()
+    streams.check_big()
+    return streams.tests
