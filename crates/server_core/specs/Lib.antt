@@ -6,6 +6,10 @@ pub mod Table
 pub mod Live
 pub mod Reports
 pub mod Programs
+pub mod Worlds
+pub mod Steps
+pub mod Headline
+pub mod Witness
 pub use Rattle.rule_lookup.specs.Decisions
 pub use Rattle.rule_lookup.specs.Peers
 pub use Rattle.ucspi_env.specs.Variables

@@ -3,7 +3,7 @@ use Rattle.std.specs.Prelude.{ℕ, List, Bool, true, false, ◌==◌, not, map, 
 use Rattle.std.specs.List.{after_last, filter, filter_map, list_any}
 use Rattle.rule_lookup.specs.Peers.{Client}
 use Rattle.server_core.specs.declared.event.Event.{Event}
-use Rattle.server_core.specs.declared.event.Event.TheVariants.{Admitted, StartFailed, Ended, Retired, Dropped, Stop}
+use Rattle.server_core.specs.declared.event.Event.TheVariants.{Admitted, Opened, Decided, Started, StartFailed, Ended, Retired, Dropped, Stop}
 use Rattle.server_core.specs.declared.state.Connection.{Connection}
 
 -- all connections end at once
@@ -31,6 +31,17 @@ ends n (StartFailed m fault) = n == m
 ends n (Ended m status) = n == m
 ends n (Dropped m cause) = n == m
 ends n _ = false
+
+-- something happens to a connection that was let in before
+abbrev pub is_of_connection : Event → Bool
+is_of_connection (Opened n there) = true
+is_of_connection (Decided n decision) = true
+is_of_connection (Started n) = true
+is_of_connection (StartFailed n fault) = true
+is_of_connection (Ended n status) = true
+is_of_connection (Retired n) = true
+is_of_connection (Dropped n cause) = true
+is_of_connection event = false
 
 -- by this event the connection n is retired
 abbrev pub retires : ℕ → Event → Bool

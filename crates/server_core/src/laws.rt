@@ -1,11 +1,22 @@
 //! Laws over the definitions alone.
-ghost use Rattle.std.specs.Prelude.{◌≡◌, ◌↔◌, ℕ, ◌≤◌, List, length, true, take, None, Some};
-ghost use Rattle.server_core.specs.Reports.{first_illegal, IsFirstIllegal};
-ghost use Rattle.server_core.specs.Live.{live_of, live_at, lives_of, serials_of};
+ghost use Rattle.std.specs.Prelude.{◌≡◌, ◌≢◌, ◌↔◌, ℕ, ◌+◌, ◌≤◌, ◌<◌, List, Option, Ok, length, true, take, None, Some, option_map};
 ghost use Rattle.std.specs.List.Sorted.{IsStrictlyIncreasing};
+ghost use Rattle.cdb_read.specs.Reading.{reading};
+ghost use Rattle.dir_disk.specs.Directory.{FileState, scratch_of};
+ghost use Rattle.rule_lookup.specs.Decisions.{decision_from};
+ghost use Rattle.rule_lookup.specs.Peers.{Client};
+ghost use Rattle.rule_lookup.specs.declared.decision.Decision.{Decision};
+ghost use Rattle.rules_install.specs.declared.Phase.TheVariants.{Synced, Named};
+ghost use Rattle.server_core.specs.Headline.{HasItsOpening, HasWholeText, IsDecidedAt, IsKeptBy, OpensAndDecides, Reaches};
+ghost use Rattle.server_core.specs.Live.{is_of_connection, live_of, live_at, lives_of, retired_of, serials_of};
+ghost use Rattle.server_core.specs.Reports.{first_illegal, IsFirstIllegal};
+ghost use Rattle.server_core.specs.ServerState.{ServerState, start, may_happen, after, count_from, is_legal, state_after};
+ghost use Rattle.server_core.specs.Steps.{IsWhole, Legal, Step};
 ghost use Rattle.server_core.specs.Table.{Happens, Runs};
-ghost use Rattle.server_core.specs.ServerState.{ServerState, start, may_happen, after, is_legal, state_after};
+ghost use Rattle.server_core.specs.Witness.{texts_of_it, two_texts};
+ghost use Rattle.server_core.specs.Worlds.{RulesName, UnderWay, World, kept_by, missing_in, peer_of};
 ghost use Rattle.server_core.specs.declared.event.Event.{Event};
+ghost use Rattle.server_core.specs.declared.event.Event.TheVariants.{Admitted, Decided, Stepped, Stop};
 
 /// Along each list of events that the table allows, no more connections than the limit are ever alive.
 pub fn limit()
@@ -34,4 +45,50 @@ pub fn table()
 pub fn first_illegal()
     ensures none { (w : ServerState) (history : List Event) → (first_illegal w history ≡ None) ↔ (is_legal w history ≡ true) }
     ensures some { (w : ServerState) (history : List Event) (i : ℕ) → (first_illegal w history ≡ Some i) ↔ IsFirstIllegal w history i }
+{}
+
+/// The history that a list of steps of the world is, is one that the table of events allows, and leads to the same connections; so
+/// `limit`, `per_address` and `live` speak of it too.
+pub fn allowed()
+    ensures legal { (v w : World) (history : List Event) → Legal v history w → is_legal v.server history ≡ true }
+    ensures same { (v w : World) (history : List Event) → Legal v history w → w.server ≡ state_after v.server history }
+{}
+
+/// In whatever world is reached from a start, one whole accepted text stands under the rules name, no older than the last
+/// acknowledged: now, and after a stop before, after or within any call of the directory that may come next.
+pub fn whole_text()
+    ensures { (history : List Event) (w : World) (r : RulesName) → Reaches history w → w.rules ≡ Some r → HasWholeText w r }
+{}
+
+/// Each decision, and what its child is told, is by the text that stood under the rules name when its connection opened the
+/// rules: for each opening before it, of which there is one.
+pub fn decisions()
+    ensures by_what_stood { (before : List Event) (u x : World) (n : ℕ) (peer : Client) (decision : Decision) → Reaches before u → OpensAndDecides n u x decision → peer_of n u.server.connections ≡ Some peer → IsDecidedAt u peer decision }
+    ensures opened { (history : List Event) (x y : World) (n : ℕ) (decision : Decision) → Reaches history x → Step x (Decided n decision) y → HasItsOpening n x decision }
+{}
+
+/// The headline: `whole_text`, `decisions` and `limit` of every history of every world from a start.
+pub fn headline()
+    ensures { (history : List Event) (w : World) → Reaches history w → IsKeptBy history w }
+{}
+
+/// Some steps that no world takes: a file that is not whole is not synced, and none is named before it is synced; a decision is
+/// by what the connection keeps; no admission passes a limit or takes another serial than the next; and after a stop nothing
+/// happens to a connection from before.
+pub fn refusals()
+    ensures short { (w v : World) (file : FileState) → scratch_of w.directory ≡ Some file → length file.bytes < 2048 → Step w (Stepped Synced) v → ⊥ }
+    ensures not_whole { (w v : World) (u : UnderWay) → w.under_way ≡ Some u → (IsWhole w.directory u → ⊥) → Step w (Stepped Synced) v → ⊥ }
+    ensures not_synced { (w v : World) → w.server.phase ≢ Some Synced → Step w (Stepped Named) v → ⊥ }
+    ensures other_decision { (w v : World) (n : ℕ) (bytes : Option (List ℕ)) (peer : Client) (decision : Decision) → kept_by n w.kept ≡ Some bytes → peer_of n w.server.connections ≡ Some peer → decision_from (option_map reading bytes) (missing_in w) peer ≢ Ok decision → Step w (Decided n decision) v → ⊥ }
+    ensures full { (w v : World) (n : ℕ) (peer : Client) → w.server.limit ≤ length w.server.connections → Step w (Admitted n peer) v → ⊥ }
+    ensures full_for_address { (w v : World) (n : ℕ) (peer : Client) → w.server.per_address ≤ count_from peer.ip w.server.connections → Step w (Admitted n peer) v → ⊥ }
+    ensures serial { (w v : World) (n : ℕ) (peer : Client) → n ≢ w.server.last + 1 → Step w (Admitted n peer) v → ⊥ }
+    ensures after_a_stop { (w v x : World) (event : Event) → Step w Stop v → is_of_connection event ≡ true → Step v event x → ⊥ }
+{}
+
+/// A history in which all of this happens, so that the laws are not about nothing: a text is installed, a connection opens it and
+/// is decided by it; a second text is installed, the machine stops within the call that makes its name lasting; a connection is
+/// decided by the second text and its child is retired; and another text is installed.
+pub fn witness()
+    ensures { (w : World) × Reaches two_texts w × (w.accepted ≡ texts_of_it) × (w.acknowledged ≡ 3) × (length (retired_of two_texts) ≡ 1) }
 {}

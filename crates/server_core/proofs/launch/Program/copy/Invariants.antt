@@ -1,4 +1,4 @@
-use Rattle.std.proofs.Common.{◌≡◌, map, string_bytes, take, ℕ}
+use Rattle.std.proofs.Common.{◌≡◌, map, string_bytes, take}
 use Rattle.server_core.proofs.launch.Program.copy.Given as goal
 
 abbrev pub invariant-loop-arg : goal.invariant-loop-arg

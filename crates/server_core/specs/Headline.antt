@@ -1,0 +1,66 @@
+-- What the headline says.
+use Rattle.std.specs.Prelude.{◌≡◌, ◌≤◌, ℕ, Bool, List, length, take, Option, Some, None}
+use Rattle.dir_disk.specs.Directory.{Directory, content}
+use Rattle.rule_lines.specs.Pairs.{Rule}
+use Rattle.rule_lookup.specs.Decisions.{decision_in, without_file}
+use Rattle.rule_lookup.specs.Peers.{Client}
+use Rattle.rule_lookup.specs.declared.decision.Decision.{Decision}
+use Rattle.ucspi_env.specs.Child.{environment_of}
+use Rattle.ucspi_env.specs.Ends.{LocalEnd}
+use Rattle.ucspi_env.specs.Variables.{Variables}
+use Rattle.server_core.specs.declared.event.Event.{Event}
+use Rattle.server_core.specs.declared.event.Event.TheVariants.{Opened, Decided}
+use Rattle.server_core.specs.Live.{live_of}
+use Rattle.server_core.specs.Steps.{Legal, MayLeave, Step}
+use Rattle.server_core.specs.Worlds.{IsAccepted, IsStart, RulesName, World, missing_in, peer_of, standing}
+
+-- a list of events that leads from a start to a world
+pub record Reaches (history : List Event) (w : World) : Type 0 where
+  pub begin : World
+  pub starts : IsStart begin
+  pub legal : Legal begin history w
+
+-- under the rules name stands one whole accepted text, no older than the last acknowledged: now, and in whatever a stop may
+-- leave before, after or within any call that may come next
+pub record HasWholeText (w : World) (r : RulesName) : Type 0 where
+  pub now : IsAccepted w (content w.directory r.name)
+  pub after_a_stop : (image : Directory) → MayLeave w image → IsAccepted w (content image r.name)
+
+-- the decision of what a text says, or of no text
+abbrev pub decision_by : Option (List Rule) → World → Client → Decision
+decision_by None w peer = without_file (missing_in w)
+decision_by (Some rules) w peer = decision_in rules peer
+
+-- a peer was decided by the text that stood in a world, and so is what its child is told
+pub record IsDecidedAt (w : World) (peer : Client) (decision : Decision) : Type 0 where
+  pub stood : IsAccepted w (standing w)
+  pub decides : decision ≡ decision_by stood.text w peer
+  pub tells : (inherited : Variables) (local : LocalEnd) → environment_of inherited local peer decision ≡ environment_of inherited local peer (decision_by stood.text w peer)
+
+-- A connection opened the rules in the world u, and was decided in the world x, some events later.
+pub record OpensAndDecides (n : ℕ) (u : World) (x : World) (decision : Decision) : Type 0 where
+  pub there : Bool
+  pub opened : World
+  pub between : List Event
+  pub decided : World
+  pub opens : Step u (Opened n there) opened
+  pub goes_on : Legal opened between x
+  pub decides : Step x (Decided n decision) decided
+
+-- a decision has a world in which its connection opened the rules, and it is by the text that stood there
+pub record HasItsOpening (n : ℕ) (x : World) (decision : Decision) : Type 0 where
+  pub before : List Event
+  pub u : World
+  pub reached : Reaches before u
+  pub opens : OpensAndDecides n u x decision
+  pub peer : Client
+  pub is_its : peer_of n u.server.connections ≡ Some peer
+  pub by_it : IsDecidedAt u peer decision
+
+-- Whatever installations, connections, child faults and stops came in any order: a stop before or within any call of the directory leaves
+-- the rules file compiled of one whole accepted text, no older than the last acknowledged; each decision and its environment are
+-- by the first matching address of the text that stood there when its file was opened; and those alive never passed the limit.
+pub record IsKeptBy (history : List Event) (w : World) : Type 0 where
+  pub whole_text : (r : RulesName) → w.rules ≡ Some r → HasWholeText w r
+  pub decisions : (n : ℕ) (decision : Decision) (y : World) → Step w (Decided n decision) y → HasItsOpening n w decision
+  pub limit : (k : ℕ) → length (live_of (take k history)) ≤ w.server.limit
