@@ -28,7 +28,7 @@ use Rattle.server_core.specs.declared.event.Event.{Event}
 use Rattle.server_core.specs.declared.event.Event.TheVariants.{Stepped}
 use Rattle.server_core.specs.ServerState.{ServerState, phase_after}
 use Rattle.server_core.specs.Steps.{Legal, Step, none, more}
-use Rattle.server_core.specs.Worlds.{Accepted, IsOf, Kept, RulesName, UnderWay, World}
+use Rattle.server_core.specs.Worlds.{Accepted, IsOf, KeptFile, RulesName, UnderWay, World}
 use Rattle.server_core.proofs.TableLemmas.{is_step}
 
 -- one list of steps after another
@@ -37,7 +37,7 @@ legal_then none rest = rest
 legal_then (more step steps) rest = more step (legal_then steps rest)
 
 -- a world with a rules name
-abbrev pub world_at : RulesName → Directory → ServerState → Accepted → ℕ → Option UnderWay → List Kept → World
+abbrev pub world_at : RulesName → Directory → ServerState → Accepted → ℕ → Option UnderWay → List KeptFile → World
 world_at r d server accepted least under_way kept =
     record { directory = d; rules = Some r; server = server; accepted = accepted; acknowledged = least; under_way = under_way; kept = kept }
 
@@ -61,7 +61,7 @@ named_dir tmp name file d = after (renames tmp name) (synced_dir tmp file d)
 
 module _ (r : RulesName) (tmp : List ℕ) (other : tmp ≢ r.name) where
   -- a text is installed as far as its name
-  pub installs : (rules : List Rule) (file : List ℕ) → IsOf rules file → (d : Directory) (server : ServerState) (accepted : Accepted) (least : ℕ) (under_way : Option UnderWay) (kept : List Kept)
+  pub installs : (rules : List Rule) (file : List ℕ) → IsOf rules file → (d : Directory) (server : ServerState) (accepted : Accepted) (least : ℕ) (under_way : Option UnderWay) (kept : List KeptFile)
       → Legal (world_at r d server accepted least under_way kept) (Stepped Fresh ∷ Stepped Filling ∷ Stepped Synced ∷ Stepped Named ∷ [])
       (world_at r (named_dir tmp r.name file d) (in_phase server Named) (accepted ++ Some rules ∷ []) least (Some (next_text rules accepted tmp)) kept)
   installs rules file is d server accepted least under_way kept =
@@ -80,7 +80,7 @@ module _ (r : RulesName) (tmp : List ℕ) (other : tmp ≢ r.name) where
       more makes_it (more fills_it (more syncs_it (more names_it none)))
 
   -- and the rest of the way
-  pub finishes : (d : Directory) (server : ServerState) (accepted : Accepted) (least : ℕ) (u : UnderWay) (kept : List Kept)
+  pub finishes : (d : Directory) (server : ServerState) (accepted : Accepted) (least : ℕ) (u : UnderWay) (kept : List KeptFile)
       → Legal (world_at r d (in_phase server Named) accepted least (Some u) kept) (Stepped Done ∷ []) (world_at r (after settles d) (in_phase server Done) accepted (max least u.number) None kept)
   finishes d server accepted least u kept =
       let before : World = world_at r d (in_phase server Named) accepted least (Some u) kept in

@@ -1,6 +1,8 @@
+pub mod AfterStops
 pub mod Alive
 pub mod Allowed
 pub mod Counts
+pub mod Done
 pub mod Entries
 pub mod History
 pub mod Illegal
@@ -11,6 +13,7 @@ pub mod Limits
 pub mod ListLemmas
 pub mod LiveLemmas
 pub mod Marks
+pub mod OlderText
 pub mod Openings
 pub mod Peers
 pub mod Serials

@@ -1,5 +1,5 @@
 -- Each decision is by what stood when its connection opened the rules.
-use Rattle.std.proofs.Common.{◌≡◌, ℕ, ◌+◌, ◌<◌, ◌≤◌, Bool, List, [], ◌∷◌, ◌++◌, true, false, ◌==◌, Option, Some, None, Ok, inl, inr, refl, sym, ap, ◌∙◌, subst, arith, eq-eqb}
+use Rattle.std.proofs.Common.{◌≡◌, ℕ, ◌+◌, ◌<◌, ◌≤◌, Bool, List, [], ◌∷◌, ◌++◌, true, false, ◌==◌, Option, Some, None, Ok, inl, inr, refl, sym, ap, ◌∙◌, subst, arith, append_assoc, eq-eqb}
 use Rattle.std.specs.Prelude.{◌⊎◌, if◌then◌else◌, option_map}
 use Rattle.std.proofs.lemmas.Bool.Decides.{nat_tests}
 use Rattle.cdb_read.specs.Reading.{reading}
@@ -18,7 +18,7 @@ use Rattle.server_core.specs.declared.state.Connection.{Connection}
 use Rattle.server_core.specs.Headline.{HasItsOpening, IsDecidedAt, OpensAndDecides, Reaches, decision_by}
 use Rattle.server_core.specs.ServerState.{ServerState, after, may_happen, newcomer, stage_of, with_stage, without}
 use Rattle.server_core.specs.Steps.{Advances, Legal, Moves, Step, none, more}
-use Rattle.server_core.specs.Worlds.{IsStart, Kept, RulesName, StandsFor, World, kept_by, missing_by, missing_in, peer_of, standing}
+use Rattle.server_core.specs.Worlds.{IsStart, KeptFile, RulesName, StandsFor, World, kept_by, missing_by, missing_in, peer_of, standing}
 use Rattle.server_core.proofs.History.{room_for}
 use Rattle.server_core.proofs.InstalledRuns.{decided_by_file, legal_then}
 use Rattle.server_core.proofs.LiveLemmas.{is_admitted-true, is_opened-true}
@@ -29,7 +29,7 @@ use Rattle.server_core.proofs.WholeText.{reached_standing}
 
 -- ---- what connections keep
 
-kept_by-push_found : (n : ℕ) (bytes : Option (List ℕ)) (ks : List Kept) (k : Kept) → kept_by n ks ≡ Some bytes → kept_by n (ks ++ k ∷ []) ≡ Some bytes
+kept_by-push_found : (n : ℕ) (bytes : Option (List ℕ)) (ks : List KeptFile) (k : KeptFile) → kept_by n ks ≡ Some bytes → kept_by n (ks ++ k ∷ []) ≡ Some bytes
 kept_by-push_found n bytes [] k e = absurd (cc)
 kept_by-push_found n bytes (x ∷ ks) k e =
     elim (x.serial == n) as (λ b. (if b then Some x.bytes else kept_by n ks) ≡ Some bytes → (if b then Some x.bytes else kept_by n (ks ++ k ∷ [])) ≡ Some bytes) [
@@ -37,13 +37,13 @@ kept_by-push_found n bytes (x ∷ ks) k e =
       | false ↦ λ later. kept_by-push_found n bytes ks k later
     ] e
 
-kept_by-push_other : (n : ℕ) (ks : List Kept) (k : Kept) → (k.serial == n) ≡ false → kept_by n (ks ++ k ∷ []) ≡ kept_by n ks
+kept_by-push_other : (n : ℕ) (ks : List KeptFile) (k : KeptFile) → (k.serial == n) ≡ false → kept_by n (ks ++ k ∷ []) ≡ kept_by n ks
 kept_by-push_other n [] k other = rw other
 kept_by-push_other n (x ∷ ks) k other =
     ap (λ (o : Option (Option (List ℕ))). if x.serial == n then Some x.bytes else o) (kept_by-push_other n ks k other)
 
 -- who kept nothing before keeps what comes
-kept_by-push_own : (n : ℕ) (bytes : Option (List ℕ)) (ks : List Kept) → kept_by n ks ≡ None → kept_by n (ks ++ record { serial = n; bytes = bytes } ∷ []) ≡ Some bytes
+kept_by-push_own : (n : ℕ) (bytes : Option (List ℕ)) (ks : List KeptFile) → kept_by n ks ≡ None → kept_by n (ks ++ record { serial = n; bytes = bytes } ∷ []) ≡ Some bytes
 kept_by-push_own n bytes [] e = rw (eq-eqb n n refl)
 kept_by-push_own n bytes (x ∷ ks) e =
     elim (x.serial == n) as (λ b. (if b then Some x.bytes else kept_by n ks) ≡ None → (if b then Some x.bytes else kept_by n (ks ++ record { serial = n; bytes = bytes } ∷ [])) ≡ Some bytes) [
@@ -52,7 +52,7 @@ kept_by-push_own n bytes (x ∷ ks) e =
     ] e
 
 -- what is kept after an event
-abbrev kept_after : World → Event → List Kept
+abbrev pub kept_after : World → Event → List KeptFile
 kept_after w (Opened n there) = w.kept ++ record { serial = n; bytes = standing w } ∷ []
 kept_after w Stop = []
 kept_after w event = w.kept
@@ -66,7 +66,7 @@ advance_same Named w v a = (ap (λ (x : World). x.kept) a.4, ap (λ (x : World).
 advance_same Done w v a = (ap (λ (x : World). x.kept) a.3, ap (λ (x : World). x.rules) a.3)
 
 -- each step has what is kept after its event, and leaves the rules name
-moves_same : (event : Event) (w v : World) → Moves event w v → (v.kept ≡ kept_after w event) × (v.rules ≡ w.rules)
+pub moves_same : (event : Event) (w v : World) → Moves event w v → (v.kept ≡ kept_after w event) × (v.rules ≡ w.rules)
 moves_same (Admitted n peer) w v m = (ap (λ (x : World). x.kept) m, ap (λ (x : World). x.rules) m)
 moves_same (Opened n there) w v m = (ap (λ (x : World). x.kept) m.1, ap (λ (x : World). x.rules) m.1)
 moves_same (Decided n decision) w v m = (ap (λ (x : World). x.kept) m.5, ap (λ (x : World). x.rules) m.5)
@@ -82,13 +82,13 @@ moves_same Stop w v m = (ap (λ (x : World). x.kept) m.1, ap (λ (x : World). x.
 -- ---- what holds in each world
 
 -- the serials rise; and neither a connection that waits for its opening nor one that is still to come keeps anything
-record Orderly (s : ServerState) (kept : List Kept) : Type 0 where
+record Orderly (s : ServerState) (kept : List KeptFile) : Type 0 where
   rise : Rise 0 s.connections s.last
   waiting : (n : ℕ) → stage_of n s.connections ≡ Some stage.Admitted → kept_by n kept ≡ None
   to_come : (n : ℕ) → s.last < n → kept_by n kept ≡ None
 
 -- with a newcomer
-orderly_admitted : (s : ServerState) (kept : List Kept) (m : ℕ) (peer : Client) → m ≡ s.last + 1 → Orderly s kept → Orderly (after s (Admitted m peer)) kept
+orderly_admitted : (s : ServerState) (kept : List KeptFile) (m : ℕ) (peer : Client) → m ≡ s.last + 1 → Orderly s kept → Orderly (after s (Admitted m peer)) kept
 orderly_admitted s kept m peer next h =
     let below : s.last < m = omega arith in
     record {
@@ -102,7 +102,7 @@ orderly_admitted s kept m peer next h =
     }
 
 -- with another stage of one of them
-orderly_stage : (s : ServerState) (kept : List Kept) (m : ℕ) (t : Stage) → (t ≡ stage.Admitted → ⊥) → Orderly s kept → Orderly (record s { connections = with_stage m t s.connections }) kept
+orderly_stage : (s : ServerState) (kept : List KeptFile) (m : ℕ) (t : Stage) → (t ≡ stage.Admitted → ⊥) → Orderly s kept → Orderly (record s { connections = with_stage m t s.connections }) kept
 orderly_stage s kept m t not h = record {
   rise = Rise-with_stage m t 0 s.connections s.last h.rise;
   waiting = λ n at.
@@ -111,7 +111,7 @@ orderly_stage s kept m t not h = record {
 }
 
 -- without one of them
-orderly_gone : (s : ServerState) (kept : List Kept) (m : ℕ) → Orderly s kept → Orderly (record s { connections = without m s.connections }) kept
+orderly_gone : (s : ServerState) (kept : List KeptFile) (m : ℕ) → Orderly s kept → Orderly (record s { connections = without m s.connections }) kept
 orderly_gone s kept m h = record {
   rise = Rise-without m 0 s.connections s.last h.rise;
   waiting = λ n at. h.waiting n (stage_of-without_is n m stage.Admitted 0 s.connections s.last h.rise at);
@@ -119,9 +119,9 @@ orderly_gone s kept m h = record {
 }
 
 -- one of them opened the rules
-orderly_opened : (s : ServerState) (kept : List Kept) (m : ℕ) (bytes : Option (List ℕ)) → stage_of m s.connections ≡ Some stage.Admitted → Orderly s kept → Orderly (record s { connections = with_stage m stage.Opened s.connections }) (kept ++ record { serial = m; bytes = bytes } ∷ [])
+orderly_opened : (s : ServerState) (kept : List KeptFile) (m : ℕ) (bytes : Option (List ℕ)) → stage_of m s.connections ≡ Some stage.Admitted → Orderly s kept → Orderly (record s { connections = with_stage m stage.Opened s.connections }) (kept ++ record { serial = m; bytes = bytes } ∷ [])
 orderly_opened s kept m bytes here h =
-    let new : Kept = record { serial = m; bytes = bytes } in
+    let new : KeptFile = record { serial = m; bytes = bytes } in
     let up_to : m ≤ s.last = stage_of-le m stage.Admitted 0 s.connections s.last h.rise here in
     record {
       rise = Rise-with_stage m stage.Opened 0 s.connections s.last h.rise;
@@ -150,10 +150,10 @@ orderly_after w (StepFailed phase) may h = record { rise = h.rise; waiting = h.w
 orderly_after w Stop may h = record { rise = omega arith; waiting = λ n at. refl; to_come = λ n above. refl }
 
 -- what holds after the event holds after a step by it
-moved : (P : ServerState → List Kept → Type 0) (w v : World) (event : Event) → Step w event v → P (after w.server event) (kept_after w event) → P v.server v.kept
+moved : (P : ServerState → List KeptFile → Type 0) (w v : World) (event : Event) → Step w event v → P (after w.server event) (kept_after w event) → P v.server v.kept
 moved P w v event step h =
     let server = subst (λ (s : ServerState). P s (kept_after w event)) (sym (step_is step.table).1) h in
-    subst (λ (ks : List Kept). P v.server ks) (sym (moves_same event w v step.moves).0) server
+    subst (λ (ks : List KeptFile). P v.server ks) (sym (moves_same event w v step.moves).0) server
 
 orderly_step : (w v : World) (event : Event) → Step w event v → Orderly w.server w.kept → Orderly v.server v.kept
 orderly_step w v event step h = moved Orderly w v event step (orderly_after w event (step_is step.table).0 h)
@@ -165,7 +165,7 @@ orderly_run (more {u} {v} {w} {event} {events} step rest) h = orderly_run rest (
 orderly_start : (w : World) → IsStart w → Orderly w.server w.kept
 orderly_start w is =
     let first : Orderly (record { limit = w.server.limit; per_address = w.server.per_address; last = 0; connections = []; phase = None }) [] = record { rise = omega arith; waiting = λ n at. refl; to_come = λ n above. refl } in
-    subst (λ (ks : List Kept). Orderly w.server ks) (sym is.kept) (subst (λ (s : ServerState). Orderly s []) (sym is.server) first)
+    subst (λ (ks : List KeptFile). Orderly w.server ks) (sym is.kept) (subst (λ (s : ServerState). Orderly s []) (sym is.server) first)
 
 orderly_reached : (history : List Event) (w : World) → Reaches history w → Orderly w.server w.kept
 orderly_reached history w reaches = orderly_run reaches.legal (orderly_start reaches.begin reaches.starts)
@@ -173,13 +173,13 @@ orderly_reached history w reaches = orderly_run reaches.legal (orderly_start rea
 -- ---- once a connection has opened the rules
 
 -- the connection is gone, or has its peer and keeps what it opened
-record Carries (n : ℕ) (peer : Client) (bytes : Option (List ℕ)) (s : ServerState) (kept : List Kept) : Type 0 where
+record Carries (n : ℕ) (peer : Client) (bytes : Option (List ℕ)) (s : ServerState) (kept : List KeptFile) : Type 0 where
   old : n ≤ s.last
   here : (peer_of n s.connections ≡ None) ⊎ ((peer_of n s.connections ≡ Some peer) × (kept_by n kept ≡ Some bytes))
 
-module _ (n : ℕ) (peer : Client) (bytes : Option (List ℕ)) (s : ServerState) (kept : List Kept) (h : Carries n peer bytes s kept) where
+module _ (n : ℕ) (peer : Client) (bytes : Option (List ℕ)) (s : ServerState) (kept : List KeptFile) (h : Carries n peer bytes s kept) where
   -- where connections and what they keep change, and it keeps its peer and that
-  carries_same : (last : ℕ) (cs : List Connection) (limit per_address : ℕ) (phase : Option Phase) (ks : List Kept)
+  carries_same : (last : ℕ) (cs : List Connection) (limit per_address : ℕ) (phase : Option Phase) (ks : List KeptFile)
       → n ≤ last → peer_of n cs ≡ peer_of n s.connections → (kept_by n kept ≡ Some bytes → kept_by n ks ≡ Some bytes)
       → Carries n peer bytes (record { limit = limit; per_address = per_address; last = last; connections = cs; phase = phase }) ks
   carries_same last cs limit per_address phase ks up_to same keeps = record {
@@ -210,7 +210,7 @@ carries_after : (n : ℕ) (peer : Client) (bytes : Option (List ℕ)) (w : World
 carries_after n peer bytes w (Admitted m p) may rise h = carries_admitted n peer bytes w.server w.kept h m p (room_for w.server m p may).next
 carries_after n peer bytes w (Opened m there) may rise h =
     let s = w.server in
-    let new : Kept = record { serial = m; bytes = standing w } in
+    let new : KeptFile = record { serial = m; bytes = standing w } in
     carries_same n peer bytes s w.kept h s.last (with_stage m stage.Opened s.connections) s.limit s.per_address s.phase (w.kept ++ new ∷ []) h.old (peer_of-with_stage n m stage.Opened s.connections) (λ e. kept_by-push_found n bytes w.kept new e)
 carries_after n peer bytes w (Decided m decision) may rise h = carries_stage n peer bytes w.server w.kept h m (stage.Decided decision.verdict)
 carries_after n peer bytes w (Started m) may rise h = carries_stage n peer bytes w.server w.kept h m stage.Started
@@ -226,7 +226,7 @@ carries_after n peer bytes w Stop may rise h = record { old = h.old; here = inl 
 carries_run : (n : ℕ) (peer : Client) (bytes : Option (List ℕ)) {u x : World} {events : List Event} → Legal u events x → Orderly u.server u.kept → Carries n peer bytes u.server u.kept → Carries n peer bytes x.server x.kept × (x.rules ≡ u.rules)
 carries_run n peer bytes none order h = (h, refl)
 carries_run n peer bytes (more {u} {v} {w} {event} {events} step rest) order h =
-    let next = moved (λ (s : ServerState) (ks : List Kept). Carries n peer bytes s ks) u v event step (carries_after n peer bytes u event (step_is step.table).0 order.rise h) in
+    let next = moved (λ (s : ServerState) (ks : List KeptFile). Carries n peer bytes s ks) u v event step (carries_after n peer bytes u event (step_is step.table).0 order.rise h) in
     let later = carries_run n peer bytes rest (orderly_step u v event step order) next in
     (later.0, later.1 ∙ (moves_same event u v step.moves).1)
 
@@ -247,7 +247,7 @@ module _ (before : List Event) (u : World) (reaches : Reaches before u) (n : ℕ
 
   carries : Carries n peer (standing u) opens.opened.server opens.opened.kept
   carries =
-      moved (λ (s : ServerState) (ks : List Kept). Carries n peer (standing u) s ks) u opens.opened (Opened n opens.there) opens.opens (record {
+      moved (λ (s : ServerState) (ks : List KeptFile). Carries n peer (standing u) s ks) u opens.opened (Opened n opens.there) opens.opens (record {
         old = stage_of-le n stage.Admitted 0 u.server.connections u.server.last order.rise waited;
         here = inr (peer_of-with_stage n n stage.Opened u.server.connections ∙ its, kept_by-push_own n (standing u) u.kept (order.waiting n waited));
       })
@@ -285,7 +285,7 @@ module _ (before : List Event) (u : World) (reaches : Reaches before u) (n : ℕ
 -- ---- the opening of a decided connection
 
 -- where a connection is opened after an event, it was before, or this was its opening
-opened_by : (s : ServerState) (kept : List Kept) (event : Event) (n : ℕ) → may_happen s event ≡ true → Orderly s kept → stage_of n (after s event).connections ≡ Some stage.Opened → (stage_of n s.connections ≡ Some stage.Opened) ⊎ ((there : Bool) × (event ≡ Opened n there))
+opened_by : (s : ServerState) (kept : List KeptFile) (event : Event) (n : ℕ) → may_happen s event ≡ true → Orderly s kept → stage_of n (after s event).connections ≡ Some stage.Opened → (stage_of n s.connections ≡ Some stage.Opened) ⊎ ((there : Bool) × (event ≡ Opened n there))
 opened_by s kept (Admitted m peer) n may order e =
     elim (stage_of-push_is n stage.Opened s.connections (newcomer m peer) e) [ inl before ↦ inl before | inr never ↦ absurd (cc) ]
 opened_by s kept (Opened m there) n may order e =
@@ -303,8 +303,8 @@ opened_by s kept (Stepped phase) n may order e = inl e
 opened_by s kept (StepFailed phase) n may order e = inl e
 opened_by s kept Stop n may order e = absurd (cc)
 
--- the opening of a connection on the way to a world
-record Opening (n : ℕ) (x : World) : Type 0 where
+-- the opening of a connection in a history that leads to a world
+record Opening (history : List Event) (n : ℕ) (x : World) : Type 0 where
   before : List Event
   u : World
   reached : Reaches before u
@@ -313,16 +313,17 @@ record Opening (n : ℕ) (x : World) : Type 0 where
   between : List Event
   opens : Step u (Opened n there) opened
   goes_on : Legal opened between x
+  is_history : history ≡ before ++ Opened n there ∷ between
 
-reaches_next : (before : List Event) (u v : World) (event : Event) → Reaches before u → Step u event v → Reaches (before ++ event ∷ []) v
+pub reaches_next : (before : List Event) (u v : World) (event : Event) → Reaches before u → Step u event v → Reaches (before ++ event ∷ []) v
 reaches_next before u v event reaches step = record { begin = reaches.begin; starts = reaches.starts; legal = legal_then reaches.legal (more step none) }
 
 -- Who is opened in a world was so in any world before it, or has its opening between.
-opening_between : (n : ℕ) (before : List Event) {u x : World} {events : List Event} → Reaches before u → Legal u events x → stage_of n x.server.connections ≡ Some stage.Opened → (stage_of n u.server.connections ≡ Some stage.Opened) ⊎ Opening n x
+opening_between : (n : ℕ) (before : List Event) {u x : World} {events : List Event} → Reaches before u → Legal u events x → stage_of n x.server.connections ≡ Some stage.Opened → (stage_of n u.server.connections ≡ Some stage.Opened) ⊎ Opening (before ++ events) n x
 opening_between n before reaches none e = inl e
 opening_between n before reaches (more {u} {v} {w} {event} {events} step rest) e =
     elim (opening_between n (before ++ event ∷ []) (reaches_next before u v event reaches step) rest e) [
-      | inr between ↦ inr between
+      | inr between ↦ inr (subst (λ (h : List Event). Opening h n w) (append_assoc before (event ∷ []) events) between)
       | inl after_it ↦
           let happened = step_is step.table in
           let at : stage_of n (after u.server event).connections ≡ Some stage.Opened = ap (λ (s : ServerState). stage_of n s.connections) (sym happened.1) ∙ after_it in
@@ -337,11 +338,12 @@ opening_between n before reaches (more {u} {v} {w} {event} {events} step rest) e
               between = events;
               opens = subst (λ (a : Event). Step u a v) now.1 step;
               goes_on = rest;
+              is_history = ap (λ (a : Event). before ++ a ∷ events) now.1;
             })
           ]
     ]
 
-opening_reached : (history : List Event) (x : World) (n : ℕ) → Reaches history x → stage_of n x.server.connections ≡ Some stage.Opened → Opening n x
+opening_reached : (history : List Event) (x : World) (n : ℕ) → Reaches history x → stage_of n x.server.connections ≡ Some stage.Opened → Opening history n x
 opening_reached history x n reaches e =
     let at_start : Reaches [] reaches.begin = record { begin = reaches.begin; starts = reaches.starts; legal = none } in
     elim (opening_between n [] at_start reaches.legal e) [
@@ -352,7 +354,7 @@ opening_reached history x n reaches e =
     ]
 
 -- A decision has its opening, and is by what stood then.
-pub has_its_opening : (history : List Event) (x y : World) (n : ℕ) (decision : Decision) → Reaches history x → Step x (Decided n decision) y → HasItsOpening n x decision
+pub has_its_opening : (history : List Event) (x y : World) (n : ℕ) (decision : Decision) → Reaches history x → Step x (Decided n decision) y → HasItsOpening history n x decision
 has_its_opening history x y n decision reaches step =
     let found = opening_reached history x n reaches (is_opened-true _ (step_is step.table).0) in
     let waited : stage_of n found.u.server.connections ≡ Some stage.Admitted = is_admitted-true _ (step_is found.opens.table).0 in
@@ -363,6 +365,7 @@ has_its_opening history x y n decision reaches step =
       u = found.u;
       reached = found.reached;
       opens = opens;
+      is_history = found.is_history;
       peer = its.0;
       is_its = its.1;
       by_it = decided_by_standing found.before found.u found.reached n x decision opens its.0 its.1;

@@ -133,3 +133,16 @@ pub lasts_accepted : (w : World) (name : List ℕ) (d : Directory) → Lasts w.a
 lasts_accepted w name d lasts =
     let is = left_now d.names name (IsText w.accepted w.acknowledged d.files) lasts in
     record { number = is.place; text = is.text; accepted = is.accepted_as; recent = is.recent; stands = content_stands d.files is.text (number_of d name) is.stands }
+
+-- where nothing is found there is no file
+nothing_stands : (files : List FileState) (text : Option (List Rule)) (number : Option ℕ) → StandsAt files text number → option_map (λ (file : FileState). file.bytes) (option_and_then (λ n. slice_get files n) number) ≡ None → number ≡ None
+nothing_stands files None number stands nothing = stands
+nothing_stands files (Some rules) number stands nothing =
+    let found = (content_stands files (Some rules) number stands).1 in
+    absurd (cc)
+
+-- and the name is missing
+pub lasts_missing : (accepted : Accepted) (least : ℕ) (name : List ℕ) (d : Directory) → Lasts accepted least name d → content d name ≡ None → number_of d name ≡ None
+lasts_missing accepted least name d lasts nothing =
+    let is = left_now d.names name (IsText accepted least d.files) lasts in
+    nothing_stands d.files is.text (number_of d name) is.stands nothing

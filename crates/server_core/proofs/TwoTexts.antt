@@ -30,7 +30,7 @@ use Rattle.server_core.specs.ServerState.{ServerState, start, after as after_eve
 use Rattle.server_core.specs.Steps.{Legal, Step, none, more}
 use Rattle.server_core.specs.Table.{done}
 use Rattle.server_core.specs.Witness.{for_everybody, somebody, texts_of_it, two_texts}
-use Rattle.server_core.specs.Worlds.{Accepted, IsOf, IsStart, Kept, RulesName, UnderWay, World}
+use Rattle.server_core.specs.Worlds.{Accepted, IsOf, IsStart, KeptFile, RulesName, UnderWay, World}
 use Rattle.server_core.proofs.InstalledRuns.{content_left, content_synced, decided_by_file, finishes, in_phase, installs, legal_then, named_dir, named_synced, next_text, world_at}
 use Rattle.server_core.proofs.TableLemmas.{is_step}
 
@@ -120,7 +120,7 @@ denied : (d : Directory) (file : List ℕ) → IsOf (for_everybody Deny) file �
     → Legal (world_at the_rules d at_start texts_1 1 None []) (Admitted 1 somebody ∷ Opened 1 true ∷ Decided 1 (everybody Deny) ∷ Dropped 1 Denied ∷ [])
     (world_at the_rules d dropped_1 texts_1 1 None (record { serial = 1; bytes = content d the_rules.name } ∷ []))
 denied d file is there =
-    let kept : List Kept = record { serial = 1; bytes = content d the_rules.name } ∷ [] in
+    let kept : List KeptFile = record { serial = 1; bytes = content d the_rules.name } ∷ [] in
     let begins : World = world_at the_rules d at_start texts_1 1 None [] in
     let is_in : World = world_at the_rules d admitted_1 texts_1 1 None [] in
     let has_opened : World = world_at the_rules d opened_1 texts_1 1 None kept in
@@ -140,7 +140,7 @@ allowed : (d : Directory) (file : List ℕ) → IsOf (for_everybody Allow) file 
     → Legal (world_at the_rules d stopped_2 texts_2 1 None []) (Admitted 2 somebody ∷ Opened 2 true ∷ Decided 2 (everybody Allow) ∷ Started 2 ∷ Retired 2 ∷ [])
     (world_at the_rules d retired_2 texts_2 1 None (record { serial = 2; bytes = content d the_rules.name } ∷ []))
 allowed d file is there =
-    let kept : List Kept = record { serial = 2; bytes = content d the_rules.name } ∷ [] in
+    let kept : List KeptFile = record { serial = 2; bytes = content d the_rules.name } ∷ [] in
     let begins : World = world_at the_rules d stopped_2 texts_2 1 None [] in
     let is_in : World = world_at the_rules d admitted_2 texts_2 1 None [] in
     let has_opened : World = world_at the_rules d opened_2 texts_2 1 None kept in
@@ -160,7 +160,7 @@ allowed d file is there =
 -- ---- the stop
 
 -- the machine stops within the call that makes the name of the second text lasting
-stops : (d : Directory) (kept : List Kept)
+stops : (d : Directory) (kept : List KeptFile)
     → Legal (world_at the_rules d (in_phase dropped_1 Named) texts_2 1 (Some (next_text (for_everybody Allow) texts_1 the_scratch)) kept) (Stop ∷ [])
     (world_at the_rules (stopped AllKept (after settles d)) stopped_2 texts_2 1 None [])
 stops d kept =
@@ -206,10 +206,10 @@ module _ (deny allow : List ℕ) (is_deny : IsOf (for_everybody Deny) deny) (is_
   abbrev with_third : Directory
   with_third = named_dir the_scratch the_rules.name deny after_stop
 
-  abbrev kept_1 : List Kept
+  abbrev kept_1 : List KeptFile
   kept_1 = record { serial = 1; bytes = content (after settles with_first) the_rules.name } ∷ []
 
-  abbrev kept_2 : List Kept
+  abbrev kept_2 : List KeptFile
   kept_2 = record { serial = 2; bytes = content after_stop the_rules.name } ∷ []
 
   abbrev last_world : World

@@ -1,7 +1,8 @@
 -- In each world that is reached one whole accepted text stands under the rules name, whatever a stop leaves.
-use Rattle.std.proofs.Common.{◌≡◌, ◌≢◌, ◌≤◌, ◌<◌, inl, inr, Bool, true, ℕ, zero, suc, List, [], ◌∷◌, ◌++◌, length, refl, sym, ◌∙◌, ap, subst, arith}
+use Rattle.std.proofs.Common.{◌≡◌, ◌≢◌, ◌≤◌, ◌<◌, ◌+◌, inl, inr, Bool, true, ℕ, zero, suc, List, [], ◌∷◌, ◌++◌, length, refl, sym, ◌∙◌, ap, subst, arith}
 use Rattle.std.specs.Prelude.{slice_get, Option, None, Some, is_some, max, option_and_then, if◌then◌else◌}
 use Rattle.std.specs.FinMap.{get, remove}
+use Rattle.std.proofs.lemmas.List.{length_push}
 use Rattle.rule_lines.specs.Pairs.{Rule}
 use Rattle.rules_install.specs.declared.Phase.{Phase}
 use Rattle.rules_install.specs.declared.Phase.TheVariants.{Fresh, Filling, Synced, Named, Done}
@@ -20,7 +21,7 @@ use Rattle.server_core.specs.Steps.{Advances, FailsTo, IsCallTo, IsScratchName, 
 use Rattle.server_core.specs.Worlds.{Accepted, BeginsWith, IsAccepted, IsStart, RulesName, StartsWith, UnderWay, World, standing}
 use Rattle.server_core.specs.Headline.{HasWholeText, Reaches}
 use Rattle.server_core.proofs.LeftNames.{PutsOnly, left_now, names-with_scratch, scratch-with_scratch}
-use Rattle.server_core.proofs.StandingTexts.{HoldsRules, IsText, Lasts, image_lasts, lasts_accepted, lasts_failed, lasts_more, lasts_settled, lasts_within}
+use Rattle.server_core.proofs.StandingTexts.{HoldsRules, IsText, Lasts, image_lasts, lasts_accepted, lasts_failed, lasts_missing, lasts_more, lasts_settled, lasts_within}
 use Rattle.server_core.proofs.TableLemmas.{may_come_follows, step_is}
 
 -- ---- what holds in each world
@@ -37,10 +38,12 @@ IsAt d name u Synced = HasFile d u.tmp u.rules
 IsAt d name u Named = HasFile d name u.rules
 IsAt d name u Done = ⊥
 
--- the installation has another name for its scratch file, and the number of its text, no older than the last acknowledged
+-- the installation has another name for its scratch file, and the number of its text, which is the last one accepted and no older than
+-- the last acknowledged
 pub record Proceeds (accepted : Accepted) (least : ℕ) (name : List ℕ) (d : Directory) (u : UnderWay) (phase : Phase) : Type 0 where
   pub other : u.tmp ≢ name
   pub its : slice_get accepted u.number ≡ Some (Some u.rules)
+  pub last : u.number + 1 ≡ length accepted
   pub recent : least ≤ u.number
   pub at : IsAt d name u phase
 
@@ -104,7 +107,7 @@ call_lasts accepted least d r phase next under_way call follows to holds =
 
 -- ---- the steps of an installation
 
-place_below : (accepted : Accepted) (place : ℕ) (text : Option (List Rule)) → slice_get accepted place ≡ Some text → place < length accepted
+pub place_below : (accepted : Accepted) (place : ℕ) (text : Option (List Rule)) → slice_get accepted place ≡ Some text → place < length accepted
 place_below [] place text is = absurd (cc)
 place_below (t ∷ accepted) zero text is = omega arith
 place_below (t ∷ accepted) (suc place) text is = let below = place_below accepted place text is in omega arith
@@ -128,7 +131,7 @@ fresh_holds (Some r) accepted least d phase under_way text tmp other holds =
     let here = now.recent in
     record {
       lasts = lasts_more accepted least (Some text) r.name (after (makes tmp) d) (call_lasts accepted least d r phase Fresh under_way (makes tmp) fresh (tmp, other, refl) holds);
-      agree = record { other = other; its = last_accepted accepted (Some text); recent = omega arith; at = made_number d tmp };
+      agree = record { other = other; its = last_accepted accepted (Some text); last = sym (length_push accepted (Some text)); recent = omega arith; at = made_number d tmp };
     }
 
 -- bytes in the scratch file leave the names
@@ -144,7 +147,7 @@ called_at call d u r (inr to) is =
 
 -- the same installation in another phase
 proceeds_to : (accepted : Accepted) (least : ℕ) (name : List ℕ) (d e : Directory) (u : UnderWay) (phase next : Phase) → Proceeds accepted least name d u phase → IsAt e name u next → Proceeds accepted least name e u next
-proceeds_to accepted least name d e u phase next goes at = record { other = goes.other; its = goes.its; recent = goes.recent; at = at }
+proceeds_to accepted least name d e u phase next goes at = record { other = goes.other; its = goes.its; last = goes.last; recent = goes.recent; at = at }
 
 filling_holds : (rules : Option RulesName) (accepted : Accepted) (least : ℕ) (d : Directory) (phase : Option Phase) (under_way : Option UnderWay) (call : Call)
     → Follows phase Filling → IsCallTo Filling under_way rules call → HoldsBy rules accepted least d phase under_way → HoldsBy rules accepted least (after call d) (Some Filling) under_way
@@ -235,7 +238,7 @@ failed_holds (Some r) accepted least d e phase next under_way call follows to fa
 -- ---- a stop
 
 -- with a rules name
-good_rules : (w : World) (r : RulesName) → w.rules ≡ Some r → Good w → Holds w.accepted w.acknowledged r.name w.directory w.server.phase w.under_way
+pub good_rules : (w : World) (r : RulesName) → w.rules ≡ Some r → Good w → Holds w.accepted w.acknowledged r.name w.directory w.server.phase w.under_way
 good_rules w r is good = subst (λ (o : Option RulesName). HoldsBy o w.accepted w.acknowledged w.directory w.server.phase w.under_way) is good
 
 -- at each moment before, within and after a call that may come next
@@ -371,6 +374,7 @@ reached_whole history w r reaches is =
     record {
       now = lasts_accepted w r.name w.directory (good_rules w r is good).lasts;
       after_a_stop = λ image leaves. lasts_accepted w r.name image (left_lasts w r image is good leaves);
+      missing = λ image leaves nothing. lasts_missing w.accepted w.acknowledged r.name image (left_lasts w r image is good leaves) nothing;
     }
 
 -- With or without a rules name, what stands there is accepted.

@@ -1,6 +1,6 @@
 -- What the headline says.
-use Rattle.std.specs.Prelude.{◌≡◌, ◌≤◌, ℕ, Bool, List, length, take, Option, Some, None}
-use Rattle.dir_disk.specs.Directory.{Directory, content}
+use Rattle.std.specs.Prelude.{◌≡◌, ◌≤◌, ◌++◌, ◌∷◌, ℕ, Bool, List, length, take, Option, Some, None}
+use Rattle.dir_disk.specs.Directory.{Directory, content, number_of}
 use Rattle.rule_lines.specs.Pairs.{Rule}
 use Rattle.rule_lookup.specs.Decisions.{decision_in, without_file}
 use Rattle.rule_lookup.specs.Peers.{Client}
@@ -20,18 +20,19 @@ pub record Reaches (history : List Event) (w : World) : Type 0 where
   pub starts : IsStart begin
   pub legal : Legal begin history w
 
--- under the rules name stands one whole accepted text, no older than the last acknowledged: now, and in whatever a stop may
--- leave before, after or within any call that may come next
+-- Under the rules name stands one whole accepted text, no older than the last acknowledged: now, and in whatever a stop may
+-- leave before, after or within any call that may come next. Where nothing stands there the name is missing.
 pub record HasWholeText (w : World) (r : RulesName) : Type 0 where
   pub now : IsAccepted w (content w.directory r.name)
   pub after_a_stop : (image : Directory) → MayLeave w image → IsAccepted w (content image r.name)
+  pub missing : (image : Directory) → MayLeave w image → content image r.name ≡ None → number_of image r.name ≡ None
 
 -- the decision of what a text says, or of no text
 abbrev pub decision_by : Option (List Rule) → World → Client → Decision
 decision_by None w peer = without_file (missing_in w)
 decision_by (Some rules) w peer = decision_in rules peer
 
--- a peer was decided by the text that stood in a world, and so is what its child is told
+-- a peer was decided by the text that stood in a world; and so what its child is told is what that text says
 pub record IsDecidedAt (w : World) (peer : Client) (decision : Decision) : Type 0 where
   pub stood : IsAccepted w (standing w)
   pub decides : decision ≡ decision_by stood.text w peer
@@ -47,12 +48,14 @@ pub record OpensAndDecides (n : ℕ) (u : World) (x : World) (decision : Decisio
   pub goes_on : Legal opened between x
   pub decides : Step x (Decided n decision) decided
 
--- a decision has a world in which its connection opened the rules, and it is by the text that stood there
-pub record HasItsOpening (n : ℕ) (x : World) (decision : Decision) : Type 0 where
+-- A decision at the end of a history has its opening in it: the world u in which the connection opened the rules is reached by the
+-- events before, and the decision is by the text that stood there.
+pub record HasItsOpening (history : List Event) (n : ℕ) (x : World) (decision : Decision) : Type 0 where
   pub before : List Event
   pub u : World
   pub reached : Reaches before u
   pub opens : OpensAndDecides n u x decision
+  pub is_history : history ≡ before ++ Opened n opens.there ∷ opens.between
   pub peer : Client
   pub is_its : peer_of n u.server.connections ≡ Some peer
   pub by_it : IsDecidedAt u peer decision
@@ -62,5 +65,6 @@ pub record HasItsOpening (n : ℕ) (x : World) (decision : Decision) : Type 0 wh
 -- by the first matching address of the text that stood there when its file was opened; and those alive never passed the limit.
 pub record IsKeptBy (history : List Event) (w : World) : Type 0 where
   pub whole_text : (r : RulesName) → w.rules ≡ Some r → HasWholeText w r
-  pub decisions : (n : ℕ) (decision : Decision) (y : World) → Step w (Decided n decision) y → HasItsOpening n w decision
+  pub decisions : (n : ℕ) (decision : Decision) (y : World) → Step w (Decided n decision) y → HasItsOpening history n w decision
+  pub by_what_stood : (before : List Event) (u : World) (n : ℕ) (peer : Client) (decision : Decision) → Reaches before u → OpensAndDecides n u w decision → peer_of n u.server.connections ≡ Some peer → IsDecidedAt u peer decision
   pub limit : (k : ℕ) → length (live_of (take k history)) ≤ w.server.limit

@@ -32,16 +32,16 @@ ends n (Ended m status) = n == m
 ends n (Dropped m cause) = n == m
 ends n _ = false
 
--- something happens to a connection that was let in before
-abbrev pub is_of_connection : Event → Bool
-is_of_connection (Opened n there) = true
-is_of_connection (Decided n decision) = true
-is_of_connection (Started n) = true
-is_of_connection (StartFailed n fault) = true
-is_of_connection (Ended n status) = true
-is_of_connection (Retired n) = true
-is_of_connection (Dropped n cause) = true
-is_of_connection event = false
+-- something happens to the connection n, which was let in before
+abbrev pub concerns : ℕ → Event → Bool
+concerns n (Opened m there) = n == m
+concerns n (Decided m decision) = n == m
+concerns n (Started m) = n == m
+concerns n (StartFailed m fault) = n == m
+concerns n (Ended m status) = n == m
+concerns n (Retired m) = n == m
+concerns n (Dropped m cause) = n == m
+concerns n event = false
 
 -- by this event the connection n is retired
 abbrev pub retires : ℕ → Event → Bool

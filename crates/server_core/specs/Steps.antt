@@ -16,7 +16,7 @@ use Rattle.server_core.specs.declared.event.Event.TheVariants.{Opened, Decided, 
 use Rattle.server_core.specs.Table.{Follows, Happens}
 use Rattle.server_core.specs.Worlds.{IsOf, RulesName, UnderWay, World, kept_by, missing_in, peer_of, standing}
 
--- a name for a scratch file, which is not the rules name
+-- a name for a scratch file, which is not the rules name; there is none without a rules name
 abbrev pub IsScratchName : Option RulesName → List ℕ → Type 0
 IsScratchName None tmp = ⊥
 IsScratchName (Some r) tmp = tmp ≢ r.name
@@ -35,7 +35,8 @@ abbrev pub IsWhole : Directory → UnderWay → Type 0
 IsWhole d u = (file : FileState) × (scratch_of d ≡ Some file) × IsOf u.rules file.bytes
 
 -- a step to `Fresh` begins an installation of rules, which are accepted with it; to `Filling` puts any bytes into the scratch
--- file; to `Synced` only where that is whole; to `Done` acknowledges the text
+-- file; to `Synced` syncs it, only where it is whole; to `Named` moves it onto the rules name; to `Done` makes that lasting and
+-- acknowledges the text
 abbrev pub Advances : Phase → World → World → Type 0
 Advances Fresh w w' =
     (rules : List Rule) × (tmp : List ℕ) × AreRules rules × IsScratchName w.rules tmp

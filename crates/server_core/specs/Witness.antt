@@ -8,7 +8,7 @@ use Rattle.rule_lookup.specs.Peers.{Client}
 use Rattle.rule_lookup.specs.declared.outcome.DropCause.TheVariants.{Denied}
 use Rattle.rules_install.specs.declared.Phase.TheVariants.{Fresh, Filling, Synced, Named, Done}
 use Rattle.server_core.specs.declared.event.Event.{Event}
-use Rattle.server_core.specs.declared.event.Event.TheVariants.{Admitted, Opened, Decided, Started, Retired, Dropped, Stepped, Stop}
+use Rattle.server_core.specs.declared.event.Event.TheVariants.{Admitted, Opened, Decided, Started, Retired, Dropped, Stepped, StepFailed, Stop}
 use Rattle.server_core.specs.Worlds.{Accepted}
 
 -- the rules of a text with one line, for everybody
@@ -32,3 +32,18 @@ two_texts =
 -- the texts that it accepts
 abbrev pub texts_of_it : Accepted
 texts_of_it = None ∷ Some (for_everybody Deny) ∷ Some (for_everybody Allow) ∷ Some (for_everybody Deny) ∷ []
+
+-- A history of a server whose first text allows. An installation is given up for another one of a text that denies, whose name becomes
+-- not lasting: the call that should make it so fails. It decides the first connection. The machine stops, and leaves the older text,
+-- which decides the second connection; and it stops once more.
+abbrev pub an_older_text : List Event
+an_older_text =
+    Stepped Fresh ∷ Stepped Filling ∷ Stepped Fresh ∷ Stepped Filling ∷ Stepped Synced ∷ Stepped Named ∷ StepFailed Done
+    ∷ Admitted 1 somebody ∷ Opened 1 true ∷ Decided 1 (by_rule [] (record { verdict = Deny; settings = [] })) ∷ Dropped 1 Denied
+    ∷ Stop
+    ∷ Admitted 2 somebody ∷ Opened 2 true ∷ Decided 2 (by_rule [] (record { verdict = Allow; settings = [] })) ∷ Started 2
+    ∷ Stop ∷ []
+
+-- the texts that it accepts: the one at the start, the one that was given up, and the one that was named
+abbrev pub texts_of_that : Accepted
+texts_of_that = Some (for_everybody Allow) ∷ Some (for_everybody Deny) ∷ Some (for_everybody Deny) ∷ []

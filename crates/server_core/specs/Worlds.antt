@@ -11,7 +11,7 @@ use Rattle.rule_lookup.specs.declared.decision.Missing.TheVariants.{Allow as All
 use Rattle.server_core.specs.ServerState.{ServerState, start}
 use Rattle.server_core.specs.declared.state.Connection.{Connection}
 
--- a text that was accepted, told by its rules; number 0 may be that no text was installed yet
+-- the texts that were accepted, each told by its rules; number 0 is what stood at the start, perhaps nothing
 abbrev pub Accepted : Type 0
 Accepted = List (Option (List Rule))
 
@@ -27,7 +27,7 @@ pub record UnderWay : Type 0 where
   pub tmp : List ℕ
 
 -- what an opened connection keeps: the bytes of the file that it opened, or that there was none
-pub record Kept : Type 0 where
+pub record KeptFile : Type 0 where
   pub serial : ℕ
   pub bytes : Option (List ℕ)
 
@@ -41,7 +41,7 @@ pub record World : Type 0 where
   -- the greatest number of a text whose installation was done, else 0
   pub acknowledged : ℕ
   pub under_way : Option UnderWay
-  pub kept : List Kept
+  pub kept : List KeptFile
 
 -- what stands under the rules name
 abbrev pub standing : World → Option (List ℕ)
@@ -56,7 +56,7 @@ abbrev pub missing_in : World → Missing
 missing_in w = missing_by w.rules
 
 -- what the connection with this serial keeps, if it opened the rules
-abbrev pub kept_by : ℕ → List Kept → Option (Option (List ℕ))
+abbrev pub kept_by : ℕ → List KeptFile → Option (Option (List ℕ))
 kept_by n [] = None
 kept_by n (k ∷ ks) = if k.serial == n then Some k.bytes else kept_by n ks
 

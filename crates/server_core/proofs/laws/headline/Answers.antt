@@ -1,5 +1,5 @@
 use Rattle.server_core.proofs.Allowed.{reached_within}
-use Rattle.server_core.proofs.Openings.{has_its_opening}
+use Rattle.server_core.proofs.Openings.{decided_by_standing, has_its_opening}
 use Rattle.server_core.proofs.WholeText.{reached_whole}
 use Rattle.server_core.proofs.laws.headline.Goals as goal
 
@@ -7,5 +7,6 @@ pub returns : goal.returns
 returns c history w reaches = record {
   whole_text = λ r is. reached_whole history w r reaches is;
   decisions = λ n decision y step. has_its_opening history w y n decision reaches step;
+  by_what_stood = λ before u n peer decision first opens its. decided_by_standing before u first n w decision opens peer its;
   limit = λ k. reached_within history w reaches k;
 }
