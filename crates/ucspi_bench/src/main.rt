@@ -5,7 +5,7 @@ mod places;
 
 use cdb_write::{AddFault, Maker};
 use dir_disk::{Name, OsDir};
-use places::time_places;
+use places::{TURNS, time_places};
 use rule_lines::{Limits, ParseFault, RuleList, parse};
 use rule_lookup::{DropCause, Peer, PeerFault};
 use rules_install::whole::install;
@@ -233,7 +233,7 @@ fn time_hosts<R: Print + Clock>(rt: &R, alloc: Global, lines: usize) -> io::Resu
 
 /// Prints how many nanoseconds it takes to give a place where so many are out.
 fn time_places_out<R: Print + Clock>(rt: &R, alloc: Global, size: usize) -> io::Result<()> {
-    let limit = (size as u64).saturating_add(1);
+    let limit = (size as u64).saturating_add(TURNS);
     time_places::<R, Brand>(rt, alloc, Blank::new(limit), limit)
 }
 

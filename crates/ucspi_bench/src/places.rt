@@ -9,10 +9,10 @@ use std::rt::Clock;
 use std::sync::ledger::{Blank, Ledger};
 use std::time::Instant;
 
-/// How many places are given and taken back while the time is taken.
-const TURNS: u64 = 1000;
+/// How many places are given while the time is taken.
+pub const TURNS: u64 = 1000;
 
-/// Prints how many nanoseconds it takes to give a place and to take it back, where so many others are out.
+/// Prints how many nanoseconds it takes to give one of the last places, with the limit as many as there are.
 pub fn time_places<R: Print + Clock, L: Ledger>(
     rt: &R,
     alloc: Global,
@@ -22,11 +22,11 @@ pub fn time_places<R: Print + Clock, L: Ledger>(
     requires name { blank.name ≡ L.name }
     requires parts { (blank.parts ≡ L.parts) × (blank.parts ≡ limit) }
 {
-    let others = limit.saturating_sub(1);
-    let Ok(mut table) = Table::<L>::with_address_limit(alloc, blank, limit, others) else {
+    let per_address = limit.saturating_sub(1);
+    let Ok(mut table) = Table::<L>::with_address_limit(alloc, blank, limit, per_address) else {
         return Err(io::Error::from(io::ErrorKind::InvalidInput));
     };
-    for n in 0..others {
+    for n in 0..limit.saturating_sub(TURNS) {
         take_for_good(alloc, &mut table, n);
     }
     let Ok(peer) = Peer::new(alloc, [10, 0, 0, 1], 4000, None, None) else {
@@ -35,7 +35,7 @@ pub fn time_places<R: Print + Clock, L: Ledger>(
     let began = Instant::now(rt)?;
     let mut given = 0u64;
     for _ in 0..TURNS {
-        given += u64::from(give_and_take(&mut table, &peer));
+        given = given.saturating_add(u64::from(give(&mut table, &peer)));
     }
     let taken = began.elapsed(rt)?;
     println!(rt;
@@ -44,21 +44,18 @@ pub fn time_places<R: Print + Clock, L: Ledger>(
     )
 }
 
-/// Gives one of 256 addresses a place, which stays out.
+/// Gives one of 256 addresses a place.
 fn take_for_good<L: Ledger>(alloc: Global, table: &mut Table<L>, n: u64) {
-    let Ok(peer) = Peer::new(alloc, [10, 1, 0, (n % 256) as u8], 4000, None, None) else {
-        return;
-    };
-    if let Ok(place) = table.admit(&peer) {
-        place.strand();
+    if let Ok(peer) = Peer::new(alloc, [10, 1, 0, (n % 256) as u8], 4000, None, None) {
+        give(table, &peer);
     }
 }
 
-/// Gives a peer a place and takes it back; whether it could be given.
-fn give_and_take<L: Ledger>(table: &mut Table<L>, peer: &Peer) -> bool {
+/// Gives a peer a place, which stays out; whether it could be given.
+fn give<L: Ledger>(table: &mut Table<L>, peer: &Peer) -> bool {
     match table.admit(peer) {
         Ok(place) => {
-            table.leave(place);
+            place.strand();
             true
         }
         Err(_) => false,
