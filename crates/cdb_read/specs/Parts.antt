@@ -1,5 +1,6 @@
 -- The parts of a lookup in a compiled file.
-use Rattle.std.specs.Prelude.{◌≡◌, ℕ, ◌+◌, ◌*◌, Bool, not, List, map, find, Option, Some, None, IsTrue, if◌then◌else◌}
+use Rattle.std.specs.Prelude.{◌≡◌, ℕ, ◌+◌, ◌*◌, Bool, not, List, map, find, take, drop, Option, Some, None, option_map, Result, IfOk, IfErr, Vec, vec_items, IsTrue, if◌then◌else◌}
+use Rattle.std.specs.Global.{Global}
 use Rattle.std.specs.List.{range_with_len}
 use Rattle.cdb_write.specs.Format.{hash_of, two_numbers_at}
 use Rattle.cdb_write.specs.Slots.{probe}
@@ -8,6 +9,10 @@ use Rattle.rule_lines.specs.Lookups.{Finding}
 use Rattle.rule_lines.specs.Lookups.Finding.{Has, Absent, Broken}
 use Rattle.rule_lines.specs.declared.source.FindFault.{FindFault}
 use Rattle.rule_lines.specs.declared.source.FindFault.TheVariants.{Short, Device, OutOfMemory}
+
+-- so many bytes from a place on
+abbrev pub bytes_at : List ℕ → ℕ → ℕ → List ℕ
+bytes_at file place len = take len (drop place file)
 
 -- what the record at a place has for a key: nothing, if it is seen to have another key
 abbrev pub record_at : List ℕ → List ℕ → ℕ → Finding
@@ -30,6 +35,10 @@ abbrev pub IsAnswer : Finding → Option (List ℕ) → Type 0
 IsAnswer found (Some value) = found ≡ Has value
 IsAnswer found None = found ≡ Absent
 
+-- so an answer does that is one of bytes of its own, where it is no fault
+abbrev pub Tells : Finding → Result (Option (Vec ℕ Global)) FindFault → Type 0
+Tells found result = IfOk result (λ value. IsAnswer found (option_map vec_items value))
+
 -- a fault where something is to be found in a file of which it is known, or not, that it is honest and that it is sound
 abbrev pub IsFault : Bool → Bool → Finding → FindFault → Type 0
 IsFault honest sound found Short = IsTrue honest → found ≡ Broken
@@ -41,3 +50,7 @@ abbrev pub ReadFails : Bool → Bool → FindFault → Type 0
 ReadFails honest sound Short = IsTrue honest → ⊥
 ReadFails honest sound Device = IsTrue sound → ⊥
 ReadFails honest sound OutOfMemory = Unit {0}
+
+-- an answer that is a fault is one where this is to be found
+abbrev pub FailsOf : Bool → Bool → Finding → Result (Option (Vec ℕ Global)) FindFault → Type 0
+FailsOf honest sound found result = IfErr result (IsFault honest sound found)

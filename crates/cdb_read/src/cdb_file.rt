@@ -1,19 +1,17 @@
 //! Lookups in a compiled file.
-ghost use Rattle.std.specs.Prelude.{◌≡◌, ◌≤◌, ◌<◌, ◌+◌, ◌*◌, ◌^◌, length, take, drop, IsTrue, IfOk, IfErr, OnOk, option_map, vec_items};
+ghost use Rattle.std.specs.Prelude.{◌≡◌, ◌≤◌, ◌<◌, ◌+◌, ◌*◌, ◌^◌, length, IsTrue, IfOk, IfErr, OnOk};
 ghost use Rattle.cdb_write.specs.Format.{two_numbers_at};
-ghost use Rattle.cdb_read.specs.Parts.{IsAnswer, IsFault, ReadFails, found_in_slots, record_at};
+ghost use Rattle.cdb_read.specs.Parts.{FailsOf, IsFault, ReadFails, Tells, bytes_at, found_in_slots, record_at};
 ghost use Rattle.cdb_read.specs.Reading.{lies_in, reading};
 ghost use Rattle.cdb_read.specs.Sources.{trust_of};
 
 use byteorder::{ByteOrder, LittleEndian};
 use cdb_write::hash;
+use cdb_write::layout::HEADER_LENGTH;
 use dir_disk::RulesFile;
 use rule_lines::{FindFault, PairSource};
 use std::alloc::Global;
 use std::marker::Model;
-
-/// The length of the pointers in front of a file.
-const HEADER: u64 = 2048;
 
 /// An opened compiled file, as a source of pairs.
 #[derive(Drop)]
@@ -47,8 +45,7 @@ impl<F: RulesFile> CdbFile<F> {
     fn read_full(&self, place: u64, buf: &mut [u8]) -> Result<(), FindFault>
         requires fits { place + length buf.old < 2 ^ 64 }
         requires inside { IsTrue F.honest → place + length buf.old ≤ length (F.bytes self.now) }
-        ensures filled { IsTrue F.honest
-            → OnOk result (buf.new ≡ take (length buf.old) (drop place (F.bytes self.now))) }
+        ensures filled { IsTrue F.honest → OnOk result (buf.new ≡ bytes_at (F.bytes self.now) place (length buf.old)) }
         ensures fault { IfErr result (ReadFails F.honest F.sound) }
     {
         let mut done = 0;
@@ -66,8 +63,7 @@ impl<F: RulesFile> CdbFile<F> {
     fn bytes_at(&self, alloc: Global, place: u64, len: usize) -> Result<Vec<u8>, FindFault>
         requires fits { place + len < 2 ^ 64 }
         requires inside { IsTrue F.honest → place + len ≤ length (F.bytes self.now) }
-        ensures bytes { IsTrue F.honest
-            → IfOk result (λ v. v.items ≡ take len (drop place (F.bytes self.now))) }
+        ensures bytes { IsTrue F.honest → IfOk result (λ v. v.items ≡ bytes_at (F.bytes self.now) place len) }
         ensures fault { IfErr result (ReadFails F.honest F.sound) }
     {
         let mut bytes = vec![in alloc; 0; len]?;
@@ -79,8 +75,7 @@ impl<F: RulesFile> CdbFile<F> {
     fn two_numbers(&self, place: u64) -> Result<(u32, u32), FindFault>
         requires fits { place + 8 < 2 ^ 64 }
         requires inside { IsTrue F.honest → place + 8 ≤ length (F.bytes self.now) }
-        ensures numbers { IsTrue F.honest
-            → IfOk result (λ numbers. numbers ≡ two_numbers_at (F.bytes self.now) place) }
+        ensures numbers { IsTrue F.honest → IfOk result (λ pair. pair ≡ two_numbers_at (F.bytes self.now) place) }
         ensures fault { IfErr result (ReadFails F.honest F.sound) }
     {
         let mut buf = [0; 8];
@@ -92,10 +87,8 @@ impl<F: RulesFile> CdbFile<F> {
 
     /// The value of the record at a place, or `None` where it is seen to have another key.
     fn value_at(&self, alloc: Global, place: u32, key: &[u8]) -> Result<Option<Vec<u8>>, FindFault>
-        ensures found { IsTrue F.honest → IfOk result
-            (λ o. IsAnswer (record_at (F.bytes self.now) key.now place) (option_map vec_items o)) }
-        ensures fault { IfErr result
-            (IsFault F.honest F.sound (record_at (F.bytes self.now) key.now place)) }
+        ensures found { IsTrue F.honest → Tells (record_at (F.bytes self.now) key.now place) result }
+        ensures fault { IfErr result (IsFault F.honest F.sound (record_at (F.bytes self.now) key.now place)) }
     {
         let place = u64::from(place);
         if !self.holds(place, 8) {
@@ -129,10 +122,8 @@ impl<F: RulesFile> CdbFile<F> {
     ) -> Result<Option<Vec<u8>>, FindFault>
         requires some_slots { 0 < slots }
         requires inside { IsTrue F.honest → table + 8 * slots ≤ length (F.bytes self.now) }
-        ensures found { IsTrue F.honest → IfOk result
-            (λ o. IsAnswer (found_in_slots (F.bytes self.now) key.now (table, slots)) (option_map vec_items o)) }
-        ensures fault { IfErr result
-            (IsFault F.honest F.sound (found_in_slots (F.bytes self.now) key.now (table, slots))) }
+        ensures found { IsTrue F.honest → Tells (found_in_slots (F.bytes self.now) key.now (table, slots)) result }
+        ensures fault { FailsOf F.honest F.sound (found_in_slots (F.bytes self.now) key.now (table, slots)) result }
     {
         let key_hash = hash(key);
         let first = u64::from(key_hash / 256 % slots);
@@ -159,7 +150,7 @@ impl<F: RulesFile> PairSource for CdbFile<F> {
     ghost trust = { λ _. trust_of F.honest F.sound };
 
     fn find(&self, alloc: Global, key: &[u8]) -> Result<Option<Vec<u8>>, FindFault> {
-        if !self.holds(0, HEADER) {
+        if !self.holds(0, HEADER_LENGTH as u64) {
             return Err(FindFault::Short);
         }
         let (table, slots) = self.two_numbers(8 * u64::from(hash(key) % 256))?;

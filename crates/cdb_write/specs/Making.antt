@@ -1,7 +1,5 @@
 -- Pairs that are collected for a file, under its limit.
-use Rattle.std.specs.Prelude.{◌≡◌, ℕ, zero, suc, ◌^◌, ◌<◌, ◌≤◌, List, [], ◌∷◌, ◌++◌, take, drop, min, max}
-use Rattle.cdb_write.specs.declared.maker.AddFault.{AddFault}
-use Rattle.cdb_write.specs.declared.maker.AddFault.TheVariants.{TooLarge, OutOfMemory}
+use Rattle.std.specs.Prelude.{◌≡◌, ℕ, zero, suc, ◌^◌, ◌<◌, ◌≤◌, List, [], ◌∷◌, ◌++◌, length, take, drop, min, max}
 use Rattle.cdb_write.specs.Format.{Pair, entries_of, number_at, records_of}
 use Rattle.cdb_write.specs.Image.{finished_length}
 
@@ -21,10 +19,9 @@ no_pairs limit = record { limit = limit_of limit; pairs = [] }
 abbrev pub with_pair : Making → List ℕ → List ℕ → Making
 with_pair making key value = record making { pairs = making.pairs ++ record { key = key; value = value } ∷ [] }
 
--- why a pair is not added: the finished file would pass the limit, or there was no memory
-abbrev pub RefusesPair : Making → List ℕ → List ℕ → AddFault → Type 0
-RefusesPair making key value TooLarge = making.limit < finished_length (with_pair making key value).pairs
-RefusesPair making key value OutOfMemory = Unit {0}
+-- with a pair more the finished file would pass the limit
+abbrev pub PassesLimit : Making → List ℕ → List ℕ → Type 0
+PassesLimit making key value = making.limit < finished_length (with_pair making key value).pairs
 
 -- the pairs of the first records of some bytes
 abbrev pub pairs_in : ℕ → List ℕ → List Pair
@@ -42,3 +39,7 @@ pub record Stores (limit : ℕ) (records : List ℕ) (entries : List (ℕ × ℕ
   pub fits : finished_length pairs ≤ limit
   pub least : 2048 ≤ limit
   pub most : limit < 2 ^ 32
+
+-- records and entries that stand for the pairs that these records are
+abbrev pub StoresAll : ℕ → List ℕ → List (ℕ × ℕ) → Type 0
+StoresAll limit records entries = Stores limit records entries (pairs_in (length entries) records)

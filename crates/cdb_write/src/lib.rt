@@ -4,6 +4,7 @@
 mod append;
 pub mod key_hash;
 pub mod laws;
+pub mod layout;
 pub mod maker;
 pub mod piece;
 mod slot;

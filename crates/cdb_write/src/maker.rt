@@ -1,31 +1,21 @@
 //! Making a file in memory.
-ghost use Rattle.std.specs.Prelude.{◌≡◌, ◌<◌, ◌≤◌, ◌^◌, ℕ, List, ◌++◌, flat_map, OnOk, OnErr, IfOk, IfErr};
-ghost use Rattle.std.specs.List.{range_with_len};
+ghost use Rattle.std.specs.Prelude.{◌≡◌, ◌↔◌, ◌<◌, ◌≤◌, ◌^◌, OnOk, OnErr, IfOk};
 ghost use Rattle.cdb_write.specs.Format.{entries_of};
-ghost use Rattle.cdb_write.specs.Image.{finished_length, image_of, table_bytes};
-ghost use Rattle.cdb_write.specs.Making.{RefusesPair, no_pairs, with_pair};
-ghost use Rattle.cdb_write.specs.Slots.{entries_in};
-ghost use Rattle.cdb_write.specs.Tables.{HoldsByTable};
+ghost use Rattle.cdb_write.specs.Image.{finished_length, image_of};
+ghost use Rattle.cdb_write.specs.Making.{PassesLimit, no_pairs, with_pair};
+ghost use Rattle.cdb_write.specs.Tables.{AppendsTables, HoldsByTable};
 ghost use Rattle.cdb_write.specs.Written.{Written};
 ghost use Rattle.cdb_write.specs.declared.maker.AddFault.TheVariants.{OutOfMemory};
 
 use crate::append::{append_pairs, append_record};
 use crate::key_hash::hash;
 use crate::laws::pieces;
+use crate::layout::{HEADER_LENGTH, LENGTHS_LENGTH, SLOTS_LENGTH, TABLE_COUNT, file_limit};
 use crate::slot::filled_slots;
-use crate::tables::{TABLE_COUNT, Tables};
+use crate::tables::Tables;
 use std::alloc::{AllocError, AllocFailed, Global};
 use std::marker::Model;
 use thiserror::Error;
-
-/// The length of the pointers.
-const HEADER_LENGTH: usize = 2048;
-
-/// The length of the two lengths that begin a record.
-const LENGTHS_LENGTH: usize = 8;
-
-/// The length of the two slots that a table has for each record.
-const SLOTS_LENGTH: usize = 16;
 
 /// Why a pair was not added.
 #[derive(Clone, Copy, PartialEq, Eq, Debug, Error)]
@@ -66,14 +56,13 @@ pub struct Maker {
 
 impl Model for Maker {
     ghost use Rattle.std.specs.Prelude.{length};
-    ghost use Rattle.cdb_write.specs.Making.{Making, Stores, pairs_in};
+    ghost use Rattle.cdb_write.specs.Making.{Making, StoresAll, pairs_in};
 
     ghost Value = { Making };
 
     ghost view = { λ m. record { limit = m.limit; pairs = pairs_in (length m.entries.items) m.records.items } };
 
-    ghost invariant = { λ m.
-        Stores m.limit m.records.items m.entries.items (pairs_in (length m.entries.items) m.records.items) };
+    ghost invariant = { λ m. StoresAll m.limit m.records.items m.entries.items };
 }
 
 impl Maker {
@@ -83,7 +72,7 @@ impl Maker {
         ensures { result ≡ no_pairs limit }
     {
         Maker {
-            limit: limit.clamp(2048, 4294967295),
+            limit: file_limit(limit),
             records: Vec::new(alloc),
             entries: Vec::new(alloc),
         }
@@ -96,7 +85,7 @@ impl Maker {
     pub fn add(&mut self, key: &[u8], value: &[u8]) -> Result<(), AddFault>
         ensures added { OnOk result (self.new ≡ with_pair self.old key.now value.now) }
         ensures fits { OnOk result (finished_length self.new.pairs ≤ self.new.limit) }
-        ensures refused { IfErr result (RefusesPair self.old key.now value.now) }
+        ensures too_large { (result ≡ Err AddFault.TooLarge) ↔ PassesLimit self.old key.now value.now }
         ensures unchanged { OnErr result (self.new ≡ self.old) }
     {
         let finished = (self.finished_length() + LENGTHS_LENGTH + SLOTS_LENGTH)
@@ -154,8 +143,7 @@ impl Maker {
 
 /// Appends the slots of each table.
 fn append_tables(alloc: Global, out: &mut Vec<u8>, tables: &Tables) -> Result<(), AllocError>
-    ensures { OnOk result ((entries : List (ℕ × ℕ)) → HoldsByTable tables.now entries
-        → out.new.items ≡ out.old.items ++ flat_map (λ t. table_bytes (entries_in t entries)) (range_with_len 0 256)) }
+    ensures { OnOk result (AppendsTables tables.now out.old.items out.new.items) }
 {
     for table in 0..TABLE_COUNT {
         let slots = filled_slots(alloc, tables.get(table))?;

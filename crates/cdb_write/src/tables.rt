@@ -1,15 +1,13 @@
 //! Entries by their tables.
-ghost use Rattle.std.specs.Prelude.{◌≡◌, ℕ, ◌+◌, ◌^◌, ◌<◌, List, [], ◌∷◌, ◌++◌, OnErr, OnOk, IfOk};
-ghost use Rattle.cdb_write.specs.Format.{Pair, entries_of};
-ghost use Rattle.cdb_write.specs.Image.{finished_length, pointers_of, records_length};
+ghost use Rattle.std.specs.Prelude.{◌≡◌, ℕ, ◌<◌, List, [], OnErr, OnOk, IfOk};
+ghost use Rattle.cdb_write.specs.Format.{Pair};
+ghost use Rattle.cdb_write.specs.Image.{pointers_of};
 ghost use Rattle.cdb_write.specs.Slots.{entries_in};
-ghost use Rattle.cdb_write.specs.Tables.{HoldsByTable};
+ghost use Rattle.cdb_write.specs.Tables.{AddsEntry, AreTablesOf, HoldsByTable};
 
+use crate::layout::TABLE_COUNT;
 use std::alloc::{AllocError, Global};
 use std::marker::Model;
-
-/// The number of tables.
-pub(crate) const TABLE_COUNT: usize = 256;
 
 /// The hashes and positions of records, in 256 lists by the table that each hash names.
 #[derive(Drop)]
@@ -47,8 +45,7 @@ impl Tables {
     /// # Errors
     /// There was no memory. Nothing changed then.
     pub fn push(&mut self, entry: (u32, u32)) -> Result<(), AllocError>
-        ensures added { OnOk result ((entries : List (ℕ × ℕ)) → HoldsByTable self.old entries
-            → HoldsByTable self.new (entries ++ entry ∷ [])) }
+        ensures added { OnOk result (AddsEntry entry self.old self.new) }
         ensures unchanged { OnErr result (self.new ≡ self.old) }
     {
         let table = (entry.0 % 256) as usize;
@@ -70,9 +67,8 @@ impl Tables {
     /// # Errors
     /// There was no memory.
     pub fn pointers(&self, alloc: Global, first: u32) -> Result<Vec<(u32, u32)>, AllocError>
-        requires { (pairs : List Pair) × HoldsByTable self.now (entries_of pairs) × (first ≡ 2048 + records_length pairs) × (finished_length pairs < 2 ^ 32) }
-        ensures { IfOk result (λ pointers. (pairs : List Pair) → HoldsByTable self.now (entries_of pairs) → first ≡ 2048 + records_length pairs
-            → finished_length pairs < 2 ^ 32 → pointers.items ≡ pointers_of pairs) }
+        requires { (pairs : List Pair) × AreTablesOf pairs self.now first }
+        ensures { IfOk result (λ found. (pairs : List Pair) → AreTablesOf pairs self.now first → found.items ≡ pointers_of pairs) }
     {
         let mut pointers = Vec::with_capacity(alloc, TABLE_COUNT)?;
         let mut place = first;

@@ -17,12 +17,12 @@ use Rattle.rule_lines.proofs.FaultLemmas.{fault_beside-none}
 use Rattle.rule_lines.proofs.SettingLemmas.{IsInstr-instr_of}
 
 -- rules after rules
-AreRules-append : (rules more : List Rule) → AreRules rules → AreRules more → AreRules (rules ++ more)
+pub AreRules-append : (rules more : List Rule) → AreRules rules → AreRules more → AreRules (rules ++ more)
 AreRules-append [] more known known' = known'
 AreRules-append (rule ∷ rules) more known known' = (known.0, AreRules-append rules more known.1 known')
 
 -- one instruction under many addresses
-AreRules-pairs_with : (instr : Instr) (addresses : List (List ℕ)) → IsInstr instr → AreRules (pairs_with instr addresses)
+pub AreRules-pairs_with : (instr : Instr) (addresses : List (List ℕ)) → IsInstr instr → AreRules (pairs_with instr addresses)
 AreRules-pairs_with instr [] known = tt
 AreRules-pairs_with instr (address ∷ addresses) known = (known, AreRules-pairs_with instr addresses known)
 

@@ -174,7 +174,9 @@ impl RuleList {
 
     /// How many rules there are: as many as addresses.
     pub fn len(&self) -> usize
-        ensures { result ≡ length self.now }
+        // each of them has an instruction that may be
+        ensures known { AreRules self.now }
+        ensures len { result ≡ length self.now }
     {
         self.len
     }

@@ -6,5 +6,5 @@ use Rattle.cdb_read.proofs.StoredRules.{first_value-stored}
 use Rattle.cdb_read.proofs.laws.same_as_list.Goals as goal
 
 pub returns : goal.returns
-returns c file text compiled address =
+returns c file text address compiled =
     reading_is file (stored (pairs_of text)) compiled address ∙ first_value-stored (pairs_of text) address

@@ -1,0 +1,23 @@
+//! The lengths of a compiled file's parts, and its limit.
+ghost use Rattle.std.specs.Prelude.{◌≡◌};
+ghost use Rattle.cdb_write.specs.Making.{limit_of};
+
+/// The length of the pointers, with which a file begins.
+pub const HEADER_LENGTH: usize = 2048;
+
+/// The length of the two lengths that begin a record.
+pub const LENGTHS_LENGTH: usize = 8;
+
+/// The length of the two slots that a table has for each record.
+pub const SLOTS_LENGTH: usize = 16;
+
+/// The number of tables.
+pub const TABLE_COUNT: usize = 256;
+
+/// How long a file may be at most, where so many bytes are asked for: at least its pointers, and at most as many bytes as
+/// have a place.
+pub fn file_limit(limit: u64) -> u64
+    ensures { result ≡ limit_of limit }
+{
+    limit.clamp(2048, 4294967295)
+}
