@@ -234,6 +234,7 @@ module _ {D : Type 0} {T : Type 0} (honest : Bool) (state : D → Directory) (mo
         fits = λ h. step_fits outcome (fits h) (has h) (does h);
         changes = λ h. step_changes outcome call calls (does h);
         keeps = λ h. step_keeps outcome (λ image left. only image h left) (time h) (does h) keeps part;
+        stops = λ h. record { call = whole; is_call = call; time = time h };
         settling = λ is. absurd (cc);
         device = λ h. of_device Filling outcome (sure h);
         failures = cause.later;
@@ -260,16 +261,7 @@ pub patch_noted : {T : Type 0} (s t s' : Installing) (outcome : Result T DirFaul
     → ((is_ok outcome ≡ true) × (t ≡ record s { patched = true })) ⊎ ((is_ok outcome ≡ false) × (t ≡ s)) → s' ≡ advanced (λ (x : T). record s { patched = true }) s outcome
 patch_noted s t s' outcome is cases = is ∙ after_patch s t outcome cases
 
--- of a call that succeeded, as an answer of another type
-pub done_noted : {T : Type 0} (U : Type 0) (s s' : Installing) (next : T → Installing) (outcome : Result T DirFault) (x : T) (y : U)
-    → outcome ≡ Ok x → s' ≡ noted Filling (next x) (Ok y) → s' ≡ advanced next s outcome
-done_noted U s s' next outcome x y outcome_is is = is ∙ ap (advanced next s) (sym outcome_is)
-
-pub done_answer : {T : Type 0} (U : Type 0) (outcome : Result T DirFault) (result : Result Phase InstallFault) (x : T) (y : U)
-    → outcome ≡ Ok x → result ≡ answer_of {T = U} Filling (Ok y) → result ≡ answer_of Filling outcome
-done_answer U outcome result x y outcome_is is = is ∙ ap (answer_of Filling) (sym outcome_is)
-
--- and of one that failed
+-- of a call that failed, as an answer of another type
 other_failure : {T : Type 0} (U : Type 0) (s : Installing) (next : T → Installing) (fault : DirFault) → noted {T = U} Filling s (Err fault) ≡ advanced next s (Err fault)
 other_failure U s next NoMemory = refl
 other_failure U s next NoScratch = refl
@@ -322,6 +314,11 @@ still_steps honest state moment left_since failed s s' dir result s'_is result_i
       keeps = λ h. record {
         lasts = λ olds before. before;
         any_moment = λ olds before. started moment left_since dir (HasAmong s.names.cdb olds) (λ image left. image_has (state dir) image s.names.cdb olds before (only image h left));
+      };
+      stops = λ h. record {
+        call = appends [];
+        is_call = inl ([], refl);
+        time = record { later = omega arith; nothing_else = λ earlier image le left. inl left; keeps = λ earlier image le left. left };
       };
       settling = λ is. absurd (cc);
       device = λ h. tt;

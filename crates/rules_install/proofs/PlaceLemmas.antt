@@ -7,10 +7,9 @@ use Rattle.rule_lines.specs.Codes.{code_of}
 use Rattle.rule_lines.specs.Pairs.{Rule}
 use Rattle.cdb_write.specs.Format.{Pair, entries_of, hash_of, record_of, records_of}
 use Rattle.cdb_write.specs.Image.{finished_length, records_length}
-use Rattle.cdb_write.specs.Tables.{HoldsByTable}
+use Rattle.cdb_write.specs.Tables.{AreTablesOf, HoldsByTable}
 use Rattle.cdb_write.proofs.RecordLemmas.{entries_from-push, finished_length-push, length-record_bytes, records_of-push}
 use Rattle.cdb_read.specs.Compiled.{pair_of, stored}
-use Rattle.rules_install.specs.Prepares.{Prepares}
 
 -- the first rules as they are stored
 abbrev pub first_stored : List Rule → ℕ → List Pair
@@ -99,7 +98,7 @@ Placed-fits rules place tables end finished limit all placed =
 
 -- and it is prepared
 pub Placed-prepares : (rules : List Rule) (place : ℕ) (tables : List (List (ℕ × ℕ))) (end finished limit : ℕ) → length rules ≤ place → limit < 2 ^ 32 → Placed rules place tables end finished limit
-    → Prepares rules tables end
+    → AreTablesOf (stored rules) tables end
 Placed-prepares rules place tables end finished limit all small placed =
     let same = first_stored-all rules place all in
     record {

@@ -102,6 +102,7 @@ module _ {D : Type 0} (honest : Bool) (state : D → Directory) (moment : D → 
         fits = λ h. noted_fits next s call (state old) (state new) outcome is_open (fits h) (one.does h) (there h);
         changes = λ h. call_changes next s call (state old) (state new) outcome is_call (one.does h);
         keeps = λ h. call_keeps h (keeps h);
+        stops = λ h. record { call = call; is_call = is_call; time = one.time h };
         settling = no_memory next outcome memory;
         device = λ h. of_device next outcome (one.sure h);
         failures = one.cause.later;

@@ -13,7 +13,7 @@ use Rattle.rules_install.specs.declared.fault.InstallFault.TheVariants.{Over, Ou
 use Rattle.rules_install.specs.NamePair.{NamePair}
 use Rattle.rules_install.specs.Filled.{whole_file, fillings_left}
 use Rattle.rules_install.specs.Installing.{Installing, Fits, FitsPhase, next_of, next_phase, after_filling}
-use Rattle.rules_install.specs.Steps.{Changes, IsSame, Goes, HasFilled, IsOfDevice, StepKeeps, StepsTo, BlamesDevice, may_stand}
+use Rattle.rules_install.specs.Steps.{Changes, IsSame, Goes, HasFilled, IsOfDevice, StepKeeps, StepStops, StepsTo, BlamesDevice, may_stand}
 use Rattle.rules_install.proofs.StepFits.{done_lasts}
 
 -- all that a step promises, but for what its file is compiled of
@@ -26,6 +26,7 @@ pub record StepEnds {D : Type 0} (honest : Bool) (state : D → Directory) (mome
   pub more : result ≡ Ok Filling → fillings_left s'.rules s'.filled s'.patched < fillings_left s.rules s.filled s.patched
   pub kept : (result ≡ Ok Filling → ⊥) → HasFilled s s'
   pub changes : IsTrue honest → s.over ≡ false → s.reached ≢ Some Done → Changes s (next_phase s) (state old) (state new) result
+  pub time : IsTrue honest → s.over ≡ false → s.reached ≢ Some Done → StepStops state moment left_since (next_phase s) s old new
   pub fits : IsTrue honest → Fits s' (state new)
   pub old_or_new : IsTrue honest → StepKeeps state moment left_since (next_phase s) s old new
   pub done : IsTrue honest → result ≡ Ok Done → LastsAmong (state new) s.names.cdb (Some (whole_file s.rules) ∷ [])
@@ -100,6 +101,7 @@ module _ {D : Type 0} (honest : Bool) (state : D → Directory) (moment : D → 
     more = λ is. absurd (cc);
     kept = λ _. record { filled = refl; patched = refl };
     changes = λ h is_open. absurd (cc);
+    time = λ h is_open. absurd (cc);
     fits = fits;
     old_or_new = λ h. still_keeps (next_phase s) dir (only h);
     done = λ h is. absurd (cc);
@@ -119,6 +121,7 @@ module _ {D : Type 0} (honest : Bool) (state : D → Directory) (moment : D → 
     more = λ is. absurd (cc);
     kept = λ _. record { filled = refl; patched = refl };
     changes = λ h _ other. absurd (other done);
+    time = λ h _ other. absurd (other done);
     fits = fits;
     old_or_new = λ h. still_keeps (next_phase s) dir (only h);
     done = λ h is. done_stands s (state dir) (fits h) is_open done;
@@ -142,6 +145,7 @@ module _ {D : Type 0} (honest : Bool) (state : D → Directory) (moment : D → 
     more = more;
     kept = steps.kept;
     changes = λ h _ _. subst (λ phase. Changes s phase (state old) (state new) result) (sym is) (steps.changes h);
+    time = λ h _ _. subst (λ phase. StepStops state moment left_since phase s old new) (sym is) (steps.stops h);
     fits = steps.fits;
     old_or_new = λ h. subst (λ phase. StepKeeps state moment left_since phase s old new) (sym is) (steps.keeps h);
     done = λ h done. step_done next s s' (state new) result steps.same steps.goes (steps.fits h) done;

@@ -95,7 +95,7 @@ syncs_scratch d name bytes named scratch =
     let at = numbered d.files d.scratch _ scratch in
     ap (λ o. file_at (closed (with_scratch lasting o d)) name) at.is ∙ ap (λ o. option_and_then (λ n. slice_get (with_file lasting at.n d.files) n) o) (named ∙ at.is) ∙ with_file_at lasting d.files at.n _ at.there
 
-filled_has : (s : Installing) (d : Directory) → next_phase s ≡ Synced → FitsPhase s d s.reached → HasScratch s d
+pub filled_has : (s : Installing) (d : Directory) → next_phase s ≡ Synced → FitsPhase s d s.reached → HasScratch s d
 filled_has s d next fits = ⊎_elim (λ is. subst (λ reached. FitsPhase s d reached) is fits) (λ is. subst (λ reached. FitsPhase s d reached) is fits) (synced_next s.reached s.patched next).0
 
 pub has_scratch : (s : Installing) (d : Directory) → next_phase s ≡ Synced → FitsPhase s d s.reached → d.scratch ≡ None → ⊥

@@ -1,26 +1,34 @@
 -- How a whole installation goes on from step to step, and how it ends.
-use Rattle.std.proofs.Common.{◌≡◌, ◌≢◌, inl, inr, Bool, true, false, ℕ, ◌+◌, ◌<◌, ◌≤◌, List, [], ◌∷◌, refl, sym, ◌∙◌, ap, subst, arith}
-use Rattle.std.specs.Prelude.{Option, None, Some, Result, Ok, Err, IfErr}
-use Rattle.dir_disk.specs.Directory.{Directory}
+use Rattle.std.proofs.Common.{◌≡◌, ◌≢◌, inl, inr, ⊎_elim, Bool, true, false, ℕ, ◌+◌, ◌<◌, ◌≤◌, List, [], ◌∷◌, take, drop, refl, sym, ◌∙◌, ap, subst, arith}
+use Rattle.std.proofs.lemmas.List.{take-append-drop}
+use Rattle.std.proofs.lemmas.List.Sums.{fold-append}
+use Rattle.std.specs.Prelude.{Option, None, Some, option_and_then, option_map, slice_get, Result, Ok, Err, IfErr, OnOk}
+use Rattle.std.specs.FinMap.{get}
+use Rattle.dir_disk.specs.Calls.{Call, settles}
+use Rattle.dir_disk.specs.Directory.{Directory, FileState, content, file_at, number_of}
+use Rattle.dir_disk.specs.NameTable.{NameTable, Names, SettlesSome, after_change, after_changes, current}
+use Rattle.dir_disk.specs.Outcomes.{Fails}
 use Rattle.dir_disk.specs.Images.{IsImage}
-use Rattle.dir_disk.specs.Lasting.{IsAmong, LastsAmong, HasAmong}
+use Rattle.dir_disk.specs.Lasting.{IsAmong, LastsAmong, HasAmong, StandsFor}
 use Rattle.dir_disk.specs.Moments.{LeavesOnly}
 use Rattle.dir_disk.specs.Replacing.{Stays}
 use Rattle.dir_disk.specs.declared.fault.DirFault.{DirFault}
 use Rattle.dir_disk.specs.declared.fault.DirFault.TheVariants.{NoScratch, NoName, Device, OutOfMemory as NoMemory}
 use Rattle.dir_disk.proofs.Lasting.{image_has, lasts_more}
 use Rattle.dir_disk.proofs.Moments.{started}
+use Rattle.dir_disk.proofs.NameTables.{left_current}
 use Rattle.dir_disk.proofs.Replacing.{stays_then, stays_more}
 use Rattle.rule_lines.specs.declared.limits.Limits.{Limits}
 use Rattle.rules_install.specs.NamePair.{NamePair}
 use Rattle.rules_install.specs.Filled.{whole_file, fillings_left}
-use Rattle.rules_install.specs.Installing.{Installing, next_of, next_phase}
-use Rattle.rules_install.specs.Steps.{Changes, Goes, HasFilled, IsSame, StepKeeps, BlamesDevice as StepBlames, answer_of, may_stand}
-use Rattle.rules_install.specs.Whole.{BlamesDevice, Ends, EndsRun, IsRefused, MayBeInstalled, may_have}
+use Rattle.rules_install.specs.Installing.{Installing, FitsPhase, next_of, next_phase, synced_file}
+use Rattle.rules_install.specs.Steps.{BlamesFault, Changes, Goes, HasFilled, IsOfDevice, IsSame, StepKeeps, answer_of, may_stand}
+use Rattle.rules_install.specs.Whole.{Ends, EndsRun, FailsAt, IsRefused, MayBeInstalled, RefusesText, StandsAtDone, TellsWhere, may_have}
 use Rattle.rules_install.specs.declared.Phase.{Phase}
 use Rattle.rules_install.specs.declared.Phase.TheVariants.{Fresh, Filling, Synced, Named, Done}
 use Rattle.rules_install.specs.declared.fault.InstallFault.{InstallFault}
 use Rattle.rules_install.specs.declared.fault.InstallFault.TheVariants.{Line, TooLarge, Disk, Over, OutOfMemory}
+use Rattle.rules_install.proofs.StepFits.{numbered}
 
 -- ---- the steps come to an end
 
@@ -184,15 +192,103 @@ module _ {D : Type 0} (state : D → Directory) (moment : D → ℕ) (left_since
   failed_lasts start s s' old mid new Over olds same goes settling undone changes so_far_is keeps lasts = absurd goes
 
 -- a step fails only as a run may
-pub ends_run : (next : Phase) (s s' : Installing) (fault : InstallFault) → Goes next s s' (Err fault) → EndsRun (Err fault)
-ends_run next s s' (Disk fault phase) goes = tt
-ends_run next s s' OutOfMemory goes = tt
-ends_run next s s' (Line fault) goes = absurd goes
-ends_run next s s' TooLarge goes = absurd goes
-ends_run next s s' Over goes = absurd goes
+pub ends_run : (s s' : Installing) (fault : InstallFault) → s.over ≡ false → HasFilled s s' → Goes (next_phase s) s s' (Err fault) → EndsRun s' (Err fault)
+ends_run s s' (Disk fault phase) is_open has goes = (ap (λ r. next_of r s'.patched) goes.1 ∙ ap (next_of s.reached) has.patched ∙ sym goes.0, goes.2)
+ends_run s s' OutOfMemory is_open has goes = ap (λ (i : Installing). i.over) goes ∙ is_open
+ends_run s s' (Line fault) is_open has goes = absurd goes
+ends_run s s' TooLarge is_open has goes = absurd goes
+ends_run s s' Over is_open has goes = absurd goes
+
+-- and the last one ends it
+pub ends_done : (s s' : Installing) (phase : Phase) → phase ≡ Done → Goes (next_phase s) s s' (Ok phase) → EndsRun s' (Ok tt)
+ends_done s s' phase done goes = (goes.1 ∙ ap Some (sym goes.0 ∙ done), goes.2)
+
+-- a fault of the directory tells where its call failed
+pub tells_where : (start s s' : Installing) (old mid new : Directory) (fault : InstallFault) → IsSame start s → s.reached ≢ Some Done → FitsPhase s mid s.reached → (s.reached ≡ None → mid ≡ old)
+    → Goes (next_phase s) s s' (Err fault) → IsOfDevice (Err fault) → Changes s (next_phase s) mid new (Err fault) → TellsWhere start old new fault
+tells_where start s s' old mid new (Disk Device phase) same undone fits first goes device changes = record {
+  under_way = s;
+  same = same;
+  undone = undone;
+  next = sym goes.0;
+  before = mid;
+  fits = fits;
+  first = first;
+  changes = subst (λ p. Changes s p mid new (Err (Disk Device phase))) (sym goes.0) changes;
+}
+tells_where start s s' old mid new (Disk NoScratch phase) same undone fits first goes device changes = absurd (cc)
+tells_where start s s' old mid new (Disk NoName phase) same undone fits first goes device changes = absurd (cc)
+tells_where start s s' old mid new (Disk NoMemory phase) same undone fits first goes device changes = absurd (cc)
+tells_where start s s' old mid new OutOfMemory same undone fits first goes device changes = tt
+tells_where start s s' old mid new (Line fault) same undone fits first goes device changes = tt
+tells_where start s s' old mid new TooLarge same undone fits first goes device changes = tt
+tells_where start s s' old mid new Over same undone fits first goes device changes = tt
+
+-- a settling that failed keeps the names as a reader sees them
+current_some : (old new : NameTable) → SettlesSome old new → current new ≡ current old
+current_some old new some =
+    (λ i. after_changes (some.settled i) (some.pending i))
+    ∙ sym (fold-append after_change old.settled (take some.count old.pending) (drop some.count old.pending))
+    ∙ ap (after_changes old.settled) (take-append-drop some.count old.pending)
+
+settled_stands : (d e : Directory) (name : List ℕ) (bytes : List ℕ) → Fails settles d e → file_at d name ≡ Some (record { bytes = bytes; synced = true }) → file_at e name ≡ Some (record { bytes = bytes; synced = true })
+settled_stands d e name bytes fails has =
+    let at = numbered d.files (number_of d name) _ has in
+    ap (λ (m : Names). option_and_then (λ n. slice_get e.files n) (get m name)) (current_some d.names e.names fails.names)
+    ∙ ap (option_and_then (λ n. slice_get e.files n)) at.is
+    ∙ fails.files.each at.n _ at.there refl
+
+named_before : (reached : Option Phase) (patched : Bool) → reached ≢ Some Done → next_of reached patched ≡ Done → reached ≡ Some Named
+named_before None patched undone is = absurd (cc)
+named_before (Some Fresh) true undone is = absurd (cc)
+named_before (Some Fresh) false undone is = absurd (cc)
+named_before (Some Filling) true undone is = absurd (cc)
+named_before (Some Filling) false undone is = absurd (cc)
+named_before (Some Synced) patched undone is = absurd (cc)
+named_before (Some Named) patched undone is = refl
+named_before (Some Done) patched undone is = absurd (undone refl)
+
+-- so where it tells `Done` the whole file stands there
+at_done : (start : Installing) (old new : Directory) → FailsAt start Done old new → file_at new start.names.cdb ≡ Some (synced_file start.rules)
+at_done start old new at =
+    let s = at.under_way in
+    let named = named_before s.reached s.patched at.undone at.next in
+    let stood = subst (λ (r : Option Phase). FitsPhase s at.before r) named at.fits in
+    let fails : Fails settles at.before new = subst (λ (call : Call). Fails call at.before new) at.changes.1 at.changes.2 in
+    let stands : file_at new s.names.cdb ≡ Some (synced_file s.rules) = settled_stands at.before new s.names.cdb (whole_file s.rules) fails stood in
+    subst (λ (names : NamePair). file_at new names.cdb ≡ Some (synced_file start.rules)) at.same.names
+    (subst (λ rules. file_at new s.names.cdb ≡ Some (synced_file rules)) at.same.rules stands)
+
+pub stands_at_done : (start : Installing) (old new : Directory) (fault : InstallFault) → TellsWhere start old new fault → StandsAtDone start new fault
+stands_at_done start old new (Disk fault Fresh) at = tt
+stands_at_done start old new (Disk fault Filling) at = tt
+stands_at_done start old new (Disk fault Synced) at = tt
+stands_at_done start old new (Disk fault Named) at = tt
+stands_at_done start old new (Disk fault Done) at = at_done start old new at
+stands_at_done start old new OutOfMemory at = tt
+stands_at_done start old new (Line fault) at = tt
+stands_at_done start old new TooLarge at = tt
+stands_at_done start old new Over at = tt
+
+-- a text that is refused comes to no call of the directory
+pub refusal_tells : (limits : Limits) (text : List ℕ) (start : Installing) (old new : Directory) (fault : InstallFault) → RefusesText limits text fault → TellsWhere start old new fault
+refusal_tells limits text start old new (Disk fault phase) refuses = absurd refuses
+refusal_tells limits text start old new OutOfMemory refuses = tt
+refusal_tells limits text start old new (Line fault) refuses = tt
+refusal_tells limits text start old new TooLarge refuses = tt
+refusal_tells limits text start old new Over refuses = tt
+
+-- what stands for good stands there now
+pub stands_now : (d : Directory) (name bytes : List ℕ) → LastsAmong d name (Some bytes ∷ []) → content d name ≡ Some bytes
+stands_now d name bytes lasts = by (number_of d name) (lasts.each (current d.names) (left_current d.names))
+  where
+    by : (number : Option ℕ) → StandsFor d.files (Some bytes ∷ []) number → option_map (λ (file : FileState). file.bytes) (option_and_then (λ n. slice_get d.files n) number) ≡ Some bytes
+    by None among = ⊎_elim (λ is. absurd (cc)) (λ is. absurd is) among
+    by (Some n) stands =
+        ap (option_map (λ (file : FileState). file.bytes)) stands.2 ∙ ⊎_elim (λ is. is) (λ is. absurd is) stands.1
 
 -- the device is blamed for a failure since the start too
-pub blames_run : (before mid now : ℕ) (fault : InstallFault) → before ≤ mid → StepBlames mid now (Err fault) → BlamesDevice before now (Err fault)
+pub blames_run : (before mid now : ℕ) (fault : InstallFault) → before ≤ mid → BlamesFault mid now fault → BlamesFault before now fault
 blames_run before mid now (Disk Device phase) le (inl less) = inl (omega arith)
 blames_run before mid now (Disk Device phase) le (inr most) = inr most
 blames_run before mid now (Disk NoScratch phase) le blames = tt
@@ -228,18 +324,23 @@ settles_whole (Err fault) faults is = absurd (by fault faults is)
 
 -- ---- the answer of an installation
 
-pub ends_install : (limits : Limits) (text : List ℕ) (result : Result (Unit {0}) InstallFault) → EndsRun result → MayBeInstalled limits text → Ends limits text result
-ends_install limits text (Ok done) ends may = may
-ends_install limits text (Err (Disk fault phase)) ends may = may
-ends_install limits text (Err OutOfMemory) ends may = tt
-ends_install limits text (Err (Line fault)) ends may = absurd ends
-ends_install limits text (Err TooLarge) ends may = absurd ends
-ends_install limits text (Err Over) ends may = absurd ends
+pub ends_install : (limits : Limits) (text : List ℕ) (s : Installing) (result : Result (Unit {0}) InstallFault) → EndsRun s result → MayBeInstalled limits text → Ends limits text result
+ends_install limits text s (Ok done) ends may = may
+ends_install limits text s (Err (Disk fault phase)) ends may = may
+ends_install limits text s (Err OutOfMemory) ends may = tt
+ends_install limits text s (Err (Line fault)) ends may = absurd ends
+ends_install limits text s (Err TooLarge) ends may = absurd ends
+ends_install limits text s (Err Over) ends may = absurd ends
 
-pub not_refused : (result : Result (Unit {0}) InstallFault) → EndsRun result → IsRefused result → ⊥
-not_refused (Ok done) ends refused = refused
-not_refused (Err (Disk fault phase)) ends refused = refused
-not_refused (Err OutOfMemory) ends refused = refused
-not_refused (Err (Line fault)) ends refused = ends
-not_refused (Err TooLarge) ends refused = ends
-not_refused (Err Over) ends refused = ends
+pub not_refused : (s : Installing) (result : Result (Unit {0}) InstallFault) → EndsRun s result → IsRefused result → ⊥
+not_refused s (Ok done) ends refused = refused
+not_refused s (Err (Disk fault phase)) ends refused = refused
+not_refused s (Err OutOfMemory) ends refused = refused
+not_refused s (Err (Line fault)) ends refused = ends
+not_refused s (Err TooLarge) ends refused = ends
+not_refused s (Err Over) ends refused = ends
+
+-- two facts of an answer that is no fault
+pub on_both : {A E P Q R : Type 0} (result : Result A E) → OnOk result P → OnOk result Q → (P → Q → R) → OnOk result R
+on_both (Ok x) p q r = r p q
+on_both (Err e) p q r = tt

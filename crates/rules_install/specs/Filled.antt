@@ -2,6 +2,7 @@
 use Rattle.std.specs.Prelude.{ℕ, ◌+◌, ◌-◌, Bool, List, ◌++◌, length, take, replicate, if◌then◌else◌}
 use Rattle.cdb_write.specs.Format.{records_of}
 use Rattle.cdb_write.specs.Image.{image_of, tables_of}
+use Rattle.cdb_write.specs.Written.{Written}
 use Rattle.cdb_read.specs.Compiled.{stored}
 use Rattle.rule_lines.specs.Pairs.{Rule}
 
@@ -20,3 +21,7 @@ filled_file rules filled patched = if patched then whole_file rules else take fi
 -- how often it can still be filled: with each byte, and with the pointers
 abbrev pub fillings_left : List Rule → ℕ → Bool → ℕ
 fillings_left rules filled patched = (length (blank_file rules) - filled) + (if patched then 0 else 1)
+
+-- it is the compiled file that is written of them
+abbrev pub IsWritten : List Rule → Type 0
+IsWritten rules = Written (whole_file rules) (stored rules)

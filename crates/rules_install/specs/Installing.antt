@@ -1,11 +1,13 @@
 -- An installation under way, and the directory as its steps leave it.
-use Rattle.std.specs.Prelude.{◌≡◌, ⊤, ℕ, Bool, true, false, List, slice_get, Option, None, Some, option_and_then}
+use Rattle.std.specs.Prelude.{◌≡◌, ◌≢◌, ◌<◌, ⊤, ℕ, Bool, true, false, List, [], ◌∷◌, slice_get, Option, None, Some, option_and_then}
 use Rattle.std.specs.FinMap.{get}
 use Rattle.dir_disk.specs.NameTable.{Names, CanBeLeft}
 use Rattle.dir_disk.specs.Directory.{Directory, FileState, number_of, scratch_of, file_at}
+use Rattle.dir_disk.specs.Lasting.{LastsAmong}
 use Rattle.rule_lines.specs.Pairs.{Rule}
+use Rattle.rule_lines.specs.Rows.{AreRules}
 use Rattle.rules_install.specs.NamePair.{NamePair}
-use Rattle.rules_install.specs.Filled.{whole_file, filled_file}
+use Rattle.rules_install.specs.Filled.{IsWritten, whole_file, filled_file, fillings_left}
 use Rattle.rules_install.specs.declared.Phase.{Phase}
 use Rattle.rules_install.specs.declared.Phase.TheVariants.{Fresh, Filling, Synced, Named, Done}
 
@@ -63,3 +65,23 @@ FitsPhase s d (Some Done) = (names : Names) → CanBeLeft d.names names → file
 -- an installation that is not over finds the directory as its steps left it
 abbrev pub Fits : Installing → Directory → Type 0
 Fits s d = s.over ≡ false → FitsPhase s d s.reached
+
+-- nothing was put into the scratch file
+abbrev pub IsUnfilled : Installing → Type 0
+IsUnfilled s = (s.filled ≡ 0) × (s.patched ≡ false)
+
+-- what is true of each installation, however far it has come: its rules are rules, its names are two, its file is compiled of its rules,
+-- and where the scratch file was just made, nothing was put into it
+pub record IsConsistent (s : Installing) : Type 0 where
+  pub known : AreRules s.rules
+  pub names : s.names.cdb ≢ s.names.tmp
+  pub written : IsWritten s.rules
+  pub unfilled : s.reached ≡ Some Fresh → IsUnfilled s
+
+-- it was filled further
+abbrev pub FillsMore : Installing → Installing → Type 0
+FillsMore old new = fillings_left new.rules new.filled new.patched < fillings_left old.rules old.filled old.patched
+
+-- the whole file stands under the name of the rules file, and there alone whenever the machine stops
+abbrev pub HasForGood : Installing → Directory → Type 0
+HasForGood s d = LastsAmong d s.names.cdb (Some (whole_file s.rules) ∷ [])

@@ -1,6 +1,56 @@
 -- What an installation is.
-use Rattle.rules_install.specs.Installing.{Installing}
+use Rattle.std.specs.Prelude.{◌≡◌, ◌≢◌, ℕ, Bool, true, false, length, Some, Result}
+use Rattle.dir_disk.specs.Directory.{Directory}
+use Rattle.rules_install.specs.Filled.{blank_file}
+use Rattle.rules_install.specs.Installing.{Installing, next_phase}
+use Rattle.rules_install.specs.Steps.{Changes, Goes, StepKeeps, StepStops, StepsTo}
+use Rattle.rules_install.specs.declared.Phase.{Phase}
+use Rattle.rules_install.specs.declared.Phase.TheVariants.{Done}
+use Rattle.rules_install.specs.declared.fault.InstallFault.{InstallFault}
 use Rattle.rules_install.specs.declared.install.Install.{Install}
 
 abbrev pub installing : Install → Installing
 installing i = record { rules = i.pieces; names = i.names; filled = i.filled; patched = i.patched; reached = i.reached; over = i.over }
+
+-- a step answered a fault of the directory, or none did
+abbrev pub IsOver : Install → Type 0
+IsOver i = (installing i).over ≡ true
+
+abbrev pub IsOpen : Install → Type 0
+IsOpen i = (installing i).over ≡ false
+
+-- the last step was made, or not
+abbrev pub IsAtDone : Install → Type 0
+IsAtDone i = (installing i).reached ≡ Some Done
+
+abbrev pub IsUndone : Install → Type 0
+IsUndone i = (installing i).reached ≢ Some Done
+
+-- all bytes of the file were appended
+abbrev pub HasAllBytes : Install → Type 0
+HasAllBytes i = (installing i).filled ≡ length (blank_file (installing i).rules)
+
+-- a step does nothing, and answers this
+abbrev pub OnlyAnswers : {D : Type 0} → Result Phase InstallFault → Install → Install → D → D → Result Phase InstallFault → Type 0
+OnlyAnswers answer i i' old new result = (result ≡ answer) × (installing i' ≡ installing i) × (new ≡ old)
+
+-- the step to the next phase: what it answers, and how far the installation is then
+abbrev pub StepGoes : Install → Install → Result Phase InstallFault → Type 0
+StepGoes i i' result = Goes (next_phase (installing i)) (installing i) (installing i') result
+
+-- the directory after it
+abbrev pub StepChanges : Install → Directory → Directory → Result Phase InstallFault → Type 0
+StepChanges i old new result = Changes (installing i) (next_phase (installing i)) old new result
+
+-- all that a step to a phase promises, where the directory was as the steps before left it
+abbrev pub Steps : {D : Type 0} → Bool → (D → Directory) → (D → ℕ) → (D → ℕ → Directory → Type 0) → (D → ℕ) → Phase → Install → Install → D → D → Result Phase InstallFault → Type 0
+Steps honest state moment left_since failed next i i' old new result =
+    StepsTo honest state moment left_since failed next (installing i) (installing i') old new result
+
+-- what stands under the name of the rules file, whenever the machine stops since it began
+abbrev pub KeepsText : {D : Type 0} → (D → Directory) → (D → ℕ) → (D → ℕ → Directory → Type 0) → Install → D → D → Type 0
+KeepsText state moment left_since i old new = StepKeeps state moment left_since (next_phase (installing i)) (installing i) old new
+
+-- and all that a stop since it began may have left
+abbrev pub StopsWithin : {D : Type 0} → (D → Directory) → (D → ℕ) → (D → ℕ → Directory → Type 0) → Install → D → D → Type 0
+StopsWithin state moment left_since i old new = StepStops state moment left_since (next_phase (installing i)) (installing i) old new

@@ -6,6 +6,5 @@ pub mod NamePair
 pub mod ParseFaults
 pub mod PhaseWords
 pub mod Pieces
-pub mod Prepares
 pub mod Steps
 pub mod Whole

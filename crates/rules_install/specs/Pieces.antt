@@ -1,5 +1,6 @@
 -- The pieces of which a file is made.
-use Rattle.std.specs.Prelude.{◌-◌, ℕ, List, ◌++◌, drop, flat_map}
+use Rattle.std.specs.Prelude.{◌≡◌, ◌-◌, ◌<◌, ℕ, List, [], ◌++◌, drop, length, flat_map, Option, MatchOption, Vec}
+use Rattle.std.specs.Global.{Global}
 use Rattle.std.specs.List.{range_with_len}
 use Rattle.cdb_write.specs.Format.{records_of}
 use Rattle.cdb_write.specs.Image.{table_bytes, tables_of}
@@ -15,3 +16,13 @@ abbrev pub from_piece : List Rule → Piece → List ℕ
 from_piece rules Zeros = blank_file rules
 from_piece rules (Record i) = records_of (drop i (stored rules)) ++ tables_of (stored rules)
 from_piece rules (Table t) = flat_map (λ u. table_bytes (table_entries u (stored rules))) (range_with_len t (256 - t))
+
+-- what is left of the piece under way and all pieces after it are what is still to be appended
+abbrev pub IsLeft : List Rule → List ℕ → ℕ → Piece → ℕ → Type 0
+IsLeft rules piece taken next filled = drop taken piece ++ from_piece rules next ≡ drop filled (blank_file rules)
+
+-- a piece at a place, and all after it from the next place on; or nothing is left there
+abbrev pub Continues : List Rule → Piece → Option (Vec ℕ Global × Piece) → Type 0
+Continues rules place piece =
+    MatchOption piece (from_piece rules place ≡ [])
+    (λ p. (0 < length p.0.items) × (from_piece rules place ≡ p.0.items ++ from_piece rules p.1))

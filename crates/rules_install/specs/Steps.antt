@@ -1,10 +1,10 @@
 -- What a step of an installation does, by its answer.
-use Rattle.std.specs.Prelude.{◌≡◌, ◌≢◌, ◌⊎◌, ◌<◌, ◌≤◌, ◌^◌, ◌-◌, ⊤, ℕ, Bool, IsTrue, true, false, List, ◌∷◌, Option, Some, Result, Ok, Err}
+use Rattle.std.specs.Prelude.{◌≡◌, ◌≢◌, ◌⊎◌, ◌<◌, ◌≤◌, ◌^◌, ◌-◌, ⊤, ℕ, Bool, IsTrue, true, false, List, ◌∷◌, Option, Some, Result, Ok, Err, IfErr}
 use Rattle.dir_disk.specs.Directory.{Directory}
 use Rattle.dir_disk.specs.Calls.{Call, makes, appends, patches, syncs, renames, settles, after}
-use Rattle.dir_disk.specs.Outcomes.{Fails}
+use Rattle.dir_disk.specs.Outcomes.{Fails, LeftBy}
 use Rattle.dir_disk.specs.Lasting.{LastsAmong, HasAmong}
-use Rattle.dir_disk.specs.Moments.{LeavesOnly}
+use Rattle.dir_disk.specs.Moments.{Elapses, LeavesOnly}
 use Rattle.dir_disk.specs.declared.fault.DirFault.{DirFault}
 use Rattle.dir_disk.specs.declared.fault.DirFault.TheVariants.{Device, OutOfMemory as NoMemory}
 use Rattle.rules_install.specs.Filled.{whole_file}
@@ -57,6 +57,13 @@ pub record StepKeeps {D : Type 0} (state : D → Directory) (moment : D → ℕ)
   pub any_moment : (olds : List (Option (List ℕ))) → LastsAmong (state old) s.names.cdb olds
       → LeavesOnly moment left_since old new (HasAmong s.names.cdb (may_stand next (whole_file s.rules) olds))
 
+-- Whenever the machine stopped since a step to a phase began: what is left is what could be left before, or what a stop leaves
+-- before, within or right after its one call.
+pub record StepStops {D : Type 0} (state : D → Directory) (moment : D → ℕ) (left_since : D → ℕ → Directory → Type 0) (next : Phase) (s : Installing) (old new : D) : Type 0 where
+  pub call : Call
+  pub is_call : IsCallOf s next call
+  pub time : Elapses (moment old) (moment new) (left_since old) (left_since new) (LeftBy call (state old) (state new))
+
 -- the answer to what a call of the directory answered, on the way to a phase
 abbrev pub answer_of : {T : Type 0} → Phase → Result T DirFault → Result Phase InstallFault
 answer_of next (Ok done) = Ok next
@@ -75,9 +82,12 @@ IsOfDevice (Err (Disk fault phase)) = fault ≡ Device
 IsOfDevice result = ⊤
 
 -- the device is blamed only where a failure was counted, or no more can be
+abbrev pub BlamesFault : ℕ → ℕ → InstallFault → Type 0
+BlamesFault before now (Disk Device phase) = (before < now) ⊎ (now ≡ 2 ^ 64 - 1)
+BlamesFault before now fault = ⊤
+
 abbrev pub BlamesDevice : ℕ → ℕ → Result Phase InstallFault → Type 0
-BlamesDevice before now (Err (Disk Device phase)) = (before < now) ⊎ (now ≡ 2 ^ 64 - 1)
-BlamesDevice before now result = ⊤
+BlamesDevice before now result = IfErr result (BlamesFault before now)
 
 -- all that a step to a phase promises, where the directory was as the steps before left it
 pub record StepsTo {D : Type 0} (honest : Bool) (state : D → Directory) (moment : D → ℕ) (left_since : D → ℕ → Directory → Type 0) (failed : D → ℕ)
@@ -88,6 +98,7 @@ pub record StepsTo {D : Type 0} (honest : Bool) (state : D → Directory) (momen
   pub fits : IsTrue honest → Fits s' (state new)
   pub changes : IsTrue honest → Changes s next (state old) (state new) result
   pub keeps : IsTrue honest → StepKeeps state moment left_since next s old new
+  pub stops : IsTrue honest → StepStops state moment left_since next s old new
   pub settling : next ≡ Done → result ≢ Err OutOfMemory
   pub device : IsTrue honest → IsOfDevice result
   pub failures : failed old ≤ failed new

@@ -1,13 +1,24 @@
 -- What a whole installation answers.
-use Rattle.std.specs.Prelude.{◌≡◌, ◌⊎◌, ◌<◌, ◌≤◌, ◌^◌, ◌-◌, ⊤, ℕ, List, ◌∷◌, Option, Some, Result, Ok, Err}
+use Rattle.std.specs.Prelude.{◌≡◌, ◌≢◌, ◌<◌, ◌≤◌, ⊤, ℕ, true, false, List, ◌∷◌, Option, None, Some, Result, Ok, Err}
+use Rattle.dir_disk.specs.Directory.{Directory, file_at}
+use Rattle.dir_disk.specs.Lasting.{HasAmong, LastsAmong}
+use Rattle.dir_disk.specs.Moments.{LeavesOnly}
 use Rattle.dir_disk.specs.declared.fault.DirFault.TheVariants.{Device}
 use Rattle.cdb_write.specs.Image.{finished_length}
 use Rattle.cdb_write.specs.Making.{limit_of}
 use Rattle.cdb_read.specs.Compiled.{stored}
+use Rattle.cdb_read.specs.Reading.{reading}
 use Rattle.rule_lines.specs.Faults.{IsAccepted, Refuses}
 use Rattle.rule_lines.specs.Pairs.{pairs_of}
+use Rattle.rule_lookup.specs.Decisions.{decision_by, decision_of}
+use Rattle.rule_lookup.specs.Peers.{Client}
 use Rattle.rule_lines.specs.declared.limits.Limits.{Limits}
 use Rattle.rule_lines.specs.declared.fault.ParseFault.TheVariants.{Line as LineOf}
+use Rattle.rules_install.specs.Filled.{whole_file}
+use Rattle.rules_install.specs.NamePair.{NamePair}
+use Rattle.rules_install.specs.Installing.{Installing, FitsPhase, begun, next_phase, synced_file}
+use Rattle.rules_install.specs.Steps.{Changes, IsSame}
+use Rattle.rules_install.specs.declared.Phase.{Phase}
 use Rattle.rules_install.specs.declared.Phase.TheVariants.{Named, Done}
 use Rattle.rules_install.specs.declared.fault.InstallFault.{InstallFault}
 use Rattle.rules_install.specs.declared.fault.InstallFault.TheVariants.{Line, TooLarge, Disk, Over, OutOfMemory}
@@ -15,15 +26,6 @@ use Rattle.rules_install.specs.declared.fault.InstallFault.TheVariants.{Line, To
 -- the text is accepted, and its file keeps to the limit
 abbrev pub MayBeInstalled : Limits → List ℕ → Type 0
 MayBeInstalled limits text = IsAccepted limits text × (finished_length (stored (pairs_of text)) ≤ limit_of limits.file)
-
--- which answer comes of which text
-abbrev pub Ends : Limits → List ℕ → Result (Unit {0}) InstallFault → Type 0
-Ends limits text (Ok done) = MayBeInstalled limits text
-Ends limits text (Err (Line fault)) = Refuses limits text (LineOf fault)
-Ends limits text (Err TooLarge) = IsAccepted limits text × (limit_of limits.file < finished_length (stored (pairs_of text)))
-Ends limits text (Err (Disk fault phase)) = MayBeInstalled limits text
-Ends limits text (Err OutOfMemory) = ⊤
-Ends limits text (Err Over) = ⊥
 
 -- a text is refused with this fault, or there was no memory
 abbrev pub RefusesText : Limits → List ℕ → InstallFault → Type 0
@@ -38,12 +40,50 @@ abbrev pub Begins : {T : Type 0} → Limits → List ℕ → Result T InstallFau
 Begins limits text (Ok install) = MayBeInstalled limits text
 Begins limits text (Err fault) = RefusesText limits text fault
 
--- all steps end with `Done`, a fault of the directory, or want of memory
-abbrev pub EndsRun : Result (Unit {0}) InstallFault → Type 0
-EndsRun (Ok done) = ⊤
-EndsRun (Err (Disk fault phase)) = ⊤
-EndsRun (Err OutOfMemory) = ⊤
-EndsRun (Err fault) = ⊥
+-- and where it is installed: only a text that may be comes as far as a fault of the directory
+abbrev pub Ends : Limits → List ℕ → Result (Unit {0}) InstallFault → Type 0
+Ends limits text (Ok done) = MayBeInstalled limits text
+Ends limits text (Err (Disk fault phase)) = MayBeInstalled limits text
+Ends limits text (Err fault) = RefusesText limits text fault
+
+-- All steps end with `Done`; or with a fault of the directory, with the phase that was to be reached, after which the installation is
+-- over; or for want of memory, after which it is not.
+abbrev pub EndsRun : Installing → Result (Unit {0}) InstallFault → Type 0
+EndsRun s (Ok done) = (s.reached ≡ Some Done) × (s.over ≡ false)
+EndsRun s (Err (Disk fault phase)) = (next_phase s ≡ phase) × (s.over ≡ true)
+EndsRun s (Err OutOfMemory) = s.over ≡ false
+EndsRun s (Err fault) = ⊥
+
+-- A directory after the call on the way to a phase failed: the steps before had left it as they do, or it was this one where no
+-- step was made.
+pub record FailsAt (start : Installing) (phase : Phase) (old new : Directory) : Type 0 where
+  pub under_way : Installing
+  pub same : IsSame start under_way
+  pub undone : under_way.reached ≢ Some Done
+  pub next : next_phase under_way ≡ phase
+  pub before : Directory
+  pub fits : FitsPhase under_way before under_way.reached
+  pub first : under_way.reached ≡ None → before ≡ old
+  pub changes : Changes under_way phase before new (Err (Disk Device phase))
+
+-- so a fault tells where its call failed
+abbrev pub TellsWhere : Installing → Directory → Directory → InstallFault → Type 0
+TellsWhere start old new (Disk fault phase) = FailsAt start phase old new
+TellsWhere start old new fault = ⊤
+
+-- where it tells `Done`, the whole file stands under the name of the rules file
+abbrev pub StandsAtDone : Installing → Directory → InstallFault → Type 0
+StandsAtDone start new (Disk fault Done) = file_at new start.names.cdb ≡ Some (synced_file start.rules)
+StandsAtDone start new fault = ⊤
+
+-- the installation of a text, begun
+abbrev pub begun_of : List ℕ → NamePair → Installing
+begun_of text names = begun (pairs_of text) names
+
+-- what stands under a name decides each peer as a text does
+abbrev pub DecidesAs : Option (List ℕ) → List ℕ → Type 0
+DecidesAs bytes text =
+    (file : List ℕ) × (bytes ≡ Some file) × ((peer : Client) → decision_by (reading file) peer ≡ Ok (decision_of text peer))
 
 -- the text was refused, or its file
 abbrev pub IsRefused : Result (Unit {0}) InstallFault → Type 0
@@ -59,7 +99,15 @@ may_have (Err (Disk fault Named)) file olds = Some file ∷ olds
 may_have (Err (Disk fault Done)) file olds = Some file ∷ olds
 may_have (Err fault) file olds = olds
 
--- the device is blamed only where a failure was counted, or no more can be
-abbrev pub BlamesDevice : ℕ → ℕ → Result (Unit {0}) InstallFault → Type 0
-BlamesDevice before now (Err (Disk Device phase)) = (before < now) ⊎ (now ≡ 2 ^ 64 - 1)
-BlamesDevice before now result = ⊤
+-- whenever the machine stopped since a run of steps began, what stood under the name of the rules file stands there, or the whole
+-- file
+abbrev pub RunKeeps : {D : Type 0} → (D → Directory) → (D → ℕ) → (D → ℕ → Directory → Type 0) → Installing → D → D → Type 0
+RunKeeps state moment left_since s old new =
+    (olds : List (Option (List ℕ))) → LastsAmong (state old) s.names.cdb olds
+    → LeavesOnly moment left_since old new (HasAmong s.names.cdb (Some (whole_file s.rules) ∷ olds))
+
+-- and so at its end, by its answer
+abbrev pub RunLasts : Installing → Directory → Directory → Result (Unit {0}) InstallFault → Type 0
+RunLasts s old new result =
+    (olds : List (Option (List ℕ))) → LastsAmong old s.names.cdb olds
+    → LastsAmong new s.names.cdb (may_have result (whole_file s.rules) olds)

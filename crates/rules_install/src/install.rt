@@ -1,14 +1,15 @@
 //! An installation, step by step.
-ghost use Rattle.std.specs.Prelude.{◌≡◌, ◌≢◌, ◌++◌, drop, ◌^◌, ◌≤◌, ◌<◌, ◌⊎◌, ◌||◌, [], ◌∷◌, List, Option, length, IsTrue, true, false, None, Some, is_some, IfOk, IfErr, OnOk};
-ghost use Rattle.dir_disk.specs.Lasting.{LastsAmong};
+ghost use Rattle.std.specs.Prelude.{◌≡◌, ◌≢◌, ◌^◌, ◌≤◌, ◌<◌, ◌⊎◌, ◌||◌, List, length, IsTrue, true, false, None, Some, is_some, IfOk, IfErr, OnOk};
 ghost use Rattle.cdb_write.specs.Image.{finished_length};
 ghost use Rattle.cdb_write.specs.Making.{limit_of};
-ghost use Rattle.cdb_write.specs.Written.{Written};
 ghost use Rattle.cdb_read.specs.Compiled.{stored};
-ghost use Rattle.rules_install.specs.Filled.{blank_file, fillings_left, whole_file};
-ghost use Rattle.rules_install.specs.Pieces.{from_piece};
-ghost use Rattle.rules_install.specs.Installing.{begun, next_phase, Fits};
-ghost use Rattle.rules_install.specs.Steps.{Changes, IsSame, Goes, HasFilled, IsOfDevice, StepKeeps, StepsTo, BlamesDevice, answer_of, noted};
+ghost use Rattle.rule_lines.specs.Rows.{AreRules};
+ghost use Rattle.rules_install.specs.Filled.{IsWritten, blank_file};
+ghost use Rattle.rules_install.specs.Pieces.{IsLeft};
+ghost use Rattle.rules_install.specs.Installing.{IsConsistent, IsUnfilled, begun, next_phase, FillsMore, Fits, HasForGood};
+ghost use Rattle.rules_install.specs.Steps.{IsSame, HasFilled, IsOfDevice, StepsTo, BlamesDevice, answer_of, noted};
+ghost use Rattle.rules_install.specs.declared.Phase.TheVariants.{Fresh, Filling, Synced, Named, Done};
+ghost use Rattle.rules_install.specs.declared.fault.InstallFault.TheVariants.{Over, OutOfMemory, TooLarge};
 
 use crate::pieces::{Piece, Pieces};
 use crate::{InstallFault, Names, Phase};
@@ -30,16 +31,17 @@ pub struct Install {
     patched: bool,
     reached: Option<Phase>,
     over: bool,
-    ghost rest_is: { drop taken rest.items ++ from_piece pieces next ≡ drop filled (blank_file pieces) },
+    ghost rest_is: { IsLeft pieces rest.items taken next filled },
     ghost taken_fits: { taken ≤ length rest.items },
     ghost filled_fits: { filled ≤ length (blank_file pieces) },
     ghost small: { finished_length (stored pieces) < 2 ^ 32 },
     ghost whole: { patched ≡ true → filled ≡ length (blank_file pieces) },
     ghost not_begun: { reached ≡ None → (filled ≡ 0) × (patched ≡ false) },
+    ghost unfilled: { reached ≡ Some Fresh → (filled ≡ 0) × (patched ≡ false) },
 }
 
 impl Install {
-    ghost use Rattle.rules_install.specs.Installs.{installing};
+    ghost use Rattle.rules_install.specs.Installs.{installing, HasAllBytes, IsAtDone, IsOpen, IsOver, IsUndone, KeepsText, OnlyAnswers, StepChanges, StepGoes, Steps, StopsWithin};
 
     /// An installation of which no step was made. It makes no call of a directory.
     ///
@@ -53,8 +55,8 @@ impl Install {
     ) -> Result<Install, InstallFault>
         ensures begun { IfOk result (λ install. installing install ≡ begun list names) }
         ensures fits { IfOk result (λ _. finished_length (stored list) ≤ limit_of limits.now.file) }
-        ensures refused { result ≡ Err InstallFault.TooLarge → limit_of limits.now.file < finished_length (stored list) }
-        ensures faults { IfErr result (λ fault. (fault ≡ InstallFault.TooLarge) ⊎ (fault ≡ InstallFault.OutOfMemory)) }
+        ensures refused { result ≡ Err TooLarge → limit_of limits.now.file < finished_length (stored list) }
+        ensures faults { IfErr result (λ fault. (fault ≡ TooLarge) ⊎ (fault ≡ OutOfMemory)) }
     {
         Ok(Install {
             pieces: Pieces::new(alloc, list, limits.file)?,
@@ -71,14 +73,16 @@ impl Install {
 
     /// The name of the rules file.
     pub fn cdb(&self) -> &Name
-        ensures { result.now ≡ (installing self.now).names.cdb }
+        ensures name { result.now ≡ (installing self.now).names.cdb }
+        ensures other { (installing self.now).names.cdb ≢ (installing self.now).names.tmp }
     {
         self.names.cdb()
     }
 
     /// The rules.
     pub fn list(&self) -> &RuleList
-        ensures { result.now ≡ (installing self.now).rules }
+        ensures list { result.now ≡ (installing self.now).rules }
+        ensures known { AreRules (installing self.now).rules }
     {
         self.pieces.list()
     }
@@ -90,8 +94,18 @@ impl Install {
         self.reached.is_some() || self.over
     }
 
+    /// A law: what is true of each installation, however far it has come.
+    pub fn consistent(&self)
+        ensures { IsConsistent (installing self.now) }
+    {
+        self.pieces.written();
+        let _ = self.cdb();
+        let _ = self.list();
+    }
+
     // Takes note of what a call of the directory answered.
     fn note(&mut self, outcome: Result<(), DirFault>, next: Phase) -> Result<Phase, InstallFault>
+        requires unfilled { next ≡ Fresh → IsUnfilled (installing self.old) }
         ensures answer { result ≡ answer_of next outcome }
         ensures noted { installing self.new ≡ noted next (installing self.old) outcome }
     {
@@ -115,7 +129,7 @@ impl Install {
         requires is_open { (installing self.old).over ≡ false }
         requires next { next_phase (installing self.old) ≡ Phase.Fresh }
         requires fits { IsTrue D.honest → Fits (installing self.old) (D.state dir.old) }
-        ensures { StepsTo D.honest D.state D.moment D.left_since D.failed Phase.Fresh (installing self.old) (installing self.new) dir.old dir.new result }
+        ensures { Steps D.honest D.state D.moment D.left_since D.failed Fresh self.old self.new dir.old dir.new result }
     {
         let outcome = dir.fresh(alloc, self.names.tmp());
         self.note(outcome, Phase::Fresh)
@@ -124,7 +138,7 @@ impl Install {
     // Makes the next piece, where none is under way and one is left.
     fn make_piece(&mut self, alloc: Global) -> Result<(), AllocError>
         ensures same { installing self.new ≡ installing self.old }
-        ensures left { OnOk result (length (self.new).rest.items ≡ (self.new).taken → (installing self.new).filled ≡ length (blank_file (installing self.new).rules)) }
+        ensures left { OnOk result (length (self.new).rest.items ≡ (self.new).taken → HasAllBytes self.new) }
     {
         if self.taken < self.rest.len() {
             return Ok(());
@@ -142,8 +156,9 @@ impl Install {
         requires is_open { (installing self.old).over ≡ false }
         requires next { next_phase (installing self.old) ≡ Phase.Filling }
         requires fits { IsTrue D.honest → Fits (installing self.old) (D.state dir.old) }
-        ensures step { StepsTo D.honest D.state D.moment D.left_since D.failed Phase.Filling (installing self.old) (installing self.new) dir.old dir.new result }
-        ensures more { OnOk result (fillings_left (installing self.new).rules (installing self.new).filled (installing self.new).patched < fillings_left (installing self.old).rules (installing self.old).filled (installing self.old).patched) }
+        ensures step { Steps D.honest D.state D.moment D.left_since D.failed
+            Filling self.old self.new dir.old dir.new result }
+        ensures more { OnOk result (FillsMore (installing self.old) (installing self.new)) }
     {
         self.make_piece(alloc)?;
         if self.taken == self.rest.len() {
@@ -153,7 +168,8 @@ impl Install {
             Ok(count) => {
                 self.taken += count;
                 self.filled += count;
-                self.note(Ok(()), Phase::Filling)
+                self.reached = Some(Phase::Filling);
+                Ok(Phase::Filling)
             }
             Err(fault) => self.note(Err(fault), Phase::Filling),
         }
@@ -163,10 +179,11 @@ impl Install {
     fn put_pointers<D: Dir>(&mut self, alloc: Global, dir: &mut D) -> Result<Phase, InstallFault>
         requires is_open { (installing self.old).over ≡ false }
         requires next { next_phase (installing self.old) ≡ Phase.Filling }
-        requires whole { (installing self.old).filled ≡ length (blank_file (installing self.old).rules) }
+        requires whole { HasAllBytes self.old }
         requires fits { IsTrue D.honest → Fits (installing self.old) (D.state dir.old) }
-        ensures step { StepsTo D.honest D.state D.moment D.left_since D.failed Phase.Filling (installing self.old) (installing self.new) dir.old dir.new result }
-        ensures more { OnOk result (fillings_left (installing self.new).rules (installing self.new).filled (installing self.new).patched < fillings_left (installing self.old).rules (installing self.old).filled (installing self.old).patched) }
+        ensures step { Steps D.honest D.state D.moment D.left_since D.failed
+            Filling self.old self.new dir.old dir.new result }
+        ensures more { OnOk result (FillsMore (installing self.old) (installing self.new)) }
     {
         let header = self.pieces.header(alloc)?;
         let outcome = dir.patch(alloc, 0, &header);
@@ -181,7 +198,8 @@ impl Install {
         requires is_open { (installing self.old).over ≡ false }
         requires next { next_phase (installing self.old) ≡ Phase.Synced }
         requires fits { IsTrue D.honest → Fits (installing self.old) (D.state dir.old) }
-        ensures { StepsTo D.honest D.state D.moment D.left_since D.failed Phase.Synced (installing self.old) (installing self.new) dir.old dir.new result }
+        ensures { Steps D.honest D.state D.moment D.left_since D.failed
+            Synced self.old self.new dir.old dir.new result }
     {
         let outcome = dir.sync(alloc);
         self.note(outcome, Phase::Synced)
@@ -192,7 +210,7 @@ impl Install {
         requires is_open { (installing self.old).over ≡ false }
         requires next { next_phase (installing self.old) ≡ Phase.Named }
         requires fits { IsTrue D.honest → Fits (installing self.old) (D.state dir.old) }
-        ensures { StepsTo D.honest D.state D.moment D.left_since D.failed Phase.Named (installing self.old) (installing self.new) dir.old dir.new result }
+        ensures { Steps D.honest D.state D.moment D.left_since D.failed Named self.old self.new dir.old dir.new result }
     {
         let outcome = dir.rename(alloc, self.names.tmp(), self.names.cdb());
         self.note(outcome, Phase::Named)
@@ -203,7 +221,7 @@ impl Install {
         requires is_open { (installing self.old).over ≡ false }
         requires reached { (installing self.old).reached ≡ Some Phase.Named }
         requires fits { IsTrue D.honest → Fits (installing self.old) (D.state dir.old) }
-        ensures { StepsTo D.honest D.state D.moment D.left_since D.failed Phase.Done (installing self.old) (installing self.new) dir.old dir.new result }
+        ensures { Steps D.honest D.state D.moment D.left_since D.failed Done self.old self.new dir.old dir.new result }
     {
         let outcome = dir.settle();
         self.note(outcome, Phase::Done)
@@ -221,26 +239,29 @@ impl Install {
     pub fn step<D: Dir>(&mut self, alloc: Global, dir: &mut D) -> Result<Phase, InstallFault>
         requires fits { IsTrue D.honest → Fits (installing self.old) (D.state dir.old) }
         ensures same { IsSame (installing self.old) (installing self.new) }
-        ensures over { (installing self.old).over ≡ true → (result ≡ Err InstallFault.Over) × (installing self.new ≡ installing self.old) × (dir.new ≡ dir.old) }
-        ensures after_done { (installing self.old).over ≡ false → (installing self.old).reached ≡ Some Phase.Done → (result ≡ Ok Phase.Done) × (installing self.new ≡ installing self.old) × (dir.new ≡ dir.old) }
-        ensures goes { (installing self.old).over ≡ false → Goes (next_phase (installing self.old)) (installing self.old) (installing self.new) result }
-        ensures more { result ≡ Ok Phase.Filling → fillings_left (installing self.new).rules (installing self.new).filled (installing self.new).patched < fillings_left (installing self.old).rules (installing self.old).filled (installing self.old).patched }
-        ensures kept { result ≢ Ok Phase.Filling → HasFilled (installing self.old) (installing self.new) }
+        ensures over { IsOver self.old → OnlyAnswers (Err Over) self.old self.new dir.old dir.new result }
+        ensures after_done { IsOpen self.old → IsAtDone self.old → OnlyAnswers (Ok Done) self.old self.new dir.old dir.new result }
+        ensures goes { IsOpen self.old → StepGoes self.old self.new result }
+        ensures more { result ≡ Ok Filling → FillsMore (installing self.old) (installing self.new) }
+        ensures kept { result ≢ Ok Filling → HasFilled (installing self.old) (installing self.new) }
         // the step to `Done` takes no memory
-        ensures settling { (installing self.old).reached ≡ Some Phase.Named → result ≢ Err InstallFault.OutOfMemory }
+        ensures settling { (installing self.old).reached ≡ Some Named → result ≢ Err OutOfMemory }
 
         // its one call of the directory
-        ensures changes { IsTrue D.honest → (installing self.old).over ≡ false → (installing self.old).reached ≢ Some Phase.Done
-            → Changes (installing self.old) (next_phase (installing self.old)) (D.state dir.old) (D.state dir.new) result }
+        ensures changes { IsTrue D.honest → IsOpen self.old → IsUndone self.old
+            → StepChanges self.old (D.state dir.old) (D.state dir.new) result }
         ensures fits { IsTrue D.honest → Fits (installing self.new) (D.state dir.new) }
+        // and what stops before, within or right after that call may leave, and nothing else
+        ensures time { IsTrue D.honest → IsOpen self.old → IsUndone self.old
+            → StopsWithin D.state D.moment D.left_since self.old dir.old dir.new }
 
         // whenever the machine stops since the step began, what stood under the name of the rules file stands there, or from the rename
         // on the new file, whole
-        ensures old_or_new { IsTrue D.honest → StepKeeps D.state D.moment D.left_since (next_phase (installing self.old)) (installing self.old) dir.old dir.new }
+        ensures old_or_new { IsTrue D.honest → KeepsText D.state D.moment D.left_since self.old dir.old dir.new }
         // and once it is done, the new file alone
-        ensures done { IsTrue D.honest → result ≡ Ok Phase.Done → LastsAmong (D.state dir.new) (installing self.old).names.cdb (Some (whole_file (installing self.old).rules) ∷ []) }
+        ensures done { IsTrue D.honest → result ≡ Ok Done → HasForGood (installing self.old) (D.state dir.new) }
         // which is compiled of the rules
-        ensures written { Written (whole_file (installing self.old).rules) (stored (installing self.old).rules) }
+        ensures written { IsWritten (installing self.old).rules }
         ensures device { IsTrue D.honest → IsOfDevice result }
         ensures failures { D.failed dir.old ≤ D.failed dir.new }
         ensures blames { BlamesDevice (D.failed dir.old) (D.failed dir.new) result }

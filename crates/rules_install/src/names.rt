@@ -45,7 +45,8 @@ impl Names {
 
     /// The name of the rules file.
     pub fn cdb(&self) -> &Name
-        ensures { result.now ≡ self.now.cdb }
+        ensures name { result.now ≡ self.now.cdb }
+        ensures other { self.now.cdb ≢ self.now.tmp }
     {
         &self.cdb
     }

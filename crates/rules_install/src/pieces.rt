@@ -1,28 +1,18 @@
 //! The pieces of which a compiled file is made.
-ghost use Rattle.std.specs.Prelude.{◌≡◌, ◌⊎◌, ◌<◌, ◌≤◌, ◌++◌, [], length, IfOk, IfErr, MatchOption};
+ghost use Rattle.std.specs.Prelude.{◌≡◌, ◌⊎◌, ◌<◌, ◌≤◌, IfOk, IfErr};
+ghost use Rattle.rule_lines.specs.Rows.{AreRules};
 ghost use Rattle.cdb_write.specs.Image.{finished_length, pointers_of, header_bytes};
 ghost use Rattle.cdb_write.specs.Making.{limit_of};
 ghost use Rattle.cdb_read.specs.Compiled.{stored};
-ghost use Rattle.rules_install.specs.Pieces.{from_piece};
-ghost use Rattle.rules_install.specs.Prepares.{Prepares};
+ghost use Rattle.cdb_write.specs.Tables.{AreTablesOf};
+ghost use Rattle.rules_install.specs.Pieces.{Continues};
 
 use crate::InstallFault;
+use cdb_write::layout::{HEADER_LENGTH, LENGTHS_LENGTH, SLOTS_LENGTH, TABLE_COUNT, file_limit};
 use cdb_write::{Tables, hash, header, record_piece, table_piece};
 use rule_lines::{Pair, RuleList};
 use std::alloc::{AllocError, Global};
 use std::marker::Model;
-
-/// The length of the pointers.
-const HEADER_LENGTH: usize = 2048;
-
-/// The length of the two lengths that begin a record.
-const LENGTHS_LENGTH: u64 = 8;
-
-/// How many bytes a record takes beside its key and its value: two lengths, and two slots of its table.
-const RECORD_LENGTH: u64 = 24;
-
-/// The number of tables.
-const TABLE_COUNT: usize = 256;
 
 /// A piece: the place of the pointers, the record of a rule, or a table.
 #[derive(Clone, Copy, PartialEq, Eq, Debug)]
@@ -44,13 +34,14 @@ pub struct Pieces {
 impl Model for Pieces {
     ghost use Rattle.std.specs.Prelude.{List};
     ghost use Rattle.rule_lines.specs.Pairs.{Rule};
-    ghost use Rattle.rules_install.specs.Prepares.{Prepares};
+    ghost use Rattle.cdb_write.specs.Tables.{AreTablesOf};
+    ghost use Rattle.cdb_read.specs.Compiled.{stored};
 
     ghost Value = { List Rule };
 
     ghost view = { λ p. p.list };
 
-    ghost invariant = { λ p. Prepares p.list p.tables p.end };
+    ghost invariant = { λ p. AreTablesOf (stored p.list) p.tables p.end };
 }
 
 // The key of a rule.
@@ -64,12 +55,12 @@ fn key_of(alloc: Global, pair: &Pair<'_>) -> Result<Vec<u8>, AllocError>
 
 /// Where the records of a list stand, by their tables, and where the tables begin, if the finished file keeps to the limit.
 fn place_records(alloc: Global, list: &RuleList, limit: u64) -> Result<(Tables, u32), InstallFault>
-    ensures prepared { IfOk result (λ placed. Prepares list.now placed.0 placed.1) }
+    ensures prepared { IfOk result (λ placed. AreTablesOf (stored list.now) placed.0 placed.1) }
     ensures fits { IfOk result (λ _. finished_length (stored list.now) ≤ limit_of limit) }
     ensures refused { result ≡ Err InstallFault.TooLarge → limit_of limit < finished_length (stored list.now) }
     ensures faults { IfErr result (λ fault. (fault ≡ InstallFault.TooLarge) ⊎ (fault ≡ InstallFault.OutOfMemory)) }
 {
-    let limit = limit.clamp(2048, 4294967295);
+    let limit = file_limit(limit);
     let mut tables = Tables::new(alloc)?;
     let mut end = HEADER_LENGTH as u64;
     let mut finished = end;
@@ -77,12 +68,12 @@ fn place_records(alloc: Global, list: &RuleList, limit: u64) -> Result<(Tables, 
     while let Some(pair) = list.get(place) {
         let key = key_of(alloc, &pair)?;
         let length = (key.len() as u64).saturating_add(pair.code().len() as u64);
-        finished = length.saturating_add(finished + RECORD_LENGTH);
+        finished = length.saturating_add(finished + (LENGTHS_LENGTH + SLOTS_LENGTH) as u64);
         if finished > limit {
             return Err(InstallFault::TooLarge);
         }
         tables.push((hash(&key), end as u32))?;
-        end += LENGTHS_LENGTH + length;
+        end += LENGTHS_LENGTH as u64 + length;
         place += 1;
     }
     Ok((tables, end as u32))
@@ -102,15 +93,17 @@ impl Pieces {
 
     /// The list.
     pub fn list(&self) -> &RuleList
-        ensures { result.now ≡ self.now }
+        ensures list { result.now ≡ self.now }
+        ensures known { AreRules self.now }
     {
+        // this tells the proof that the rules are rules
+        let _ = self.list.len();
         &self.list
     }
 
     /// The piece at a place, if there is one, and the place of the next.
     pub fn get(&self, alloc: Global, place: Piece) -> Result<Option<(Vec<u8>, Piece)>, AllocError>
-        ensures { IfOk result (λ piece. MatchOption piece (from_piece self.now place ≡ [])
-            (λ p. (0 < length p.0.items) × (from_piece self.now place ≡ p.0.items ++ from_piece self.now p.1))) }
+        ensures { IfOk result (Continues self.now place) }
     {
         match place {
             Piece::Zeros => {
@@ -130,8 +123,7 @@ impl Pieces {
 
     // The first table from this one on that has records, and the place of the next.
     fn table(&self, alloc: Global, first: usize) -> Result<Option<(Vec<u8>, Piece)>, AllocError>
-        ensures { IfOk result (λ piece. MatchOption piece (from_piece self.now (Piece.Table first) ≡ [])
-            (λ p. (0 < length p.0.items) × (from_piece self.now (Piece.Table first) ≡ p.0.items ++ from_piece self.now p.1))) }
+        ensures { IfOk result (Continues self.now (Piece.Table first)) }
     {
         for t in first..TABLE_COUNT {
             let entries = self.tables.get(t);
@@ -152,12 +144,11 @@ impl Pieces {
 }
 
 impl Pieces {
-    ghost use Rattle.cdb_write.specs.Written.{Written};
-    ghost use Rattle.rules_install.specs.Filled.{whole_file};
+    ghost use Rattle.rules_install.specs.Filled.{IsWritten};
 
     /// A law: the file of the list is compiled of it.
     pub fn written(&self)
-        ensures { Written (whole_file self.now) (stored self.now) }
+        ensures { IsWritten self.now }
     {
         // this tells the proof that the file has fewer than 2^32 bytes
         let _ = &self.list;

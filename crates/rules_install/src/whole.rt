@@ -1,16 +1,16 @@
 //! A whole installation.
-ghost use Rattle.std.specs.Prelude.{◌≡◌, ◌∷◌, [], List, Option, ℕ, IsTrue, false, Some, OnOk, IfOk};
-ghost use Rattle.dir_disk.specs.Lasting.{LastsAmong, HasAmong};
-ghost use Rattle.dir_disk.specs.Moments.{LeavesOnly};
-ghost use Rattle.cdb_write.specs.Written.{Written};
-ghost use Rattle.cdb_read.specs.Compiled.{Compiled, stored};
+ghost use Rattle.std.specs.Prelude.{◌≡◌, IsTrue, false, OnOk, IfOk, IfErr};
+ghost use Rattle.dir_disk.specs.Directory.{content};
+ghost use Rattle.cdb_read.specs.Compiled.{Compiled};
 ghost use Rattle.rule_lines.specs.Pairs.{pairs_of};
 ghost use Rattle.rule_lines.specs.Rows.{AreRules};
-ghost use Rattle.rules_install.specs.Filled.{whole_file};
-ghost use Rattle.rules_install.specs.Installing.{begun, Fits};
+ghost use Rattle.rules_install.specs.Filled.{IsWritten, whole_file};
+ghost use Rattle.rules_install.specs.Installing.{begun, Fits, HasForGood};
 ghost use Rattle.rules_install.specs.Installs.{installing};
-ghost use Rattle.rules_install.specs.Whole.{Begins, BlamesDevice, Ends, EndsRun, IsRefused, may_have};
+ghost use Rattle.rules_install.specs.Steps.{BlamesFault, IsSame};
+ghost use Rattle.rules_install.specs.Whole.{Begins, DecidesAs, Ends, EndsRun, IsRefused, RunKeeps, RunLasts, StandsAtDone, TellsWhere, begun_of};
 
+use crate::laws::decides;
 use crate::{Install, InstallFault, Names, Phase};
 use dir_disk::Dir;
 use rule_lines::{Limits, parse};
@@ -42,15 +42,20 @@ pub fn prepare(
 pub fn finish<D: Dir>(alloc: Global, dir: &mut D, install: &mut Install) -> Result<(), InstallFault>
     requires is_open { (installing install.old).over ≡ false }
     requires fits { IsTrue D.honest → Fits (installing install.old) (D.state dir.old) }
-    ensures ends { EndsRun result }
-    ensures any_moment { IsTrue D.honest → (olds : List (Option (List ℕ))) → LastsAmong (D.state dir.old) (installing install.old).names.cdb olds
-        → LeavesOnly D.moment D.left_since dir.old dir.new (HasAmong (installing install.old).names.cdb (Some (whole_file (installing install.old).rules) ∷ olds)) }
-    ensures lasts { IsTrue D.honest → (olds : List (Option (List ℕ))) → LastsAmong (D.state dir.old) (installing install.old).names.cdb olds
-        → LastsAmong (D.state dir.new) (installing install.old).names.cdb (may_have result (whole_file (installing install.old).rules) olds) }
-    ensures done { IsTrue D.honest → OnOk result (LastsAmong (D.state dir.new) (installing install.old).names.cdb (Some (whole_file (installing install.old).rules) ∷ [])) }
+    // how far it has come then; after want of memory it may be finished again
+    ensures same { IsSame (installing install.old) (installing install.new) }
+    ensures ends { EndsRun (installing install.new) result }
+    ensures fits { IsTrue D.honest → Fits (installing install.new) (D.state dir.new) }
+    // a fault of the directory tells on the way to which phase it came
+    ensures tells { IsTrue D.honest → IfErr result (TellsWhere (installing install.old) (D.state dir.old) (D.state dir.new)) }
+    ensures stands { IsTrue D.honest → IfErr result (StandsAtDone (installing install.old) (D.state dir.new)) }
+
+    ensures any_moment { IsTrue D.honest → RunKeeps D.state D.moment D.left_since (installing install.old) dir.old dir.new }
+    ensures lasts { IsTrue D.honest → RunLasts (installing install.old) (D.state dir.old) (D.state dir.new) result }
+    ensures done { IsTrue D.honest → OnOk result (HasForGood (installing install.old) (D.state dir.new)) }
     // the new file is compiled of the rules
-    ensures written { OnOk result (Written (whole_file (installing install.old).rules) (stored (installing install.old).rules)) }
-    ensures blames { BlamesDevice (D.failed dir.old) (D.failed dir.new) result }
+    ensures written { OnOk result (IsWritten (installing install.old).rules) }
+    ensures blames { IfErr result (BlamesFault (D.failed dir.old) (D.failed dir.new)) }
 {
     while install.step(alloc, dir)? != Phase::Done {}
     Ok(())
@@ -72,18 +77,22 @@ pub fn install<D: Dir>(
     ensures ends { Ends limits.now text.now result }
     ensures unchanged { IsRefused result → dir.new ≡ dir.old }
 
+    // a fault of the directory tells on the way to which phase it came
+    ensures tells { IsTrue D.honest → IfErr result (TellsWhere (begun_of text.now names) (D.state dir.old) (D.state dir.new)) }
+    ensures stands { IsTrue D.honest → IfErr result (StandsAtDone (begun_of text.now names) (D.state dir.new)) }
+
     // whenever the machine stops since the installation began, what stood under the name of the rules file stands there, or the new
     // file, whole
-    ensures any_moment { IsTrue D.honest → (olds : List (Option (List ℕ))) → LastsAmong (D.state dir.old) names.cdb olds
-        → LeavesOnly D.moment D.left_since dir.old dir.new (HasAmong names.cdb (Some (whole_file (pairs_of text.now)) ∷ olds)) }
-    ensures lasts { IsTrue D.honest → (olds : List (Option (List ℕ))) → LastsAmong (D.state dir.old) names.cdb olds
-        → LastsAmong (D.state dir.new) names.cdb (may_have result (whole_file (pairs_of text.now)) olds) }
-    // and once it is done, the new file alone, which is compiled of the text
-    ensures done { IsTrue D.honest → OnOk result (LastsAmong (D.state dir.new) names.cdb (Some (whole_file (pairs_of text.now)) ∷ [])) }
+    ensures any_moment { IsTrue D.honest → RunKeeps D.state D.moment D.left_since (begun_of text.now names) dir.old dir.new }
+    ensures lasts { IsTrue D.honest → RunLasts (begun_of text.now names) (D.state dir.old) (D.state dir.new) result }
+    // and once it is done, the new file alone, which is compiled of the text, and decides each peer as it does
+    ensures done { IsTrue D.honest → OnOk result (HasForGood (begun_of text.now names) (D.state dir.new)) }
     ensures compiled { OnOk result (Compiled (whole_file (pairs_of text.now)) text.now) }
     ensures known { OnOk result (AreRules (pairs_of text.now)) }
-    ensures blames { BlamesDevice (D.failed dir.old) (D.failed dir.new) result }
+    ensures decides { IsTrue D.honest → OnOk result (DecidesAs (content (D.state dir.new) names.cdb) text.now) }
+    ensures blames { IfErr result (BlamesFault (D.failed dir.old) (D.failed dir.new)) }
 {
+    decides();
     let mut install = prepare(alloc, names, limits, text)?;
     finish(alloc, dir, &mut install)
 }

@@ -1,4 +1,4 @@
-use Rattle.std.proofs.Common.{◌≡◌, IsTrue, sym, ◌∙◌, subst, arith, rules}
+use Rattle.std.proofs.Common.{◌≡◌, IsTrue, refl, sym, ◌∙◌, subst, arith, rules}
 use Rattle.std.proofs.lemmas.Result.{err_from_is_err_and}
 use Rattle.std.specs.Prelude.{Some}
 use denote.Enum.Bare.{differs_true, differs_false}
@@ -10,7 +10,7 @@ use Rattle.rules_install.specs.Installing.{next_phase}
 use Rattle.rules_install.specs.Installs.{installing}
 use Rattle.rules_install.specs.contracts.Phase.{the_type}
 use Rattle.rules_install.specs.declared.Phase.TheVariants.{Done}
-use Rattle.rules_install.proofs.WholeLemmas.{Progress, blames_run, done_lasts, ends_run, failed_lasts, progress_more, progress_none, same_self, same_then, smaller, so_far}
+use Rattle.rules_install.proofs.WholeLemmas.{Progress, blames_run, done_lasts, ends_done, ends_run, failed_lasts, progress_more, progress_none, same_self, same_then, smaller, so_far, stands_at_done, tells_where}
 use Rattle.rules_install.proofs.whole.finish.Given.{Over}
 use Rattle.rules_install.proofs.whole.finish.Goals as goal
 use Rattle.rules_install.proofs.whole.finish.Goals.{After-step}
@@ -28,6 +28,7 @@ loop-init g c = record {
   same = same_self (installing c.args.install.now);
   fits = c.requires.fits;
   progress = λ honest. progress_none g.D.Dir.state g.D.Dir.moment g.D.Dir.left_since (installing c.args.install.now) c.args.dir.now (λ image left. g.met.D.Dir.only_now c.args.dir.now image honest left);
+  first = λ honest none. refl;
   failures = omega arith;
 }
 
@@ -35,7 +36,28 @@ pub returns-in_err-step-clause-ends : goal.returns-in_err-step-clause-ends
 returns-in_err-step-clause-ends g c =
     let p = err_from_is_err_and c.from_residual.result c.from_residual.ensures.1 in
     let s = installing c.loop.install in
-    rw (p.1, p.2) (ends_run (next_phase s) s (installing c.step.new.self) c.in_err-step.field-0.0 (c.in_err-step.ensures.goes c.loop.invariant.is_open))
+    rw (p.1, p.2) (ends_run s (installing c.step.new.self) c.in_err-step.field-0.0 c.loop.invariant.is_open (c.in_err-step.ensures.kept (λ is. absurd (cc))) (c.in_err-step.ensures.goes c.loop.invariant.is_open))
+
+pub returns-in_err-step-clause-same : goal.returns-in_err-step-clause-same
+returns-in_err-step-clause-same g c =
+    same_then (installing c.args.install.now) (installing c.loop.install) (installing c.step.new.self) c.loop.invariant.same c.step.ensures.same
+
+pub returns-in_err-step-clause-tells : goal.returns-in_err-step-clause-tells
+returns-in_err-step-clause-tells g c = λ honest.
+    let p = err_from_is_err_and c.from_residual.result c.from_residual.ensures.1 in
+    rw (p.1, p.2)
+    (tells_where (installing c.args.install.now) (installing c.loop.install) (installing c.step.new.self) (g.D.Dir.state c.args.dir.now) (g.D.Dir.state c.loop.dir) (g.D.Dir.state c.step.new.dir) c.in_err-step.field-0.0
+    c.loop.invariant.same (λ done. let ok = (c.in_err-step.ensures.after_done c.loop.invariant.is_open done).0 in absurd (cc)) (c.loop.invariant.fits honest c.loop.invariant.is_open) (c.loop.invariant.first honest)
+    (c.in_err-step.ensures.goes c.loop.invariant.is_open) (c.in_err-step.ensures.device honest) (c.in_err-step.ensures.changes honest c.loop.invariant.is_open (λ done. let ok = (c.in_err-step.ensures.after_done c.loop.invariant.is_open done).0 in absurd (cc))))
+
+pub returns-in_err-step-clause-stands : goal.returns-in_err-step-clause-stands
+returns-in_err-step-clause-stands g c = λ honest.
+    let p = err_from_is_err_and c.from_residual.result c.from_residual.ensures.1 in
+    rw (p.1, p.2)
+    (stands_at_done (installing c.args.install.now) (g.D.Dir.state c.args.dir.now) (g.D.Dir.state c.step.new.dir) c.in_err-step.field-0.0
+    (tells_where (installing c.args.install.now) (installing c.loop.install) (installing c.step.new.self) (g.D.Dir.state c.args.dir.now) (g.D.Dir.state c.loop.dir) (g.D.Dir.state c.step.new.dir) c.in_err-step.field-0.0
+    c.loop.invariant.same (λ done. let ok = (c.in_err-step.ensures.after_done c.loop.invariant.is_open done).0 in absurd (cc)) (c.loop.invariant.fits honest c.loop.invariant.is_open) (c.loop.invariant.first honest)
+    (c.in_err-step.ensures.goes c.loop.invariant.is_open) (c.in_err-step.ensures.device honest) (c.in_err-step.ensures.changes honest c.loop.invariant.is_open (λ done. let ok = (c.in_err-step.ensures.after_done c.loop.invariant.is_open done).0 in absurd (cc)))))
 
 pub returns-in_err-step-clause-any_moment : goal.returns-in_err-step-clause-any_moment
 returns-in_err-step-clause-any_moment g c = λ honest olds lasts. (stepped g (goal.at.returns-in_err-step-clause-any_moment g c).After-step honest).any_moment olds lasts
@@ -69,8 +91,18 @@ loop-preserved g c =
       progress = λ honest.
           subst (λ reached. Progress g.D.Dir.state g.D.Dir.moment g.D.Dir.left_since (installing c.args.install.now) reached c.args.dir.now c.step.new.dir) (sym goes.1)
           (stepped g (goal.at.loop-preserved g c).After-step honest);
+      first = λ honest none. (let some = goes.1 in absurd (cc));
       failures = omega (arith, c.loop.invariant.failures, c.step.ensures.failures);
     }
+
+pub returns-clause-same : goal.returns-clause-same
+returns-clause-same g c =
+    same_then (installing c.args.install.now) (installing c.loop.install) (installing c.step.new.self) c.loop.invariant.same c.step.ensures.same
+
+pub returns-clause-ends : goal.returns-clause-ends
+returns-clause-ends g c =
+    ends_done (installing c.loop.install) (installing c.step.new.self) c.in_ok-step.field-0
+    (differs_false the_type (search rules) c.in_ok-step.field-0 Done (sym c.if-ne.ensures)) (c.in_ok-step.ensures.goes c.loop.invariant.is_open)
 
 pub returns-clause-any_moment : goal.returns-clause-any_moment
 returns-clause-any_moment g c = λ honest olds lasts. (stepped g (goal.at.returns-clause-any_moment g c).After-step honest).any_moment olds lasts

@@ -1,4 +1,5 @@
 use Rattle.std.proofs.Common.{◌≡◌, IsTrue, false, ◌+◌, ◌≤◌}
+use Rattle.std.specs.Prelude.{None}
 use Rattle.rules_install.specs.Filled.{fillings_left}
 use Rattle.rules_install.specs.Installing.{Fits}
 use Rattle.rules_install.specs.Installs.{installing}
@@ -13,6 +14,7 @@ invariant-loop g l = record {
   fits : IsTrue g.D.Dir.honest → Fits (installing l.install) (g.D.Dir.state l.dir);
   progress : IsTrue g.D.Dir.honest
       → Progress g.D.Dir.state g.D.Dir.moment g.D.Dir.left_since (installing l.initial.install) (installing l.install).reached l.initial.dir l.dir;
+  first : IsTrue g.D.Dir.honest → (installing l.install).reached ≡ None → g.D.Dir.state l.dir ≡ g.D.Dir.state l.initial.dir;
   failures : g.D.Dir.failed l.initial.dir ≤ g.D.Dir.failed l.dir;
 }
 

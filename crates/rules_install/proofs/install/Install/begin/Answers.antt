@@ -4,7 +4,7 @@ use Rattle.cdb_read.specs.Compiled.{stored}
 use Rattle.rule_lines.specs.Pairs.{Rule}
 use Rattle.rules_install.specs.declared.pieces.Piece.TheVariants.{Zeros}
 use Rattle.rules_install.specs.Pieces.{from_piece}
-use Rattle.rules_install.proofs.StepBegins.{not_whole}
+use Rattle.rules_install.proofs.StepBegins.{none_reached, not_whole}
 use Rattle.rules_install.proofs.install.Install.begin.Goals as goal
 
 pub invariant_of-result : goal.invariant_of-result
@@ -15,4 +15,5 @@ invariant_of-result c = record {
   small = subst (λ (l : List Rule). finished_length (stored l) < 2 ^ 32) (sym c.in_ok-new.ensures.kept) (omega (arith, c.in_ok-new.ensures.fits));
   whole = not_whole _ _;
   not_begun = λ _. (refl, refl);
+  unfilled = none_reached _;
 }

@@ -14,7 +14,9 @@ use Rattle.rules_install.specs.Installing.{Installing, next_phase, Fits}
 use Rattle.rules_install.specs.Steps.{StepsTo, answer_of}
 use Rattle.rules_install.specs.Installs.{installing}
 use Rattle.rules_install.proofs.FillBytes.{bytes_less, filled_small, filled_within, left_more, some_left, taken_within}
-use Rattle.rules_install.proofs.FillSteps.{advanced, bytes_have, done_answer, done_noted, failure_answer, failure_noted, filling_steps, filling_has, longer_by, filling_more, not_patched, still_steps, was_begun}
+use Rattle.rules_install.proofs.FillSteps.{advanced, bytes_have, failure_answer, failure_noted, filling_steps, filling_has, longer_by, filling_more, not_patched, still_steps}
+use Rattle.rules_install.proofs.StepBegins.{filling_reached}
+use Rattle.rules_install.proofs.StepNoted.{has_begun}
 use Rattle.rules_install.proofs.StepFaults.{of_err, among_three}
 use Rattle.rules_install.proofs.StepFits.{has_number}
 use Rattle.rules_install.proofs.install.Install.fill.Given.{Over}
@@ -84,7 +86,8 @@ invariant_of-self g c =
       filled_fits = file_has g a count c.in-Ok.is;
       small = self.small;
       whole = λ patched. absurd (not_patched (installing self) (next_is g a) patched);
-      not_begun = λ none. absurd (was_begun (installing self) (next_is g a) none);
+      not_begun = has_begun Filling _;
+      unfilled = filling_reached _;
     }
 
 -- the step that the append makes, whatever it answers
@@ -132,27 +135,25 @@ append_more g c s' result s'_is result_is =
 pub returns-in-Ok-clause-step : goal.returns-in-Ok-clause-step
 returns-in-Ok-clause-step g c =
     let s = installing c.make_piece.new.self in
-    append_step g (goal.at.returns-in-Ok-clause-step g c).After-append (installing c.note.new.self) c.note.result
-    (done_noted (Unit {0}) s (installing c.note.new.self) (longer_by s) c.append.result c.in-Ok.count tt c.in-Ok.is c.note.ensures.noted)
-    (done_answer (Unit {0}) c.append.result c.note.result c.in-Ok.count tt c.in-Ok.is c.note.ensures.answer)
+    append_step g (goal.at.returns-in-Ok-clause-step g c).After-append _ _
+    (ap (advanced (longer_by s) s) (sym c.in-Ok.is)) (ap (answer_of Filling) (sym c.in-Ok.is))
 
 pub returns-in-Ok-clause-more : goal.returns-in-Ok-clause-more
 returns-in-Ok-clause-more g c =
     let s = installing c.make_piece.new.self in
-    append_more g (goal.at.returns-in-Ok-clause-more g c).After-append (installing c.note.new.self) c.note.result
-    (done_noted (Unit {0}) s (installing c.note.new.self) (longer_by s) c.append.result c.in-Ok.count tt c.in-Ok.is c.note.ensures.noted)
-    (done_answer (Unit {0}) c.append.result c.note.result c.in-Ok.count tt c.in-Ok.is c.note.ensures.answer)
+    append_more g (goal.at.returns-in-Ok-clause-more g c).After-append _ _
+    (ap (advanced (longer_by s) s) (sym c.in-Ok.is)) (ap (answer_of Filling) (sym c.in-Ok.is))
 
 pub returns-in-Err-clause-step : goal.returns-in-Err-clause-step
 returns-in-Err-clause-step g c =
     let s = installing c.make_piece.new.self in
-    append_step g (goal.at.returns-in-Err-clause-step g c).After-append (installing c.note-in-Err.new.self) c.note-in-Err.result
-    (failure_noted (Unit {0}) s (installing c.note-in-Err.new.self) (longer_by s) c.append.result c.in-Err.fault c.in-Err.is c.note-in-Err.ensures.noted)
-    (failure_answer (Unit {0}) c.append.result c.note-in-Err.result c.in-Err.fault c.in-Err.is c.note-in-Err.ensures.answer)
+    append_step g (goal.at.returns-in-Err-clause-step g c).After-append (installing c.note.new.self) c.note.result
+    (failure_noted (Unit {0}) s (installing c.note.new.self) (longer_by s) c.append.result c.in-Err.fault c.in-Err.is c.note.ensures.noted)
+    (failure_answer (Unit {0}) c.append.result c.note.result c.in-Err.fault c.in-Err.is c.note.ensures.answer)
 
 pub returns-in-Err-clause-more : goal.returns-in-Err-clause-more
 returns-in-Err-clause-more g c =
     let s = installing c.make_piece.new.self in
-    append_more g (goal.at.returns-in-Err-clause-more g c).After-append (installing c.note-in-Err.new.self) c.note-in-Err.result
-    (failure_noted (Unit {0}) s (installing c.note-in-Err.new.self) (longer_by s) c.append.result c.in-Err.fault c.in-Err.is c.note-in-Err.ensures.noted)
-    (failure_answer (Unit {0}) c.append.result c.note-in-Err.result c.in-Err.fault c.in-Err.is c.note-in-Err.ensures.answer)
+    append_more g (goal.at.returns-in-Err-clause-more g c).After-append (installing c.note.new.self) c.note.result
+    (failure_noted (Unit {0}) s (installing c.note.new.self) (longer_by s) c.append.result c.in-Err.fault c.in-Err.is c.note.ensures.noted)
+    (failure_answer (Unit {0}) c.append.result c.note.result c.in-Err.fault c.in-Err.is c.note.ensures.answer)

@@ -12,6 +12,7 @@ invariant_of-self c = record {
   small = c.args.self.now.small;
   whole = c.args.self.now.whole;
   not_begun = c.args.self.now.not_begun;
+  unfilled = c.args.self.now.unfilled;
 }
 
 pub invariant_of-self-in-Some : goal.invariant_of-self-in-Some
@@ -25,6 +26,7 @@ invariant_of-self-in-Some c =
       small = self.small;
       whole = self.whole;
       not_begun = self.not_begun;
+      unfilled = self.unfilled;
     }
 
 pub invariant_of-self-in_default : goal.invariant_of-self-in_default
@@ -35,6 +37,7 @@ invariant_of-self-in_default c = record {
   small = c.args.self.now.small;
   whole = c.args.self.now.whole;
   not_begun = c.args.self.now.not_begun;
+  unfilled = c.args.self.now.unfilled;
 }
 
 pub returns-in-Some-clause-left : goal.returns-in-Some-clause-left

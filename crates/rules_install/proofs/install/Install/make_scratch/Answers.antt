@@ -10,6 +10,11 @@ use Rattle.rules_install.proofs.StepFaults.{of_err, among_two}
 use Rattle.rules_install.proofs.StepFits.{fresh_next, fresh_fits}
 use Rattle.rules_install.proofs.install.Install.make_scratch.Goals as goal
 
+pub note-requires : goal.note-requires
+note-requires g c = record {
+  unfilled = λ _. c.args.self.now.not_begun (fresh_next c.args.self.now.reached c.args.self.now.patched c.requires.next);
+}
+
 pub returns : goal.returns
 returns g c =
     let s = installing c.args.self.now in

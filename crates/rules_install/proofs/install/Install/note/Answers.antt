@@ -1,4 +1,5 @@
 -- A step changes how far the installation has come, and nothing that its struct promises.
+use Rattle.std.proofs.lemmas.Option.{same_Some}
 use Rattle.rules_install.specs.Installs.{installing}
 use Rattle.rules_install.proofs.StepNoted.{has_begun, fault_answer, fault_noted}
 use Rattle.rules_install.proofs.install.Install.note.Goals as goal
@@ -11,6 +12,7 @@ invariant_of-self c = record {
   small = c.args.self.now.small;
   whole = c.args.self.now.whole;
   not_begun = has_begun c.args.next _;
+  unfilled = λ is. c.requires.unfilled (same_Some _ _ is);
 }
 
 pub invariant_of-self-in_default : goal.invariant_of-self-in_default
@@ -21,6 +23,7 @@ invariant_of-self-in_default c = record {
   small = c.args.self.now.small;
   whole = c.args.self.now.whole;
   not_begun = c.args.self.now.not_begun;
+  unfilled = c.args.self.now.unfilled;
 }
 
 pub returns-in_default : goal.returns-in_default

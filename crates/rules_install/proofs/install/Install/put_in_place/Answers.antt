@@ -17,7 +17,7 @@ pub returns : goal.returns
 returns g c =
     let s = installing c.args.self.now in
     let d = g.D.Dir.state c.args.dir.now in
-    let call = ap (λ name. renames name c.cdb.result.now) c.tmp.ensures.name ∙ ap (renames s.names.tmp) c.cdb.ensures in
+    let call = ap (λ name. renames name c.cdb.result.now) c.tmp.ensures.name ∙ ap (renames s.names.tmp) c.cdb.ensures.name in
     let one = subst (λ (call : Call). OneCall g.D.Dir.honest g.D.Dir.state g.D.Dir.moment g.D.Dir.left_since g.D.Dir.failed call c.args.dir.now c.rename-outcome.new.self c.rename-outcome.result) call
     (record {
       only = λ honest image left. g.met.D.Dir.only_now c.args.dir.now image honest left;

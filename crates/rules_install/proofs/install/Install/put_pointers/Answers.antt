@@ -1,12 +1,12 @@
-use Rattle.std.proofs.Common.{◌≡◌, ◌⊎◌, [], ◌∷◌, inl, inr, true, false, refl, sym, ◌∙◌, ap}
+use Rattle.std.proofs.Common.{arith, ◌≡◌, ◌⊎◌, [], ◌∷◌, inl, inr, true, false, refl, sym, ◌∙◌, ap}
 use Rattle.std.specs.Prelude.{Err, is_ok, Contains}
 use Rattle.dir_disk.specs.declared.fault.DirFault.TheVariants.{NoScratch, Device, OutOfMemory as NoMemory}
 use Rattle.std.proofs.lemmas.Result.{err_from_is_err_and}
 use Rattle.dir_disk.specs.Calls.{patches}
 use Rattle.dir_disk.proofs.Lasting.{patches_keeps}
 use Rattle.rules_install.specs.Installs.{installing}
-use Rattle.rules_install.proofs.FillBytes.{pointers_less}
-use Rattle.rules_install.proofs.FillSteps.{advanced, filling_steps, filling_has, filling_more, patch_noted, pointers_fit, pointers_has, still_steps, unpatched}
+use Rattle.rules_install.proofs.FillBytes.{length-blank, pointers_less}
+use Rattle.rules_install.proofs.FillSteps.{advanced, filling_steps, filling_has, filling_more, patch_noted, pointers_fit, pointers_has, still_steps, unpatched, was_begun}
 use Rattle.rules_install.proofs.StepFaults.{of_err, among_three}
 use Rattle.rules_install.proofs.StepFits.{has_number}
 use Rattle.rules_install.proofs.install.Install.put_pointers.Given.{Over}
@@ -24,6 +24,19 @@ pub returns-in_err-header-clause-more : goal.returns-in_err-header-clause-more
 returns-in_err-header-clause-more g c =
     let p = err_from_is_err_and c.from_residual.result c.from_residual.ensures.1 in
     rw p.1 tt
+
+pub invariant_of-self : goal.invariant_of-self
+invariant_of-self g c =
+    let self = c.args.self.now in
+    record {
+      rest_is = self.rest_is;
+      taken_fits = self.taken_fits;
+      filled_fits = self.filled_fits;
+      small = self.small;
+      whole = λ _. c.requires.whole;
+      not_begun = λ none. absurd (was_begun (installing self) c.requires.next none);
+      unfilled = λ made. absurd (let none = (self.unfilled made).0 in omega (arith, none, length-blank self.pieces, c.requires.whole));
+    }
 
 pub patch-outcome-requires : goal.patch-outcome-requires
 patch-outcome-requires g c = record {
