@@ -1,15 +1,13 @@
--- The state that events lead to and what its fields keep, the table of events that may happen, who is alive, and reports.
-pub mod ServerState
-pub mod Addresses
-pub mod Kept
-pub mod Table
-pub mod Live
-pub mod Reports
+-- Programs; and what a server's events lead to and leave.
 pub mod Programs
-pub mod Worlds
-pub mod Steps
-pub mod Headline
-pub mod Witness
+pub use Rattle.server_events.specs.ServerState
+pub use Rattle.server_events.specs.Table
+pub use Rattle.server_events.specs.Live
+pub use Rattle.server_events.specs.Reports
+pub use Rattle.server_events.specs.Worlds
+pub use Rattle.server_events.specs.Steps
+pub use Rattle.server_events.specs.Headline
+pub use Rattle.server_events.specs.Witness
 pub use Rattle.rule_lookup.specs.Decisions
 pub use Rattle.rule_lookup.specs.Peers
 pub use Rattle.ucspi_env.specs.Variables

@@ -1,17 +1,10 @@
-//! What happens in a server: events, which lists of them may happen, and what they come to.
+//! The core of a server: programs and the jobs that run them. It passes on what happens in a server: events and which lists of
+//! them may happen, what they come to, and the laws of what they leave.
 #![tactic(auto)]
 
-mod addresses;
-pub mod event;
 pub mod launch;
-pub mod laws;
-pub mod report;
-pub mod state;
 
-pub use event::{Event, Stage};
 pub use launch::{Job, Launcher, NoEnds, Program, WaitFault};
-pub use report::{ReplayFault, Report, replay};
-pub use state::{Connection, State};
-
-#[cfg(test)]
-mod tests;
+pub use server_events::{
+    Connection, Event, ReplayFault, Report, Stage, State, event, laws, replay, report, state,
+};

@@ -1,5 +1,0 @@
-use Rattle.server_core.proofs.KeptLemmas.{kept_empty}
-use Rattle.server_core.proofs.state.State.stop.Goals as goal
-
-pub invariant_of-self : goal.invariant_of-self
-invariant_of-self c = kept_empty _ c.clear.ensures.empty c.clear-2.ensures

@@ -1,0 +1,14 @@
+-- The state that events lead to and what its fields keep, the table of events that may happen, who is alive, reports, and worlds.
+pub mod ServerState
+pub mod Addresses
+pub mod Kept
+pub mod Table
+pub mod Live
+pub mod Reports
+pub mod Worlds
+pub mod Steps
+pub mod Headline
+pub mod Taken
+pub mod Witness
+pub use Rattle.rule_lookup.specs.Decisions
+pub use Rattle.rule_lookup.specs.Peers

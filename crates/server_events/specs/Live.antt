@@ -1,0 +1,83 @@
+-- Who is alive after a list of events, told from the events alone.
+use Rattle.std.specs.Prelude.{◌≤◌, ℕ, length, take, List, Bool, true, false, ◌==◌, not, map, Option, Some, None, bytes_eq}
+use Rattle.std.specs.List.{after_last, filter, filter_map, list_any}
+use Rattle.rule_lookup.specs.Peers.{Client}
+use Rattle.server_events.specs.declared.event.Event.{Event}
+use Rattle.server_events.specs.declared.event.Event.TheVariants.{Admitted, Opened, Decided, Started, StartFailed, Ended, Retired, Dropped, Stop}
+use Rattle.server_events.specs.declared.state.Connection.{Connection}
+
+-- all connections end at once
+abbrev pub is_stop : Event → Bool
+is_stop Stop = true
+is_stop _ = false
+
+-- the events after the last stop, or all where there was none
+abbrev pub since_stop : List Event → List Event
+since_stop history = after_last is_stop history
+
+-- a connection that was let in
+pub record Life : Type 0 where
+  pub serial : ℕ
+  pub peer : Client
+
+-- the connection that an event lets in
+abbrev pub admission : Event → Option Life
+admission (Admitted n peer) = Some (record { serial = n; peer = peer })
+admission _ = None
+
+-- by this event the connection n is gone: its start failed, or it ended, or it was dropped
+abbrev pub ends : ℕ → Event → Bool
+ends n (StartFailed m fault) = n == m
+ends n (Ended m status) = n == m
+ends n (Dropped m cause) = n == m
+ends n _ = false
+
+-- something happens to the connection n, which was let in before
+abbrev pub concerns : ℕ → Event → Bool
+concerns n (Opened m there) = n == m
+concerns n (Decided m decision) = n == m
+concerns n (Started m) = n == m
+concerns n (StartFailed m fault) = n == m
+concerns n (Ended m status) = n == m
+concerns n (Retired m) = n == m
+concerns n (Dropped m cause) = n == m
+concerns n event = false
+
+-- by this event the connection n is retired
+abbrev pub retires : ℕ → Event → Bool
+retires n (Retired m) = n == m
+retires n _ = false
+
+-- those admitted and not yet ended, start-failed, dropped or stopped; retired ones stay until a stop
+abbrev pub live_of : List Event → List Life
+live_of history =
+    let recent = since_stop history in
+    filter (λ (x : Life). not (list_any (ends x.serial) recent)) (filter_map admission recent)
+
+-- those of them whose peer has an address
+abbrev pub live_at : List ℕ → List Event → List Life
+live_at ip history = filter (λ (x : Life). bytes_eq x.peer.ip ip) (live_of history)
+
+-- the retired ones of them
+abbrev pub retired_of : List Event → List Life
+retired_of history =
+    filter (λ (x : Life). list_any (retires x.serial) (since_stop history)) (live_of history)
+
+-- their serials, in the same order
+abbrev pub serials_of : List Life → List ℕ
+serials_of lives = map (λ (x : Life). x.serial) lives
+
+-- along a list of events no more than these are ever alive
+abbrev pub KeepsLimit : ℕ → List Event → Type 0
+KeepsLimit limit history = (k : ℕ) → length (live_of (take k history)) ≤ limit
+
+-- nor ever more than these from one address
+abbrev pub KeepsAddressLimit : ℕ → List Event → Type 0
+KeepsAddressLimit limit history = (ip : List ℕ) (k : ℕ) → length (live_at ip (take k history)) ≤ limit
+
+-- connections without their stages
+abbrev pub life_of : Connection → Life
+life_of c = record { serial = c.serial; peer = c.peer }
+
+abbrev pub lives_of : List Connection → List Life
+lives_of cs = map life_of cs

@@ -1,0 +1,147 @@
+-- The state that events lead to, and which events may happen there.
+use Rattle.std.specs.Prelude.{◌≡◌, ℕ, ◌+◌, List, [], ◌∷◌, ◌++◌, Bool, true, false, ◌&&◌, ◌==◌, nat_lt, Option, Some, None, length, if◌then◌else◌, bytes_eq}
+use Rattle.std.specs.List.{count_by}
+use Rattle.rule_lines.specs.declared.instr.Verdict.TheVariants as verdict
+use Rattle.rule_lookup.specs.Peers.{Client}
+use Rattle.rules_install.specs.declared.Phase.{Phase}
+use Rattle.rules_install.specs.declared.Phase.TheVariants.{Fresh, Filling, Synced, Named, Done}
+use Rattle.server_events.specs.declared.event.Stage.{Stage}
+use Rattle.server_events.specs.declared.event.Stage.TheVariants as stage
+use Rattle.server_events.specs.declared.event.Event.{Event}
+use Rattle.server_events.specs.declared.event.Event.TheVariants.{Admitted, Opened, Decided, Started, StartFailed, Ended, Retired, Dropped, Stepped, StepFailed, Stop}
+use Rattle.server_events.specs.declared.state.Connection.{Connection}
+
+-- the limits, the last serial, the connections that are alive, and the phase of the installation under way
+pub record ServerState : Type 0 where
+  pub limit : ℕ
+  pub per_address : ℕ
+  pub last : ℕ
+  pub connections : List Connection
+  pub phase : Option Phase
+
+-- no connection, and no installation under way
+abbrev pub start : ℕ → ℕ → ServerState
+start limit per_address =
+    record { limit = limit; per_address = per_address; last = 0; connections = []; phase = None }
+
+-- the stage of the connection with this serial
+abbrev pub stage_of : ℕ → List Connection → Option Stage
+stage_of n [] = None
+stage_of n (c ∷ cs) = if c.serial == n then Some c.stage else stage_of n cs
+
+-- the connection with this serial has another stage
+abbrev pub with_stage : ℕ → Stage → List Connection → List Connection
+with_stage n s [] = []
+with_stage n s (c ∷ cs) = if c.serial == n then (record c { stage = s }) ∷ cs else c ∷ with_stage n s cs
+
+-- the connection with this serial is gone
+abbrev pub without : ℕ → List Connection → List Connection
+without n [] = []
+without n (c ∷ cs) = if c.serial == n then cs else c ∷ without n cs
+
+-- how many connections come from an address
+abbrev pub count_from : List ℕ → List Connection → ℕ
+count_from ip cs = count_by (λ (c : Connection). bytes_eq c.peer.ip ip) cs
+
+abbrev pub is_admitted : Option Stage → Bool
+is_admitted (Some stage.Admitted) = true
+is_admitted _ = false
+
+abbrev pub is_opened : Option Stage → Bool
+is_opened (Some stage.Opened) = true
+is_opened _ = false
+
+-- decided, and allowed
+abbrev pub is_allowed : Option Stage → Bool
+is_allowed (Some (stage.Decided verdict.Allow)) = true
+is_allowed _ = false
+
+abbrev pub is_started : Option Stage → Bool
+is_started (Some stage.Started) = true
+is_started _ = false
+
+-- admitted, opened or decided: no child was started yet
+abbrev pub is_unstarted : Option Stage → Bool
+is_unstarted (Some stage.Admitted) = true
+is_unstarted (Some stage.Opened) = true
+is_unstarted (Some (stage.Decided v)) = true
+is_unstarted _ = false
+
+abbrev pub is_retired : Stage → Bool
+is_retired stage.Retired = true
+is_retired _ = false
+
+-- whether a phase may come next, after the one before
+abbrev pub may_come : Option Phase → Phase → Bool
+may_come before Fresh = true
+may_come (Some Fresh) Filling = true
+may_come (Some Filling) Filling = true
+may_come (Some Filling) Synced = true
+may_come (Some Synced) Named = true
+may_come (Some Named) Done = true
+may_come _ _ = false
+
+-- after the last phase no installation is under way
+abbrev pub phase_after : Phase → Option Phase
+phase_after Done = None
+phase_after p = Some p
+
+-- the next serial, with room below both limits
+abbrev pub may_admit : ServerState → ℕ → Client → Bool
+may_admit w n peer =
+    (n == w.last + 1) && nat_lt (length w.connections) w.limit && nat_lt (count_from peer.ip w.connections) w.per_address
+
+abbrev pub may_happen : ServerState → Event → Bool
+may_happen w (Admitted n peer) = may_admit w n peer
+may_happen w (Opened n there) = is_admitted (stage_of n w.connections)
+may_happen w (Decided n decision) = is_opened (stage_of n w.connections)
+may_happen w (Started n) = is_allowed (stage_of n w.connections)
+may_happen w (StartFailed n fault) = is_allowed (stage_of n w.connections)
+may_happen w (Ended n status) = is_started (stage_of n w.connections)
+may_happen w (Retired n) = is_started (stage_of n w.connections)
+may_happen w (Dropped n cause) = is_unstarted (stage_of n w.connections)
+may_happen w (Stepped phase) = may_come w.phase phase
+may_happen w (StepFailed phase) = may_come w.phase phase
+may_happen w Stop = true
+
+-- a connection that was just let in
+abbrev pub newcomer : ℕ → Client → Connection
+newcomer n peer = record { serial = n; peer = peer; stage = stage.Admitted }
+
+abbrev pub after : ServerState → Event → ServerState
+after w (Admitted n peer) = record w { last = n; connections = w.connections ++ newcomer n peer ∷ [] }
+after w (Opened n there) = record w { connections = with_stage n stage.Opened w.connections }
+after w (Decided n decision) =
+    record w { connections = with_stage n (stage.Decided decision.verdict) w.connections }
+after w (Started n) = record w { connections = with_stage n stage.Started w.connections }
+after w (StartFailed n fault) = record w { connections = without n w.connections }
+after w (Ended n status) = record w { connections = without n w.connections }
+after w (Retired n) = record w { connections = with_stage n stage.Retired w.connections }
+after w (Dropped n cause) = record w { connections = without n w.connections }
+after w (Stepped phase) = record w { phase = phase_after phase }
+after w (StepFailed phase) = record w { phase = None }
+after w Stop = record w { connections = []; phase = None }
+
+-- each event may happen in the state that the events before it lead to
+abbrev pub is_legal : ServerState → List Event → Bool
+is_legal w [] = true
+is_legal w (e ∷ es) = may_happen w e && is_legal (after w e) es
+
+abbrev pub state_after : ServerState → List Event → ServerState
+state_after w [] = w
+state_after w (e ∷ es) = state_after (after w e) es
+
+-- the events may happen one after the other, and lead there
+abbrev pub IsLegalTo : ServerState → List Event → ServerState → Type 0
+IsLegalTo w history v = (is_legal w history ≡ true) × (v ≡ state_after w history)
+
+-- a list of events that the table allows from the start on, with these limits
+pub record AllowedHistory : Type 0 where
+  pub limit : ℕ
+  pub per_address : ℕ
+  pub events : List Event
+  pub allowed : is_legal (start limit per_address) events ≡ true
+
+-- the connections that it leads to
+abbrev pub connections_after : AllowedHistory → List Connection
+connections_after h = (state_after (start h.limit h.per_address) h.events).connections

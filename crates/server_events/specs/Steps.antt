@@ -1,0 +1,90 @@
+-- What each event does to the world.
+use Rattle.std.specs.Prelude.{◌≡◌, ◌≢◌, ◌⊎◌, ℕ, max, true, is_some, List, [], ◌∷◌, ◌++◌, length, Option, Some, None, option_map, Ok}
+use Rattle.dir_disk.specs.Directory.{Directory, FileState, scratch_of}
+use Rattle.dir_disk.specs.Calls.{Call, makes, appends, patches, syncs, renames, settles, after}
+use Rattle.dir_disk.specs.Outcomes.{Passes, Fails}
+use Rattle.dir_disk.specs.Images.{IsImage}
+use Rattle.cdb_read.specs.Reading.{reading}
+use Rattle.rule_lines.specs.Pairs.{Rule}
+use Rattle.rule_lines.specs.Rows.{AreRules}
+use Rattle.rule_lookup.specs.Decisions.{decision_from}
+use Rattle.rule_lookup.specs.Peers.{Client}
+use Rattle.rules_install.specs.declared.Phase.{Phase}
+use Rattle.rules_install.specs.declared.Phase.TheVariants.{Fresh, Filling, Synced, Named, Done}
+use Rattle.server_events.specs.declared.event.Event.{Event}
+use Rattle.server_events.specs.declared.event.Event.TheVariants.{Opened, Decided, Stepped, StepFailed, Stop}
+use Rattle.server_events.specs.Table.{Follows, Happens}
+use Rattle.server_events.specs.Worlds.{IsOf, RulesName, UnderWay, World, kept_by, missing_in, peer_of, standing}
+
+-- a name for a scratch file, which is not the rules name; there is none without a rules name
+abbrev pub IsScratchName : Option RulesName → List ℕ → Type 0
+IsScratchName None tmp = ⊥
+IsScratchName (Some r) tmp = tmp ≢ r.name
+
+-- the one call on the way to a phase, of an installation under way where one has to be; none without a rules name
+abbrev pub IsCallTo : Phase → Option UnderWay → Option RulesName → Call → Type 0
+IsCallTo Fresh under_way rules call = (tmp : List ℕ) × IsScratchName rules tmp × (call ≡ makes tmp)
+IsCallTo Filling (Some u) (Some r) call = ((piece : List ℕ) × (call ≡ appends piece)) ⊎ ((place : ℕ) × (bytes : List ℕ) × (call ≡ patches place bytes))
+IsCallTo Synced (Some u) (Some r) call = call ≡ syncs
+IsCallTo Named (Some u) (Some r) call = call ≡ renames u.tmp r.name
+IsCallTo Done (Some u) (Some r) call = call ≡ settles
+IsCallTo phase under_way rules call = ⊥
+
+-- the scratch file is compiled of the rules under way
+abbrev pub IsWhole : Directory → UnderWay → Type 0
+IsWhole d u = (file : FileState) × (scratch_of d ≡ Some file) × IsOf u.rules file.bytes
+
+-- a step to `Fresh` begins an installation of rules, which are accepted with it; to `Filling` puts any bytes into the scratch
+-- file; to `Synced` syncs it, only where it is whole; to `Named` moves it onto the rules name; to `Done` makes that lasting and
+-- acknowledges the text
+abbrev pub Advances : Phase → World → World → Type 0
+Advances Fresh w w' =
+    (rules : List Rule) × (tmp : List ℕ) × AreRules rules × IsScratchName w.rules tmp
+    × (w' ≡ record w { directory = after (makes tmp) w.directory; server = w'.server; accepted = w.accepted ++ Some rules ∷ []; under_way = Some (record { rules = rules; number = length w.accepted; tmp = tmp }) })
+Advances Filling w w' =
+    (call : Call) × IsCallTo Filling w.under_way w.rules call × (w' ≡ record w { directory = after call w.directory; server = w'.server })
+Advances Synced w w' =
+    (u : UnderWay) × (w.under_way ≡ Some u) × (is_some w.rules ≡ true) × IsWhole w.directory u × (w' ≡ record w { directory = after syncs w.directory; server = w'.server })
+Advances Named w w' =
+    (u : UnderWay) × (r : RulesName) × (w.under_way ≡ Some u) × (w.rules ≡ Some r) × (w' ≡ record w { directory = after (renames u.tmp r.name) w.directory; server = w'.server })
+Advances Done w w' =
+    (u : UnderWay) × (w.under_way ≡ Some u) × (is_some w.rules ≡ true) × (w' ≡ record w { directory = after settles w.directory; server = w'.server; acknowledged = max w.acknowledged u.number; under_way = None })
+
+-- a step that failed leaves of the directory what its call leaves whose device failed, and no installation under way
+abbrev pub FailsTo : Phase → World → World → Type 0
+FailsTo phase w w' =
+    (call : Call) × IsCallTo phase w.under_way w.rules call × Fails call w.directory w'.directory
+    × (w' ≡ record w { directory = w'.directory; server = w'.server; under_way = None })
+
+-- a directory as it is now, or at a moment within the call of a phase that may come next
+abbrev pub MayBeAt : World → Directory → Type 0
+MayBeAt w state =
+    (state ≡ w.directory)
+    ⊎ ((phase : Phase) × (call : Call) × Follows w.server.phase phase × IsCallTo phase w.under_way w.rules call × Passes call w.directory state)
+
+-- what a stop may leave: an image of the directory at such a moment
+abbrev pub MayLeave : World → Directory → Type 0
+MayLeave w image = (state : Directory) × MayBeAt w state × IsImage state image
+
+-- what an event does beside what the table of events says of it
+abbrev pub Moves : Event → World → World → Type 0
+Moves (Opened n there) w w' =
+    (there ≡ is_some (standing w)) × (w' ≡ record w { server = w'.server; kept = w.kept ++ record { serial = n; bytes = standing w } ∷ [] })
+Moves (Decided n decision) w w' =
+    (bytes : Option (List ℕ)) × (peer : Client) × (kept_by n w.kept ≡ Some bytes) × (peer_of n w.server.connections ≡ Some peer)
+    × (decision_from (option_map reading bytes) (missing_in w) peer ≡ Ok decision) × (w' ≡ record w { server = w'.server })
+Moves (Stepped phase) w w' = Advances phase w w'
+Moves (StepFailed phase) w w' = FailsTo phase w w'
+Moves Stop w w' =
+    MayLeave w w'.directory × (w' ≡ record w { directory = w'.directory; server = w'.server; under_way = None; kept = [] })
+Moves event w w' = w' ≡ record w { server = w'.server }
+
+-- an event leads from one world to the next
+pub record Step (w : World) (event : Event) (w' : World) : Type 0 where
+  pub table : Happens w.server event w'.server
+  pub moves : Moves event w w'
+
+-- a list of events leads from one world to another
+pub data Legal : World → List Event → World → Type 0 where
+  none : {w : World} → Legal w [] w
+  more : {u v w : World} {event : Event} {events : List Event} → Step u event v → Legal v events w → Legal u (event ∷ events) w

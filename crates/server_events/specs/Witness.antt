@@ -1,0 +1,49 @@
+-- A history in which texts are installed, the machine stops, and connections are decided by different texts.
+use Rattle.std.specs.Prelude.{true, List, [], ◌∷◌, Some, None}
+use Rattle.rule_lines.specs.Pairs.{Rule}
+use Rattle.rule_lines.specs.declared.instr.Verdict.{Verdict}
+use Rattle.rule_lines.specs.declared.instr.Verdict.TheVariants.{Allow, Deny}
+use Rattle.rule_lookup.specs.Decisions.{by_rule}
+use Rattle.rule_lookup.specs.Peers.{Client}
+use Rattle.rule_lookup.specs.declared.outcome.DropCause.TheVariants.{Denied}
+use Rattle.rules_install.specs.declared.Phase.TheVariants.{Fresh, Filling, Synced, Named, Done}
+use Rattle.server_events.specs.declared.event.Event.{Event}
+use Rattle.server_events.specs.declared.event.Event.TheVariants.{Admitted, Opened, Decided, Started, Retired, Dropped, Stepped, StepFailed, Stop}
+use Rattle.server_events.specs.Worlds.{Accepted}
+
+-- the rules of a text with one line, for everybody
+abbrev pub for_everybody : Verdict → List Rule
+for_everybody verdict = record { address = []; instr = record { verdict = verdict; settings = [] } } ∷ []
+
+abbrev pub somebody : Client
+somebody = record { ip = 10 ∷ 0 ∷ 0 ∷ 1 ∷ []; port = 1024; host = None; info = None }
+
+-- A text that denies is installed, and decides the first connection. One that allows is installed as far as its name, and the
+-- machine stops within the call that makes this lasting; it decides the second connection, whose child is retired. Then the first
+-- text is installed once more.
+abbrev pub two_texts : List Event
+two_texts =
+    Stepped Fresh ∷ Stepped Filling ∷ Stepped Synced ∷ Stepped Named ∷ Stepped Done
+    ∷ Admitted 1 somebody ∷ Opened 1 true ∷ Decided 1 (by_rule [] (record { verdict = Deny; settings = [] })) ∷ Dropped 1 Denied
+    ∷ Stepped Fresh ∷ Stepped Filling ∷ Stepped Synced ∷ Stepped Named ∷ Stop
+    ∷ Admitted 2 somebody ∷ Opened 2 true ∷ Decided 2 (by_rule [] (record { verdict = Allow; settings = [] })) ∷ Started 2 ∷ Retired 2
+    ∷ Stepped Fresh ∷ Stepped Filling ∷ Stepped Synced ∷ Stepped Named ∷ Stepped Done ∷ []
+
+-- the texts that it accepts
+abbrev pub texts_of_it : Accepted
+texts_of_it = None ∷ Some (for_everybody Deny) ∷ Some (for_everybody Allow) ∷ Some (for_everybody Deny) ∷ []
+
+-- A history of a server whose first text allows. An installation is given up for another one of a text that denies, whose name becomes
+-- not lasting: the call that should make it so fails. It decides the first connection. The machine stops, and leaves the older text,
+-- which decides the second connection; and it stops once more.
+abbrev pub an_older_text : List Event
+an_older_text =
+    Stepped Fresh ∷ Stepped Filling ∷ Stepped Fresh ∷ Stepped Filling ∷ Stepped Synced ∷ Stepped Named ∷ StepFailed Done
+    ∷ Admitted 1 somebody ∷ Opened 1 true ∷ Decided 1 (by_rule [] (record { verdict = Deny; settings = [] })) ∷ Dropped 1 Denied
+    ∷ Stop
+    ∷ Admitted 2 somebody ∷ Opened 2 true ∷ Decided 2 (by_rule [] (record { verdict = Allow; settings = [] })) ∷ Started 2
+    ∷ Stop ∷ []
+
+-- the texts that it accepts: the one at the start, the one that was given up, and the one that was named
+abbrev pub texts_of_that : Accepted
+texts_of_that = Some (for_everybody Allow) ∷ Some (for_everybody Deny) ∷ Some (for_everybody Deny) ∷ []

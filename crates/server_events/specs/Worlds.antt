@@ -1,0 +1,105 @@
+-- The world of a server and of the installations beside it: a directory, the rules that were accepted, and the connections.
+use Rattle.std.specs.Prelude.{◌≡◌, ◌==◌, ◌≤◌, ℕ, true, List, [], ◌∷◌, slice_get, Option, Some, None, option_and_then, if◌then◌else◌}
+use Rattle.dir_disk.specs.Directory.{Directory, content, file_at, number_of}
+use Rattle.cdb_read.specs.Compiled.{stored}
+use Rattle.cdb_write.specs.IsCdb.{IsCdb}
+use Rattle.rule_lines.specs.Pairs.{Rule}
+use Rattle.rule_lines.specs.Rows.{AreRules}
+use Rattle.rule_lookup.specs.Peers.{Client}
+use Rattle.rule_lookup.specs.declared.decision.Missing.{Missing}
+use Rattle.rule_lookup.specs.declared.decision.Missing.TheVariants.{Allow as AllowMissing}
+use Rattle.server_events.specs.ServerState.{ServerState, start}
+use Rattle.server_events.specs.declared.state.Connection.{Connection}
+
+-- the texts that were accepted, each told by its rules; number 0 is what stood at the start, perhaps nothing
+abbrev pub Accepted : Type 0
+Accepted = List (Option (List Rule))
+
+-- the name under which the server looks for its rules, and what it does where no file is there
+pub record RulesName : Type 0 where
+  pub name : List ℕ
+  pub missing : Missing
+
+-- an installation that is under way: its rules, the number of its text among those accepted, and the name of its scratch file
+pub record UnderWay : Type 0 where
+  pub rules : List Rule
+  pub number : ℕ
+  pub tmp : List ℕ
+
+-- what an opened connection keeps: the bytes of the file that it opened, or that there was none
+pub record KeptFile : Type 0 where
+  pub serial : ℕ
+  pub bytes : Option (List ℕ)
+
+pub record World : Type 0 where
+  pub directory : Directory
+  -- without a name the server follows no rules
+  pub rules : Option RulesName
+  -- the limits, the last serial, the connections with their peers and stages, and the phase of the installation under way
+  pub server : ServerState
+  pub accepted : Accepted
+  -- the greatest number of a text whose installation was done, else 0
+  pub acknowledged : ℕ
+  pub under_way : Option UnderWay
+  pub kept : List KeptFile
+
+-- what stands under the rules name
+abbrev pub standing : World → Option (List ℕ)
+standing w = option_and_then (λ (r : RulesName). content w.directory r.name) w.rules
+
+-- what the server does where there is no file; without a rules name it allows
+abbrev pub missing_by : Option RulesName → Missing
+missing_by None = AllowMissing
+missing_by (Some r) = r.missing
+
+abbrev pub missing_in : World → Missing
+missing_in w = missing_by w.rules
+
+-- what the connection with this serial keeps, if it opened the rules
+abbrev pub kept_by : ℕ → List KeptFile → Option (Option (List ℕ))
+kept_by n [] = None
+kept_by n (k ∷ ks) = if k.serial == n then Some k.bytes else kept_by n ks
+
+-- the peer of the connection with this serial
+abbrev pub peer_of : ℕ → List Connection → Option Client
+peer_of n [] = None
+peer_of n (c ∷ cs) = if c.serial == n then Some c.peer else peer_of n cs
+
+-- a file is compiled of rules
+pub record IsOf (rules : List Rule) (file : List ℕ) : Type 0 where
+  pub are : AreRules rules
+  pub compiled : IsCdb file (stored rules)
+
+-- what may stand where a text was accepted: a file that is compiled of it; and nothing where there was none
+abbrev pub StandsFor : Option (List Rule) → Option (List ℕ) → Type 0
+StandsFor None bytes = bytes ≡ None
+StandsFor (Some rules) bytes = (file : List ℕ) × (bytes ≡ Some file) × IsOf rules file
+
+-- one whole accepted text, no older than the last acknowledged
+pub record IsAccepted (w : World) (bytes : Option (List ℕ)) : Type 0 where
+  pub number : ℕ
+  pub text : Option (List Rule)
+  pub accepted : slice_get w.accepted number ≡ Some text
+  pub recent : w.acknowledged ≤ number
+  pub stands : StandsFor text bytes
+
+-- at the start the rules file is missing, or synced and compiled of the text that has number 0
+abbrev pub BeginsWith : Directory → List ℕ → Option (List Rule) → Type 0
+BeginsWith d name None = number_of d name ≡ None
+BeginsWith d name (Some rules) = (file : List ℕ) × (file_at d name ≡ Some (record { bytes = file; synced = true })) × IsOf rules file
+
+-- the same of a server that follows rules
+abbrev pub StartsWith : Directory → Option RulesName → Option (List Rule) → Type 0
+StartsWith d None text = text ≡ None
+StartsWith d (Some r) text = BeginsWith d r.name text
+
+-- no connection, nothing under way, no pending change of names, and one text at most
+pub record IsStart (w : World) : Type 0 where
+  pub text : Option (List Rule)
+  pub begins : StartsWith w.directory w.rules text
+  pub none_pending : w.directory.names.pending ≡ []
+  pub server : w.server ≡ start w.server.limit w.server.per_address
+  pub accepted : w.accepted ≡ text ∷ []
+  pub acknowledged : w.acknowledged ≡ 0
+  pub under_way : w.under_way ≡ None
+  pub kept : w.kept ≡ []

@@ -1,0 +1,243 @@
+//! What a list of events leads to.
+ghost use Rattle.std.specs.Prelude.{◌≡◌, length, true, OnOk, OnErr};
+ghost use Rattle.std.specs.List.{count_by};
+ghost use Rattle.server_events.specs.Reports.{is_admission};
+ghost use Rattle.server_events.specs.ServerState.{start, stage_of, with_stage, without, count_from, may_admit, may_come, may_happen, after, is_retired, phase_after};
+
+use crate::addresses::AddressCounts;
+use crate::event::{Event, Stage};
+use rule_lines::Verdict;
+use rule_lookup::Peer;
+use rules_install::Phase;
+use std::alloc::{AllocError, Global};
+use std::collections::BTreeMap;
+use std::marker::Model;
+
+/// A connection that is alive.
+#[derive(Debug, Drop)]
+pub struct Connection {
+    /// Its number.
+    pub serial: u64,
+    /// Its other end.
+    pub peer: Peer,
+    /// How far it has come.
+    pub stage: Stage,
+}
+
+/// The limits, the connections that are alive, the last serial, and the phase of the installation under way.
+#[derive(Debug, Drop)]
+pub struct State {
+    limit: u64,
+    per_address: u64,
+    last: u64,
+    /// The connections that are alive, by their serials.
+    connections: BTreeMap<u64, Connection>,
+    /// How many of them come from each address.
+    addresses: AddressCounts,
+    phase: Option<Phase>,
+}
+
+impl Model for State {
+    ghost use Rattle.server_events.specs.ServerState.{ServerState};
+
+    ghost Value = { ServerState };
+
+    ghost use Rattle.server_events.specs.Kept.{Kept, state_of};
+
+    ghost view = { state_of };
+
+    ghost invariant = { Kept };
+}
+
+impl State {
+    /// No connection, and no installation under way.
+    pub fn new(alloc: Global, limit: u64, per_address: u64) -> State
+        ensures { result ≡ start limit per_address }
+    {
+        State {
+            limit,
+            per_address,
+            last: 0,
+            connections: BTreeMap::new(alloc),
+            addresses: AddressCounts::new(alloc),
+            phase: None,
+        }
+    }
+
+    /// The stage of a connection that is alive.
+    pub fn stage(&self, serial: u64) -> Option<Stage>
+        ensures { result ≡ stage_of serial self.now.connections }
+    {
+        self.connections.get(&serial).map(|c| c.stage)
+    }
+
+    fn set_stage(&mut self, serial: u64, stage: Stage)
+        ensures { self.new ≡ record self.old { connections = with_stage serial stage self.old.connections } }
+    {
+        if let Some(connection) = self.connections.get_mut(&serial) {
+            connection.stage = stage;
+        }
+    }
+
+    fn remove(&mut self, serial: u64)
+        ensures { self.new ≡ record self.old { connections = without serial self.old.connections } }
+    {
+        if let Some(connection) = self.connections.remove(&serial) {
+            self.addresses.leave(connection.peer.ip());
+        }
+    }
+
+    /// The serial of the last connection that was let in, or 0.
+    pub fn last(&self) -> u64
+        ensures { result ≡ self.now.last }
+    {
+        self.last
+    }
+
+    /// How many connections are alive.
+    pub fn live(&self) -> u64
+        ensures { result ≡ length self.now.connections }
+    {
+        self.connections.len() as u64
+    }
+
+    /// How many of the connections alive are retired.
+    pub fn retired(&self) -> u64
+        ensures { result ≡ count_by (λ c. is_retired c.stage) self.now.connections }
+    {
+        self.connections
+            .values()
+            .filter(|c| is_retired(c.stage))
+            .count() as u64
+    }
+
+    /// How many of the connections alive come from an address, retired ones too.
+    pub fn live_from(&self, ip: [u8; 4]) -> u64
+        ensures { result ≡ count_from ip self.now.connections }
+    {
+        self.addresses.count(ip)
+    }
+
+    fn may_admit(&self, serial: u64, peer: &Peer) -> bool
+        ensures { result ≡ may_admit self.now serial peer.now }
+    {
+        self.last.checked_add(1) == Some(serial)
+            && self.live() < self.limit
+            && self.live_from(peer.ip()) < self.per_address
+    }
+
+    /// Whether an event may happen now, by the table of events.
+    pub fn may_happen(&self, event: &Event) -> bool
+        ensures { result ≡ may_happen self.now event.now }
+    {
+        match event {
+            Event::Admitted { serial, peer } => self.may_admit(*serial, peer),
+            Event::Opened { serial, .. } => matches!(self.stage(*serial), Some(Stage::Admitted)),
+            Event::Decided { serial, .. } => matches!(self.stage(*serial), Some(Stage::Opened)),
+            Event::Started { serial } | Event::StartFailed { serial, .. } => {
+                matches!(self.stage(*serial), Some(Stage::Decided(Verdict::Allow)))
+            }
+            Event::Ended { serial, .. } | Event::Retired { serial } => {
+                matches!(self.stage(*serial), Some(Stage::Started))
+            }
+            Event::Dropped { serial, .. } => {
+                matches!(
+                    self.stage(*serial),
+                    Some(Stage::Admitted | Stage::Opened | Stage::Decided(_))
+                )
+            }
+            Event::Stepped { phase } | Event::StepFailed { phase } => may_come(self.phase, *phase),
+            Event::Stop => true,
+        }
+    }
+
+    /// Goes on by an event that may happen now. Memory may be wanted for an admission alone, and nothing changes where there is none.
+    pub fn apply(&mut self, event: &Event) -> Result<(), AllocError>
+        requires may_happen { may_happen self.old event.now ≡ true }
+        ensures applied { OnOk result (self.new ≡ after self.old event.now) }
+        ensures unchanged { OnErr result (self.new ≡ self.old) }
+        ensures memory { OnErr result (is_admission event.now ≡ true) }
+    {
+        match event {
+            Event::Admitted { serial, peer } => {
+                let peer = peer.copy()?;
+                self.admit(*serial, peer)?;
+            }
+            Event::Opened { serial, .. } => self.set_stage(*serial, Stage::Opened),
+            Event::Decided { serial, decision } => {
+                self.set_stage(*serial, Stage::Decided(decision.verdict));
+            }
+            Event::Started { serial } => self.set_stage(*serial, Stage::Started),
+            Event::StartFailed { serial, .. }
+            | Event::Ended { serial, .. }
+            | Event::Dropped { serial, .. } => self.remove(*serial),
+            Event::Retired { serial } => self.set_stage(*serial, Stage::Retired),
+            Event::Stepped { phase } => self.set_phase(phase_after(*phase)),
+            Event::StepFailed { .. } => self.set_phase(None),
+            Event::Stop => self.stop(),
+        }
+        Ok(())
+    }
+
+    fn admit(&mut self, serial: u64, peer: Peer) -> Result<(), AllocError>
+        requires may_admit { may_admit self.old serial peer ≡ true }
+        ensures applied { OnOk result (self.new ≡ after self.old (Event.Admitted serial peer)) }
+        ensures unchanged { OnErr result (self.new ≡ self.old) }
+    {
+        let ip = peer.ip();
+        let newcomer = Connection {
+            serial,
+            peer,
+            stage: Stage::Admitted,
+        };
+        self.addresses.add(ip)?;
+        if let Err(refused) = self.connections.insert(serial, newcomer) {
+            self.addresses.leave(ip);
+            return Err(refused.into());
+        }
+        self.last = serial;
+        Ok(())
+    }
+
+    fn set_phase(&mut self, phase: Option<Phase>)
+        ensures { self.new ≡ record self.old { phase = phase } }
+    {
+        self.phase = phase;
+    }
+
+    fn stop(&mut self)
+        ensures { self.new ≡ after self.old Event.Stop }
+    {
+        self.connections.clear();
+        self.addresses.clear();
+        self.phase = None;
+    }
+}
+
+fn is_retired(stage: Stage) -> bool
+    ensures { result ≡ is_retired stage }
+{
+    matches!(stage, Stage::Retired)
+}
+
+fn may_come(before: Option<Phase>, phase: Phase) -> bool
+    ensures { result ≡ may_come before phase }
+{
+    match (before, phase) {
+        (_, Phase::Fresh) => true,
+        (Some(Phase::Fresh), Phase::Filling) => true,
+        (Some(Phase::Filling), Phase::Filling | Phase::Synced) => true,
+        (Some(Phase::Synced), Phase::Named) => true,
+        (Some(Phase::Named), Phase::Done) => true,
+        _ => false,
+    }
+}
+
+fn phase_after(phase: Phase) -> Option<Phase>
+    ensures { result ≡ phase_after phase }
+{
+    match phase {
+        Phase::Done => None,
+        under_way => Some(under_way),
+    }
+}
