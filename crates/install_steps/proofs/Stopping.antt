@@ -1,0 +1,26 @@
+-- What a stop since a step of an installation began leaves of a world in which it is under way.
+use Rattle.std.proofs.Common.{◌≡◌, ◌⊎◌, inl, inr, ⊎_elim, ◌≤◌, ℕ, refl, sym, subst, arith}
+use Rattle.std.specs.Prelude.{Option, Some}
+use Rattle.dir_disk.specs.Calls.{Call}
+use Rattle.dir_disk.specs.Directory.{Directory}
+use Rattle.dir_disk.specs.Images.{IsImage}
+use Rattle.dir_disk.specs.Outcomes.{LeftBy, Passes}
+use Rattle.rules_install.specs.Installing.{Installing, next_phase}
+use Rattle.rules_install.specs.Steps.{IsCallOf, StepStops}
+use Rattle.server_events.specs.Steps.{MayBeAt, MayLeave}
+use Rattle.server_events.specs.Worlds.{World}
+use Rattle.install_steps.specs.UnderWay.{IsUnderWay, Leaves, MayStepFrom}
+use Rattle.install_steps.proofs.Meeting.{calls, follows}
+
+-- a moment within the call of its next step
+pub may_be_at : (w : World) (s : Installing) (d : Directory) (call : Call) (state : Directory) → IsUnderWay w s d → MayStepFrom s → IsCallOf s (next_phase s) call → Passes call d state → MayBeAt w state
+may_be_at w s d call state at may is passes =
+    inr (next_phase s, call, follows w s d at may, calls w s d at may call is, subst (λ (f : Directory). Passes call f state) (sym at.directory) passes)
+
+module _ {D : Type 0} (state : D → Directory) (moment : D → ℕ) (left_since : D → ℕ → Directory → Type 0) (s : Installing) (old new : D) where
+  pub leaves : ((image : Directory) → left_since old (moment old) image → IsImage (state old) image) → MayStepFrom s → StepStops state moment left_since (next_phase s) s old new → Leaves state moment left_since s old new
+  leaves only may stops = λ w image at left.
+      ⊎_elim
+      (λ earlier. inl (state old, inl (sym at.directory), only image earlier))
+      (λ within. ⊎_elim (λ passing. inl (passing.0, may_be_at w s (state old) stops.call passing.0 at may stops.is_call passing.1, passing.2)) (λ after. inr after) within)
+      (stops.time.nothing_else (moment old) image (omega arith) left)

@@ -1,0 +1,2 @@
+-- Installations in worlds.
+pub mod UnderWay

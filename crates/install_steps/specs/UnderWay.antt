@@ -1,0 +1,78 @@
+-- Installations that are under way in a world, and what their steps do there.
+use Rattle.std.specs.Prelude.{◌≡◌, ◌≢◌, ◌⊎◌, ⊤, ℕ, false, Option, None, Some, Result, Ok, Err}
+use Rattle.dir_disk.specs.Directory.{Directory}
+use Rattle.dir_disk.specs.Images.{IsImage}
+use Rattle.dir_disk.specs.declared.fault.DirFault.TheVariants.{Device}
+use Rattle.rule_lookup.specs.declared.decision.Missing.{Missing}
+use Rattle.rules_install.specs.Installing.{Installing, IsConsistent, Fits, next_phase}
+use Rattle.rules_install.specs.NamePair.{NamePair}
+use Rattle.rules_install.specs.Steps.{Changes, Goes, IsOfDevice, IsSame}
+use Rattle.rules_install.specs.declared.Phase.{Phase}
+use Rattle.rules_install.specs.declared.Phase.TheVariants.{Fresh, Filling, Synced, Named, Done}
+use Rattle.rules_install.specs.declared.fault.InstallFault.{InstallFault}
+use Rattle.rules_install.specs.declared.fault.InstallFault.TheVariants.{Disk}
+use Rattle.server_events.specs.Steps.{MayLeave, Step}
+use Rattle.server_events.specs.Worlds.{RulesName, UnderWay, World}
+use Rattle.server_events.specs.declared.event.Event.TheVariants.{Stepped, StepFailed}
+
+-- the name of the rules file of an installation, and what a server does where no file is there
+abbrev pub rules_named : NamePair → Missing → RulesName
+rules_named names missing = record { name = names.cdb; missing = missing }
+
+-- an installation as a world has it, with the number of its text
+abbrev pub as_under_way : Installing → ℕ → UnderWay
+as_under_way s number = record { rules = s.rules; number = number; tmp = s.names.tmp }
+
+-- a world has it under way, as far as it has come
+pub record IsAsFar (w : World) (s : Installing) : Type 0 where
+  pub number : ℕ
+  pub under_way : w.under_way ≡ Some (as_under_way s number)
+  pub phase : w.server.phase ≡ s.reached
+
+-- from its first step on until it is done
+abbrev pub HasReached : World → Installing → Option Phase → Type 0
+HasReached w s None = ⊤
+HasReached w s (Some Fresh) = IsAsFar w s
+HasReached w s (Some Filling) = IsAsFar w s
+HasReached w s (Some Synced) = IsAsFar w s
+HasReached w s (Some Named) = IsAsFar w s
+HasReached w s (Some Done) = ⊤
+
+-- an installation is under way in a world: it has its directory and its rules name, and where it is not over, the world has it as
+-- far as it has come
+pub record IsUnderWay (w : World) (s : Installing) (d : Directory) : Type 0 where
+  pub directory : w.directory ≡ d
+  pub missing : Missing
+  pub rules : w.rules ≡ Some (rules_named s.names missing)
+  pub reached : s.over ≡ false → HasReached w s s.reached
+
+-- it may make a step that is an event
+pub record MayStepFrom (s : Installing) : Type 0 where
+  pub consistent : IsConsistent s
+  pub is_open : s.over ≡ false
+  pub undone : s.reached ≢ Some Done
+
+-- it makes one, and answers this
+pub record MakesStep (s t : Installing) (d e : Directory) (result : Result Phase InstallFault) : Type 0 where
+  pub may : MayStepFrom s
+  pub fits : Fits s d
+  pub same : IsSame s t
+  pub goes : Goes (next_phase s) s t result
+  pub changes : Changes s (next_phase s) d e result
+  pub device : IsOfDevice result
+
+-- the world after it, by its answer
+abbrev pub Arrives : World → Installing → Directory → Result Phase InstallFault → Type 0
+Arrives w t e (Ok phase) = (v : World) × Step w (Stepped phase) v × IsUnderWay v t e
+Arrives w t e (Err (Disk Device phase)) = (v : World) × Step w (StepFailed phase) v × IsUnderWay v t e
+Arrives w t e (Err fault) = IsUnderWay w t e
+
+-- each world in which it is under way goes on so
+abbrev pub LeadsOn : Installing → Installing → Directory → Directory → Result Phase InstallFault → Type 0
+LeadsOn s t d e result = (w : World) → IsUnderWay w s d → Arrives w t e result
+
+-- A stop since a step of an installation began left what a stop may leave of each such world, or of the directory after it.
+abbrev pub Leaves : {D : Type 0} → (D → Directory) → (D → ℕ) → (D → ℕ → Directory → Type 0) → Installing → D → D → Type 0
+Leaves state moment left_since s old new =
+    (w : World) (image : Directory) → IsUnderWay w s (state old) → left_since new (moment old) image
+    → MayLeave w image ⊎ IsImage (state new) image

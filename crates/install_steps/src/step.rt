@@ -1,0 +1,37 @@
+//! The next step of an installation.
+ghost use Rattle.std.specs.Prelude.{IsTrue};
+ghost use Rattle.install_steps.specs.UnderWay.{LeadsOn, Leaves};
+ghost use Rattle.rules_install.specs.Installing.{Fits};
+ghost use Rattle.rules_install.specs.Installs.{installing, IsOpen, IsUndone};
+
+use crate::laws::leads_on;
+use dir_disk::Dir;
+use rules_install::{Install, InstallFault, Phase};
+use std::alloc::Global;
+
+/// Makes the next step of an installation that is neither over nor done: in each world in which it is under way an event of the
+/// table, or nothing.
+///
+/// # Errors
+/// As `Install::step`: `Disk` with the phase that was to be reached, after which the installation is over; `OutOfMemory`, after which
+/// nothing has changed.
+pub fn make_step<D: Dir>(
+    alloc: Global,
+    dir: &mut D,
+    install: &mut Install,
+) -> Result<Phase, InstallFault>
+    requires is_open { IsOpen install.old }
+    requires undone { IsUndone install.old }
+    requires fits { IsTrue D.honest → Fits (installing install.old) (D.state dir.old) }
+    // the world goes on by the event that is answered, to one in which the installation is under way as it is then
+    ensures leads { IsTrue D.honest
+        → LeadsOn (installing install.old) (installing install.new) (D.state dir.old) (D.state dir.new) result }
+    // whenever the machine stopped since the step began, it left what a stop may leave of the world, or of the one after it
+    ensures stops { IsTrue D.honest
+        → Leaves D.state D.moment D.left_since (installing install.old) dir.old dir.new }
+    ensures fits { IsTrue D.honest → Fits (installing install.new) (D.state dir.new) }
+{
+    leads_on();
+    install.consistent();
+    install.step(alloc, dir)
+}
