@@ -1,11 +1,1 @@
-pub mod AppendLemmas
-pub mod DecideLemmas
-pub mod GoLemmas
-pub mod InstallLemmas
-pub mod KeptLemmas
-pub mod ProgressLemmas
-pub mod ReaderLemmas
-pub mod RunLemmas
-pub mod ScriptLemmas
-pub mod TextLemmas
 pub mod WordLemmas

@@ -4,10 +4,10 @@ use Rattle.std.specs.declared.alloc.Global.{Global}
 use Rattle.std.specs.Prelude.{IsUtf8}
 use Rattle.std.specs.List.{list_all}
 use Rattle.std.specs.Str.{is_utf8}
-use Rattle.std.proofs.lemmas.Bool.{false_from_ne_true}
-use Rattle.std.proofs.lemmas.Str.{is_utf8-from_IsUtf8, IsUtf8-from_is_utf8}
+use Rattle.std.proofs.lemmas.Str.{is_utf8-from_IsUtf8}
+use Rattle.stream_tools.proofs.WordLemmas.{is_utf8-no_text}
 use Rattle.ucspi_tools.specs.declared.choice.Tool.TheVariants.{Tcprules, Tcprulescheck}
-use Rattle.ucspi_tools.specs.Programs.{installs, checks, text_in, usage_of, tcprules_by, tcprulescheck_by}
+use Rattle.ucspi_tools.specs.Choices.{installs, checks, usage_of, tcprules_by, tcprulescheck_by}
 
 -- the bytes of each word
 abbrev pub bytes_of : List (Vec ℕ Global) → List (List ℕ)
@@ -25,18 +25,6 @@ two_words (w ∷ []) first second some few at_first at_second = absurd (omega ar
 two_words (w ∷ v ∷ []) first second some few at_first at_second =
     ap (λ (u : Vec ℕ Global). u.items ∷ v.items ∷ []) (sym at_first) ∙ ap (λ (u : Vec ℕ Global). first.items ∷ u.items ∷ []) (sym at_second)
 two_words (w ∷ v ∷ u ∷ words) first second some few at_first at_second = absurd (omega arith)
-
--- bytes that are no text
-pub is_utf8-no_text : (bytes : List ℕ) → ¬ IsUtf8 bytes → is_utf8 bytes ≡ false
-is_utf8-no_text bytes no_text =
-    false_from_ne_true (is_utf8 bytes) (λ text. no_text (IsUtf8-from_is_utf8 bytes text))
-
--- a word that is text, and one that is none, as a text
-pub text_in-text : (word : List ℕ) → IsUtf8 word → text_in word ≡ word
-text_in-text word text = ap (λ b. cond b word []) (is_utf8-from_IsUtf8 word text)
-
-pub text_in-no_text : (word : List ℕ) → ¬ IsUtf8 word → text_in word ≡ []
-text_in-no_text word no_text = ap (λ b. cond b word []) (is_utf8-no_text word no_text)
 
 -- with one word that is no text not all are
 and-false : (b : Bool) → (b && false) ≡ false

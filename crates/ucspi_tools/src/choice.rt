@@ -1,9 +1,9 @@
 //! Which tool the words of a command line ask for.
-ghost use Rattle.std.specs.Prelude.{◌≡◌, ℕ, Vec, map};
-ghost use Rattle.std.specs.declared.alloc.Global.{Global};
+ghost use Rattle.std.specs.Prelude.{◌≡◌};
 ghost use Rattle.std.specs.List.{list_all};
 ghost use Rattle.std.specs.Str.{is_utf8};
-ghost use Rattle.ucspi_tools.specs.Programs.{alone, choice_of, run_of, tcprules_by, tcprulescheck_by, tool_of, wanted, with_program};
+ghost use Rattle.stream_tools.specs.Programs.{texts_of};
+ghost use Rattle.ucspi_tools.specs.Choices.{alone, choice_of, run_of, tcprules_by, tcprulescheck_by, tool_of, wanted, with_program};
 
 /// A tool.
 #[derive(Clone, Copy, PartialEq, Eq, Debug)]
@@ -63,7 +63,7 @@ pub enum Choice<'a> {
 
 /// What words, after the program's name, ask for.
 pub fn choose(words: &[Vec<u8>]) -> Choice<'_>
-    ensures { wanted result ≡ choice_of (map (λ (word : Vec ℕ Global). word.items) words.now) }
+    ensures { wanted result ≡ choice_of (texts_of words.now) }
 {
     let Some((tool, words)) = words.split_first() else {
         return Choice::Rulesim;
@@ -99,7 +99,7 @@ fn tool_named(name: &[u8]) -> Option<Tool>
 
 /// What the words of a tool ask for.
 fn choose_tool(tool: Tool, words: &[Vec<u8>]) -> Choice<'_>
-    ensures { wanted result ≡ run_of tool (map (λ (word : Vec ℕ Global). word.items) words.now) }
+    ensures { wanted result ≡ run_of tool (texts_of words.now) }
 {
     match tool {
         Tool::Rulesim => choose_alone(Choice::Rulesim, tool, words),
@@ -114,7 +114,7 @@ fn choose_tool(tool: Tool, words: &[Vec<u8>]) -> Choice<'_>
 
 /// The run of a tool that has no words of its own.
 fn choose_alone<'a>(run: Choice<'a>, tool: Tool, words: &[Vec<u8>]) -> Choice<'a>
-    ensures { wanted result ≡ alone (wanted run.entry) tool (map (λ (word : Vec ℕ Global). word.items) words.now) }
+    ensures { wanted result ≡ alone (wanted run.entry) tool (texts_of words.now) }
 {
     if words.is_empty() {
         run
@@ -125,7 +125,7 @@ fn choose_alone<'a>(run: Choice<'a>, tool: Tool, words: &[Vec<u8>]) -> Choice<'a
 
 /// The run of a tool whose words are a program's.
 fn choose_program<'a>(run: Choice<'a>, tool: Tool, words: &[Vec<u8>]) -> Choice<'a>
-    ensures { wanted result ≡ with_program (wanted run.entry) tool (map (λ (word : Vec ℕ Global). word.items) words.now) }
+    ensures { wanted result ≡ with_program (wanted run.entry) tool (texts_of words.now) }
 {
     if !words.is_empty() && are_texts(words) {
         run
@@ -136,7 +136,7 @@ fn choose_program<'a>(run: Choice<'a>, tool: Tool, words: &[Vec<u8>]) -> Choice<
 
 /// Whether all words are UTF-8.
 fn are_texts(words: &[Vec<u8>]) -> bool
-    ensures { result ≡ list_all is_utf8 (map (λ (word : Vec ℕ Global). word.items) words.now) }
+    ensures { result ≡ list_all is_utf8 (texts_of words.now) }
 {
     for word in words {
         if !is_text(word) {
@@ -157,7 +157,7 @@ fn is_text(word: &[u8]) -> bool
 }
 
 fn choose_tcprules(words: &[Vec<u8>]) -> Choice<'_>
-    ensures { wanted result ≡ tcprules_by (map (λ (word : Vec ℕ Global). word.items) words.now) }
+    ensures { wanted result ≡ tcprules_by (texts_of words.now) }
 {
     match words {
         [cdb, tmp] => match (str::from_utf8(cdb), str::from_utf8(tmp)) {
@@ -169,7 +169,7 @@ fn choose_tcprules(words: &[Vec<u8>]) -> Choice<'_>
 }
 
 fn choose_tcprulescheck(words: &[Vec<u8>]) -> Choice<'_>
-    ensures { wanted result ≡ tcprulescheck_by (map (λ (word : Vec ℕ Global). word.items) words.now) }
+    ensures { wanted result ≡ tcprulescheck_by (texts_of words.now) }
 {
     match words {
         [cdb] => match str::from_utf8(cdb) {

@@ -1,36 +1,15 @@
-//! The tools of `ucspi` as library functions.
+//! The tools of `ucspi` as library functions, and the program that its words ask for.
 #![tactic(auto)]
 
-pub mod answer;
-pub mod between;
 pub mod choice;
-mod event_words;
-pub mod filter;
-pub mod launcher;
-mod path;
 pub mod program;
-pub mod script;
-pub mod shared;
-pub mod sim;
-mod simulation;
-pub mod started;
-pub mod tcprules;
-pub mod tcprulescheck;
 
-pub use between::{BetweenFault, Lane, run_between};
-pub use filter::{FilterFault, run_filter};
-pub use launcher::{OsJob, OsLauncher};
 pub use program::run_program;
-pub use shared::SharedWriter;
-pub use sim::{SimEnd, run_rulesim};
-pub use tcprules::{TcprulesFault, run_tcprules};
-pub use tcprulescheck::{CheckFault, run_tcprulescheck};
+pub use rules_tools::{CheckFault, TcprulesFault, run_tcprules, run_tcprulescheck};
+pub use script_tool::{SimEnd, run_rulesim};
+pub use stream_tools::{
+    BetweenFault, FilterFault, Lane, OsJob, OsLauncher, SharedWriter, run_between, run_filter,
+};
 
-#[cfg(test)]
-mod path_tests;
-#[cfg(test)]
-mod source_tests;
-#[cfg(test)]
-mod stop_tests;
 #[cfg(test)]
 mod tests;

@@ -1,31 +1,21 @@
 //! The program `ucspi`: its words, and the tool that they ask for.
-ghost use Rattle.std.specs.Prelude.{◌≡◌, [], ◌∷◌, IfOk, MatchResult};
-ghost use Rattle.rule_lookup.specs.Peers.{given};
-ghost use Rattle.wrapper_chain.specs.Chains.{stages_of};
-ghost use Rattle.ucspi_tools.specs.Programs.{between_exit, check_exit, exit_of, filter_exit, recorder_number, rules_exit};
+ghost use Rattle.std.specs.Prelude.{◌≡◌, MatchResult};
+ghost use Rattle.ucspi_tools.specs.Exits.{between_exit, check_exit, exit_of, filter_exit, rules_exit};
 
-use crate::between::{BetweenFault, Lane, run_between};
 use crate::choice::{Choice, Tool, choose};
-use crate::filter::{FilterFault, run_filter};
-use crate::launcher::OsLauncher;
-use crate::shared::SharedWriter;
-use crate::sim::{SimEnd, run_rulesim};
-use crate::started::{command_words, inherited_variables, program_of};
-use crate::tcprules::{TcprulesFault, run_tcprules};
-use crate::tcprulescheck::{CheckFault, run_tcprulescheck};
-use byte_pump::{NoTap, Recorder};
 use rule_lookup::Status;
-use std::alloc::{AllocError, Global};
+use rules_tools::{CheckFault, TcprulesFault, run_tcprules, run_tcprulescheck};
+use script_tool::{SimEnd, run_rulesim};
 use std::fs::Files;
 use std::io;
 use std::io::{BufReader, BufWriter, Write};
 use std::os::unix::fs::FileExt;
 use std::process::{OpenProcess, Processes};
 use std::rt::Env;
-use std::sync::{Mutex, Wait};
+use std::sync::Wait;
 use std::thread::Threads;
-use ucspi_words::number_in;
-use wrapper_chain::{AddCr, Chain, DelCr, FixCr, LineStage, Way};
+use stream_tools::started::command_words;
+use stream_tools::{BetweenFault, FilterFault, run_addcr, run_delcr, run_fixcrio, run_recordio};
 
 /// The exit code of wrong words and bad input.
 pub const BAD_INPUT: u8 = 100;
@@ -58,10 +48,10 @@ where
         Choice::Tcprulescheck { cdb } => {
             check_end(rt, run_tcprulescheck(rt, rt, &mut io::writer(rt), cdb))
         }
-        Choice::Addcr => filter_end(rt, "addcr", filter(rt, AddCr)),
-        Choice::Delcr => filter_end(rt, "delcr", filter(rt, DelCr::new())),
-        Choice::Fixcrio { words } => between_end(rt, "fixcrio", fix(rt, words)),
-        Choice::Recordio { words } => between_end(rt, "recordio", record_both(rt, errors, words)),
+        Choice::Addcr => filter_end(rt, "addcr", run_addcr(rt)),
+        Choice::Delcr => filter_end(rt, "delcr", run_delcr(rt)),
+        Choice::Fixcrio { words } => between_end(rt, "fixcrio", run_fixcrio(rt, words)),
+        Choice::Recordio { words } => between_end(rt, "recordio", run_recordio(rt, errors, words)),
         Choice::UsageOf(tool) => tell(rt, usage_line(tool), BAD_INPUT),
         Choice::Usage => tell(rt, "ucspi: usage: ucspi TOOL ...", BAD_INPUT),
     }
@@ -144,25 +134,6 @@ fn end_of<R: Eprint>(rt: &R, end: SimEnd) -> u8
     }
 }
 
-/// Passes standard input through a stage to standard output.
-fn filter<R: Input + Print + AllocGlobal, S: LineStage>(rt: &R, stage: S) -> Result<(), FilterFault>
-where
-    S: Drop,
-{
-    let alloc = rt.alloc();
-    let mut chain = chain_of(alloc, stage)?;
-    run_filter(alloc, &mut rt.reader(), &mut io::writer(rt), &mut chain)
-}
-
-/// A chain of one stage.
-fn chain_of<S: LineStage + Drop>(alloc: Global, stage: S) -> Result<Chain<S>, AllocError>
-    ensures { IfOk result (λ chain. stages_of chain ≡ stage ∷ []) }
-{
-    let mut stages = Vec::new(alloc);
-    stages.push(stage)?;
-    Ok(Chain::new(alloc, stages))
-}
-
 /// Prints why `addcr` or `delcr` failed, if it did, and answers the exit code.
 fn filter_end<R: Eprint>(rt: &R, tool: &str, end: Result<(), FilterFault>) -> u8
     ensures { result ≡ filter_exit end }
@@ -172,67 +143,6 @@ fn filter_end<R: Eprint>(rt: &R, tool: &str, end: Result<(), FilterFault>) -> u8
     };
     let _ = eprintln!(rt; "{tool}: {fault}");
     SYSTEM_FAULT
-}
-
-/// Runs a program whose lines get a carriage return where they have none, both ways.
-fn fix<R>(rt: &R, words: &[Vec<u8>]) -> Result<Status, BetweenFault>
-where
-    R: Env + Input + Print + AllocGlobal + Processes + Threads + Wait + Sync,
-    R::Reader: Send,
-    <R::Started as OpenProcess>::Stdin: Send,
-{
-    let alloc = rt.alloc();
-    let program = program_of(alloc, words)?;
-    let variables = inherited_variables(alloc, rt)?;
-    let input = Lane {
-        stream: rt.reader(),
-        chain: chain_of(alloc, FixCr::new())?,
-        tap: NoTap,
-    };
-    let output = Lane {
-        stream: io::writer(rt),
-        chain: chain_of(alloc, FixCr::new())?,
-        tap: NoTap,
-    };
-    let launcher = OsLauncher::new(rt);
-    run_between(rt, alloc, &launcher, (&program, &variables), input, output)
-}
-
-/// Runs a program, and records what goes both ways on `errors`.
-fn record_both<R, E>(rt: &R, errors: E, words: &[Vec<u8>]) -> Result<Status, BetweenFault>
-where
-    R: Env + Input + Print + AllocGlobal + Processes + Threads + Wait + Sync,
-    R::Reader: Send,
-    <R::Started as OpenProcess>::Stdin: Send,
-    E: Write + Send + Drop,
-{
-    let alloc = rt.alloc();
-    let program = program_of(alloc, words)?;
-    let variables = inherited_variables(alloc, rt)?;
-    let number = recorder_number(variables.get("TCPREMOTEPORT"));
-    let errors = Mutex::new(errors);
-    let input = Lane {
-        stream: rt.reader(),
-        chain: Chain::<FixCr>::new(alloc, Vec::new(alloc)),
-        tap: Recorder::new(alloc, number, Way::Input, SharedWriter::new(rt, &errors)),
-    };
-    let output = Lane {
-        stream: io::writer(rt),
-        chain: Chain::<FixCr>::new(alloc, Vec::new(alloc)),
-        tap: Recorder::new(alloc, number, Way::Output, SharedWriter::new(rt, &errors)),
-    };
-    let launcher = OsLauncher::new(rt);
-    run_between(rt, alloc, &launcher, (&program, &variables), input, output)
-}
-
-/// The number of a recorder, by the text of the peer's port: 0 where that is no port.
-fn recorder_number(port: Option<&str>) -> u64
-    ensures { result ≡ recorder_number (given port.entry) }
-{
-    match port {
-        Some(text) if text.len() <= 5 => number_in(text, 0, 65535).unwrap_or(0),
-        _ => 0,
-    }
 }
 
 /// Prints why a program could not be run between pumps, if it could not, and answers the exit code.

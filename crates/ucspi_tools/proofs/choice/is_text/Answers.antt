@@ -1,6 +1,6 @@
 use Rattle.std.proofs.Common.{sym}
 use Rattle.std.proofs.lemmas.Str.{is_utf8-from_IsUtf8}
-use Rattle.ucspi_tools.proofs.WordLemmas.{is_utf8-no_text}
+use Rattle.stream_tools.proofs.WordLemmas.{is_utf8-no_text}
 use Rattle.ucspi_tools.proofs.choice.is_text.Goals as goal
 
 pub returns-in-Ok : goal.returns-in-Ok

@@ -1,0 +1,6 @@
+//! The lines that tell a decision.
+#![tactic(auto)]
+
+mod answer;
+
+pub use answer::append_answer;

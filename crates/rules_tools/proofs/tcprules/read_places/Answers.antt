@@ -1,0 +1,73 @@
+use Rattle.std.proofs.Common.{◌≡◌, ◌⊎◌, inl, inr, ℕ, Bool, true, false, ◌||◌, cond, List, Option, Some, None, Result, Err, IsSome, is_some, bytes_eq, refl, sym, ap, ◌∙◌}
+use Rattle.std.specs.Borrow.{Bor}
+use Rattle.std.proofs.lemmas.Bool.{not-true, not-false, or_left, or_right}
+use Rattle.std.proofs.lemmas.Result.{err_from_is_err_and}
+use Rattle.cdb_read.proofs.Passing.{bytes_eq-same}
+use Rattle.dir_disk.specs.Names.{name_fault}
+use Rattle.rules_install.specs.NamePair.{NamePair}
+use Rattle.rules_tools.specs.Paths.{PlacesOf, IsSplit, IsPlaced, paths_fault}
+use Rattle.rules_tools.specs.declared.tcprules.TcprulesFault.{TcprulesFault}
+use Rattle.rules_tools.specs.declared.tcprules.TcprulesFault.TheVariants.{BadName, OtherFolder, SameName, OutOfMemory}
+use Rattle.rules_tools.proofs.tcprules.read_places.Goals as goal
+
+-- what is wrong, by the tests: a name is bad, the folders are one, the names are one
+abbrev fault_by : Bool → Bool → Bool → Option TcprulesFault
+fault_by bad one_folder one_name =
+    cond bad (Some BadName) (cond one_folder (cond one_name (Some SameName) None) (Some OtherFolder))
+
+-- a look at a name fails
+abbrev Refuses : List ℕ → TcprulesFault → Type 0
+Refuses name fault = (fault ≡ OutOfMemory) ⊎ ((fault ≡ BadName) × IsSome (name_fault name))
+
+-- the parts of two paths
+module _ (cdb tmp folder other first second : List ℕ) (splits_cdb : IsSplit cdb folder first) (splits_tmp : IsSplit tmp other second) where
+  places : (result : Result (Bor (List ℕ) × NamePair) TcprulesFault) → IsPlaced folder other (record { cdb = first; tmp = second }) result → PlacesOf cdb tmp result
+  places result placed =
+      record { folder = folder; other = other; names = record { cdb = first; tmp = second }; first = splits_cdb; second = splits_tmp; placed = placed }
+
+  -- a bad name among them
+  bad_name : (is_some (name_fault first) || is_some (name_fault second)) ≡ true → PlacesOf cdb tmp (Err BadName)
+  bad_name bad =
+      places (Err BadName) (ap (λ b. fault_by b (bytes_eq folder other) (bytes_eq first second)) bad)
+
+  refuses_first : (fault : TcprulesFault) → Refuses first fault → PlacesOf cdb tmp (Err fault)
+  refuses_first fault (inl is) = rw is (places (Err OutOfMemory) tt)
+  refuses_first fault (inr is) = rw is.0 (bad_name (or_left (is_some (name_fault first)) (is_some (name_fault second)) is.1))
+
+  refuses_second : (fault : TcprulesFault) → Refuses second fault → PlacesOf cdb tmp (Err fault)
+  refuses_second fault (inl is) = rw is (places (Err OutOfMemory) tt)
+  refuses_second fault (inr is) = rw is.0 (bad_name (or_right (is_some (name_fault first)) (is_some (name_fault second)) is.1))
+
+  -- two good names, in different folders or one name
+  fault-good : (one_folder one_name : Bool) → name_fault first ≡ None → name_fault second ≡ None → bytes_eq folder other ≡ one_folder → bytes_eq first second ≡ one_name → paths_fault folder other (record { cdb = first; tmp = second }) ≡ fault_by false one_folder one_name
+  fault-good one_folder one_name good_first good_second folders names =
+      ap (λ b. fault_by b (bytes_eq folder other) (bytes_eq first second)) (ap (λ o. is_some o || is_some (name_fault second)) good_first ∙ ap is_some good_second)
+      ∙ ap (λ b. fault_by false b (bytes_eq first second)) folders ∙ ap (λ b. fault_by false one_folder b) names
+
+  other_folder : name_fault first ≡ None → name_fault second ≡ None → bytes_eq folder other ≡ false → PlacesOf cdb tmp (Err OtherFolder)
+  other_folder good_first good_second folders =
+      places (Err OtherFolder) (fault-good false (bytes_eq first second) good_first good_second folders refl)
+
+  same_name : name_fault first ≡ None → name_fault second ≡ None → bytes_eq folder other ≡ true → first ≡ second → PlacesOf cdb tmp (Err SameName)
+  same_name good_first good_second folders same =
+      places (Err SameName) (fault-good true true good_first good_second folders (bytes_eq-same first second same))
+
+pub returns-in_err-cdb : goal.returns-in_err-cdb
+returns-in_err-cdb c =
+    let p = err_from_is_err_and c.from_residual.result c.from_residual.ensures.1 in
+    rw (p.1, p.2) (refuses_first _ _ _ _ _ _ c.split_path.ensures c.split_path-2.ensures _ c.in_err-cdb.ensures.refused)
+
+pub returns-in_err-tmp : goal.returns-in_err-tmp
+returns-in_err-tmp c =
+    let p = err_from_is_err_and c.from_residual-in_err-tmp.result c.from_residual-in_err-tmp.ensures.1 in
+    rw (p.1, p.2) (refuses_second _ _ _ _ _ _ c.split_path.ensures c.split_path-2.ensures _ c.in_err-tmp.ensures.refused)
+
+pub returns-then-ne : goal.returns-then-ne
+returns-then-ne c =
+    other_folder _ _ _ _ _ _ c.split_path.ensures c.split_path-2.ensures c.in_ok-cdb.ensures.kept.1 c.in_ok-tmp.ensures.kept.1
+    (not-true _ (sym c.ne.ensures ∙ c.if-ne.true))
+
+pub returns-in-Err : goal.returns-in-Err
+returns-in-Err c =
+    same_name _ _ _ _ _ _ c.split_path.ensures c.split_path-2.ensures c.in_ok-cdb.ensures.kept.1 c.in_ok-tmp.ensures.kept.1
+    (not-false _ (sym c.ne.ensures ∙ c.if-ne.false)) (sym c.in_ok-cdb.ensures.kept.0 ∙ c.in-Err.ensures.same.0 refl ∙ c.in_ok-tmp.ensures.kept.0)

@@ -1,0 +1,72 @@
+use Rattle.std.proofs.Common.{◌≡◌, inl, inr, IsTrue, MatchOption, ℕ, Bool, true, false, List, Option, Some, None, Result, Err, refl, sym, ap, ◌∙◌}
+use Rattle.std.specs.Borrow.{Bor}
+use Rattle.std.specs.Option.{option_map, option_copied, IsSomeAnd}
+use Rattle.std.proofs.lemmas.Bool.{false≢true}
+use Rattle.cdb_read.specs.Reading.{reading}
+use Rattle.cdb_read.specs.Sources as cdb
+use Rattle.rule_lines.specs.declared.code.CodeFault.{CodeFault}
+use Rattle.rule_lines.specs.declared.code.CodeFault.TheVariants.{NotCode}
+use Rattle.rule_lines.specs.declared.source.FindFault.{FindFault}
+use Rattle.rule_lines.specs.declared.source.FindFault.TheVariants.{Short}
+use Rattle.rule_lines.specs.Lookups.{WhereKnown}
+use Rattle.rule_lookup.specs.declared.decision.DecideFault.{DecideFault}
+use Rattle.rule_lookup.specs.declared.decision.DecideFault.TheVariants.{Find, Code}
+use Rattle.rule_lookup.specs.declared.decision.Decision.{Decision}
+use Rattle.rule_lookup.specs.declared.decision.Missing.TheVariants.{Drop}
+use Rattle.rule_lookup.specs.Decisions.{decision_from, finds_of, trust_of, DecisionFails}
+use Rattle.rule_lookup.specs.Peers.{Client}
+use Rattle.rules_tools.specs.declared.tcprulescheck.CheckFault.TheVariants.{Damaged}
+use Rattle.rules_tools.specs.Checks.{FailsBy}
+use Rattle.rules_tools.proofs.tcprulescheck.decide_at.Goals as goal
+
+-- the source that is made of a file is that file
+source-opened : {F : Type 0} (opened made : Option F) → MatchOption opened (made ≡ None) (λ file. IsSomeAnd made (λ source. source ≡ file)) → made ≡ opened
+source-opened None made is = is
+source-opened (Some file) (Some source) is = ap Some is
+source-opened (Some file) None is = absurd is
+
+module _ {F : Type 0} (bytes : F → List ℕ) (source : Option (Bor F)) (file : Option (List ℕ)) where
+  finds_of-file : option_map bytes (option_copied source) ≡ file → finds_of (λ (s : F) key. reading (bytes s) key) source ≡ option_map reading file
+  finds_of-file same = of source ∙ ap (option_map reading) same where
+    of : (s : Option (Bor F)) → finds_of (λ (s : F) key. reading (bytes s) key) s ≡ option_map reading (option_map bytes (option_copied s))
+    of None = refl
+    of (Some s) = refl
+
+-- what is said of an honest source is known, and so it is without one
+known : {F : Type 0} (honest sound : Bool) (source : Option (Bor F)) (A : Type 0) → IsTrue honest → WhereKnown (trust_of (λ (s : F). cdb.trust_of honest sound) source) A → A
+known honest sound None A is fact = fact
+known honest true (Some s) A is fact = fact
+known true false (Some s) A is fact = fact
+known false false (Some s) A is fact = absurd (false≢true is)
+
+-- the decision by the source is that by the bytes of its file
+module _ {F : Type 0} (bytes : F → List ℕ) (honest sound : Bool) (source : Option (Bor F)) (opened made : Option F) (file : Option (List ℕ)) (peer : Client) (is : IsTrue honest) (copied : option_copied source ≡ made) (made_of : made ≡ opened) (held : option_map bytes opened ≡ file) where
+  decision-file : (r : Result Decision DecideFault) → WhereKnown (trust_of (λ (s : F). cdb.trust_of honest sound) source) (decision_from (finds_of (λ (s : F) key. reading (bytes s) key) source) Drop peer ≡ r) → decision_from (option_map reading file) Drop peer ≡ r
+  decision-file r decided =
+      ap (λ finds. decision_from finds Drop peer) (sym (finds_of-file bytes source file (ap (option_map bytes) (copied ∙ made_of) ∙ held)))
+      ∙ known honest sound source (decision_from (finds_of (λ (s : F) key. reading (bytes s) key) source) Drop peer ≡ r) is decided
+
+  -- and it fails for damage alone
+  damaged-short : (fault : DecideFault) (of_file : FindFault) → fault ≡ Find of_file → of_file ≡ Short → DecisionFails (trust_of (λ (s : F). cdb.trust_of honest sound) source) (decision_from (finds_of (λ (s : F) key. reading (bytes s) key) source) Drop peer) fault → FailsBy file peer Damaged
+  damaged-short fault of_file find short fails =
+      inl (decision-file (Err (Find Short)) (rw (find ∙ ap Find short) at fails))
+
+  damaged-code : (fault : DecideFault) (code : CodeFault) → fault ≡ Code code → DecisionFails (trust_of (λ (s : F). cdb.trust_of honest sound) source) (decision_from (finds_of (λ (s : F) key. reading (bytes s) key) source) Drop peer) fault → FailsBy file peer Damaged
+  damaged-code fault NotCode is_code fails =
+      inr (decision-file (Err (Code NotCode)) (rw is_code at fails))
+
+pub returns-in-Ok-decide-clause-decided : goal.returns-in-Ok-decide-clause-decided
+returns-in-Ok-decide-clause-decided g c honest =
+    decision-file g.D.File.RulesFile.bytes g.D.File.RulesFile.honest g.D.File.RulesFile.sound c.as_ref.result c.in-Ok.file c.map-file.result _ c.args.peer.now (g.met.D.Dir.honest_files honest)
+    c.as_ref.ensures.value (source-opened _ _ c.map-file.ensures.cases) (c.in-Ok.ensures.opened honest) _ c.in-Ok-decide.ensures.decided
+
+pub returns-in-Err-Find-Short-clause-refused : goal.returns-in-Err-Find-Short-clause-refused
+returns-in-Err-Find-Short-clause-refused g c honest =
+    damaged-short g.D.File.RulesFile.bytes g.D.File.RulesFile.honest g.D.File.RulesFile.sound c.as_ref.result c.in-Ok.file c.map-file.result _ c.args.peer.now (g.met.D.Dir.honest_files honest)
+    c.as_ref.ensures.value (source-opened _ _ c.map-file.ensures.cases) (c.in-Ok.ensures.opened honest) _ _ c.in-Err-Find-Short.field-0-is c.in-Err-Find-Short.field-0-0-is
+    c.in-Err-Find-Short.ensures.refused
+
+pub returns-in-Err-Code-clause-refused : goal.returns-in-Err-Code-clause-refused
+returns-in-Err-Code-clause-refused g c honest =
+    damaged-code g.D.File.RulesFile.bytes g.D.File.RulesFile.honest g.D.File.RulesFile.sound c.as_ref.result c.in-Ok.file c.map-file.result _ c.args.peer.now (g.met.D.Dir.honest_files honest)
+    c.as_ref.ensures.value (source-opened _ _ c.map-file.ensures.cases) (c.in-Ok.ensures.opened honest) _ _ c.in-Err-Code.field-0-is c.in-Err-Code.ensures.refused

@@ -1,0 +1,154 @@
+//! `tcprules`: compiles a rule text from standard input, and installs it.
+ghost use Rattle.std.specs.Prelude.{◌≡◌, ◌⊎◌, ◌<◌, ◌^◌, ◌-◌, ◌+◌, None, IfOk, IfErr, IfSome, IsSome, take};
+ghost use Rattle.dir_disk.specs.Names.{name_fault};
+ghost use Rattle.rules_tools.specs.Paths.{PlacesOf};
+ghost use Rattle.rules_tools.specs.Rules.{told_fault};
+ghost use Rattle.rules_tools.specs.declared.tcprules.TcprulesFault.TheVariants.{OutOfMemory};
+
+use crate::path::{folder_path, split_path};
+use dir_disk::{FolderFault, Name, NameFault, OsDir};
+use rule_lines::{Limits, LineFault, LineKind};
+use rules_install::whole::{finish, prepare};
+use rules_install::{InstallFault, Names, Phase};
+use std::alloc::{AllocError, Global};
+use std::fs::Files;
+use std::io::{ErrorKind, Read};
+use std::os::unix::fs::FileExt;
+use thiserror::Error;
+
+/// Why `tcprules` fails. Of several the first in this order is told.
+#[derive(Clone, Copy, PartialEq, Eq, Debug, Error)]
+pub enum TcprulesFault {
+    /// The last part of a path is no name of a file.
+    #[error("bad file name")]
+    BadName,
+    /// The paths name different folders.
+    #[error("cdb and tmp are in different folders")]
+    OtherFolder,
+    /// The paths name one file.
+    #[error("cdb and tmp are the same name")]
+    SameName,
+    /// Standard input could not be read.
+    #[error("read fault")]
+    ReadFault,
+    /// A line of the text is faulty.
+    #[error("{0}")]
+    Line(LineFault),
+    /// The text is over its limit.
+    #[error("text too long")]
+    LongText,
+    /// The compiled file would be over its limit.
+    #[error("compiled file too large")]
+    TooLarge,
+    /// The disk failed on the way to this phase of the installation.
+    #[error("device fault at {0}")]
+    Device(Phase),
+    /// There was no memory.
+    #[error("out of memory")]
+    OutOfMemory,
+}
+
+impl From<AllocError> for TcprulesFault {
+    ghost from_gives = { λ _ fault. fault ≡ OutOfMemory };
+
+    fn from(_: AllocError) -> Self {
+        TcprulesFault::OutOfMemory
+    }
+}
+
+impl From<InstallFault> for TcprulesFault {
+    ghost from_gives = { λ given fault. fault ≡ told_fault given };
+
+    fn from(fault: InstallFault) -> Self {
+        match fault {
+            InstallFault::Line(fault) => match fault.kind {
+                LineKind::LongText => TcprulesFault::LongText,
+                _ => TcprulesFault::Line(fault),
+            },
+            InstallFault::TooLarge => TcprulesFault::TooLarge,
+            InstallFault::Disk(_, phase) => TcprulesFault::Device(phase),
+            InstallFault::Over => TcprulesFault::Device(Phase::Done),
+            InstallFault::OutOfMemory => TcprulesFault::OutOfMemory,
+        }
+    }
+}
+
+/// Reads a rule text, compiles it, and installs the compiled file under the path `cdb`, with `tmp` as its scratch file.
+///
+/// # Errors
+/// In the order of `TcprulesFault`. After those that stand above `Device` there nothing was touched on the disk. After `Device` and `OutOfMemory`
+/// the rules file is the old one, or with the phases `Named` and `Done` possibly the new one; the scratch file may be left.
+pub fn run_tcprules<R: Read, F: Files + Drop>(
+    alloc: Global,
+    reader: &mut R,
+    files: F,
+    cdb: &str,
+    tmp: &str,
+) -> Result<(), TcprulesFault>
+where
+    F::File: FileExt,
+{
+    let (folder, names) = read_places(alloc, cdb, tmp)?;
+    let limits = Limits::profile();
+    let text = read_text(alloc, reader, limits.text)?;
+    let mut install = prepare(alloc, names, &limits, text.as_slice())?;
+    drop(text);
+    let mut dir = match OsDir::new(alloc, files, folder_path(folder)) {
+        Ok(dir) => dir,
+        Err(FolderFault::NoFolder) => return Err(TcprulesFault::Device(Phase::Fresh)),
+        Err(FolderFault::OutOfMemory) => return Err(TcprulesFault::OutOfMemory),
+    };
+    finish(alloc, &mut dir, &mut install)?;
+    Ok(())
+}
+
+/// The folder of two paths, and the names in it. Names are looked at first, then folders, then whether the names are the same.
+pub fn read_places<'a>(
+    alloc: Global,
+    cdb: &'a str,
+    tmp: &'a str,
+) -> Result<(&'a str, Names), TcprulesFault>
+    ensures { PlacesOf cdb.now tmp.now result }
+{
+    let (folder, cdb) = split_path(cdb);
+    let (other, tmp) = split_path(tmp);
+    let cdb = read_name(alloc, cdb)?;
+    let tmp = read_name(alloc, tmp)?;
+    if folder != other {
+        return Err(TcprulesFault::OtherFolder);
+    }
+    match Names::new(cdb, tmp) {
+        Ok(names) => Ok((folder, names)),
+        Err(_) => Err(TcprulesFault::SameName),
+    }
+}
+
+/// A name of a file.
+fn read_name(alloc: Global, text: &str) -> Result<Name, TcprulesFault>
+    ensures kept { IfOk result (λ name. (name ≡ text.now) × (name_fault text.now ≡ None)) }
+    ensures refused { IfErr result (λ fault. (fault ≡ TcprulesFault.OutOfMemory) ⊎ ((fault ≡ TcprulesFault.BadName) × IsSome (name_fault text.now))) }
+{
+    match Name::new(alloc, text.as_bytes()) {
+        Ok(name) => Ok(name),
+        Err(NameFault::OutOfMemory) => Err(TcprulesFault::OutOfMemory),
+        Err(_) => Err(TcprulesFault::BadName),
+    }
+}
+
+/// Reads a text, and one byte over its limit at most.
+pub(crate) fn read_text<R: Read>(
+    alloc: Global,
+    reader: &mut R,
+    limit: u64,
+) -> Result<Vec<u8>, TcprulesFault>
+    requires { limit < 2 ^ 64 - 1 }
+    ensures text { IfOk result (λ text. IfSome (R.remaining reader.old) (λ all. text.items ≡ take (limit + 1) all)) }
+    ensures faults { IfErr result (λ fault. (fault ≡ TcprulesFault.ReadFault) ⊎ (fault ≡ TcprulesFault.OutOfMemory)) }
+{
+    let mut text = Vec::new(alloc);
+    match reader.take(limit + 1).read_to_end(&mut text) {
+        Ok(_) => Ok(text),
+        Err(error) if error.kind() == ErrorKind::OutOfMemory => Err(TcprulesFault::OutOfMemory),
+        Err(_) => Err(TcprulesFault::ReadFault),
+    }
+}

@@ -1,0 +1,184 @@
+//! `tcprulescheck`: which rule of a compiled file decides a peer.
+ghost use Rattle.std.specs.Prelude.{◌≡◌, IsTrue, IfOk, IfErr, OnOk};
+ghost use Rattle.std.specs.Io.KnownBytes.{Appends};
+ghost use Rattle.dir_disk.specs.Directory.{content};
+ghost use Rattle.rules_tools.specs.Checks.{Blames, DecidesBy, FailsBy};
+ghost use Rattle.rules_tools.specs.declared.tcprulescheck.CheckFault.TheVariants.{OutOfMemory};
+
+use crate::path::{folder_path, split_path};
+use answer_lines::append_answer;
+use cdb_read::CdbFile;
+use dir_disk::{Dir, DirFault, FolderFault, Name, NameFault, OsDir};
+use rule_lines::FindFault;
+use rule_lookup::{DecideFault, Decision, Found, Missing, Peer, PeerFault, decide, parse_address};
+use std::alloc::{AllocError, Global};
+use std::env::{self, VarError};
+use std::fs::Files;
+use std::io::Write;
+use std::os::unix::fs::FileExt;
+use std::rt::Env;
+use thiserror::Error;
+
+/// The address of a peer of which none is known.
+const NO_ADDRESS: [u8; 4] = [0; 4];
+
+/// Why `tcprulescheck` tells no decision. Of several the first in this order is told.
+#[derive(Clone, Copy, PartialEq, Eq, Debug, Error)]
+pub enum CheckFault {
+    /// `TCPREMOTEIP` is no IPv4 address.
+    #[error("bad TCPREMOTEIP")]
+    BadIp,
+    /// `TCPREMOTEHOST` is over 255 bytes.
+    #[error("bad TCPREMOTEHOST")]
+    BadHost,
+    /// `TCPREMOTEINFO` is over 255 bytes.
+    #[error("bad TCPREMOTEINFO")]
+    BadInfo,
+    /// The compiled file is not there.
+    #[error("no such file")]
+    NoFile,
+    /// It could not be opened.
+    #[error("device fault")]
+    Device,
+    /// It could not be read.
+    #[error("read fault")]
+    ReadFault,
+    /// It is no compiled file, or its value is no instruction.
+    #[error("damaged file")]
+    Damaged,
+    /// The answer could not be written.
+    #[error("write fault")]
+    WriteFault,
+    /// There was no memory.
+    #[error("out of memory")]
+    OutOfMemory,
+}
+
+impl From<AllocError> for CheckFault {
+    ghost from_gives = { λ _ fault. fault ≡ OutOfMemory };
+
+    fn from(_: AllocError) -> Self {
+        CheckFault::OutOfMemory
+    }
+}
+
+/// Writes what the compiled file at a path decides for the peer of the variables `TCPREMOTEIP`, `TCPREMOTEHOST` and `TCPREMOTEINFO`. One
+/// that is unset, empty or not UTF-8 counts as unknown; an unknown address is `0.0.0.0`.
+///
+/// # Errors
+/// In the order of `CheckFault`. Before `WriteFault` nothing was written.
+pub fn run_tcprulescheck<E: Env + AllocGlobal, F: Files + Drop, W: Write>(
+    env: &E,
+    files: F,
+    writer: &mut W,
+    cdb: &str,
+) -> Result<(), CheckFault>
+where
+    F::File: FileExt,
+{
+    let alloc = env.alloc();
+    let peer = read_peer(env)?;
+    let decision = decide_in(alloc, files, cdb, &peer)?;
+    if matches!(decision.found, Found::NoFile) {
+        return Err(CheckFault::NoFile);
+    }
+    let mut answer = Vec::new(alloc);
+    append_answer(&mut answer, &decision)?;
+    write_answer(writer, answer.as_slice())
+}
+
+/// The peer of the variables.
+fn read_peer<E: Env + AllocGlobal>(env: &E) -> Result<Peer, CheckFault> {
+    let ip = match read_variable(env, "TCPREMOTEIP")? {
+        None => NO_ADDRESS,
+        Some(text) => parse_address(text.as_str()).ok_or(CheckFault::BadIp)?,
+    };
+    let host = read_variable(env, "TCPREMOTEHOST")?;
+    let info = read_variable(env, "TCPREMOTEINFO")?;
+    match Peer::new(env.alloc(), ip, 0, host.as_deref(), info.as_deref()) {
+        Ok(peer) => Ok(peer),
+        Err(PeerFault::BadHost) => Err(CheckFault::BadHost),
+        Err(PeerFault::BadInfo) => Err(CheckFault::BadInfo),
+        Err(PeerFault::OutOfMemory) => Err(CheckFault::OutOfMemory),
+    }
+}
+
+/// A variable, if it is set, not empty, and UTF-8.
+fn read_variable<E: Env + AllocGlobal>(env: &E, name: &str) -> Result<Option<String>, AllocError> {
+    match env::var(env, name) {
+        Ok(text) if text.is_empty() => Ok(None),
+        Ok(text) => Ok(Some(text)),
+        Err(VarError::NotPresent) | Err(VarError::NotUnicode) => Ok(None),
+        Err(VarError::OutOfMemory) => Err(AllocError),
+    }
+}
+
+/// What the compiled file at a path decides. A folder that is not there has no files, and there is no file at a path whose last part is
+/// no name.
+fn decide_in<F: Files + Drop>(
+    alloc: Global,
+    files: F,
+    cdb: &str,
+    peer: &Peer,
+) -> Result<Decision, CheckFault>
+where
+    F::File: FileExt,
+{
+    let (folder, name) = split_path(cdb);
+    let name = match Name::new(alloc, name.as_bytes()) {
+        Ok(name) => name,
+        Err(NameFault::OutOfMemory) => return Err(CheckFault::OutOfMemory),
+        Err(_) => return Err(CheckFault::NoFile),
+    };
+    let mut dir = match OsDir::new(alloc, files, folder_path(folder)) {
+        Ok(dir) => dir,
+        Err(FolderFault::NoFolder) => return Err(CheckFault::NoFile),
+        Err(FolderFault::OutOfMemory) => return Err(CheckFault::OutOfMemory),
+    };
+    decide_at(alloc, &mut dir, &name, peer)
+}
+
+/// What the compiled file under a name decides, or that there is none.
+///
+/// # Errors
+/// `Device` where it could not be opened, `ReadFault` where it could not be read, `Damaged` where it is no compiled file or its value no
+/// instruction; `OutOfMemory`. The directory is as before.
+pub fn decide_at<D: Dir>(
+    alloc: Global,
+    dir: &mut D,
+    name: &Name,
+    peer: &Peer,
+) -> Result<Decision, CheckFault>
+    ensures decided { IsTrue D.honest → IfOk result (DecidesBy (content (D.state dir.old) name.now) peer.now) }
+    ensures refused { IsTrue D.honest → IfErr result (FailsBy (content (D.state dir.old) name.now) peer.now) }
+    ensures blames { IfErr result (Blames (D.failed dir.old) (D.failed dir.new) D.File.sound) }
+{
+    let file = match dir.open(alloc, name) {
+        Ok(file) => file.map(CdbFile::new),
+        Err(fault) => match fault {
+            DirFault::OutOfMemory => return Err(CheckFault::OutOfMemory),
+            DirFault::Device | DirFault::NoScratch | DirFault::NoName => {
+                return Err(CheckFault::Device);
+            }
+        },
+    };
+    match decide(alloc, file.as_ref(), Missing::Drop, peer) {
+        Ok(decision) => Ok(decision),
+        Err(DecideFault::Find(FindFault::Device)) => Err(CheckFault::ReadFault),
+        Err(DecideFault::Find(FindFault::Short)) => Err(CheckFault::Damaged),
+        Err(DecideFault::Code(_)) => Err(CheckFault::Damaged),
+        Err(DecideFault::Find(FindFault::OutOfMemory)) => Err(CheckFault::OutOfMemory),
+        Err(DecideFault::OutOfMemory) => Err(CheckFault::OutOfMemory),
+    }
+}
+
+/// Writes an answer, and flushes it.
+fn write_answer<W: Write>(writer: &mut W, answer: &[u8]) -> Result<(), CheckFault>
+    ensures written { OnOk result (Appends (W.contents writer.old) (W.contents writer.new) answer.now) }
+    ensures fault { IfErr result (λ fault. fault ≡ CheckFault.WriteFault) }
+{
+    if writer.write_all(answer).is_err() || writer.flush().is_err() {
+        return Err(CheckFault::WriteFault);
+    }
+    Ok(())
+}

@@ -1,0 +1,45 @@
+-- The lines that tell what became of a rule text, which phase was reached, and what events come to.
+use Rattle.std.specs.Prelude.{ℕ, List, ◌++◌, Option, Some, None, codes, decimal}
+use Rattle.rule_lines.specs.declared.fault.LineKind.{LineKind}
+use Rattle.rule_lines.specs.declared.fault.LineKind.TheVariants.{NoVerdict, BadSetting, BadRange, NotText, NulByte, LongLine, LongText}
+use Rattle.rules_install.specs.declared.Phase.{Phase}
+use Rattle.rules_install.specs.PhaseWords.{phase_text}
+use Rattle.server_core.specs.declared.report.Report.{Report}
+
+-- what is wrong with a line
+abbrev pub kind_text : LineKind → List ℕ
+kind_text NoVerdict = codes "no verdict"
+kind_text BadSetting = codes "bad setting"
+kind_text BadRange = codes "bad range"
+kind_text NotText = codes "not text"
+kind_text NulByte = codes "nul byte"
+kind_text LongLine = codes "long line"
+kind_text LongText = codes "text too long"
+
+-- a numbered line and its fault
+abbrev pub numbered : ℕ → LineKind → List ℕ
+numbered line kind = codes "line " ++ decimal line ++ codes ": " ++ kind_text kind
+
+-- a fault: with its line, but for a text that is too long
+abbrev pub fault_text : ℕ → LineKind → List ℕ
+fault_text line LongText = kind_text LongText
+fault_text line NoVerdict = numbered line NoVerdict
+fault_text line BadSetting = numbered line BadSetting
+fault_text line BadRange = numbered line BadRange
+fault_text line NotText = numbered line NotText
+fault_text line NulByte = numbered line NulByte
+fault_text line LongLine = numbered line LongLine
+
+-- the phase that was reached, if an installation was begun
+abbrev pub reached_line : Option Phase → List ℕ
+reached_line None = codes "none\n"
+reached_line (Some phase) = phase_text phase ++ codes "\n"
+
+-- the sums of a list of events
+abbrev pub report_line : Report → List ℕ
+report_line report =
+    codes "admitted " ++ decimal report.admitted ++ codes " live " ++ decimal report.live ++ codes " retired " ++ decimal report.retired ++ codes " most " ++ decimal report.most ++ codes "\n"
+
+-- the place of an event that may not happen
+abbrev pub illegal_line : ℕ → List ℕ
+illegal_line place = codes "illegal " ++ decimal place ++ codes "\n"

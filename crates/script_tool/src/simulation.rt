@@ -1,0 +1,405 @@
+//! What a script of `rulesim` leads to, command by command.
+ghost use Rattle.std.specs.Prelude.{◌≡◌, ◌≢◌, ◌++◌, ◌<◌, None, Some, OnOk, IfOk, List, [], ℕ};
+ghost use Rattle.dir_disk.specs.MemDir.{mem_state};
+ghost use Rattle.dir_disk.specs.Names.{name_fault};
+ghost use Rattle.rule_lines.specs.Pairs.{pairs_of};
+ghost use Rattle.rule_lines.specs.Rows.{AreRules};
+ghost use Rattle.rule_lookup.specs.Decisions.{decision_of};
+ghost use Rattle.rules_install.specs.Installing.{begun, next_phase};
+ghost use Rattle.rules_install.specs.Installs.{installing};
+ghost use Rattle.rules_install.specs.Whole.{Begins, RefusesText};
+ghost use Rattle.script_tool.specs.Commands.{meaning};
+ghost use Rattle.script_tool.specs.Events.{with_event};
+ghost use Rattle.script_tool.specs.Kept.{HasTexts, IsAt, IsFileOf, IsInstalling, Reads, sim_names, steps_left};
+ghost use Rattle.script_tool.specs.Scripts.{Add, Install as InstallText, Begin, To, Stop, Ask, Open, AskBy, BeginEvents, AddEvent, Replay};
+ghost use Rattle.script_tool.specs.Sim.{Begun, State, start, after, begun_to, is_in_place, printed, profile, refusal_of, replayed, told};
+ghost use Rattle.script_tool.specs.Texts.{Texts, at_phase, at_phases, later_of, place_of};
+
+use crate::replies::{append_fault, append_illegal, append_reached, append_report};
+use crate::script::Command;
+use answer_lines::append_answer;
+use cdb_read::CdbFile;
+use dir_disk::{Choice, Dir, DirFault, MemDir, MemFile, Name, NameFault};
+use rule_lines::Limits;
+use rule_lookup::{DecideFault, Decision, Missing, Peer, decide};
+use rules_install::laws::decides;
+use rules_install::whole::prepare;
+use rules_install::{Install, InstallFault, Names, Phase, SameName};
+use server_core::laws::first_illegal;
+use server_core::{Event, ReplayFault, replay};
+use std::alloc::{AllocError, Global};
+use std::collections::BTreeMap;
+use std::marker::Model;
+use std::mem;
+
+/// A list of events under a limit and a limit per address.
+#[derive(Drop)]
+struct History {
+    limit: u64,
+    per_address: u64,
+    events: Vec<Event>,
+}
+
+impl Model for History {
+    ghost use Rattle.script_tool.specs.Events.{History as Listed};
+
+    ghost Value = { Listed };
+
+    ghost view = { λ h. record { limit = h.limit; per_address = h.per_address; events = h.events.items } };
+}
+
+/// An installation under way, and the phase that its last step reached.
+#[derive(Drop)]
+pub struct Progress {
+    install: Install,
+    reached: Option<Phase>,
+}
+
+/// What a script leads to: the pending text, the directory where texts are installed, the installation that was begun, the files that
+/// readers opened, by their names, and the list of events that was begun.
+#[derive(Drop)]
+pub struct Simulation {
+    pending: Vec<u8>,
+    dir: MemDir,
+    rules: Name,
+    begun: Option<Progress>,
+    readers: BTreeMap<String, CdbFile<MemFile>>,
+    history: Option<History>,
+}
+
+impl Simulation {
+    /// Nothing is pending, nothing stands or is begun, and there is no reader and no list of events.
+    pub fn new(alloc: Global) -> Result<Simulation, AllocError>
+        ensures { IfOk result (λ sim. IsAt sim start) }
+    {
+        Ok(Simulation {
+            pending: Vec::new(alloc),
+            dir: MemDir::new(alloc),
+            rules: name(alloc, b"rules")?,
+            begun: None,
+            readers: BTreeMap::new(alloc),
+            history: None,
+        })
+    }
+
+    /// Whether a command may stand here: an event, or what the list comes to, needs a list that was begun.
+    pub fn may_take(&self, command: &Command<'_>) -> bool
+        ensures { (state : State) → IsAt self.now state → result ≡ is_in_place state (meaning command.now) }
+    {
+        match command {
+            Command::Event(_) | Command::Replay => self.history.is_some(),
+            _ => true,
+        }
+    }
+
+    /// Carries out a command, and adds what it prints. After an `Err`, for want of memory, the simulation is not to be used.
+    pub fn execute(
+        &mut self,
+        alloc: Global,
+        command: Command<'_>,
+        out: &mut Vec<u8>,
+    ) -> Result<(), AllocError>
+        requires { (state : State) × IsAt self.old state }
+        ensures { (state : State) → IsAt self.old state → OnOk result (IsAt self.new (after state (meaning command.entry)) × (out.new.items ≡ out.old.items ++ printed state (meaning command.entry))) }
+    {
+        match command {
+            Command::Skip => Ok(()),
+            Command::Add(text) => self.add_line(text),
+            Command::Install => self.install(alloc, out),
+            Command::Begin => self.begin(alloc, out),
+            Command::To(target) => self.go_to(alloc, target, out),
+            Command::Stop(choice) => self.stop(alloc, choice, out),
+            Command::Ask(peer) => self.ask(alloc, &peer, out),
+            Command::Reader(name) => self.open_reader(alloc, name, out),
+            Command::AskBy(name, peer) => self.ask_by(alloc, name, &peer, out),
+            Command::Events { limit, per_address } => {
+                self.begin_events(alloc, limit, per_address);
+                Ok(())
+            }
+            Command::Event(event) => self.add_event(event),
+            Command::Replay => self.replay(alloc, out),
+        }
+    }
+
+    fn add_line(&mut self, text: &[u8]) -> Result<(), AllocError>
+        ensures { (state : State) → IsAt self.old state → OnOk result (IsAt self.new (after state (Add text.now))) }
+    {
+        self.pending.extend_from_slice(text)?;
+        self.pending.push(b'\n')?;
+        Ok(())
+    }
+
+    /// Begins to install the pending text, which is empty then. The installation that was begun before is dropped.
+    fn prepare(&mut self, alloc: Global) -> Result<Install, InstallFault>
+        ensures emptied { (state : State) → IsAt self.old state → IsAt self.new (record state { pending = []; begun = None }) }
+        ensures begun { IfOk result (λ install. installing install ≡ begun (pairs_of self.old.pending.items) sim_names) }
+        ensures ends { Begins profile self.old.pending.items result }
+        ensures known { IfOk result (λ _. AreRules (pairs_of self.old.pending.items)) }
+    {
+        self.begun = None;
+        let text = mem::replace(&mut self.pending, Vec::new(alloc));
+        prepare(alloc, names(alloc)?, &Limits::profile(), text.as_slice())
+    }
+
+    fn install(&mut self, alloc: Global, out: &mut Vec<u8>) -> Result<(), AllocError>
+        ensures { (state : State) → IsAt self.old state → OnOk result (IsAt self.new (after state InstallText) × (out.new.items ≡ out.old.items ++ printed state InstallText)) }
+    {
+        match self.prepare(alloc) {
+            Ok(install) => {
+                let mut progress = Progress {
+                    install,
+                    reached: None,
+                };
+                progress.advance(alloc, &mut self.dir, Phase::Done)?;
+                out.extend_from_slice(b"installed\n")
+            }
+            Err(fault) => append_refusal(out, fault),
+        }
+    }
+
+    fn begin(&mut self, alloc: Global, out: &mut Vec<u8>) -> Result<(), AllocError>
+        ensures { (state : State) → IsAt self.old state → OnOk result (IsAt self.new (after state Begin) × (out.new.items ≡ out.old.items ++ printed state Begin)) }
+    {
+        match self.prepare(alloc) {
+            Ok(install) => {
+                self.begun = Some(Progress {
+                    install,
+                    reached: None,
+                });
+                out.extend_from_slice(b"begun\n")
+            }
+            Err(fault) => append_refusal(out, fault),
+        }
+    }
+
+    /// Goes on with the installation that was begun, up to a phase.
+    fn go_to(&mut self, alloc: Global, target: Phase, out: &mut Vec<u8>) -> Result<(), AllocError>
+        requires { (state : State) × IsAt self.old state }
+        ensures { (state : State) → IsAt self.old state → OnOk result (IsAt self.new (after state (To target)) × (out.new.items ≡ out.old.items ++ printed state (To target))) }
+    {
+        let reached = match &mut self.begun {
+            None => None,
+            Some(progress) => Some(progress.advance(alloc, &mut self.dir, target)?),
+        };
+        append_reached(out, reached)
+    }
+
+    fn stop(&mut self, alloc: Global, choice: Choice, out: &mut Vec<u8>) -> Result<(), AllocError>
+        ensures { (state : State) → IsAt self.old state → OnOk result (IsAt self.new (after state (Stop choice)) × (out.new.items ≡ out.old.items ++ printed state (Stop choice))) }
+    {
+        self.dir = self.dir.crash(alloc, choice)?;
+        self.begun = None;
+        self.readers = BTreeMap::new(alloc);
+        out.extend_from_slice(b"stopped\n")
+    }
+
+    /// The file that stands under the name of the rules file.
+    fn open(&mut self, alloc: Global) -> Result<Option<CdbFile<MemFile>>, AllocError>
+        ensures same { (state : State) → IsAt self.old state → IsAt self.new state }
+        ensures file { (state : State) → IsAt self.old state → IfOk result (λ file. Reads file state.texts.standing) }
+    {
+        match self.dir.open(alloc, &self.rules) {
+            Ok(file) => Ok(file.map(CdbFile::new)),
+            Err(DirFault::OutOfMemory) => Err(AllocError),
+            Err(_) => unreachable!(),
+        }
+    }
+
+    fn ask(&mut self, alloc: Global, peer: &Peer, out: &mut Vec<u8>) -> Result<(), AllocError>
+        requires { (state : State) × IsAt self.old state }
+        ensures { (state : State) → IsAt self.old state → OnOk result (IsAt self.new (after state (Ask peer.now)) × (out.new.items ≡ out.old.items ++ printed state (Ask peer.now))) }
+    {
+        match self.open(alloc)? {
+            None => out.extend_from_slice(b"no file\n"),
+            Some(file) => append_answer(out, &decide_by(alloc, &file, peer)?),
+        }
+    }
+
+    fn open_reader(
+        &mut self,
+        alloc: Global,
+        name: &str,
+        out: &mut Vec<u8>,
+    ) -> Result<(), AllocError>
+        ensures { (state : State) → IsAt self.old state → OnOk result (IsAt self.new (after state (Open name.now)) × (out.new.items ≡ out.old.items ++ printed state (Open name.now))) }
+    {
+        match self.open(alloc)? {
+            None => out.extend_from_slice(b"no file\n"),
+            Some(file) => {
+                self.readers.insert(String::from_str(alloc, name)?, file)?;
+                out.extend_from_slice(b"opened\n")
+            }
+        }
+    }
+
+    fn ask_by(
+        &self,
+        alloc: Global,
+        name: &str,
+        peer: &Peer,
+        out: &mut Vec<u8>,
+    ) -> Result<(), AllocError>
+        requires { (state : State) × IsAt self.now state }
+        ensures { (state : State) → IsAt self.now state → OnOk result (out.new.items ≡ out.old.items ++ printed state (AskBy name.now peer.now)) }
+    {
+        match self.readers.get(name) {
+            None => out.extend_from_slice(b"no reader\n"),
+            Some(file) => append_answer(out, &decide_by(alloc, file, peer)?),
+        }
+    }
+
+    fn begin_events(&mut self, alloc: Global, limit: u64, per_address: u64)
+        ensures { (state : State) → IsAt self.old state → IsAt self.new (after state (BeginEvents limit per_address)) }
+    {
+        self.history = Some(History {
+            limit,
+            per_address,
+            events: Vec::new(alloc),
+        });
+    }
+
+    /// Adds an event to the list, if one was begun.
+    fn add_event(&mut self, event: Event) -> Result<(), AllocError>
+        ensures { (state : State) → IsAt self.old state → OnOk result (IsAt self.new (after state (AddEvent event))) }
+    {
+        if let Some(history) = &mut self.history {
+            history.events.push(event)?;
+        }
+        Ok(())
+    }
+
+    fn replay(&self, alloc: Global, out: &mut Vec<u8>) -> Result<(), AllocError>
+        ensures { (state : State) → IsAt self.now state → OnOk result (out.new.items ≡ out.old.items ++ printed state Replay) }
+    {
+        match &self.history {
+            None => Ok(()),
+            Some(history) => append_outcome(alloc, history, out),
+        }
+    }
+}
+
+impl Progress {
+    /// Makes steps until a phase or a later one is reached, and tells the phase.
+    fn advance(
+        &mut self,
+        alloc: Global,
+        dir: &mut MemDir,
+        target: Phase,
+    ) -> Result<Phase, AllocError>
+        requires { (b : Begun) × IsInstalling (mem_state dir.old) self.old b }
+        ensures { (b : Begun) (t : Texts) → IsInstalling (mem_state dir.old) self.old b → HasTexts (mem_state dir.old) t
+            → IfOk result (λ phase. (phase ≡ later_of b.reached target) × IsInstalling (mem_state dir.new) self.new (begun_to target b)
+            × HasTexts (mem_state dir.new) (at_phases b.text b.reached target t)) }
+    {
+        loop {
+            match self.reached {
+                Some(reached) if place_of(target) <= place_of(reached) => return Ok(reached),
+                _ => {
+                    self.step(alloc, dir)?;
+                }
+            }
+        }
+    }
+
+    /// Makes a step, and tells the phase that it reached.
+    fn step(&mut self, alloc: Global, dir: &mut MemDir) -> Result<Phase, AllocError>
+        requires { (b : Begun) × IsInstalling (mem_state dir.old) self.old b × (b.reached ≢ Some Phase.Done) }
+        ensures goes { (b : Begun) → IsInstalling (mem_state dir.old) self.old b
+            → IfOk result (λ phase. (phase ≡ next_phase (installing (self.old).install)) × IsInstalling (mem_state dir.new) self.new (record b { reached = Some phase })) }
+        ensures texts { (b : Begun) (t : Texts) → IsInstalling (mem_state dir.old) self.old b → HasTexts (mem_state dir.old) t
+            → IfOk result (λ phase. HasTexts (mem_state dir.new) (at_phase b.text t phase)) }
+        ensures fewer { OnOk result (steps_left (installing (self.new).install) < steps_left (installing (self.old).install)) }
+    {
+        match self.install.step(alloc, dir) {
+            Ok(phase) => {
+                self.reached = Some(phase);
+                Ok(phase)
+            }
+            Err(fault) => match fault {
+                InstallFault::OutOfMemory => Err(AllocError),
+                InstallFault::Line(_)
+                | InstallFault::TooLarge
+                | InstallFault::Disk(..)
+                | InstallFault::Over => unreachable!(),
+            },
+        }
+    }
+}
+
+/// The place of a phase among all.
+fn place_of(phase: Phase) -> u8
+    ensures { result ≡ place_of phase }
+{
+    match phase {
+        Phase::Fresh => 1,
+        Phase::Filling => 2,
+        Phase::Synced => 3,
+        Phase::Named => 4,
+        Phase::Done => 5,
+    }
+}
+
+/// A name that keeps to the rules.
+fn name(alloc: Global, text: &[u8]) -> Result<Name, AllocError>
+    requires { name_fault text.now ≡ None }
+    ensures { IfOk result (λ name. name ≡ text.now) }
+{
+    match Name::new(alloc, text) {
+        Ok(name) => Ok(name),
+        Err(NameFault::OutOfMemory) => Err(AllocError),
+        Err(_) => unreachable!(),
+    }
+}
+
+/// The names of the rules file and of the scratch file.
+fn names(alloc: Global) -> Result<Names, AllocError>
+    ensures { IfOk result (λ names. names ≡ sim_names) }
+{
+    match Names::new(name(alloc, b"rules")?, name(alloc, b"rules.tmp")?) {
+        Ok(names) => Ok(names),
+        Err(SameName) => unreachable!(),
+    }
+}
+
+/// Adds why a text was not installed.
+fn append_refusal(out: &mut Vec<u8>, fault: InstallFault) -> Result<(), AllocError>
+    requires { (text : List ℕ) × RefusesText profile text fault }
+    ensures { (text words : List ℕ) → RefusesText profile text fault → OnOk result (out.new.items ≡ out.old.items ++ told words (refusal_of text)) }
+{
+    match fault {
+        InstallFault::Line(fault) => {
+            append_fault(out, &fault)?;
+            out.extend_from_slice(b"\n")
+        }
+        InstallFault::TooLarge => out.extend_from_slice(b"compiled file too large\n"),
+        InstallFault::OutOfMemory => Err(AllocError),
+        InstallFault::Disk(..) | InstallFault::Over => unreachable!(),
+    }
+}
+
+/// The decision by a file that is compiled of a text.
+fn decide_by(alloc: Global, file: &CdbFile<MemFile>, peer: &Peer) -> Result<Decision, AllocError>
+    requires { (text : List ℕ) × IsFileOf text file.now }
+    ensures { (text : List ℕ) → IsFileOf text file.now → IfOk result (λ decision. decision ≡ decision_of text peer.now) }
+{
+    decides();
+    match decide(alloc, Some(file), Missing::Drop, peer) {
+        Ok(decision) => Ok(decision),
+        Err(DecideFault::OutOfMemory) => Err(AllocError),
+        Err(DecideFault::Find(_)) => unreachable!(),
+        Err(DecideFault::Code(_)) => unreachable!(),
+    }
+}
+
+/// Adds what a list of events comes to.
+fn append_outcome(alloc: Global, history: &History, out: &mut Vec<u8>) -> Result<(), AllocError>
+    ensures { OnOk result (out.new.items ≡ out.old.items ++ replayed (Some history.now)) }
+{
+    first_illegal();
+    let events = history.events.as_slice();
+    match replay(alloc, history.limit, history.per_address, events) {
+        Ok(report) => append_report(out, &report),
+        Err(ReplayFault::IllegalEvent(place)) => append_illegal(out, place),
+        Err(ReplayFault::OutOfMemory) => Err(AllocError),
+    }
+}

@@ -1,0 +1,18 @@
+//! The tools for streams: `addcr` and `delcr` pass one on, and `fixcrio` and `recordio` run a program between two.
+#![tactic(auto)]
+
+pub mod between;
+pub mod filter;
+pub mod launcher;
+pub mod shared;
+pub mod started;
+pub mod tools;
+
+pub use between::{BetweenFault, Lane, run_between};
+pub use filter::{FilterFault, run_filter};
+pub use launcher::{OsJob, OsLauncher};
+pub use shared::SharedWriter;
+pub use tools::{run_addcr, run_delcr, run_fixcrio, run_recordio};
+
+#[cfg(test)]
+mod tests;

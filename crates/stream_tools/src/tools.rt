@@ -1,0 +1,124 @@
+//! The tools over the standard streams and the system's programs.
+ghost use Rattle.std.specs.Prelude.{◌≡◌, [], ◌∷◌, IfOk};
+ghost use Rattle.rule_lookup.specs.Peers.{given};
+ghost use Rattle.stream_tools.specs.Programs.{recorder_number};
+ghost use Rattle.wrapper_chain.specs.Chains.{stages_of};
+
+use crate::between::{BetweenFault, Lane, run_between};
+use crate::filter::{FilterFault, run_filter};
+use crate::launcher::OsLauncher;
+use crate::shared::SharedWriter;
+use crate::started::{inherited_variables, program_of};
+use byte_pump::{NoTap, Recorder};
+use rule_lookup::Status;
+use std::alloc::{AllocError, Global};
+use std::io;
+use std::io::Write;
+use std::process::{OpenProcess, Processes};
+use std::rt::Env;
+use std::sync::{Mutex, Wait};
+use std::thread::Threads;
+use ucspi_words::number_in;
+use wrapper_chain::{AddCr, Chain, DelCr, FixCr, LineStage, Way};
+
+/// Passes standard input to standard output with a carriage return before each line feed.
+///
+/// # Errors
+/// As of `run_filter`.
+pub fn run_addcr<R: Input + Print + AllocGlobal>(rt: &R) -> Result<(), FilterFault> {
+    filter(rt, AddCr)
+}
+
+/// Passes standard input to standard output without one carriage return at the end of each line.
+///
+/// # Errors
+/// As of `run_filter`.
+pub fn run_delcr<R: Input + Print + AllocGlobal>(rt: &R) -> Result<(), FilterFault> {
+    filter(rt, DelCr::new())
+}
+
+/// Passes standard input through a stage to standard output.
+fn filter<R: Input + Print + AllocGlobal, S: LineStage>(rt: &R, stage: S) -> Result<(), FilterFault>
+where
+    S: Drop,
+{
+    let alloc = rt.alloc();
+    let mut chain = chain_of(alloc, stage)?;
+    run_filter(alloc, &mut rt.reader(), &mut io::writer(rt), &mut chain)
+}
+
+/// A chain of one stage.
+fn chain_of<S: LineStage + Drop>(alloc: Global, stage: S) -> Result<Chain<S>, AllocError>
+    ensures { IfOk result (λ chain. stages_of chain ≡ stage ∷ []) }
+{
+    let mut stages = Vec::new(alloc);
+    stages.push(stage)?;
+    Ok(Chain::new(alloc, stages))
+}
+
+/// Runs a program whose lines get a carriage return where they have none, both ways.
+///
+/// # Errors
+/// As of `run_between`.
+pub fn run_fixcrio<R>(rt: &R, words: &[Vec<u8>]) -> Result<Status, BetweenFault>
+where
+    R: Env + Input + Print + AllocGlobal + Processes + Threads + Wait + Sync,
+    R::Reader: Send,
+    <R::Started as OpenProcess>::Stdin: Send,
+{
+    let alloc = rt.alloc();
+    let program = program_of(alloc, words)?;
+    let variables = inherited_variables(alloc, rt)?;
+    let input = Lane {
+        stream: rt.reader(),
+        chain: chain_of(alloc, FixCr::new())?,
+        tap: NoTap,
+    };
+    let output = Lane {
+        stream: io::writer(rt),
+        chain: chain_of(alloc, FixCr::new())?,
+        tap: NoTap,
+    };
+    let launcher = OsLauncher::new(rt);
+    run_between(rt, alloc, &launcher, (&program, &variables), input, output)
+}
+
+/// Runs a program, and records what goes both ways on `errors`.
+///
+/// # Errors
+/// As of `run_between`.
+pub fn run_recordio<R, E>(rt: &R, errors: E, words: &[Vec<u8>]) -> Result<Status, BetweenFault>
+where
+    R: Env + Input + Print + AllocGlobal + Processes + Threads + Wait + Sync,
+    R::Reader: Send,
+    <R::Started as OpenProcess>::Stdin: Send,
+    E: Write + Send + Drop,
+{
+    let alloc = rt.alloc();
+    let program = program_of(alloc, words)?;
+    let variables = inherited_variables(alloc, rt)?;
+    let number = recorder_number(variables.get("TCPREMOTEPORT"));
+    let errors = Mutex::new(errors);
+    let input = Lane {
+        stream: rt.reader(),
+        chain: Chain::<FixCr>::new(alloc, Vec::new(alloc)),
+        tap: Recorder::new(alloc, number, Way::Input, SharedWriter::new(rt, &errors)),
+    };
+    let output = Lane {
+        stream: io::writer(rt),
+        chain: Chain::<FixCr>::new(alloc, Vec::new(alloc)),
+        tap: Recorder::new(alloc, number, Way::Output, SharedWriter::new(rt, &errors)),
+    };
+    let launcher = OsLauncher::new(rt);
+    run_between(rt, alloc, &launcher, (&program, &variables), input, output)
+}
+
+/// The number of a recorder, by the text of the peer's port: 0 where that is no port.
+fn recorder_number(port: Option<&str>) -> u64
+    ensures { result ≡ recorder_number (given port.entry) }
+{
+    match port {
+        Some(text) if text.len() <= 5 => number_in(text, 0, 65535).unwrap_or(0),
+        _ => 0,
+    }
+}

@@ -1,8 +1,0 @@
-use Rattle.std.proofs.Common.{sym}
-use Rattle.ucspi_tools.proofs.ReaderLemmas.{IsOf-some}
-use Rattle.ucspi_tools.proofs.simulation.Simulation.ask_by.Goals as goal
-
-pub decide_by-requires : goal.decide_by-requires
-decide_by-requires c =
-    let read = IsOf-some _ _ c.in-Some.file.now (sym c.in-Some.ensures.value) (c.requires.1.readers c.args.name.now) in
-    (read.of, read.file_of)

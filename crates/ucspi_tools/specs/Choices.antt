@@ -1,0 +1,84 @@
+-- Which tool words ask for.
+use Rattle.std.specs.Prelude.{ℕ, ◌&&◌, List, [], ◌∷◌, Option, Some, None, codes, bytes_eq, if◌then◌else◌}
+use Rattle.std.specs.List.{list_all}
+use Rattle.std.specs.Str.{is_utf8}
+use Rattle.stream_tools.specs.Programs.{texts_of}
+use Rattle.ucspi_tools.specs.declared.choice.Choice.{Choice}
+use Rattle.ucspi_tools.specs.declared.choice.Choice.TheVariants as choice
+use Rattle.ucspi_tools.specs.declared.choice.Tool.{Tool}
+use Rattle.ucspi_tools.specs.declared.choice.Tool.TheVariants.{Rulesim, Tcprules, Tcprulescheck, Addcr, Delcr, Fixcrio, Recordio}
+
+-- a run of `rulesim`; of `tcprules` with the paths of the rules file and of the scratch file; of `tcprulescheck` with that of the rules
+-- file; of `addcr`; of `delcr`; of `fixcrio` and of `recordio` with a program and its arguments; the usage line of a tool; or that of
+-- `ucspi`
+pub data Wanted : Type 0 where
+  simulates : Wanted
+  installs : List ℕ → List ℕ → Wanted
+  checks : List ℕ → Wanted
+  adds : Wanted
+  deletes : Wanted
+  fixes : List (List ℕ) → Wanted
+  records : List (List ℕ) → Wanted
+  usage_of : Tool → Wanted
+  usage : Wanted
+
+-- what a choice that was read is
+abbrev pub wanted : Choice → Wanted
+wanted choice.Rulesim = simulates
+wanted (choice.Tcprules cdb tmp) = installs cdb.now tmp.now
+wanted (choice.Tcprulescheck cdb) = checks cdb.now
+wanted choice.Addcr = adds
+wanted choice.Delcr = deletes
+wanted (choice.Fixcrio words) = fixes (texts_of words.now)
+wanted (choice.Recordio words) = records (texts_of words.now)
+wanted (choice.UsageOf tool) = usage_of tool
+wanted choice.Usage = usage
+
+-- a tool that has no words of its own
+abbrev pub alone : Wanted → Tool → List (List ℕ) → Wanted
+alone run tool [] = run
+alone run tool (word ∷ words) = usage_of tool
+
+-- `tcprules` has two paths, which are text
+abbrev pub tcprules_by : List (List ℕ) → Wanted
+tcprules_by (cdb ∷ tmp ∷ []) = if is_utf8 cdb && is_utf8 tmp then installs cdb tmp else usage_of Tcprules
+tcprules_by words = usage_of Tcprules
+
+-- `tcprulescheck` has one
+abbrev pub tcprulescheck_by : List (List ℕ) → Wanted
+tcprulescheck_by (cdb ∷ []) = if is_utf8 cdb then checks cdb else usage_of Tcprulescheck
+tcprulescheck_by words = usage_of Tcprulescheck
+
+-- a tool whose words are a program and its arguments, which are text
+abbrev pub with_program : Wanted → Tool → List (List ℕ) → Wanted
+with_program run tool [] = usage_of tool
+with_program run tool (word ∷ words) = if list_all is_utf8 (word ∷ words) then run else usage_of tool
+
+abbrev pub run_of : Tool → List (List ℕ) → Wanted
+run_of Rulesim words = alone simulates Rulesim words
+run_of Tcprules words = tcprules_by words
+run_of Tcprulescheck words = tcprulescheck_by words
+run_of Addcr words = alone adds Addcr words
+run_of Delcr words = alone deletes Delcr words
+run_of Fixcrio words = with_program (fixes words) Fixcrio words
+run_of Recordio words = with_program (records words) Recordio words
+
+abbrev pub tool_of : List ℕ → Option Tool
+tool_of name =
+    if bytes_eq name (codes "rulesim") then Some Rulesim
+    else (if bytes_eq name (codes "tcprules") then Some Tcprules
+    else (if bytes_eq name (codes "tcprulescheck") then Some Tcprulescheck
+    else (if bytes_eq name (codes "addcr") then Some Addcr
+    else (if bytes_eq name (codes "delcr") then Some Delcr
+    else (if bytes_eq name (codes "fixcrio") then Some Fixcrio
+    else (if bytes_eq name (codes "recordio") then Some Recordio else None))))))
+
+-- the first word names the tool
+abbrev pub run_by : Option Tool → List (List ℕ) → Wanted
+run_by (Some tool) words = run_of tool words
+run_by None words = usage
+
+-- with no words it is `rulesim`
+abbrev pub choice_of : List (List ℕ) → Wanted
+choice_of [] = simulates
+choice_of (tool ∷ words) = run_by (tool_of tool) words
