@@ -147,7 +147,8 @@ fn run<R: Read, W: Write, S: LineStage, T: Tap, L: Ledger>(
 ) -> Why
     requires room { 0 < length buffer.old }
     requires goes_on { has_failed chain.old ≡ false }
-    ensures turned { Turned (R.remaining reader.old) (R.remaining reader.new) (W.contents writer.old) (W.contents writer.new)
+    ensures turned { Turned (R.remaining reader.old) (R.remaining reader.new)
+        (W.contents writer.old) (W.contents writer.new)
         (through S.rest (stages_of chain.old)) (through S.rest (stages_of chain.new))
         (T.watches tap.old) (λ pieces. Watches T.sees T.ends (is_end result) tap.old pieces tap.new)
         (steps.new - steps.old) result work.old.taken work.new.taken work.old.given work.new.given }

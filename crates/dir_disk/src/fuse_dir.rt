@@ -111,7 +111,8 @@ impl<D: Dir> Dir for FuseDir<D> {
         ensures scratch { IsTrue D.honest → OnOk result (IsSome (D.state (fuse_inner self.old)).scratch) }
         ensures no_scratch { IsTrue D.honest → result ≡ Err DirFault.NoScratch
             → (D.state (fuse_inner self.old)).scratch ≡ None }
-        ensures no_memory { IsTrue D.honest → result ≡ Err DirFault.OutOfMemory → IsSome (D.state (fuse_inner self.old)).scratch }
+        ensures no_memory { IsTrue D.honest → result ≡ Err DirFault.OutOfMemory
+            → IsSome (D.state (fuse_inner self.old)).scratch }
         ensures faults { IfErr result (Contains (DirFault.NoScratch ∷ DirFault.Device ∷ DirFault.OutOfMemory ∷ [])) }
         ensures cause { HasCause (fuse_failed D.failed self.old) (fuse_failed D.failed self.new) result }
         ensures counts { fuse_left self.new ≡ fuse_left self.old - 1 }
@@ -135,7 +136,8 @@ impl<D: Dir> Dir for FuseDir<D> {
         ensures scratch { IsTrue D.honest → OnOk result (IsSome (D.state (fuse_inner self.old)).scratch) }
         ensures no_scratch { IsTrue D.honest → result ≡ Err DirFault.NoScratch
             → (D.state (fuse_inner self.old)).scratch ≡ None }
-        ensures no_memory { IsTrue D.honest → result ≡ Err DirFault.OutOfMemory → IsSome (D.state (fuse_inner self.old)).scratch }
+        ensures no_memory { IsTrue D.honest → result ≡ Err DirFault.OutOfMemory
+            → IsSome (D.state (fuse_inner self.old)).scratch }
         ensures faults { IfErr result (Contains (DirFault.NoScratch ∷ DirFault.Device ∷ DirFault.OutOfMemory ∷ [])) }
         ensures cause { HasCause (fuse_failed D.failed self.old) (fuse_failed D.failed self.new) result }
         ensures counts { fuse_left self.new ≡ fuse_left self.old - 1 }
@@ -158,7 +160,8 @@ impl<D: Dir> Dir for FuseDir<D> {
         ensures scratch { IsTrue D.honest → OnOk result (IsSome (D.state (fuse_inner self.old)).scratch) }
         ensures no_scratch { IsTrue D.honest → result ≡ Err DirFault.NoScratch
             → (D.state (fuse_inner self.old)).scratch ≡ None }
-        ensures no_memory { IsTrue D.honest → result ≡ Err DirFault.OutOfMemory → IsSome (D.state (fuse_inner self.old)).scratch }
+        ensures no_memory { IsTrue D.honest → result ≡ Err DirFault.OutOfMemory
+            → IsSome (D.state (fuse_inner self.old)).scratch }
         ensures faults { IfErr result (Contains (DirFault.NoScratch ∷ DirFault.Device ∷ DirFault.OutOfMemory ∷ [])) }
         ensures cause { HasCause (fuse_failed D.failed self.old) (fuse_failed D.failed self.new) result }
         ensures counts { fuse_left self.new ≡ fuse_left self.old - 1 }

@@ -13,8 +13,8 @@ fn append_all<D: Dir>(alloc: Global, dir: &mut D, bytes: &[u8]) -> Result<(), Di
     ensures appended { IsTrue D.honest → OnOk result (
         D.state dir.new ≡ after (appends bytes.now) (D.state dir.old)) }
     // no name is touched
-    ensures stays { IsTrue D.honest → (name : List ℕ) (olds : List (Option (List ℕ))) → LastsAmong (D.state dir.old) name olds
-        → Stays D.state D.moment D.left_since name olds dir.old dir.new }
+    ensures stays { IsTrue D.honest → (name : List ℕ) (olds : List (Option (List ℕ)))
+        → LastsAmong (D.state dir.old) name olds → Stays D.state D.moment D.left_since name olds dir.old dir.new }
     ensures cause { HasCause (D.failed dir.old) (D.failed dir.new) result }
 {
     let mut rest = bytes;
