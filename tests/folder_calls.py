@@ -76,7 +76,16 @@ def refused_cases(probe, folder):
     os.chmod(folder, 0o555)
     wanted = [DEVICE, "no scratch file", DEVICE, "done", '6 bytes, "aXYdef"', "2"]
     yield "a folder without write permission", probe.answers(folder, "fresh t append x rename rules t settle open rules failures", **as_nobody()), wanted
+    os.chmod(folder, 0o733)
+    wanted = [DEVICE, DEVICE, DEVICE, '6 bytes, "aXYdef"', "3"]
+    yield "a folder that may be changed and not read", probe.answers(folder, "fresh t rename rules gone settle open rules failures", **as_nobody()), wanted
+    os.chmod(folder, 0o644)
+    yield "a folder that may not be searched", probe.answers(folder, "open rules open gone failures", **as_nobody()), [DEVICE, DEVICE, "2"]
     os.chmod(folder, 0o755)
+    os.mkdir(os.path.join(folder, "closed"), 0o700)
+    yield "a folder that may not be looked at", probe.answers(folder + "/closed/rules", "failures", **as_nobody()), [DEVICE]
+    yield "a folder of a folder that is not there", probe.answers(folder + "/gone/rules", "failures", **as_nobody()), ["no such folder"]
+    os.rmdir(os.path.join(folder, "closed"))
     os.chmod(os.path.join(folder, "rules"), 0)
     yield "a file without read permission", probe.answers(folder, "open rules failures", **as_nobody()), [DEVICE, "1"]
     os.chmod(os.path.join(folder, "rules"), 0o644)
@@ -104,7 +113,7 @@ def system_calls(probe, folder, words):
 
 def trace_cases(probe, folder):
     """The order of the system calls, and how many a long file takes."""
-    wanted = ["unlink tmp", "openat tmp tmp", "write tmp", "pwrite64 tmp", "fsync tmp", "close tmp", "rename tmp rules", "openat folder folder", "fsync folder", "close folder"]
+    wanted = ["openat folder folder", "unlink tmp", "openat tmp tmp", "write tmp", "pwrite64 tmp", "fsync tmp", "close tmp", "rename tmp rules", "fsync folder", "close folder"]
     words = "fresh tmp append abc append def patch 1 XY sync rename tmp rules settle"
     yield "the system calls of a replacement", system_calls(probe, folder, words), wanted
     calls = system_calls(probe, folder, "fresh tmp zeros 655360 sync")

@@ -2,8 +2,12 @@
 import os
 import random
 import re
+import signal
+import socket
 import subprocess
 import tempfile
+import threading
+import time
 
 USAGE = {
     "addcr": b"addcr: usage: addcr\n",
@@ -199,6 +203,74 @@ class Streams:
             if tuple(got) != answers or typed.returncode != 0:
                 self.failures.append("%s line by line: %r" % (words, got))
 
+    def check_end_with_the_program(self):
+        """They end with their program, though their own input is still open: a client that waits for the end gets it."""
+        for tool in ("fixcrio", "recordio"):
+            for ends, code in (("exit 3", 3), ("read a; exit 4", 4), ("exec <&-; sleep 0.2; exit 5", 5), ("kill -9 $$", 111)):
+                reading, writing = os.pipe()
+                os.write(writing, b"a\nb\n")
+                ended = self.run([tool, "sh", "-c", ends], stdin=reading)
+                os.close(reading)
+                os.close(writing)
+                self.expect("%s ends with its program: %s" % (tool, ends), ended, code, b"", ended.stderr)
+            here, there = socket.socketpair()
+            here.settimeout(60)
+            with subprocess.Popen([self.program, tool, "sh", "-c", "echo bye"], stdin=there, stdout=there, stderr=subprocess.DEVNULL) as tied:
+                there.close()
+                got = b""
+                while True:
+                    piece = here.recv(100)
+                    got += piece
+                    if not piece:
+                        break
+                self.tests += 1
+                if (tied.wait(60), got) != (0, fixed(b"bye\n") if tool == "fixcrio" else b"bye\n"):
+                    self.failures.append("%s over a socket that stays open: %r" % (tool, (tied.returncode, got)))
+            here.close()
+
+    def check_non_blocking(self):
+        """A descriptor that was left non-blocking is waited for, and nothing is lost."""
+        text = b"".join(b"line %d\n" % n for n in range(60000))
+        for words, wanted in ((["addcr"], added(text)), (["delcr"], text), (["fixcrio", "cat"], fixed(text)), (["recordio", "cat"], text)):
+            given, giving = os.pipe()
+            taking, taken = os.pipe()
+            for descriptor in (given, taken):
+                os.set_blocking(descriptor, False)
+            process = subprocess.Popen([self.program] + words, stdin=given, stdout=taken, stderr=subprocess.DEVNULL)
+            os.close(given)
+            os.close(taken)
+            got = []
+
+            def give():
+                with os.fdopen(giving, "wb", 0) as stream:
+                    time.sleep(0.05)
+                    for start in range(0, len(text), 100000):
+                        stream.write(text[start:start + 100000])
+                        time.sleep(0.01)
+
+            def take():
+                with os.fdopen(taking, "rb", 0) as stream:
+                    time.sleep(0.3)
+                    got.append(stream.readall())
+
+            threads = [threading.Thread(target=give), threading.Thread(target=take)]
+            for thread in threads:
+                thread.start()
+            for thread in threads:
+                thread.join(60)
+            self.expect("%s on non-blocking descriptors" % words[0], subprocess.CompletedProcess(words, process.wait(60), b"".join(got), b""), 0, wanted)
+
+    def check_ignored_children(self):
+        """Where whoever started the tool ignores SIGCHLD, the system forgets how the program ended."""
+
+        def ignore():
+            signal.signal(signal.SIGCHLD, signal.SIG_IGN)
+
+        ended = self.run(["fixcrio", "sh", "-c", "echo a; exit 3"], preexec_fn=ignore)
+        self.expect("SIGCHLD ignored", ended, 111, b"a\r\n", b"fixcrio: device fault\n")
+        ended = self.run(["addcr"], b"a\n", preexec_fn=ignore)
+        self.expect("SIGCHLD ignored, and no program", ended, 0, b"a\r\n")
+
     def check_big(self):
         text = big_text()
         self.expect("addcr on 64 MiB", self.run(["addcr"], text), 0, added(text))
@@ -225,5 +297,8 @@ def check(program, failures):
     streams.check_streams()
     streams.check_records()
     streams.check_one_by_one()
+    streams.check_end_with_the_program()
+    streams.check_non_blocking()
+    streams.check_ignored_children()
     streams.check_big()
     return streams.tests

@@ -7,10 +7,11 @@ use Rattle.std.proofs.KnownBytes.{Appends-trans, Consumes-trans}
 use Rattle.wrapper_chain.specs.Stages.{Gives}
 use Rattle.wrapper_chain.specs.declared.recording.Way.{Way}
 use Rattle.wrapper_chain.specs.declared.recording.Way.TheVariants.{Input, Output}
-use Rattle.byte_pump.specs.Pumps.{Gave, IsWritten, Pumped, is_end, pieces_by}
+use Rattle.byte_pump.specs.Pumps.{Ends, Gave, IsWritten, Pumped, is_end, pieces_by}
 use Rattle.byte_pump.specs.Taps.{SeesAll, Watches}
 use Rattle.byte_pump.specs.Turns.{CountsMore, Passes, StaysOpen, Turned}
 use Rattle.byte_pump.proofs.PassLemmas.{SeesAll-append, concat-append}
+use Rattle.byte_pump.specs.declared.pumping.PumpEnd.{PumpEnd}
 use Rattle.byte_pump.specs.declared.pumping.Why.{Why}
 use Rattle.byte_pump.specs.declared.pumping.Why.TheVariants.{End, ReadFault, WriteFault, ZeroWrite, TurnsOver, Failed, OutOfMemory}
 
@@ -110,7 +111,9 @@ turned_steps {reader} {reader'} {writer} {writer'} {chain} {chain'} {way} {Shows
     subst (λ n. Turned reader reader' writer writer' chain chain' way Shows n why taken taken' put put') same turned
 
 -- a pump that began with nothing counted
-pub pumped_of_turned : {reader reader' writer writer' : Option (List ℕ)} {chain chain' : List ℕ → List ℕ} {way : Way} {Shows : List (List ℕ) → Type 0} {steps steps' : ℕ} {why : Why} {taken put : ℕ} → steps ≤ steps' → Turned reader reader' writer writer' chain chain' way Shows steps why 0 taken 0 put → Pumped reader reader' writer writer' chain chain' way Shows steps' why taken put
+pub pumped_of_turned : {old new : Ends} {way : Way} {Shows : List (List ℕ) → Type 0} {steps steps' : ℕ} {end : PumpEnd}
+    → steps ≤ steps' → Turned old.reader new.reader old.writer new.writer old.chain new.chain way Shows steps end.why 0 end.taken 0 end.given
+    → Pumped old new way Shows steps' end
 pumped_of_turned more turned =
     let passes = turned.passes in
     let counted = turned.counts_text (omega arith) in
@@ -132,7 +135,8 @@ pumped_of_turned more turned =
     }
 
 -- a pump that is allowed more turns
-pub pumped_within : {reader reader' writer writer' : Option (List ℕ)} {chain chain' : List ℕ → List ℕ} {way : Way} {Shows : List (List ℕ) → Type 0} {steps steps' : ℕ} {why : Why} {taken put : ℕ} → steps ≤ steps' → Pumped reader reader' writer writer' chain chain' way Shows steps why taken put → Pumped reader reader' writer writer' chain chain' way Shows steps' why taken put
+pub pumped_within : {old new : Ends} {way : Way} {Shows : List (List ℕ) → Type 0} {steps steps' : ℕ} {end : PumpEnd}
+    → steps ≤ steps' → Pumped old new way Shows steps end → Pumped old new way Shows steps' end
 pumped_within more pumped = record {
   text = pumped.text;
   given = pumped.given;

@@ -3,9 +3,12 @@ use Rattle.std.specs.Prelude.{◌≡◌, ◌⊎◌, ◌-◌, ◌^◌, ◌≤◌,
 use Rattle.std.specs.List.{concat}
 use Rattle.std.specs.declared.option.Option.{Option}
 use Rattle.std.specs.Io.KnownBytes.{Appends, Consumes, IsAtEnd}
-use Rattle.wrapper_chain.specs.Stages.{Gives}
+use Rattle.wrapper_chain.specs.Chains.{stages_of}
+use Rattle.wrapper_chain.specs.Stages.{Gives, through}
+use Rattle.wrapper_chain.specs.declared.chain.Chain.{Chain}
 use Rattle.wrapper_chain.specs.declared.recording.Way.{Way}
 use Rattle.wrapper_chain.specs.declared.recording.Way.TheVariants.{Input, Output}
+use Rattle.byte_pump.specs.declared.pumping.PumpEnd.{PumpEnd}
 use Rattle.byte_pump.specs.declared.pumping.Why.{Why}
 use Rattle.byte_pump.specs.declared.pumping.Why.TheVariants.{End, ReadFault, WriteFault, ZeroWrite, TurnsOver, Failed, OutOfMemory}
 
@@ -52,19 +55,30 @@ abbrev pub pieces_by : Way → (text given : List ℕ) → List ℕ
 pieces_by Input text given = text
 pieces_by Output text given = given
 
--- A pump read a text, the chain gave bytes of it, and a front of these was written. `reader` and `writer` are what these have
--- left and hold, before and after, where it is known; `steps` is how often the pump read.
-pub record Pumped (reader reader' writer writer' : Option (List ℕ)) (chain chain' : List ℕ → List ℕ) (way : Way) (Shows : List (List ℕ) → Type 0) (steps : ℕ) (why : Why) (taken put : ℕ) : Type 0 where
+-- what a pump works on at a moment: what its reader has left and what its writer holds, where these are known, and what its chain will
+-- write of the rest of a text
+pub record Ends : Type 0 where
+  pub reader : Option (List ℕ)
+  pub writer : Option (List ℕ)
+  pub chain : List ℕ → List ℕ
+
+-- those of these three; the functions say what a reader has left, what a writer holds, and what a stage will write
+abbrev pub ends_of : {R W S : Type 0} → (R → Option (List ℕ)) → (W → Option (List ℕ)) → (S → List ℕ → List ℕ) → R → W → Chain S → Ends
+ends_of remaining contents rest reader writer chain =
+    record { reader = remaining reader; writer = contents writer; chain = through rest (stages_of chain) }
+
+-- A pump read a text, the chain gave bytes of it, and a front of these was written. `steps` is how often the pump read at most.
+pub record Pumped (old new : Ends) (way : Way) (Shows : List (List ℕ) → Type 0) (steps : ℕ) (end : PumpEnd) : Type 0 where
   pub text : List ℕ
   pub given : List ℕ
   pub written : List ℕ
   pub pieces : List (List ℕ)
-  pub reads : Consumes reader reader' text
-  pub writes : Appends writer writer' written
-  pub counts_text : taken ≡ count_of text
-  pub counts_written : put ≡ count_of written
-  pub gave : Gave why reader' chain chain' text given
-  pub all : IsWritten why given written
+  pub reads : Consumes old.reader new.reader text
+  pub writes : Appends old.writer new.writer written
+  pub counts_text : end.taken ≡ count_of text
+  pub counts_written : end.given ≡ count_of written
+  pub gave : Gave end.why new.reader old.chain new.chain text given
+  pub all : IsWritten end.why given written
   pub shown : Shows pieces
   pub joined : concat pieces ≡ pieces_by way text given
   pub one_each : length pieces ≤ steps

@@ -9,6 +9,3 @@ mod turns;
 pub use pumping::{PumpEnd, Why, pump, pump_counted};
 pub use steps::Steps;
 pub use tap::{NoTap, Recorder, Tap};
-
-#[cfg(test)]
-mod tests;

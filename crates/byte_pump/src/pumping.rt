@@ -2,7 +2,7 @@
 ghost use Rattle.std.specs.Prelude.{◌≡◌, ◌≢◌, ◌⊎◌, ◌+◌, ◌-◌, ◌<◌, ◌≤◌, length, true, false};
 ghost use Rattle.wrapper_chain.specs.Chains.{has_failed, stages_of};
 ghost use Rattle.wrapper_chain.specs.Stages.{through};
-ghost use Rattle.byte_pump.specs.Pumps.{Pumped, is_end};
+ghost use Rattle.byte_pump.specs.Pumps.{Pumped, ends_of, is_end};
 ghost use Rattle.byte_pump.specs.Taps.{Watches};
 ghost use Rattle.byte_pump.specs.Turns.{StaysOpen, Turned};
 
@@ -63,10 +63,14 @@ pub fn pump<R: Read, W: Write, S: LineStage, T: Tap>(
     tap: &mut T,
     turns: u64,
 ) -> PumpEnd
-    ensures pumped { Pumped (R.remaining reader.old) (R.remaining reader.new) (W.contents writer.old) (W.contents writer.new) (through S.rest (stages_of chain.old)) (through S.rest (stages_of chain.new)) (T.watches tap.old) (λ pieces. Watches T.sees T.ends (is_end result.why) tap.old pieces tap.new) turns result.why result.taken result.given }
+    ensures pumped { Pumped (ends_of R.remaining W.contents S.rest reader.old writer.old chain.old)
+        (ends_of R.remaining W.contents S.rest reader.new writer.new chain.new)
+        (T.watches tap.old) (λ pieces. Watches T.sees T.ends (is_end result.why) tap.old pieces tap.new)
+        turns result }
     ensures failed { result.why ≡ Why.Failed → has_failed chain.old ≡ true }
     ensures gives_none { has_failed chain.old ≡ true → (result.why ≢ Why.End) × (result.given ≡ 0) }
-    ensures unfinished { (result.why ≡ Why.ReadFault) ⊎ (result.why ≡ Why.TurnsOver) → has_failed chain.new ≡ has_failed chain.old }
+    ensures unfinished { (result.why ≡ Why.ReadFault) ⊎ (result.why ≡ Why.TurnsOver)
+        → has_failed chain.new ≡ has_failed chain.old }
     ensures wholes { through S.whole (stages_of chain.new) ≡ through S.whole (stages_of chain.old) }
 {
     pump_from::<R, W, S, T, Brand>(alloc, reader, writer, chain, tap, turns, Blank::new(1))
@@ -82,12 +86,16 @@ pub fn pump_counted<R: Read, W: Write, S: LineStage, T: Tap, L: Ledger>(
     turns: u64,
     steps: &mut Steps<L>,
 ) -> PumpEnd
-    ensures pumped { Pumped (R.remaining reader.old) (R.remaining reader.new) (W.contents writer.old) (W.contents writer.new) (through S.rest (stages_of chain.old)) (through S.rest (stages_of chain.new)) (T.watches tap.old) (λ pieces. Watches T.sees T.ends (is_end result.why) tap.old pieces tap.new) (steps.new - steps.old) result.why result.taken result.given }
+    ensures pumped { Pumped (ends_of R.remaining W.contents S.rest reader.old writer.old chain.old)
+        (ends_of R.remaining W.contents S.rest reader.new writer.new chain.new)
+        (T.watches tap.old) (λ pieces. Watches T.sees T.ends (is_end result.why) tap.old pieces tap.new)
+        (steps.new - steps.old) result }
     ensures over { result.why ≡ Why.TurnsOver → steps.new ≡ steps.old + turns }
     ensures within { (steps.old ≤ steps.new) × (steps.new ≤ steps.old + turns) }
     ensures failed { result.why ≡ Why.Failed → has_failed chain.old ≡ true }
     ensures gives_none { has_failed chain.old ≡ true → (result.why ≢ Why.End) × (result.given ≡ 0) }
-    ensures unfinished { (result.why ≡ Why.ReadFault) ⊎ (result.why ≡ Why.TurnsOver) → has_failed chain.new ≡ has_failed chain.old }
+    ensures unfinished { (result.why ≡ Why.ReadFault) ⊎ (result.why ≡ Why.TurnsOver)
+        → has_failed chain.new ≡ has_failed chain.old }
     ensures wholes { through S.whole (stages_of chain.new) ≡ through S.whole (stages_of chain.old) }
 {
     if chain.has_failed() {
@@ -139,7 +147,11 @@ fn run<R: Read, W: Write, S: LineStage, T: Tap, L: Ledger>(
 ) -> Why
     requires room { 0 < length buffer.old }
     requires goes_on { has_failed chain.old ≡ false }
-    ensures turned { Turned (R.remaining reader.old) (R.remaining reader.new) (W.contents writer.old) (W.contents writer.new) (through S.rest (stages_of chain.old)) (through S.rest (stages_of chain.new)) (T.watches tap.old) (λ pieces. Watches T.sees T.ends (is_end result) tap.old pieces tap.new) (steps.new - steps.old) result work.old.taken work.new.taken work.old.given work.new.given }
+    ensures turned { Turned (R.remaining reader.old) (R.remaining reader.new)
+        (W.contents writer.old) (W.contents writer.new)
+        (through S.rest (stages_of chain.old)) (through S.rest (stages_of chain.new))
+        (T.watches tap.old) (λ pieces. Watches T.sees T.ends (is_end result) tap.old pieces tap.new)
+        (steps.new - steps.old) result work.old.taken work.new.taken work.old.given work.new.given }
     ensures over { result ≡ Why.TurnsOver → steps.new ≡ steps.old + turns }
     ensures within { (steps.old ≤ steps.new) × (steps.new ≤ steps.old + turns) }
     ensures not_failed { result ≢ Why.Failed }
@@ -166,10 +178,14 @@ fn pump_from<R: Read, W: Write, S: LineStage, T: Tap, L: Ledger>(
 ) -> PumpEnd
     requires name { blank.name ≡ L.name }
     requires parts { (blank.parts ≡ L.parts) × (0 < blank.parts) }
-    ensures pumped { Pumped (R.remaining reader.old) (R.remaining reader.new) (W.contents writer.old) (W.contents writer.new) (through S.rest (stages_of chain.old)) (through S.rest (stages_of chain.new)) (T.watches tap.old) (λ pieces. Watches T.sees T.ends (is_end result.why) tap.old pieces tap.new) turns result.why result.taken result.given }
+    ensures pumped { Pumped (ends_of R.remaining W.contents S.rest reader.old writer.old chain.old)
+        (ends_of R.remaining W.contents S.rest reader.new writer.new chain.new)
+        (T.watches tap.old) (λ pieces. Watches T.sees T.ends (is_end result.why) tap.old pieces tap.new)
+        turns result }
     ensures failed { result.why ≡ Why.Failed → has_failed chain.old ≡ true }
     ensures gives_none { has_failed chain.old ≡ true → (result.why ≢ Why.End) × (result.given ≡ 0) }
-    ensures unfinished { (result.why ≡ Why.ReadFault) ⊎ (result.why ≡ Why.TurnsOver) → has_failed chain.new ≡ has_failed chain.old }
+    ensures unfinished { (result.why ≡ Why.ReadFault) ⊎ (result.why ≡ Why.TurnsOver)
+        → has_failed chain.new ≡ has_failed chain.old }
     ensures wholes { through S.whole (stages_of chain.new) ≡ through S.whole (stages_of chain.old) }
 {
     let mut steps = Steps::<L>::new(blank);

@@ -129,7 +129,8 @@ impl<W: Write> Recorder<W> {
     fn write_lines(&mut self, made: bool)
         ensures number { number_of self.new ≡ number_of self.old }
         ensures way { way_of self.new ≡ way_of self.old }
-        ensures wrote { has_failed self.new ≡ false → (made ≡ true) × Appends (W.contents (writer_of self.old)) (W.contents (writer_of self.new)) self.old.lines.items }
+        ensures wrote { has_failed self.new ≡ false → (made ≡ true)
+            × Appends (W.contents (writer_of self.old)) (W.contents (writer_of self.new)) self.old.lines.items }
     {
         self.failed = !made || self.writer.write_all(&self.lines).is_err();
     }

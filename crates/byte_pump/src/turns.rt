@@ -41,7 +41,11 @@ pub fn turn<R: Read, W: Write, S: LineStage, T: Tap, L: Ledger>(
 ) -> Result<(), Why>
     requires room { 0 < length buffer.old }
     requires goes_on { has_failed chain.old ≡ false }
-    ensures turned { Turned (R.remaining reader.old) (R.remaining reader.new) (W.contents writer.old) (W.contents writer.new) (through S.rest (stages_of chain.old)) (through S.rest (stages_of chain.new)) (T.watches tap.old) (λ pieces. Watches T.sees T.ends (is_end (why_of result)) tap.old pieces tap.new) 1 (why_of result) work.old.taken work.new.taken work.old.given work.new.given }
+    ensures turned { Turned (R.remaining reader.old) (R.remaining reader.new)
+        (W.contents writer.old) (W.contents writer.new)
+        (through S.rest (stages_of chain.old)) (through S.rest (stages_of chain.new))
+        (T.watches tap.old) (λ pieces. Watches T.sees T.ends (is_end (why_of result)) tap.old pieces tap.new)
+        1 (why_of result) work.old.taken work.new.taken work.old.given work.new.given }
     ensures step { steps.new ≡ steps.old + 1 }
     ensures reason { IfErr result IsOfTurn }
     ensures stays_open { StaysOpen (why_of result) (has_failed chain.old) (has_failed chain.new) }
@@ -79,7 +83,10 @@ fn pass<W: Write, S: LineStage, T: Tap>(
     work: &mut Work,
 ) -> Result<(), Why>
     requires { has_failed chain.old ≡ false }
-    ensures passed { (left : Option (List ℕ)) → Passes piece.now left (W.contents writer.old) (W.contents writer.new) (through S.rest (stages_of chain.old)) (through S.rest (stages_of chain.new)) (T.watches tap.old) (λ pieces. Watches T.sees T.ends (is_end (why_of result)) tap.old pieces tap.new) 1 (why_of result) work.old.given work.new.given }
+    ensures passed { (left : Option (List ℕ)) → Passes piece.now left (W.contents writer.old) (W.contents writer.new)
+        (through S.rest (stages_of chain.old)) (through S.rest (stages_of chain.new))
+        (T.watches tap.old) (λ pieces. Watches T.sees T.ends (is_end (why_of result)) tap.old pieces tap.new)
+        1 (why_of result) work.old.given work.new.given }
     ensures taken { CountsMore work.old.taken work.new.taken piece.now }
     ensures reason { IfErr result IsOfTurn }
     ensures stays_open { StaysOpen (why_of result) (has_failed chain.old) (has_failed chain.new) }
@@ -107,7 +114,11 @@ fn end<W: Write, S: LineStage, T: Tap>(
     work: &mut Work,
 ) -> Why
     requires { has_failed chain.old ≡ false }
-    ensures passed { (left : Option (List ℕ)) → IsAtEnd left → Passes [] left (W.contents writer.old) (W.contents writer.new) (through S.rest (stages_of chain.old)) (through S.rest (stages_of chain.new)) (T.watches tap.old) (λ pieces. Watches T.sees T.ends (is_end result) tap.old pieces tap.new) 1 result work.old.given work.new.given }
+    ensures passed { (left : Option (List ℕ)) → IsAtEnd left
+        → Passes [] left (W.contents writer.old) (W.contents writer.new)
+        (through S.rest (stages_of chain.old)) (through S.rest (stages_of chain.new))
+        (T.watches tap.old) (λ pieces. Watches T.sees T.ends (is_end result) tap.old pieces tap.new)
+        1 result work.old.given work.new.given }
     ensures taken { work.new.taken ≡ work.old.taken }
     ensures reason { IsOfEnd result }
     ensures wholes { through S.whole (stages_of chain.new) ≡ through S.whole (stages_of chain.old) }

@@ -1,5 +1,5 @@
 -- What a table of children holds.
-use Rattle.std.specs.Prelude.{◌≡◌, ◌≢◌, ◌+◌, ◌<◌, ℕ, List, Bool, bytes_eq, refl}
+use Rattle.std.specs.Prelude.{◌≡◌, ◌≢◌, ◌+◌, ◌<◌, ◌≤◌, ℕ, List, Bool, bytes_eq, refl}
 use Rattle.std.specs.List.{count_by}
 use Rattle.std.specs.Ordering.{nat_cmp}
 use Rattle.std.specs.FinMap as map
@@ -37,6 +37,21 @@ live_at ip seats = count_by (λ other. bytes_eq other ip) (map.values seats.plac
 -- whether an index is in use
 abbrev pub is_used : Seats → ℕ → Bool
 is_used seats index = map.contains_key seats.places index
+
+-- the seats with an index in use for this address, and with one that is free again
+abbrev pub with_place : ℕ → List ℕ → Seats → Seats
+with_place index ip seats = record seats { places = map.insert seats.places index ip }
+
+abbrev pub without_place : ℕ → Seats → Seats
+without_place index seats = record seats { places = map.remove seats.places index }
+
+-- another one could be let in, but not from this address
+abbrev pub IsFullFor : List ℕ → Seats → Type 0
+IsFullFor ip seats = (live_of seats < seats.limit) × (live_at ip seats ≡ seats.per_address)
+
+-- no more are live than may be, in all and from each address
+abbrev pub IsWithin : Seats → Type 0
+IsWithin seats = (live_of seats ≤ seats.limit) × ((ip : List ℕ) → live_at ip seats ≤ seats.per_address)
 
 -- one more is live, at this address
 pub record OneMoreAt (ip : List ℕ) (old new : Seats) : Type 0 where

@@ -6,6 +6,3 @@ pub mod table;
 
 pub use place::Place;
 pub use table::{AdmitFault, Table, TableFault};
-
-#[cfg(test)]
-mod tests;

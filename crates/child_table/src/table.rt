@@ -3,7 +3,7 @@ ghost use Rattle.std.specs.Prelude.{◌≡◌, ℕ, List, ◌+◌, ◌<◌, ◌�
 ghost use Rattle.slab.specs.Slab.{slab_len, values};
 ghost use Rattle.std.specs.FinMap as map;
 ghost use Rattle.child_table.specs.declared.table.TableFault.TheVariants.{OutOfMemory};
-ghost use Rattle.child_table.specs.Seats.{OneMoreAt, RefusesLimits, empty_seats, is_used, live_at, live_of};
+ghost use Rattle.child_table.specs.Seats.{IsFullFor, IsWithin, OneMoreAt, RefusesLimits, empty_seats, is_used, live_at, live_of, with_place, without_place};
 
 use crate::place::Place;
 use rule_lookup::Peer;
@@ -70,7 +70,12 @@ impl<L: Ledger> Model for Table<L> {
 
     ghost coded = { seats_code };
 
-    ghost view = { λ t. record { limit = t.limit; per_address = t.per_address; retired = t.retired; places = map.from_sorted (entries t.seats) } };
+    ghost view = { λ t. record {
+      limit = t.limit;
+      per_address = t.per_address;
+      retired = t.retired;
+      places = map.from_sorted (entries t.seats);
+    } };
 
     ghost invariant = { λ t. record {
       counted : t.count.total ≡ slab_len t.seats;
@@ -141,12 +146,12 @@ impl<L: Ledger> Table<L> {
     /// limit says, retired ones counted in both. Nothing changed.
     pub fn admit(&mut self, peer: &Peer) -> Result<Place<L>, AdmitFault>
         ensures full { (result ≡ Err AdmitFault.Full) ↔ (live_of self.old ≡ self.old.limit) }
-        ensures full_for_address { (result ≡ Err AdmitFault.FullForAddress) ↔ ((live_of self.old < self.old.limit) × (live_at peer.now.ip self.old ≡ self.old.per_address)) }
+        ensures full_for_address { (result ≡ Err AdmitFault.FullForAddress) ↔ IsFullFor peer.now.ip self.old }
         ensures unchanged { OnErr result (self.new ≡ self.old) }
         ensures vacant { IfOk result (λ place. is_used self.old place ≡ false) }
-        ensures admitted { IfOk result (λ place. self.new ≡ record self.old { places = map.insert self.old.places place peer.now.ip }) }
+        ensures admitted { IfOk result (λ place. self.new ≡ with_place place peer.now.ip self.old) }
         ensures one_more { OnOk result (OneMoreAt peer.now.ip self.old self.new) }
-        ensures within { (live_of self.new ≤ self.new.limit) × ((ip : List ℕ) → live_at ip self.new ≤ self.new.per_address) }
+        ensures within { IsWithin self.new }
     {
         if self.live() == self.limit {
             return Err(AdmitFault::Full);
@@ -164,9 +169,9 @@ impl<L: Ledger> Table<L> {
     /// Takes a place back: its index is free again. It takes no memory.
     pub fn leave(&mut self, place: Place<L>)
         requires { is_used self.old place ≡ true }
-        ensures left { self.new ≡ record self.old { places = map.remove self.old.places place } }
+        ensures left { self.new ≡ without_place place self.old }
         ensures one_less { (ip : List ℕ) → map.get self.old.places place ≡ Some ip → OneMoreAt ip self.new self.old }
-        ensures within { (live_of self.new ≤ self.new.limit) × ((ip : List ℕ) → live_at ip self.new ≤ self.new.per_address) }
+        ensures within { IsWithin self.new }
     {
         let Place { index, mut share } = place;
         self.count.sub(&mut share, 1);
@@ -247,11 +252,10 @@ fn count_at(seats: &Slab<[u8; 4]>, ip: [u8; 4]) -> u64
     count
 }
 
-#[cfg(test)]
 impl<L: Ledger> Table<L> {
-    // Whether an index is in use, for tests that give places back.
+    /// Whether an index is in use: the test for what `leave` and `retire` ask of a place.
     #[tactic(auto, using(crate::proofs::SeatLemmas::used_places))]
-    pub(crate) fn is_used(&self, index: usize) -> bool
+    pub fn is_used(&self, index: usize) -> bool
         ensures { IsTrue result ↔ (is_used self.now index ≡ true) }
     {
         self.seats.contains(index)

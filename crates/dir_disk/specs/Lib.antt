@@ -10,6 +10,7 @@ pub mod Held
 pub mod Images
 pub mod Lasting
 pub mod MemDir
+pub mod Methods
 pub mod Moments
 pub mod NameTable
 pub mod Names

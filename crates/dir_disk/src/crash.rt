@@ -49,7 +49,8 @@ fn left_files(alloc: Global, files: &[Stored], choice: Choice) -> Result<Vec<Sto
 fn taken(folder: &Folder, choice: Choice) -> usize
     ensures fits { result ≤ length folder.now.edits.items }
     ensures not_settled { folder.now.settled ≤ result }
-    ensures chosen { drop folder.now.settled (take result (map change_of folder.now.edits.items)) ≡ chosen_changes choice (directory_of folder.now).names.pending }
+    ensures chosen { drop folder.now.settled (take result (map change_of folder.now.edits.items))
+        ≡ chosen_changes choice (directory_of folder.now).names.pending }
 {
     let count = folder.edits.len();
     match choice {

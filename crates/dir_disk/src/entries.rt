@@ -80,7 +80,8 @@ pub fn with_name(
     to: &[u8],
     number: usize,
 ) -> Result<Vec<Entry>, AllocError>
-    ensures { IfOk result (λ moved. names_in moved.items ≡ insert (remove (names_in names.now) from.now) to.now number) }
+    ensures { IfOk result (λ moved.
+        names_in moved.items ≡ insert (remove (names_in names.now) from.now) to.now number) }
 {
     let mut kept = others(alloc, names, from, to)?;
     kept.push(Entry {
@@ -121,7 +122,8 @@ pub fn after_edits(
     names: &[Entry],
     edits: &[NameEdit],
 ) -> Result<Vec<Entry>, AllocError>
-    ensures { IfOk result (λ left. names_in left.items ≡ after_changes (names_in names.now) (map change_of edits.now)) }
+    ensures { IfOk result (λ left.
+        names_in left.items ≡ after_changes (names_in names.now) (map change_of edits.now)) }
 {
     let mut left = copied_names(alloc, names)?;
     for edit in edits {

@@ -21,7 +21,8 @@ pub struct Folder {
     pub names: Vec<Entry>,
     pub files: Vec<Stored>,
     pub scratch: Option<usize>,
-    ghost standing: { names_in names.items ≡ after_changes (names_in origin.items) (map change_of edits.items) } by { same_names-prop _ _ },
+    ghost standing: { names_in names.items
+        ≡ after_changes (names_in origin.items) (map change_of edits.items) } by { same_names-prop _ _ },
     ghost settled_fits: { settled ≤ length edits.items },
     ghost in_range: { ForSome scratch (λ number. number < length files.items) },
 }
@@ -29,7 +30,8 @@ pub struct Folder {
 // Puts an edit at the end, after another if there is one.
 fn keep_both(edits: &mut Vec<NameEdit>, first: Option<NameEdit>, last: NameEdit)
     requires { vec_len edits.old + 2 ≤ vec_capacity edits.old }
-    ensures { map change_of edits.new.items ≡ map change_of edits.old.items ++ (option_to_list (option_map change_of first) ++ change_of last ∷ []) }
+    ensures { map change_of edits.new.items
+        ≡ map change_of edits.old.items ++ (option_to_list (option_map change_of first) ++ change_of last ∷ []) }
 {
     if let Some(first) = first {
         edits.push_reserved(first);
@@ -41,6 +43,7 @@ impl Folder {
     ghost use Rattle.dir_disk.specs.Calls.{makes, appends, patches, renames, settles, syncs, after};
     ghost use Rattle.dir_disk.specs.Folder.{directory_of, empty_directory};
     ghost use Rattle.dir_disk.specs.Directory.{number_of, scratch_of, content};
+    ghost use Rattle.dir_disk.specs.Methods.{IsInside};
 
     /// An empty directory.
     pub fn new(alloc: Global) -> Self
@@ -83,7 +86,8 @@ impl Folder {
 
     // The change that takes a name away, if it stands.
     fn taking(&self, alloc: Global, name: &[u8]) -> Result<Option<NameEdit>, AllocError>
-        ensures { IfOk result (λ taken. option_map change_of taken ≡ option_map (λ _. takes name.now) (number_of (directory_of self.now) name.now)) }
+        ensures { IfOk result (λ taken. option_map change_of taken
+            ≡ option_map (λ _. takes name.now) (number_of (directory_of self.now) name.now)) }
     {
         match self.number(name) {
             Some(_) => Ok(Some(NameEdit::Taken(name.to_vec(alloc)?))),
@@ -120,7 +124,7 @@ impl Folder {
     /// Overwrites bytes of the scratch file from a place on.
     pub fn patch(&mut self, number: usize, place: usize, bytes: &[u8])
         requires scratch { self.old.scratch ≡ Some number }
-        requires inside { ForSome (scratch_of (directory_of self.old)) (λ file. place + length bytes.now ≤ length file.bytes) }
+        requires inside { IsInside place bytes.now (scratch_of (directory_of self.old)) }
         ensures { directory_of self.new ≡ after (patches place bytes.now) (directory_of self.old) }
     {
         if let Stored::Open(old) = &mut self.files[number] {

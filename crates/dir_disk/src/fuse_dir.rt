@@ -1,12 +1,11 @@
 //! Directories of which one call fails.
-ghost use Rattle.std.specs.Prelude.{◌≡◌, ◌≢◌, ◌≤◌, ◌<◌, ◌+◌, ◌-◌, [], ◌∷◌, IsTrue, None, IsSome, Contains, length, take, true, false, IfOk, IfErr, OnOk};
-ghost use Rattle.std.specs.Option.{option_map, ForSome};
+ghost use Rattle.std.specs.Prelude.{◌≡◌, ◌≢◌, ◌≤◌, ◌<◌, ◌-◌, [], ◌∷◌, IsTrue, None, IsSome, Contains, length, true, false, IfOk, IfErr, OnOk};
+ghost use Rattle.std.specs.Option.{option_map};
 ghost use Rattle.dir_disk.specs.Directory.{number_of, scratch_of, content};
-ghost use Rattle.dir_disk.specs.Images.{IsImage};
 ghost use Rattle.dir_disk.specs.Calls.{makes, appends, patches, syncs, renames, settles};
-ghost use Rattle.dir_disk.specs.Outcomes.{Does, LeftBy};
-ghost use Rattle.dir_disk.specs.Moments.{Elapses, Includes, HasCause};
-ghost use Rattle.dir_disk.specs.Fuse.{Burns, failures_with};
+ghost use Rattle.dir_disk.specs.Methods.{DoesCall, AppendsSome, CallElapses, CallIncludes, OpenElapses, IsInside};
+ghost use Rattle.dir_disk.specs.Moments.{HasCause};
+ghost use Rattle.dir_disk.specs.Fuse.{failures_with};
 
 use crate::{Dir, DirFault, Name};
 use std::alloc::Global;
@@ -65,7 +64,7 @@ impl<D: Dir> FuseDir<D> {
 
 #[tactic(auto, using(crate::proofs::FuseLemmas::burnt_cause, crate::proofs::FuseLemmas::burnt_more, crate::proofs::FuseLemmas::passed_cause))]
 impl<D: Dir> Dir for FuseDir<D> {
-    ghost use Rattle.dir_disk.specs.FuseParts.{fuse_inner, fuse_left, fuse_burnt};
+    ghost use Rattle.dir_disk.specs.FuseParts.{fuse_inner, fuse_left, fuse_failed, FuseBurns, FusePasses};
 
     type File = D::File;
 
@@ -86,16 +85,17 @@ impl<D: Dir> Dir for FuseDir<D> {
     ghost honest_files = { D.honest_files };
 
     fn fresh(&mut self, alloc: Global, name: &Name) -> Result<(), DirFault>
-        ensures does { IsTrue D.honest → Does (λ _. makes name.now) (makes name.now) (D.state (fuse_inner self.old)) (D.state (fuse_inner self.new)) result }
+        ensures does { IsTrue D.honest
+            → DoesCall D.state (makes name.now) (fuse_inner self.old) (fuse_inner self.new) result }
         ensures faults { IfErr result (Contains (DirFault.Device ∷ DirFault.OutOfMemory ∷ [])) }
-        ensures cause { HasCause (failures_with (fuse_burnt self.old) (D.failed (fuse_inner self.old))) (failures_with (fuse_burnt self.new) (D.failed (fuse_inner self.new))) result }
+        ensures cause { HasCause (fuse_failed D.failed self.old) (fuse_failed D.failed self.new) result }
         ensures counts { fuse_left self.new ≡ fuse_left self.old - 1 }
-        ensures burns { fuse_left self.old ≡ 1 → Burns (fuse_inner self.old) (fuse_inner self.new) (failures_with (fuse_burnt self.old) (D.failed (fuse_inner self.old))) (failures_with (fuse_burnt self.new) (D.failed (fuse_inner self.new))) result }
-        ensures passes { fuse_left self.old ≢ 1 → HasCause (D.failed (fuse_inner self.old)) (D.failed (fuse_inner self.new)) result }
-        ensures time { IsTrue D.honest → Elapses (D.moment (fuse_inner self.old)) (D.moment (fuse_inner self.new)) (D.left_since (fuse_inner self.old)) (D.left_since (fuse_inner self.new))
-            (LeftBy (makes name.now) (D.state (fuse_inner self.old)) (D.state (fuse_inner self.new))) }
-        ensures within { IsTrue D.honest → OnOk result (Includes (D.moment (fuse_inner self.old)) (D.left_since (fuse_inner self.new))
-            (LeftBy (makes name.now) (D.state (fuse_inner self.old)) (D.state (fuse_inner self.new)))) }
+        ensures burns { FuseBurns D.failed self.old self.new result }
+        ensures passes { FusePasses D.failed self.old self.new result }
+        ensures time { IsTrue D.honest
+            → CallElapses D.state D.moment D.left_since (makes name.now) (fuse_inner self.old) (fuse_inner self.new) }
+        ensures within { IsTrue D.honest → OnOk result
+            (CallIncludes D.state D.moment D.left_since (makes name.now) (fuse_inner self.old) (fuse_inner self.new)) }
     {
         if burns(&mut self.left, &mut self.burnt) {
             return Err(DirFault::Device);
@@ -106,18 +106,22 @@ impl<D: Dir> Dir for FuseDir<D> {
     fn append(&mut self, alloc: Global, piece: &[u8]) -> Result<usize, DirFault>
         ensures taken { IfOk result (λ count. count ≤ length piece.now) }
         ensures some { IfOk result (λ count. 0 < length piece.now → 0 < count) }
-        ensures does { IsTrue D.honest → Does (λ count. appends (take count piece.now)) (appends piece.now) (D.state (fuse_inner self.old)) (D.state (fuse_inner self.new)) result }
+        ensures does { IsTrue D.honest
+            → AppendsSome D.state piece.now (fuse_inner self.old) (fuse_inner self.new) result }
         ensures scratch { IsTrue D.honest → OnOk result (IsSome (D.state (fuse_inner self.old)).scratch) }
-        ensures no_scratch { IsTrue D.honest → result ≡ Err DirFault.NoScratch → (D.state (fuse_inner self.old)).scratch ≡ None }
+        ensures no_scratch { IsTrue D.honest → result ≡ Err DirFault.NoScratch
+            → (D.state (fuse_inner self.old)).scratch ≡ None }
+        ensures no_memory { IsTrue D.honest → result ≡ Err DirFault.OutOfMemory
+            → IsSome (D.state (fuse_inner self.old)).scratch }
         ensures faults { IfErr result (Contains (DirFault.NoScratch ∷ DirFault.Device ∷ DirFault.OutOfMemory ∷ [])) }
-        ensures cause { HasCause (failures_with (fuse_burnt self.old) (D.failed (fuse_inner self.old))) (failures_with (fuse_burnt self.new) (D.failed (fuse_inner self.new))) result }
+        ensures cause { HasCause (fuse_failed D.failed self.old) (fuse_failed D.failed self.new) result }
         ensures counts { fuse_left self.new ≡ fuse_left self.old - 1 }
-        ensures burns { fuse_left self.old ≡ 1 → Burns (fuse_inner self.old) (fuse_inner self.new) (failures_with (fuse_burnt self.old) (D.failed (fuse_inner self.old))) (failures_with (fuse_burnt self.new) (D.failed (fuse_inner self.new))) result }
-        ensures passes { fuse_left self.old ≢ 1 → HasCause (D.failed (fuse_inner self.old)) (D.failed (fuse_inner self.new)) result }
-        ensures time { IsTrue D.honest → Elapses (D.moment (fuse_inner self.old)) (D.moment (fuse_inner self.new)) (D.left_since (fuse_inner self.old)) (D.left_since (fuse_inner self.new))
-            (LeftBy (appends piece.now) (D.state (fuse_inner self.old)) (D.state (fuse_inner self.new))) }
-        ensures within { IsTrue D.honest → OnOk result (Includes (D.moment (fuse_inner self.old)) (D.left_since (fuse_inner self.new))
-            (LeftBy (appends piece.now) (D.state (fuse_inner self.old)) (D.state (fuse_inner self.new)))) }
+        ensures burns { FuseBurns D.failed self.old self.new result }
+        ensures passes { FusePasses D.failed self.old self.new result }
+        ensures time { IsTrue D.honest
+            → CallElapses D.state D.moment D.left_since (appends piece.now) (fuse_inner self.old) (fuse_inner self.new) }
+        ensures within { IsTrue D.honest → OnOk result
+            (CallIncludes D.state D.moment D.left_since (appends piece.now) (fuse_inner self.old) (fuse_inner self.new)) }
     {
         if burns(&mut self.left, &mut self.burnt) {
             return Err(DirFault::Device);
@@ -126,19 +130,23 @@ impl<D: Dir> Dir for FuseDir<D> {
     }
 
     fn patch(&mut self, alloc: Global, place: u64, bytes: &[u8]) -> Result<(), DirFault>
-        requires inside { IsTrue D.honest → ForSome (scratch_of (D.state (fuse_inner self.old))) (λ file. place + length bytes.now ≤ length file.bytes) }
-        ensures does { IsTrue D.honest → Does (λ _. patches place bytes.now) (patches place bytes.now) (D.state (fuse_inner self.old)) (D.state (fuse_inner self.new)) result }
+        requires inside { IsTrue D.honest → IsInside place bytes.now (scratch_of (D.state (fuse_inner self.old))) }
+        ensures does { IsTrue D.honest
+            → DoesCall D.state (patches place bytes.now) (fuse_inner self.old) (fuse_inner self.new) result }
         ensures scratch { IsTrue D.honest → OnOk result (IsSome (D.state (fuse_inner self.old)).scratch) }
-        ensures no_scratch { IsTrue D.honest → result ≡ Err DirFault.NoScratch → (D.state (fuse_inner self.old)).scratch ≡ None }
+        ensures no_scratch { IsTrue D.honest → result ≡ Err DirFault.NoScratch
+            → (D.state (fuse_inner self.old)).scratch ≡ None }
+        ensures no_memory { IsTrue D.honest → result ≡ Err DirFault.OutOfMemory
+            → IsSome (D.state (fuse_inner self.old)).scratch }
         ensures faults { IfErr result (Contains (DirFault.NoScratch ∷ DirFault.Device ∷ DirFault.OutOfMemory ∷ [])) }
-        ensures cause { HasCause (failures_with (fuse_burnt self.old) (D.failed (fuse_inner self.old))) (failures_with (fuse_burnt self.new) (D.failed (fuse_inner self.new))) result }
+        ensures cause { HasCause (fuse_failed D.failed self.old) (fuse_failed D.failed self.new) result }
         ensures counts { fuse_left self.new ≡ fuse_left self.old - 1 }
-        ensures burns { fuse_left self.old ≡ 1 → Burns (fuse_inner self.old) (fuse_inner self.new) (failures_with (fuse_burnt self.old) (D.failed (fuse_inner self.old))) (failures_with (fuse_burnt self.new) (D.failed (fuse_inner self.new))) result }
-        ensures passes { fuse_left self.old ≢ 1 → HasCause (D.failed (fuse_inner self.old)) (D.failed (fuse_inner self.new)) result }
-        ensures time { IsTrue D.honest → Elapses (D.moment (fuse_inner self.old)) (D.moment (fuse_inner self.new)) (D.left_since (fuse_inner self.old)) (D.left_since (fuse_inner self.new))
-            (LeftBy (patches place bytes.now) (D.state (fuse_inner self.old)) (D.state (fuse_inner self.new))) }
-        ensures within { IsTrue D.honest → OnOk result (Includes (D.moment (fuse_inner self.old)) (D.left_since (fuse_inner self.new))
-            (LeftBy (patches place bytes.now) (D.state (fuse_inner self.old)) (D.state (fuse_inner self.new)))) }
+        ensures burns { FuseBurns D.failed self.old self.new result }
+        ensures passes { FusePasses D.failed self.old self.new result }
+        ensures time { IsTrue D.honest
+            → CallElapses D.state D.moment D.left_since (patches place bytes.now) (fuse_inner self.old) (fuse_inner self.new) }
+        ensures within { IsTrue D.honest → OnOk result
+            (CallIncludes D.state D.moment D.left_since (patches place bytes.now) (fuse_inner self.old) (fuse_inner self.new)) }
     {
         if burns(&mut self.left, &mut self.burnt) {
             return Err(DirFault::Device);
@@ -147,18 +155,22 @@ impl<D: Dir> Dir for FuseDir<D> {
     }
 
     fn sync(&mut self, alloc: Global) -> Result<(), DirFault>
-        ensures does { IsTrue D.honest → Does (λ _. syncs) (syncs) (D.state (fuse_inner self.old)) (D.state (fuse_inner self.new)) result }
+        ensures does { IsTrue D.honest
+            → DoesCall D.state syncs (fuse_inner self.old) (fuse_inner self.new) result }
         ensures scratch { IsTrue D.honest → OnOk result (IsSome (D.state (fuse_inner self.old)).scratch) }
-        ensures no_scratch { IsTrue D.honest → result ≡ Err DirFault.NoScratch → (D.state (fuse_inner self.old)).scratch ≡ None }
+        ensures no_scratch { IsTrue D.honest → result ≡ Err DirFault.NoScratch
+            → (D.state (fuse_inner self.old)).scratch ≡ None }
+        ensures no_memory { IsTrue D.honest → result ≡ Err DirFault.OutOfMemory
+            → IsSome (D.state (fuse_inner self.old)).scratch }
         ensures faults { IfErr result (Contains (DirFault.NoScratch ∷ DirFault.Device ∷ DirFault.OutOfMemory ∷ [])) }
-        ensures cause { HasCause (failures_with (fuse_burnt self.old) (D.failed (fuse_inner self.old))) (failures_with (fuse_burnt self.new) (D.failed (fuse_inner self.new))) result }
+        ensures cause { HasCause (fuse_failed D.failed self.old) (fuse_failed D.failed self.new) result }
         ensures counts { fuse_left self.new ≡ fuse_left self.old - 1 }
-        ensures burns { fuse_left self.old ≡ 1 → Burns (fuse_inner self.old) (fuse_inner self.new) (failures_with (fuse_burnt self.old) (D.failed (fuse_inner self.old))) (failures_with (fuse_burnt self.new) (D.failed (fuse_inner self.new))) result }
-        ensures passes { fuse_left self.old ≢ 1 → HasCause (D.failed (fuse_inner self.old)) (D.failed (fuse_inner self.new)) result }
-        ensures time { IsTrue D.honest → Elapses (D.moment (fuse_inner self.old)) (D.moment (fuse_inner self.new)) (D.left_since (fuse_inner self.old)) (D.left_since (fuse_inner self.new))
-            (LeftBy (syncs) (D.state (fuse_inner self.old)) (D.state (fuse_inner self.new))) }
-        ensures within { IsTrue D.honest → OnOk result (Includes (D.moment (fuse_inner self.old)) (D.left_since (fuse_inner self.new))
-            (LeftBy (syncs) (D.state (fuse_inner self.old)) (D.state (fuse_inner self.new)))) }
+        ensures burns { FuseBurns D.failed self.old self.new result }
+        ensures passes { FusePasses D.failed self.old self.new result }
+        ensures time { IsTrue D.honest
+            → CallElapses D.state D.moment D.left_since syncs (fuse_inner self.old) (fuse_inner self.new) }
+        ensures within { IsTrue D.honest → OnOk result
+            (CallIncludes D.state D.moment D.left_since syncs (fuse_inner self.old) (fuse_inner self.new)) }
     {
         if burns(&mut self.left, &mut self.burnt) {
             return Err(DirFault::Device);
@@ -167,18 +179,22 @@ impl<D: Dir> Dir for FuseDir<D> {
     }
 
     fn rename(&mut self, alloc: Global, from: &Name, to: &Name) -> Result<(), DirFault>
-        ensures does { IsTrue D.honest → Does (λ _. renames from.now to.now) (renames from.now to.now) (D.state (fuse_inner self.old)) (D.state (fuse_inner self.new)) result }
+        ensures does { IsTrue D.honest
+            → DoesCall D.state (renames from.now to.now) (fuse_inner self.old) (fuse_inner self.new) result }
         ensures found { IsTrue D.honest → OnOk result (IsSome (number_of (D.state (fuse_inner self.old)) from.now)) }
-        ensures no_name { IsTrue D.honest → result ≡ Err DirFault.NoName → number_of (D.state (fuse_inner self.old)) from.now ≡ None }
+        ensures no_name { IsTrue D.honest → result ≡ Err DirFault.NoName
+            → number_of (D.state (fuse_inner self.old)) from.now ≡ None }
+        ensures no_memory { IsTrue D.honest → result ≡ Err DirFault.OutOfMemory
+            → IsSome (number_of (D.state (fuse_inner self.old)) from.now) }
         ensures faults { IfErr result (Contains (DirFault.NoName ∷ DirFault.Device ∷ DirFault.OutOfMemory ∷ [])) }
-        ensures cause { HasCause (failures_with (fuse_burnt self.old) (D.failed (fuse_inner self.old))) (failures_with (fuse_burnt self.new) (D.failed (fuse_inner self.new))) result }
+        ensures cause { HasCause (fuse_failed D.failed self.old) (fuse_failed D.failed self.new) result }
         ensures counts { fuse_left self.new ≡ fuse_left self.old - 1 }
-        ensures burns { fuse_left self.old ≡ 1 → Burns (fuse_inner self.old) (fuse_inner self.new) (failures_with (fuse_burnt self.old) (D.failed (fuse_inner self.old))) (failures_with (fuse_burnt self.new) (D.failed (fuse_inner self.new))) result }
-        ensures passes { fuse_left self.old ≢ 1 → HasCause (D.failed (fuse_inner self.old)) (D.failed (fuse_inner self.new)) result }
-        ensures time { IsTrue D.honest → Elapses (D.moment (fuse_inner self.old)) (D.moment (fuse_inner self.new)) (D.left_since (fuse_inner self.old)) (D.left_since (fuse_inner self.new))
-            (LeftBy (renames from.now to.now) (D.state (fuse_inner self.old)) (D.state (fuse_inner self.new))) }
-        ensures within { IsTrue D.honest → OnOk result (Includes (D.moment (fuse_inner self.old)) (D.left_since (fuse_inner self.new))
-            (LeftBy (renames from.now to.now) (D.state (fuse_inner self.old)) (D.state (fuse_inner self.new)))) }
+        ensures burns { FuseBurns D.failed self.old self.new result }
+        ensures passes { FusePasses D.failed self.old self.new result }
+        ensures time { IsTrue D.honest
+            → CallElapses D.state D.moment D.left_since (renames from.now to.now) (fuse_inner self.old) (fuse_inner self.new) }
+        ensures within { IsTrue D.honest → OnOk result
+            (CallIncludes D.state D.moment D.left_since (renames from.now to.now) (fuse_inner self.old) (fuse_inner self.new)) }
     {
         if burns(&mut self.left, &mut self.burnt) {
             return Err(DirFault::Device);
@@ -187,16 +203,17 @@ impl<D: Dir> Dir for FuseDir<D> {
     }
 
     fn settle(&mut self) -> Result<(), DirFault>
-        ensures does { IsTrue D.honest → Does (λ _. settles) (settles) (D.state (fuse_inner self.old)) (D.state (fuse_inner self.new)) result }
+        ensures does { IsTrue D.honest
+            → DoesCall D.state settles (fuse_inner self.old) (fuse_inner self.new) result }
         ensures faults { IfErr result (λ fault. fault ≡ DirFault.Device) }
-        ensures cause { HasCause (failures_with (fuse_burnt self.old) (D.failed (fuse_inner self.old))) (failures_with (fuse_burnt self.new) (D.failed (fuse_inner self.new))) result }
+        ensures cause { HasCause (fuse_failed D.failed self.old) (fuse_failed D.failed self.new) result }
         ensures counts { fuse_left self.new ≡ fuse_left self.old - 1 }
-        ensures burns { fuse_left self.old ≡ 1 → Burns (fuse_inner self.old) (fuse_inner self.new) (failures_with (fuse_burnt self.old) (D.failed (fuse_inner self.old))) (failures_with (fuse_burnt self.new) (D.failed (fuse_inner self.new))) result }
-        ensures passes { fuse_left self.old ≢ 1 → HasCause (D.failed (fuse_inner self.old)) (D.failed (fuse_inner self.new)) result }
-        ensures time { IsTrue D.honest → Elapses (D.moment (fuse_inner self.old)) (D.moment (fuse_inner self.new)) (D.left_since (fuse_inner self.old)) (D.left_since (fuse_inner self.new))
-            (LeftBy (settles) (D.state (fuse_inner self.old)) (D.state (fuse_inner self.new))) }
-        ensures within { IsTrue D.honest → OnOk result (Includes (D.moment (fuse_inner self.old)) (D.left_since (fuse_inner self.new))
-            (LeftBy (settles) (D.state (fuse_inner self.old)) (D.state (fuse_inner self.new)))) }
+        ensures burns { FuseBurns D.failed self.old self.new result }
+        ensures passes { FusePasses D.failed self.old self.new result }
+        ensures time { IsTrue D.honest
+            → CallElapses D.state D.moment D.left_since settles (fuse_inner self.old) (fuse_inner self.new) }
+        ensures within { IsTrue D.honest → OnOk result
+            (CallIncludes D.state D.moment D.left_since settles (fuse_inner self.old) (fuse_inner self.new)) }
     {
         if burns(&mut self.left, &mut self.burnt) {
             return Err(DirFault::Device);
@@ -205,15 +222,16 @@ impl<D: Dir> Dir for FuseDir<D> {
     }
 
     fn open(&mut self, alloc: Global, name: &Name) -> Result<Option<D::File>, DirFault>
-        ensures opened { IsTrue D.honest → IfOk result (λ found. option_map D.File.bytes found ≡ content (D.state (fuse_inner self.old)) name.now) }
-        ensures same { IsTrue D.honest → (D.state (fuse_inner self.new)) ≡ (D.state (fuse_inner self.old)) }
+        ensures opened { IsTrue D.honest → IfOk result (λ found.
+            option_map D.File.bytes found ≡ content (D.state (fuse_inner self.old)) name.now) }
+        ensures same { IsTrue D.honest → D.state (fuse_inner self.new) ≡ D.state (fuse_inner self.old) }
         ensures faults { IfErr result (Contains (DirFault.Device ∷ DirFault.OutOfMemory ∷ [])) }
-        ensures cause { HasCause (failures_with (fuse_burnt self.old) (D.failed (fuse_inner self.old))) (failures_with (fuse_burnt self.new) (D.failed (fuse_inner self.new))) result }
+        ensures cause { HasCause (fuse_failed D.failed self.old) (fuse_failed D.failed self.new) result }
         ensures counts { fuse_left self.new ≡ fuse_left self.old - 1 }
-        ensures burns { fuse_left self.old ≡ 1 → Burns (fuse_inner self.old) (fuse_inner self.new) (failures_with (fuse_burnt self.old) (D.failed (fuse_inner self.old))) (failures_with (fuse_burnt self.new) (D.failed (fuse_inner self.new))) result }
-        ensures passes { fuse_left self.old ≢ 1 → HasCause (D.failed (fuse_inner self.old)) (D.failed (fuse_inner self.new)) result }
-        ensures time { IsTrue D.honest → Elapses (D.moment (fuse_inner self.old)) (D.moment (fuse_inner self.new)) (D.left_since (fuse_inner self.old)) (D.left_since (fuse_inner self.new))
-            (IsImage (D.state (fuse_inner self.old))) }
+        ensures burns { FuseBurns D.failed self.old self.new result }
+        ensures passes { FusePasses D.failed self.old self.new result }
+        ensures time { IsTrue D.honest
+            → OpenElapses D.state D.moment D.left_since (fuse_inner self.old) (fuse_inner self.new) }
     {
         if burns(&mut self.left, &mut self.burnt) {
             return Err(DirFault::Device);

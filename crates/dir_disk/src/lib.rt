@@ -27,6 +27,3 @@ pub use os_dir::{FolderFault, OsDir};
 pub use os_file::OsFile;
 pub use replace::replace_file;
 pub use rules_file::{DeviceFault, MemFile, RulesFile};
-
-#[cfg(test)]
-mod tests;

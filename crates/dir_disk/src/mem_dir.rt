@@ -1,8 +1,8 @@
 //! Directories in memory.
-ghost use Rattle.std.specs.Prelude.{◌≡◌, ◌≤◌, ◌<◌, [], ◌∷◌, map, length, take, true, None, IsSome, Contains, IfOk, IfErr, OnOk};
+ghost use Rattle.std.specs.Prelude.{◌≡◌, ◌≤◌, ◌<◌, [], ◌∷◌, map, length, true, None, IsSome, Contains, IfOk, IfErr, OnOk};
 ghost use Rattle.dir_disk.specs.Calls.{appends};
-ghost use Rattle.dir_disk.specs.Outcomes.{Does, LeftBy};
-ghost use Rattle.dir_disk.specs.Moments.{Elapses, Includes, HasCause};
+ghost use Rattle.dir_disk.specs.Methods.{AppendsSome, CallElapses, CallIncludes};
+ghost use Rattle.dir_disk.specs.Moments.{HasCause};
 ghost use Rattle.dir_disk.specs.Images.{IsImage};
 ghost use Rattle.dir_disk.specs.Folder.{directory_of, empty_directory};
 ghost use Rattle.dir_disk.specs.Stop.{stopped};
@@ -68,7 +68,8 @@ impl Dir for MemDir {
 
     ghost counts_now = { λ m earlier image honest le now. inl now };
 
-    ghost only_now = { λ m image honest left. left_now (map past_call m.past.items) (directory_of m.folder) image left };
+    ghost only_now = { λ m image honest left.
+        left_now (map past_call m.past.items) (directory_of m.folder) image left };
 
     ghost honest_files = { λ honest. honest };
 
@@ -84,15 +85,15 @@ impl Dir for MemDir {
         ensures whole { IfOk result (λ count. count ≡ length piece.now) }
         ensures taken { IfOk result (λ count. count ≤ length piece.now) }
         ensures some { IfOk result (λ count. 0 < length piece.now → 0 < count) }
-        ensures does { Does (λ count. appends (take count piece.now)) (appends piece.now) (mem_state self.old) (mem_state self.new) result }
+        ensures does { AppendsSome mem_state piece.now self.old self.new result }
         ensures scratch { OnOk result (IsSome (mem_state self.old).scratch) }
         ensures no_scratch { result ≡ Err DirFault.NoScratch → (mem_state self.old).scratch ≡ None }
+        ensures no_memory { result ≡ Err DirFault.OutOfMemory → IsSome (mem_state self.old).scratch }
         ensures faults { IfErr result (Contains (DirFault.NoScratch ∷ DirFault.Device ∷ DirFault.OutOfMemory ∷ [])) }
         ensures cause { HasCause 0 0 result }
-        ensures time { Elapses (mem_moment self.old) (mem_moment self.new) (mem_left_since self.old) (mem_left_since self.new)
-            (LeftBy (appends piece.now) (mem_state self.old) (mem_state self.new)) }
-        ensures within { OnOk result (Includes (mem_moment self.old) (mem_left_since self.new)
-            (LeftBy (appends piece.now) (mem_state self.old) (mem_state self.new))) }
+        ensures time { CallElapses mem_state mem_moment mem_left_since (appends piece.now) self.old self.new }
+        ensures within { OnOk result
+            (CallIncludes mem_state mem_moment mem_left_since (appends piece.now) self.old self.new) }
     {
         let Some(number) = self.folder.scratch else {
             return Err(DirFault::NoScratch);

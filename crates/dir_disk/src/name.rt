@@ -61,7 +61,8 @@ impl Name {
     /// The name with these bytes, or the first rule that they break.
     pub fn new(alloc: Global, bytes: &[u8]) -> Result<Name, NameFault>
         ensures kept { IfOk result (λ name. name ≡ bytes.now) }
-        ensures refused { MatchOption (name_fault bytes.now) (IsOkUnless result NameFault.OutOfMemory) (λ fault. result ≡ Err fault) }
+        ensures refused { MatchOption (name_fault bytes.now)
+            (IsOkUnless result NameFault.OutOfMemory) (λ fault. result ≡ Err fault) }
     {
         if bytes.is_empty() {
             return Err(NameFault::Empty);

@@ -3,10 +3,10 @@ ghost use Rattle.std.specs.Prelude.{◌≡◌, ◌<◌, [], ◌∷◌, ⊤, fals
 ghost use Rattle.dir_disk.specs.Moments.{HasCause};
 ghost use Rattle.dir_disk.specs.NoDirectory.{no_directory, not_honest};
 
-use crate::os_file::OsFile;
+use crate::os_file::{OsFile, TRIES};
 use crate::{Dir, DirFault, Name};
 use std::alloc::{AllocError, Global};
-use std::fs::{Files, OpenFile, OpenOptions};
+use std::fs::{File, Files, OpenFile, OpenOptions};
 use std::io::{self, ErrorKind, Write};
 use std::os::unix::fs::{FileExt, OpenOptionsExt};
 use thiserror::Error;
@@ -20,9 +20,12 @@ const MODE: u32 = 0o644;
 /// Why a folder can't be used.
 #[derive(Clone, Copy, PartialEq, Eq, Debug, Error)]
 pub enum FolderFault {
-    /// There is no such folder, or it can't be reached.
+    /// Nothing stands at the path, or no folder.
     #[error("no such folder")]
     NoFolder,
+    /// The system does not say what stands at the path, as where a folder on the way may not be searched. So there may be a folder.
+    #[error("device fault")]
+    Device,
     /// There was no memory.
     #[error("out of memory")]
     OutOfMemory,
@@ -35,8 +38,11 @@ impl From<AllocError> for FolderFault {
 }
 
 /// A folder of the system. `fresh` removes the name and creates a file that must be new; `append` keeps bytes back until there are
-/// 65,536 or the file is patched or synced, so a fault of the device may come at a later call; `sync` writes the rest, has the system sync the file (fsync) and closes it; `settle` syncs
-/// the folder.
+/// 65,536 or the file is patched or synced, so a fault of the device may come at a later call; `sync` writes the rest, has the
+/// system sync the file (fsync) and closes it; `settle` syncs the folder.
+///
+/// The folder itself is opened once, before the first change of a name: where it can't be opened for reading nothing has changed,
+/// and what `settle` syncs is the folder whose names were changed.
 ///
 /// After a device fault of `append`, `patch` or `sync` there is no scratch file: what was kept back or written may be lost, and the
 /// system tells of a failed write once alone, so a later `sync` must not succeed.
@@ -47,6 +53,8 @@ where
 {
     files: R,
     folder: String,
+    // the folder itself, once it is opened
+    handle: Option<R::File>,
     scratch: Option<R::File>,
     // what is still to be written at the end of the scratch file
     pending: Vec<u8>,
@@ -57,15 +65,22 @@ impl<R: Files + Drop> OsDir<R>
 where
     R::File: FileExt,
 {
-    /// The folder at a path, such as `/etc/tcprules` or `.`. It must be there; an empty path is none.
+    /// The folder at a path, such as `/etc/tcprules` or `.`. An empty path is none. It is looked at, and not opened yet.
+    ///
+    /// # Errors
+    /// `NoFolder` where nothing stands there, or no folder; `Device` where the system does not say what stands there, as where it may
+    /// not be looked at; `OutOfMemory`.
     pub fn new(alloc: Global, files: R, folder: &str) -> Result<Self, FolderFault> {
         match files.metadata(folder) {
             Ok(found) if found.is_dir() => {}
-            _ => return Err(FolderFault::NoFolder),
+            Ok(_) => return Err(FolderFault::NoFolder),
+            Err(error) if is_absent(error.kind()) => return Err(FolderFault::NoFolder),
+            Err(_) => return Err(FolderFault::Device),
         }
         Ok(OsDir {
             files,
             folder: String::from_str(alloc, folder)?,
+            handle: None,
             scratch: None,
             pending: Vec::new(alloc),
             failures: 0,
@@ -75,6 +90,22 @@ where
     // The path of a name in the folder.
     fn path(&self, alloc: Global, name: &Name) -> Result<String, AllocError> {
         format!(in alloc; "{}/{}", self.folder.as_str(), name.as_str())
+    }
+
+    // Opens the folder itself, if it is not open yet.
+    fn open_folder(&mut self) -> Result<(), DirFault>
+        ensures faults { IfErr result (λ fault. fault ≡ DirFault.Device) }
+        ensures cause { HasCause (self.old).failures (self.new).failures result }
+    {
+        if self.handle.is_some() {
+            return Ok(());
+        }
+        let outcome = OpenOptions::new()
+            .read(true)
+            .open(&self.files, self.folder.as_str());
+        let handle = self.told(outcome)?;
+        self.handle = Some(handle);
+        Ok(())
     }
 
     // What the system answered, where its faults are the device's.
@@ -122,6 +153,41 @@ where
         let outcome = flush(file, &mut self.pending);
         self.told_of_scratch(outcome)
     }
+}
+
+impl<R: Files<File = File> + Drop> OsDir<R> {
+    /// Waits until no other process holds the folder, and holds it until this value is dropped (`flock` on the folder itself): of
+    /// programs that all take it only one at a time changes names there. It tells nothing of programs that don't take it, nor of
+    /// another machine over a network file system.
+    ///
+    /// # Errors
+    /// `Device`, where the folder can't be opened for reading, or its file system has no such locks. Nothing has changed then.
+    pub fn lock(&mut self) -> Result<(), DirFault>
+        ensures faults { IfErr result (λ fault. fault ≡ DirFault.Device) }
+    {
+        self.open_folder()?;
+        let outcome = match &self.handle {
+            Some(folder) => locked(folder),
+            None => Ok(()),
+        };
+        self.told(outcome)
+    }
+}
+
+// Waits for the lock on a file, once more after each signal.
+fn locked(file: &File) -> io::Result<()> {
+    for _ in 0..TRIES {
+        match file.lock() {
+            Err(error) if error.kind() == ErrorKind::Interrupted => {}
+            outcome => return outcome,
+        }
+    }
+    Err(io::Error::from(ErrorKind::Interrupted))
+}
+
+// Whether a fault of looking at a path says that nothing stands there.
+fn is_absent(kind: ErrorKind) -> bool {
+    matches!(kind, ErrorKind::NotFound | ErrorKind::NotADirectory)
 }
 
 // Makes a new file, in the place of what stood there.
@@ -184,14 +250,6 @@ fn sync_file<F: OpenFile + Write>(file: &mut F, pending: &mut Vec<u8>) -> io::Re
     file.sync_all()
 }
 
-// Has the system make the names of a folder lasting.
-fn sync_folder<R: Files>(files: &R, folder: &str) -> io::Result<()> {
-    OpenOptions::new()
-        .read(true)
-        .open(files, folder)?
-        .sync_all()
-}
-
 impl<R: Files + Drop> Dir for OsDir<R>
 where
     R::File: FileExt,
@@ -217,6 +275,7 @@ where
     fn fresh(&mut self, alloc: Global, name: &Name) -> Result<(), DirFault> {
         let path = self.path(alloc, name)?;
         self.pending.try_reserve(BUFFER)?;
+        self.open_folder()?;
         let outcome = create(&self.files, path.as_str());
         let file = self.told(outcome)?;
         self.pending.clear();
@@ -250,6 +309,7 @@ where
     fn rename(&mut self, alloc: Global, from: &Name, to: &Name) -> Result<(), DirFault> {
         let old = self.path(alloc, from)?;
         let new = self.path(alloc, to)?;
+        self.open_folder()?;
         match self.files.rename(old.as_str(), new.as_str()) {
             Err(error) if error.kind() == ErrorKind::NotFound => Err(DirFault::NoName),
             outcome => self.told(outcome),
@@ -257,7 +317,11 @@ where
     }
 
     fn settle(&mut self) -> Result<(), DirFault> {
-        let outcome = sync_folder(&self.files, self.folder.as_str());
+        self.open_folder()?;
+        let outcome = match &self.handle {
+            Some(folder) => folder.sync_all(),
+            None => Ok(()),
+        };
         self.told(outcome)
     }
 

@@ -5,8 +5,8 @@ use crate::{DeviceFault, RulesFile};
 use std::io::ErrorKind;
 use std::os::unix::fs::FileExt;
 
-/// How often a read is tried again that a signal interrupts.
-const TRIES: u32 = 1_000;
+/// How often a read, or waiting for a lock, is tried again that a signal interrupts.
+pub(crate) const TRIES: u32 = 1_000;
 
 /// An opened file of the system. It is closed where it is dropped.
 #[derive(Drop)]

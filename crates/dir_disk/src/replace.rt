@@ -10,10 +10,11 @@ use std::alloc::Global;
 
 // Puts all of these bytes at the end of the scratch file.
 fn append_all<D: Dir>(alloc: Global, dir: &mut D, bytes: &[u8]) -> Result<(), DirFault>
-    ensures appended { IsTrue D.honest → OnOk result (D.state dir.new ≡ after (appends bytes.now) (D.state dir.old)) }
+    ensures appended { IsTrue D.honest → OnOk result (
+        D.state dir.new ≡ after (appends bytes.now) (D.state dir.old)) }
     // no name is touched
-    ensures stays { IsTrue D.honest → (name : List ℕ) (olds : List (Option (List ℕ))) → LastsAmong (D.state dir.old) name olds
-        → Stays D.state D.moment D.left_since name olds dir.old dir.new }
+    ensures stays { IsTrue D.honest → (name : List ℕ) (olds : List (Option (List ℕ)))
+        → LastsAmong (D.state dir.old) name olds → Stays D.state D.moment D.left_since name olds dir.old dir.new }
     ensures cause { HasCause (D.failed dir.old) (D.failed dir.new) result }
 {
     let mut rest = bytes;
@@ -33,8 +34,8 @@ fn write_scratch<D: Dir>(
 ) -> Result<(), DirFault>
     ensures written { IsTrue D.honest → OnOk result (HasSynced scratch.now bytes.now (D.state dir.new)) }
     // no other name is touched
-    ensures stays { IsTrue D.honest → (name : List ℕ) (olds : List (Option (List ℕ))) → scratch.now ≢ name → LastsAmong (D.state dir.old) name olds
-        → Stays D.state D.moment D.left_since name olds dir.old dir.new }
+    ensures stays { IsTrue D.honest → (name : List ℕ) (olds : List (Option (List ℕ))) → scratch.now ≢ name
+        → LastsAmong (D.state dir.old) name olds → Stays D.state D.moment D.left_since name olds dir.old dir.new }
     ensures cause { HasCause (D.failed dir.old) (D.failed dir.new) result }
 {
     dir.fresh(alloc, scratch)?;

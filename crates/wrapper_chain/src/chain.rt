@@ -75,7 +75,8 @@ impl<S: LineStage> Chain<S> {
     /// `Failed` where an earlier call met want of memory or was `finish`; `OutOfMemory` where this one did, and the chain has
     /// failed then. Nothing was added.
     pub fn feed(&mut self, piece: &[u8], out: &mut Vec<u8>) -> Result<(), ChainFault>
-        ensures fed { OnOk result (Feeds (through S.rest (stages_of self.old)) (through S.rest (stages_of self.new)) piece.now out.old.items out.new.items) }
+        ensures fed { OnOk result (Feeds (through S.rest (stages_of self.old)) (through S.rest (stages_of self.new))
+            piece.now out.old.items out.new.items) }
         ensures err { OnErr result (out.new.items ≡ out.old.items) }
         ensures failed { (result ≡ Err Failed) ↔ (has_failed self.old ≡ true) }
         ensures now_failed { has_failed self.new ≡ is_err result }
@@ -129,7 +130,8 @@ fn feed_all<S: LineStage>(
     into: &mut Vec<u8>,
     out: &mut Vec<u8>,
 ) -> Result<(), AllocError>
-    ensures fed { OnOk result (Feeds (through S.rest stages.old) (through S.rest stages.new) piece.now out.old.items out.new.items) }
+    ensures fed { OnOk result (Feeds (through S.rest stages.old) (through S.rest stages.new)
+        piece.now out.old.items out.new.items) }
     ensures err { OnErr result (out.new.items ≡ out.old.items) }
     ensures wholes { through S.whole stages.new ≡ through S.whole stages.old }
 {

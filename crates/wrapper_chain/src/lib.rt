@@ -8,6 +8,3 @@ pub mod stages;
 pub use chain::{Chain, ChainFault, Stage};
 pub use recording::{Way, record, record_end};
 pub use stages::{AddCr, DelCr, FixCr, LineStage};
-
-#[cfg(test)]
-mod tests;

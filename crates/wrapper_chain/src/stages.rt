@@ -189,7 +189,8 @@ fn add_returns(piece: &[u8], out: &mut Vec<u8>) -> Result<(), AllocError>
 /// Adds a piece without the carriage returns at the ends of its lines, where one may be held back. Tells whether one is now.
 /// After an `Err` some of it may have been added.
 fn delete_returns(held: bool, piece: &[u8], out: &mut Vec<u8>) -> Result<bool, AllocError>
-    ensures fed { IfOk result (λ last. Feeds (deleted_from held) (deleted_from last) piece.now out.old.items out.new.items) }
+    ensures fed { IfOk result (λ last.
+        Feeds (deleted_from held) (deleted_from last) piece.now out.old.items out.new.items) }
     ensures extends { Extends out.old.items out.new.items }
 {
     let mut held = held;
@@ -207,7 +208,8 @@ fn delete_returns(held: bool, piece: &[u8], out: &mut Vec<u8>) -> Result<bool, A
 /// After an `Err` some of it may have been added.
 fn hold_return(held: bool, bytes: &[u8], out: &mut Vec<u8>) -> Result<bool, AllocError>
     requires { IsOneLine bytes.now }
-    ensures fed { IfOk result (λ last. Feeds (deleted_from held) (deleted_from last) bytes.now out.old.items out.new.items) }
+    ensures fed { IfOk result (λ last.
+        Feeds (deleted_from held) (deleted_from last) bytes.now out.old.items out.new.items) }
     ensures extends { Extends out.old.items out.new.items }
 {
     let Some((last, front)) = bytes.split_last() else {
@@ -227,7 +229,8 @@ fn hold_return(held: bool, bytes: &[u8], out: &mut Vec<u8>) -> Result<bool, Allo
 /// Adds a piece with a carriage return before each line feed that has none, where the last byte may have been one. Tells
 /// whether the last byte is one now. After an `Err` some of it may have been added.
 fn fix_returns(after_cr: bool, piece: &[u8], out: &mut Vec<u8>) -> Result<bool, AllocError>
-    ensures fed { IfOk result (λ last. Feeds (fixed_from after_cr) (fixed_from last) piece.now out.old.items out.new.items) }
+    ensures fed { IfOk result (λ last.
+        Feeds (fixed_from after_cr) (fixed_from last) piece.now out.old.items out.new.items) }
     ensures extends { Extends out.old.items out.new.items }
 {
     let mut after_cr = after_cr;
@@ -247,7 +250,8 @@ fn fix_returns(after_cr: bool, piece: &[u8], out: &mut Vec<u8>) -> Result<bool, 
 /// Adds bytes of one line, and tells whether the last byte is a carriage return now. After an `Err` nothing was added.
 fn note_return(after_cr: bool, bytes: &[u8], out: &mut Vec<u8>) -> Result<bool, AllocError>
     requires { IsOneLine bytes.now }
-    ensures fed { IfOk result (λ last. Feeds (fixed_from after_cr) (fixed_from last) bytes.now out.old.items out.new.items) }
+    ensures fed { IfOk result (λ last.
+        Feeds (fixed_from after_cr) (fixed_from last) bytes.now out.old.items out.new.items) }
     ensures extends { Extends out.old.items out.new.items }
 {
     out.extend_from_slice(bytes)?;
