@@ -11,9 +11,8 @@ use rule_lines::{Limits, LineFault, LineKind};
 use rules_install::whole::{finish, prepare};
 use rules_install::{InstallFault, Names, Phase};
 use std::alloc::{AllocError, Global};
-use std::fs::Files;
+use std::fs::{File, Files};
 use std::io::{ErrorKind, Read};
-use std::os::unix::fs::FileExt;
 use thiserror::Error;
 
 /// Why `tcprules` fails. Of several the first in this order is told.
@@ -78,16 +77,15 @@ impl From<InstallFault> for TcprulesFault {
 /// # Errors
 /// In the order of `TcprulesFault`. After those that stand above `Device` there nothing was touched on the disk. After `Device` and `OutOfMemory`
 /// the rules file is the old one, or with the phases `Named` and `Done` possibly the new one; the scratch file may be left.
-pub fn run_tcprules<R: Read, F: Files + Drop>(
+///
+/// From before its first change on it holds the lock of the folder (`OsDir::lock`), and waits for it where another `tcprules` has it.
+pub fn run_tcprules<R: Read, F: Files<File = File> + Drop>(
     alloc: Global,
     reader: &mut R,
     files: F,
     cdb: &str,
     tmp: &str,
-) -> Result<(), TcprulesFault>
-where
-    F::File: FileExt,
-{
+) -> Result<(), TcprulesFault> {
     let (folder, names) = read_places(alloc, cdb, tmp)?;
     let limits = Limits::profile();
     let text = read_text(alloc, reader, limits.text)?;
@@ -95,9 +93,14 @@ where
     drop(text);
     let mut dir = match OsDir::new(alloc, files, folder_path(folder)) {
         Ok(dir) => dir,
-        Err(FolderFault::NoFolder) => return Err(TcprulesFault::Device(Phase::Fresh)),
+        Err(FolderFault::NoFolder | FolderFault::Device) => {
+            return Err(TcprulesFault::Device(Phase::Fresh));
+        }
         Err(FolderFault::OutOfMemory) => return Err(TcprulesFault::OutOfMemory),
     };
+    if dir.lock().is_err() {
+        return Err(TcprulesFault::Device(Phase::Fresh));
+    }
     finish(alloc, &mut dir, &mut install)?;
     Ok(())
 }

@@ -133,6 +133,7 @@ where
     let mut dir = match OsDir::new(alloc, files, folder_path(folder)) {
         Ok(dir) => dir,
         Err(FolderFault::NoFolder) => return Err(CheckFault::NoFile),
+        Err(FolderFault::Device) => return Err(CheckFault::Device),
         Err(FolderFault::OutOfMemory) => return Err(CheckFault::OutOfMemory),
     };
     decide_at(alloc, &mut dir, &name, peer)

@@ -4,6 +4,7 @@ ghost use Rattle.stream_tools.specs.declared.between.BetweenFault.TheVariants.{O
 
 use crate::filter::TURNS;
 use byte_pump::{Tap, pump};
+use patient_streams::{Watch, Watched};
 use rule_lookup::{StartFault, Status};
 use server_core::{Job, Launcher, Program, WaitFault};
 use std::alloc::{AllocError, Global};
@@ -52,19 +53,23 @@ pub struct Lane<E, S, T> {
 /// goes to `output`. The program's input is closed when the one pump ends. When both have ended the program is waited for, once. How the
 /// pumps end is not told.
 ///
+/// `watch` makes a watch of the input and of the pipe to the program, if there can be one: under it the input ends, too, where the program
+/// reads no more. Without one the pump of the input ends with its reader, or with the first write that the program does not take.
+///
 /// # Errors
 /// `CannotStart` where the program could not be started, gave no pipe ends, or no thread could be had for its input; in the last two
 /// cases it was killed and waited for. `Device` where the wait failed; `OutOfMemory`.
-pub fn run_between<H, L, I, O, S, T>(
+pub fn run_between<H, L, I, O, S, T, F>(
     rt: &H,
     alloc: Global,
     launcher: &L,
-    (program, environment): (&Program, &Environment),
-    input: Lane<I, S, T>,
-    output: Lane<O, S, T>,
+    run: (&Program, &Environment),
+    lanes: (Lane<I, S, T>, Lane<O, S, T>),
+    watch: F,
 ) -> Result<Status, BetweenFault>
 where
     H: Threads + Wait + Sync,
+    F: FnOnce(&<L::Job as Job>::Input) -> Option<Watch>,
     L: Launcher,
     L::Job: Drop,
     <L::Job as Job>::Input: Send + Drop,
@@ -73,7 +78,10 @@ where
     O: Write + Drop,
     S: LineStage + Send + Drop,
     T: Tap + Send + Drop,
+    requires { F.IsAlwaysCallable watch }
 {
+    let (program, environment) = run;
+    let (input, output) = lanes;
     let mut job = match launcher.start(alloc, program, environment) {
         Ok(job) => job,
         Err(StartFault::OutOfMemory) => return Err(BetweenFault::OutOfMemory),
@@ -81,6 +89,11 @@ where
     };
     let Ok((to, from)) = job.ends() else {
         return Err(give_up(job));
+    };
+    let input = Lane {
+        stream: Watched::new(input.stream, watch(&to)),
+        chain: input.chain,
+        tap: input.tap,
     };
     if !pump_both(rt, alloc, (input, to), (from, output)) {
         return Err(give_up(job));

@@ -10,22 +10,29 @@ use crate::launcher::OsLauncher;
 use crate::shared::SharedWriter;
 use crate::started::{inherited_variables, program_of};
 use byte_pump::{NoTap, Recorder};
+use patient_streams::{Patient, Watch};
 use rule_lookup::Status;
 use std::alloc::{AllocError, Global};
 use std::io;
 use std::io::Write;
+use std::net::Net;
+use std::os::fd::{AsRawFd, RawFd};
 use std::process::{OpenProcess, Processes};
 use std::rt::Env;
 use std::sync::{Mutex, Wait};
 use std::thread::Threads;
+use std::time::Clock;
 use ucspi_words::number_in;
 use wrapper_chain::{AddCr, Chain, DelCr, FixCr, LineStage, Way};
+
+/// The descriptor of standard input.
+const STANDARD_INPUT: RawFd = 0;
 
 /// Passes standard input to standard output with a carriage return before each line feed.
 ///
 /// # Errors
 /// As of `run_filter`.
-pub fn run_addcr<R: Input + Print + AllocGlobal>(rt: &R) -> Result<(), FilterFault> {
+pub fn run_addcr<R: Input + Print + AllocGlobal + Clock>(rt: &R) -> Result<(), FilterFault> {
     filter(rt, AddCr)
 }
 
@@ -33,18 +40,21 @@ pub fn run_addcr<R: Input + Print + AllocGlobal>(rt: &R) -> Result<(), FilterFau
 ///
 /// # Errors
 /// As of `run_filter`.
-pub fn run_delcr<R: Input + Print + AllocGlobal>(rt: &R) -> Result<(), FilterFault> {
+pub fn run_delcr<R: Input + Print + AllocGlobal + Clock>(rt: &R) -> Result<(), FilterFault> {
     filter(rt, DelCr::new())
 }
 
 /// Passes standard input through a stage to standard output.
-fn filter<R: Input + Print + AllocGlobal, S: LineStage>(rt: &R, stage: S) -> Result<(), FilterFault>
+fn filter<R, S>(rt: &R, stage: S) -> Result<(), FilterFault>
 where
-    S: Drop,
+    R: Input + Print + AllocGlobal + Clock,
+    S: LineStage + Drop,
 {
     let alloc = rt.alloc();
     let mut chain = chain_of(alloc, stage)?;
-    run_filter(alloc, &mut rt.reader(), &mut io::writer(rt), &mut chain)
+    let mut reader = Patient::new(rt, rt.reader());
+    let mut writer = Patient::new(rt, io::writer(rt));
+    run_filter(alloc, &mut reader, &mut writer, &mut chain)
 }
 
 /// A chain of one stage.
@@ -62,25 +72,28 @@ fn chain_of<S: LineStage + Drop>(alloc: Global, stage: S) -> Result<Chain<S>, Al
 /// As of `run_between`.
 pub fn run_fixcrio<R>(rt: &R, words: &[Vec<u8>]) -> Result<Status, BetweenFault>
 where
-    R: Env + Input + Print + AllocGlobal + Processes + Threads + Wait + Sync,
+    R: Env + Input + Print + AllocGlobal + Processes + Threads + Wait + Sync + Clock + Net,
     R::Reader: Send,
-    <R::Started as OpenProcess>::Stdin: Send,
+    <R::Started as OpenProcess>::Stdin: Send + AsRawFd,
 {
     let alloc = rt.alloc();
     let program = program_of(alloc, words)?;
     let variables = inherited_variables(alloc, rt)?;
     let input = Lane {
-        stream: rt.reader(),
+        stream: Patient::new(rt, rt.reader()),
         chain: chain_of(alloc, FixCr::new())?,
         tap: NoTap,
     };
     let output = Lane {
-        stream: io::writer(rt),
+        stream: Patient::new(rt, io::writer(rt)),
         chain: chain_of(alloc, FixCr::new())?,
         tap: NoTap,
     };
     let launcher = OsLauncher::new(rt);
-    run_between(rt, alloc, &launcher, (&program, &variables), input, output)
+    let ends = (input, output);
+    run_between(rt, alloc, &launcher, (&program, &variables), ends, |pipe| {
+        Watch::new(alloc, rt, STANDARD_INPUT, pipe.as_raw_fd())
+    })
 }
 
 /// Runs a program, and records what goes both ways on `errors`.
@@ -89,9 +102,9 @@ where
 /// As of `run_between`.
 pub fn run_recordio<R, E>(rt: &R, errors: E, words: &[Vec<u8>]) -> Result<Status, BetweenFault>
 where
-    R: Env + Input + Print + AllocGlobal + Processes + Threads + Wait + Sync,
+    R: Env + Input + Print + AllocGlobal + Processes + Threads + Wait + Sync + Clock + Net,
     R::Reader: Send,
-    <R::Started as OpenProcess>::Stdin: Send,
+    <R::Started as OpenProcess>::Stdin: Send + AsRawFd,
     E: Write + Send + Drop,
 {
     let alloc = rt.alloc();
@@ -100,17 +113,20 @@ where
     let number = recorder_number(variables.get("TCPREMOTEPORT"));
     let errors = Mutex::new(errors);
     let input = Lane {
-        stream: rt.reader(),
+        stream: Patient::new(rt, rt.reader()),
         chain: Chain::<FixCr>::new(alloc, Vec::new(alloc)),
         tap: Recorder::new(alloc, number, Way::Input, SharedWriter::new(rt, &errors)),
     };
     let output = Lane {
-        stream: io::writer(rt),
+        stream: Patient::new(rt, io::writer(rt)),
         chain: Chain::<FixCr>::new(alloc, Vec::new(alloc)),
         tap: Recorder::new(alloc, number, Way::Output, SharedWriter::new(rt, &errors)),
     };
     let launcher = OsLauncher::new(rt);
-    run_between(rt, alloc, &launcher, (&program, &variables), input, output)
+    let ends = (input, output);
+    run_between(rt, alloc, &launcher, (&program, &variables), ends, |pipe| {
+        Watch::new(alloc, rt, STANDARD_INPUT, pipe.as_raw_fd())
+    })
 }
 
 /// The number of a recorder, by the text of the peer's port: 0 where that is no port.

@@ -6,14 +6,16 @@ use crate::choice::{Choice, Tool, choose};
 use rule_lookup::Status;
 use rules_tools::{CheckFault, TcprulesFault, run_tcprules, run_tcprulescheck};
 use script_tool::{SimEnd, run_rulesim};
-use std::fs::Files;
+use std::fs::{File, Files};
 use std::io;
 use std::io::{BufReader, BufWriter, Write};
-use std::os::unix::fs::FileExt;
+use std::net::Net;
+use std::os::fd::AsRawFd;
 use std::process::{OpenProcess, Processes};
 use std::rt::Env;
 use std::sync::Wait;
 use std::thread::Threads;
+use std::time::Clock;
 use stream_tools::started::command_words;
 use stream_tools::{BetweenFault, FilterFault, run_addcr, run_delcr, run_fixcrio, run_recordio};
 
@@ -30,11 +32,11 @@ const BUFFER: usize = 64 * 1024;
 /// code. `errors` is standard error, for lines that are no text.
 pub fn run_program<R, E>(rt: &R, errors: E) -> u8
 where
-    R: Env + Input + Print + Eprint + AllocGlobal + Files + Processes + Threads + Wait + Sync,
-    R::File: FileExt,
+    R: Env + Input + Print + Eprint + AllocGlobal,
+    R: Files<File = File> + Processes + Threads + Wait + Sync + Clock + Net,
     R::Reader: Send,
     E: Write + Send + Drop,
-    <R::Started as OpenProcess>::Stdin: Send,
+    <R::Started as OpenProcess>::Stdin: Send + AsRawFd,
 {
     let alloc = rt.alloc();
     let Ok(words) = command_words(alloc, rt) else {
