@@ -5,6 +5,8 @@ pub mod Placing
 pub mod Probing
 pub mod Reading
 pub mod RecordLemmas
+pub mod SameBytes
 pub mod SlotLemmas
 pub mod Standing
 pub mod TableLemmas
+pub mod Unique

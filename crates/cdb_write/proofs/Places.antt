@@ -80,6 +80,10 @@ count_by-all n (x ∷ es) e =
     let one : count x ≡ 1 = ap (λ (b : Bool). cond b 1 0) test in
     omega (arith, sum_by-cons count x es, one, count_by-all n es e)
 
+-- behind all tables the file ends
+pub table_place-all : (pairs : List Pair) (n : ℕ) → n ≡ 256 → table_place pairs n ≡ finished_length pairs
+table_place-all pairs n e = omega (arith, count_by-all n (entries_of pairs) e, length-entries pairs)
+
 -- how long the header is
 length-header : (pairs : List Pair) (n : ℕ) → length (header_of pairs n) ≡ 8 * n
 length-header pairs n = length-two_numbers (map (pointer_of pairs) (range_with_len 0 n)) ∙ ap (λ (k : ℕ). 8 * k) (length-map-range_with_len (pointer_of pairs) 0 n)

@@ -20,3 +20,7 @@ pub record Written (file : List ℕ) (pairs : List Pair) : Type 0 where
   -- an empty slot is eight zero bytes
   pub zeros : (t : ℕ) → t < 256 → All (λ (s : ℕ × ℕ). s.1 ≡ 0 → s.0 ≡ 0) (slots_at file t)
   pub past_earlier : IsPastEarlier file pairs
+
+-- each of them is a byte
+abbrev pub AreBytes : List ℕ → Type 0
+AreBytes file = All (λ (byte : ℕ). byte < 256) file
