@@ -13,6 +13,7 @@ use Rattle.rule_lines.specs.declared.instr.Instr.{Instr}
 use Rattle.rule_lines.specs.declared.instr.Verdict.{Verdict}
 use Rattle.rule_lines.specs.declared.instr.Verdict.TheVariants.{Allow}
 use Rattle.rule_lines.specs.declared.spread.Spread.{Spread}
+use Rattle.rule_lines.specs.Appended.{AppendsCode}
 use Rattle.rule_lines.specs.Codes.{code_of, decoded}
 use Rattle.rule_lines.specs.Faults.{fault_beside, fault_under}
 use Rattle.rule_lines.specs.Lines.{has_byte}
@@ -35,14 +36,6 @@ pub fault_beside-text : (limit : ℕ) (line : List ℕ) → is_bad_range (addres
 fault_beside-text limit line range text clean =
     cond-false (is_bad_range (address_in line)) _ _ range ∙ cond-false (not (is_utf8 line)) _ _ (ap not text) ∙ cond-false (has_byte 0 line) _ _ clean
 
--- what a list of codes becomes by the code of instructions, where they can be read
-abbrev pub IsAppended : Bool → List ℕ → Result (Unit {0}) LineKind → List ℕ → List ℕ → Type 0
-IsAppended is_text instructions read old new = MatchOption (verdict_of instructions)
-    (read ≡ Err NoVerdict)
-    (λ verdict. MatchOption (settings_after is_text verdict instructions)
-    (read ≡ Err BadSetting)
-    (λ settings. (read ≡ Ok tt) × (new ≡ old ++ code_of (record { verdict = verdict; settings = settings }))))
-
 -- a line whose instructions were read: only the kinds from the third on are left
 pub record IsReadLine (limit : ℕ) (line old new : List ℕ) : Type 0 where
   pub instr : Instr
@@ -50,10 +43,10 @@ pub record IsReadLine (limit : ℕ) (line old new : List ℕ) : Type 0 where
   pub code : new ≡ old ++ code_of instr
   pub fault : fault_under limit line (verdict_of (instructions_in line)) ≡ fault_beside limit line
 
-module _ (limit : ℕ) (line : List ℕ) (is_text : Bool) (instructions : List ℕ) (text : is_text ≡ is_utf8 line) (rest : instructions ≡ instructions_in line) (read : Result (Unit {0}) LineKind) (old new : List ℕ) (appended : IsAppended is_text instructions read old new) where
+module _ (limit : ℕ) (line : List ℕ) (is_text : Bool) (instructions : List ℕ) (text : is_text ≡ is_utf8 line) (rest : instructions ≡ instructions_in line) (read : Result (Unit {0}) LineKind) (old new : List ℕ) (appended : AppendsCode is_text instructions read old new) where
   -- the same of the instructions of the line
-  here : IsAppended (is_utf8 line) (instructions_in line) read old new
-  here = subst (λ t. IsAppended t (instructions_in line) read old new) text (subst (λ i. IsAppended is_text i read old new) rest appended)
+  here : AppendsCode (is_utf8 line) (instructions_in line) read old new
+  here = subst (λ t. AppendsCode t (instructions_in line) read old new) text (subst (λ i. AppendsCode is_text i read old new) rest appended)
 
   -- settings that cannot be read
   fault-settings : (kind : LineKind) → read ≡ Err kind → (verdict : Verdict) (settings : Option (List Assignment))

@@ -4,7 +4,7 @@ ghost use Rattle.std.specs.List.{Contains};
 ghost use Rattle.rule_lines.specs.Codes.{code_of, decoded};
 ghost use Rattle.rule_lines.specs.Lookups.{found_among, code_found};
 ghost use Rattle.rule_lines.specs.Pairs.{pairs_with};
-ghost use Rattle.rule_lines.specs.Rows.{the_instr, AreRules, addresses_under, count_of, code_in, rules_under, IsRow};
+ghost use Rattle.rule_lines.specs.Rows.{the_instr, AreRules, addresses_from, addresses_under, count_of, code_in, rules_under, IsRow};
 ghost use Rattle.rule_lines.specs.Spread.{folded};
 ghost use Rattle.rule_lines.specs.Spreads.{spread_of};
 
@@ -172,9 +172,10 @@ impl RuleList {
         }
     }
 
-    /// How many rules there are: as many as addresses.
+    /// How many rules there are: as many as addresses. Each of them sets what may be set.
     pub fn len(&self) -> usize
-        ensures { result ≡ length self.now }
+        ensures count { result ≡ length self.now }
+        ensures known { AreRules self.now }
     {
         self.len
     }
@@ -271,7 +272,8 @@ fn append_row(
     ensures kept { take (length bytes.old.items) bytes.new.items ≡ bytes.old.items }
     ensures row { IfOk result (λ row. IsRow bytes.new.items before row) }
     ensures count { IfOk result (λ row. count_of row.numbers ≡ length (spread_of addresses.entry)) }
-    ensures rules { IfOk result (λ row. rules_under bytes.new.items row ≡ pairs_with (the_instr code.now) (spread_of addresses.entry)) }
+    ensures rules { IfOk result (λ row. rules_under bytes.new.items row
+        ≡ pairs_with (the_instr code.now) (spread_of addresses.entry)) }
 {
     let start = bytes.len();
     let (front_end, numbers) = append_addresses(bytes, addresses)?;
@@ -297,7 +299,8 @@ fn append_addresses(
     ensures after { IfOk result (λ parts. length bytes.old.items ≤ parts.0) }
     ensures inside { IfOk result (λ parts. parts.0 ≤ length bytes.new.items) }
     ensures count { IfOk result (λ parts. count_of parts.1 ≡ length (spread_of addresses.entry)) }
-    ensures addresses { IfOk result (λ parts. addresses_under (slice_range bytes.new.items (length bytes.old.items) parts.0) parts.1 (slice_range bytes.new.items parts.0 (length bytes.new.items)) ≡ spread_of addresses.entry) }
+    ensures addresses { IfOk result (λ parts.
+        addresses_from (length bytes.old.items) parts.0 parts.1 bytes.new.items ≡ spread_of addresses.entry) }
 {
     match addresses {
         Spread::One(address) => {
