@@ -12,7 +12,7 @@ use Rattle.rule_lines.specs.declared.fault.LineKind.TheVariants.{NoVerdict, BadS
 use Rattle.rule_lines.specs.declared.instr.Instr.{Instr}
 use Rattle.rule_lines.specs.declared.instr.Verdict.{Verdict}
 use Rattle.rule_lines.specs.declared.instr.Verdict.TheVariants.{Allow}
-use Rattle.rule_lines.specs.declared.spread.Spread.{Spread}
+use Rattle.rule_lines.specs.declared.spread.ReadAddress.{ReadAddress}
 use Rattle.rule_lines.specs.Appended.{AppendsCode}
 use Rattle.rule_lines.specs.Codes.{code_of, decoded}
 use Rattle.rule_lines.specs.Faults.{fault_beside, fault_under}
@@ -21,7 +21,7 @@ use Rattle.rule_lines.specs.Pairs.{Rule, address_in, instr_of, instructions_in, 
 use Rattle.rule_lines.specs.Rows.{the_instr}
 use Rattle.rule_lines.specs.Settings.{Assignment}
 use Rattle.rule_lines.specs.Spread.{is_bad_range, spread}
-use Rattle.rule_lines.specs.Spreads.{spread_of}
+use Rattle.rule_lines.specs.ReadAddresses.{addresses_read}
 use Rattle.rule_lines.proofs.CodeLemmas.{decoded-code_of}
 use Rattle.rule_lines.proofs.FoundLemmas.{list_any-found, list_any-nowhere}
 use Rattle.rule_lines.proofs.SettingLemmas.{IsInstr-instr_of}
@@ -120,11 +120,11 @@ module _ (limit : ℕ) (line new : List ℕ) (read : IsReadLine limit line [] ne
   is_some-decoded = ap is_some decoded-read
 
   -- the pairs of the line
-  pub pairs-read : (list list' : List Rule) (addresses : Spread) (address : List ℕ) → spread_of addresses ≡ spread address → address ≡ address_in line → list' ≡ list ++ pairs_with (the_instr new) (spread_of addresses)
+  pub pairs-read : (list list' : List Rule) (addresses : ReadAddress) (address : List ℕ) → addresses_read addresses ≡ spread address → address ≡ address_in line → list' ≡ list ++ pairs_with (the_instr new) (addresses_read addresses)
       → list' ≡ list ++ pairs_under (instr_of (is_utf8 line) (instructions_in line)) (address_in line)
   pairs-read list list' addresses address spread_is address_is pushed =
       pushed
-      ∙ ap (λ rules. list ++ rules) (ap (λ o. pairs_with (unwrap_or o (record { verdict = Allow; settings = [] })) (spread_of addresses)) decoded-read
+      ∙ ap (λ rules. list ++ rules) (ap (λ o. pairs_with (unwrap_or o (record { verdict = Allow; settings = [] })) (addresses_read addresses)) decoded-read
       ∙ ap (pairs_with read.instr) (spread_is ∙ ap spread address_is)
       ∙ sym (ap (λ o. pairs_under o (address_in line)) read.is))
 

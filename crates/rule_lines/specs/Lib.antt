@@ -7,7 +7,7 @@ pub mod FaultTexts
 pub mod Lines
 pub mod Lookups
 pub mod Pairs
+pub mod ReadAddresses
 pub mod Rows
 pub mod Settings
 pub mod Spread
-pub mod Spreads
