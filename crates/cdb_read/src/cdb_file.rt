@@ -1,9 +1,10 @@
 //! Lookups in a compiled file.
-ghost use Rattle.std.specs.Prelude.{◌≡◌, ◌≤◌, ◌<◌, ◌+◌, ◌*◌, ◌^◌, length, IsTrue, IfOk, IfErr, OnOk};
+ghost use Rattle.std.specs.Prelude.{◌≡◌, ◌≢◌, ◌≤◌, ◌<◌, ◌+◌, ◌*◌, ◌^◌, length, IsTrue, IfOk, IfErr, OnOk};
 ghost use Rattle.cdb_write.specs.Format.{two_numbers_at};
 ghost use Rattle.cdb_read.specs.Parts.{FailsOf, IsFault, ReadFails, Tells, bytes_at, found_in_slots, record_at};
 ghost use Rattle.cdb_read.specs.Reading.{lies_in, reading};
 ghost use Rattle.cdb_read.specs.Sources.{trust_of};
+ghost use Rattle.rule_lines.specs.Lookups.Trust.{Sound};
 
 use byteorder::{ByteOrder, LittleEndian};
 use cdb_write::hash;
@@ -148,6 +149,8 @@ impl<F: RulesFile> PairSource for CdbFile<F> {
     ghost finds = { λ source key. reading (F.bytes source) key };
 
     ghost trust = { λ _. trust_of F.honest F.sound };
+
+    ghost may_fail = { λ _ _. trust_of F.honest F.sound ≢ Sound };
 
     fn find(&self, alloc: Global, key: &[u8]) -> Result<Option<Vec<u8>>, FindFault> {
         if !self.holds(0, HEADER_LENGTH as u64) {

@@ -12,7 +12,8 @@ use Rattle.rule_lines.specs.declared.fault.LineKind.TheVariants.{NoVerdict, BadS
 use Rattle.rule_lines.specs.declared.instr.Instr.{Instr}
 use Rattle.rule_lines.specs.declared.instr.Verdict.{Verdict}
 use Rattle.rule_lines.specs.declared.instr.Verdict.TheVariants.{Allow}
-use Rattle.rule_lines.specs.declared.spread.Spread.{Spread}
+use Rattle.rule_lines.specs.declared.spread.ReadAddress.{ReadAddress}
+use Rattle.rule_lines.specs.Appended.{AppendsCode}
 use Rattle.rule_lines.specs.Codes.{code_of, decoded}
 use Rattle.rule_lines.specs.Faults.{fault_beside, fault_under}
 use Rattle.rule_lines.specs.Lines.{has_byte}
@@ -20,7 +21,7 @@ use Rattle.rule_lines.specs.Pairs.{Rule, address_in, instr_of, instructions_in, 
 use Rattle.rule_lines.specs.Rows.{the_instr}
 use Rattle.rule_lines.specs.Settings.{Assignment}
 use Rattle.rule_lines.specs.Spread.{is_bad_range, spread}
-use Rattle.rule_lines.specs.Spreads.{spread_of}
+use Rattle.rule_lines.specs.ReadAddresses.{addresses_read}
 use Rattle.rule_lines.proofs.CodeLemmas.{decoded-code_of}
 use Rattle.rule_lines.proofs.FoundLemmas.{list_any-found, list_any-nowhere}
 use Rattle.rule_lines.proofs.SettingLemmas.{IsInstr-instr_of}
@@ -35,14 +36,6 @@ pub fault_beside-text : (limit : ℕ) (line : List ℕ) → is_bad_range (addres
 fault_beside-text limit line range text clean =
     cond-false (is_bad_range (address_in line)) _ _ range ∙ cond-false (not (is_utf8 line)) _ _ (ap not text) ∙ cond-false (has_byte 0 line) _ _ clean
 
--- what a list of codes becomes by the code of instructions, where they can be read
-abbrev pub IsAppended : Bool → List ℕ → Result (Unit {0}) LineKind → List ℕ → List ℕ → Type 0
-IsAppended is_text instructions read old new = MatchOption (verdict_of instructions)
-    (read ≡ Err NoVerdict)
-    (λ verdict. MatchOption (settings_after is_text verdict instructions)
-    (read ≡ Err BadSetting)
-    (λ settings. (read ≡ Ok tt) × (new ≡ old ++ code_of (record { verdict = verdict; settings = settings }))))
-
 -- a line whose instructions were read: only the kinds from the third on are left
 pub record IsReadLine (limit : ℕ) (line old new : List ℕ) : Type 0 where
   pub instr : Instr
@@ -50,10 +43,10 @@ pub record IsReadLine (limit : ℕ) (line old new : List ℕ) : Type 0 where
   pub code : new ≡ old ++ code_of instr
   pub fault : fault_under limit line (verdict_of (instructions_in line)) ≡ fault_beside limit line
 
-module _ (limit : ℕ) (line : List ℕ) (is_text : Bool) (instructions : List ℕ) (text : is_text ≡ is_utf8 line) (rest : instructions ≡ instructions_in line) (read : Result (Unit {0}) LineKind) (old new : List ℕ) (appended : IsAppended is_text instructions read old new) where
+module _ (limit : ℕ) (line : List ℕ) (is_text : Bool) (instructions : List ℕ) (text : is_text ≡ is_utf8 line) (rest : instructions ≡ instructions_in line) (read : Result (Unit {0}) LineKind) (old new : List ℕ) (appended : AppendsCode is_text instructions read old new) where
   -- the same of the instructions of the line
-  here : IsAppended (is_utf8 line) (instructions_in line) read old new
-  here = subst (λ t. IsAppended t (instructions_in line) read old new) text (subst (λ i. IsAppended is_text i read old new) rest appended)
+  here : AppendsCode (is_utf8 line) (instructions_in line) read old new
+  here = subst (λ t. AppendsCode t (instructions_in line) read old new) text (subst (λ i. AppendsCode is_text i read old new) rest appended)
 
   -- settings that cannot be read
   fault-settings : (kind : LineKind) → read ≡ Err kind → (verdict : Verdict) (settings : Option (List Assignment))
@@ -127,11 +120,11 @@ module _ (limit : ℕ) (line new : List ℕ) (read : IsReadLine limit line [] ne
   is_some-decoded = ap is_some decoded-read
 
   -- the pairs of the line
-  pub pairs-read : (list list' : List Rule) (addresses : Spread) (address : List ℕ) → spread_of addresses ≡ spread address → address ≡ address_in line → list' ≡ list ++ pairs_with (the_instr new) (spread_of addresses)
+  pub pairs-read : (list list' : List Rule) (addresses : ReadAddress) (address : List ℕ) → addresses_read addresses ≡ spread address → address ≡ address_in line → list' ≡ list ++ pairs_with (the_instr new) (addresses_read addresses)
       → list' ≡ list ++ pairs_under (instr_of (is_utf8 line) (instructions_in line)) (address_in line)
   pairs-read list list' addresses address spread_is address_is pushed =
       pushed
-      ∙ ap (λ rules. list ++ rules) (ap (λ o. pairs_with (unwrap_or o (record { verdict = Allow; settings = [] })) (spread_of addresses)) decoded-read
+      ∙ ap (λ rules. list ++ rules) (ap (λ o. pairs_with (unwrap_or o (record { verdict = Allow; settings = [] })) (addresses_read addresses)) decoded-read
       ∙ ap (pairs_with read.instr) (spread_is ∙ ap spread address_is)
       ∙ sym (ap (λ o. pairs_under o (address_in line)) read.is))
 

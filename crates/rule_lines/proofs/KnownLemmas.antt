@@ -1,28 +1,33 @@
--- The rules of a text without a fault: each instruction sets what may be set.
-use Rattle.std.proofs.Common.{◌≡◌, ℕ, ◌+◌, Bool, true, false, cond, is_none, Option, None, Some, List, [], ◌∷◌, ◌++◌, refl, sym, ap, ◌∙◌}
+-- The rules of a text without a fault, and those of a list: each instruction sets what may be set.
+use Rattle.std.proofs.Common.{◌≡◌, ℕ, ◌+◌, Bool, true, false, cond, is_none, is_some, nat_lt, Option, None, Some, List, [], ◌∷◌, ◌++◌, length, unwrap_or, slice_range, refl, sym, ap, ◌∙◌}
 use Rattle.std.proofs.lemmas.Bool.{not-false, or_parts}
 use Rattle.std.specs.List.{flat_map}
 use Rattle.std.specs.Str.{is_utf8}
 use Rattle.rule_lines.specs.declared.fault.LineKind.{LineKind}
-use Rattle.rule_lines.specs.declared.fault.LineKind.TheVariants.{BadSetting}
+use Rattle.rule_lines.specs.declared.fault.LineKind.TheVariants.{BadSetting, LongText}
+use Rattle.rule_lines.specs.declared.fault.LineFault.{LineFault}
 use Rattle.rule_lines.specs.declared.instr.Instr.{Instr}
 use Rattle.rule_lines.specs.declared.instr.Verdict.{Verdict}
-use Rattle.rule_lines.specs.Codes.{IsInstr}
-use Rattle.rule_lines.specs.Faults.{fault_beside, fault_in, fault_under, first_faulty, or_later}
-use Rattle.rule_lines.specs.Lines.{Line, has_byte, trimmed}
-use Rattle.rule_lines.specs.Pairs.{Rule, address_in, instr_of, instructions_in, is_ignored, pairs_in, pairs_under, pairs_with, settings_after, verdict_of}
-use Rattle.rule_lines.specs.Rows.{AreRules}
+use Rattle.rule_lines.specs.declared.instr.Verdict.TheVariants.{Allow}
+use Rattle.rule_lines.specs.declared.limits.Limits.{Limits}
+use Rattle.rule_lines.specs.declared.list.Row.{Row}
+use Rattle.rule_lines.specs.Codes.{IsInstr, decoded}
+use Rattle.rule_lines.specs.Faults.{IsAccepted, fault_beside, fault_in, fault_under, first_faulty, or_later}
+use Rattle.rule_lines.specs.Lines.{Line, has_byte, lines_of, trimmed}
+use Rattle.rule_lines.specs.Pairs.{Rule, address_in, instr_of, instructions_in, is_ignored, pairs_in, pairs_of, pairs_under, pairs_with, settings_after, verdict_of}
+use Rattle.rule_lines.specs.Rows.{AreRows, AreRules, addresses_under, code_in, count_of, rules_in, the_instr}
 use Rattle.rule_lines.specs.Spread.{spread}
+use Rattle.rule_lines.proofs.CodeLemmas.{IsInstr-decoded}
 use Rattle.rule_lines.proofs.FaultLemmas.{fault_beside-none}
 use Rattle.rule_lines.proofs.SettingLemmas.{IsInstr-instr_of}
 
 -- rules after rules
-pub AreRules-append : (rules more : List Rule) → AreRules rules → AreRules more → AreRules (rules ++ more)
+AreRules-append : (rules more : List Rule) → AreRules rules → AreRules more → AreRules (rules ++ more)
 AreRules-append [] more known known' = known'
 AreRules-append (rule ∷ rules) more known known' = (known.0, AreRules-append rules more known.1 known')
 
 -- one instruction under many addresses
-pub AreRules-pairs_with : (instr : Instr) (addresses : List (List ℕ)) → IsInstr instr → AreRules (pairs_with instr addresses)
+AreRules-pairs_with : (instr : Instr) (addresses : List (List ℕ)) → IsInstr instr → AreRules (pairs_with instr addresses)
 AreRules-pairs_with instr [] known = tt
 AreRules-pairs_with instr (address ∷ addresses) known = (known, AreRules-pairs_with instr addresses known)
 
@@ -63,3 +68,27 @@ AreRules-lines limit n (line ∷ lines) none =
     neither : (fault : Option LineKind) → or_later n fault (first_faulty limit (n + 1) lines) ≡ None → (fault ≡ None) × (first_faulty limit (n + 1) lines ≡ None)
     neither None none = (refl, none)
     neither (Some kind) none = absurd cc
+
+-- the rules of an accepted text
+pub AreRules-accepted : (limits : Limits) (text : List ℕ) → IsAccepted limits text → AreRules (pairs_of text)
+AreRules-accepted limits text accepted =
+    AreRules-lines limits.line 1 (lines_of text) (within (nat_lt limits.text (length text)) accepted)
+  where
+    within : (long : Bool) → ◌≡◌ {A = Option LineFault} (cond long (Some (record { line = 0; kind = LongText })) (first_faulty limits.line 1 (lines_of text))) None → first_faulty limits.line 1 (lines_of text) ≡ None
+    within true none = absurd cc
+    within false none = none
+
+-- the instruction of a code
+IsInstr-unwrap_or : (bytes : List ℕ) (instr : Option Instr) (other : Instr) → decoded bytes ≡ instr → is_some instr ≡ true → IsInstr (unwrap_or instr other)
+IsInstr-unwrap_or bytes (Some instr) other is some = IsInstr-decoded bytes instr is
+IsInstr-unwrap_or bytes None other is some = absurd cc
+
+-- the rules of the rows of a list
+pub AreRules-rows : (bytes : List ℕ) (rows : List Row) (before total : ℕ) → AreRows bytes before rows total → AreRules (rules_in bytes rows)
+AreRules-rows bytes [] before total are = tt
+AreRules-rows bytes (row ∷ rows) before total are =
+    let code = code_in bytes row in
+    let known : IsInstr (the_instr code) = IsInstr-unwrap_or code (decoded code) (record { verdict = Allow; settings = [] }) refl are.0.decodes in
+    let addresses = addresses_under (slice_range bytes row.start row.front_end) row.numbers (slice_range bytes row.front_end row.back_end) in
+    AreRules-append (pairs_with (the_instr code) addresses) (rules_in bytes rows) (AreRules-pairs_with (the_instr code) addresses known)
+    (AreRules-rows bytes rows (before + count_of row.numbers) total are.1)

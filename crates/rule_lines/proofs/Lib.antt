@@ -6,7 +6,6 @@ pub mod FaultLemmas
 pub mod FoldLemmas
 pub mod FoundLemmas
 pub mod KnownLemmas
-pub mod KnownRows
 pub mod LineLemmas
 pub mod NumberLemmas
 pub mod ParseLemmas

@@ -9,10 +9,10 @@ use Rattle.std.proofs.lemmas.Bool.Decides.{nat_tests}
 use Rattle.std.proofs.lemmas.List.{at_drop_more, at_drop_all, take_rest}
 use Rattle.std.proofs.lemmas.List.Folds.{length-prefix_len}
 use Rattle.memchr.specs.Find.{IsFirstByte, NoneBefore, Nowhere, Passes, is_byte, is_byte2}
-use Rattle.rule_lines.specs.declared.spread.Spread.{Spread}
+use Rattle.rule_lines.specs.declared.spread.ReadAddress.{ReadAddress}
 use Rattle.rule_lines.specs.Lines.{has_byte}
 use Rattle.rule_lines.specs.Spread.{Range, is_range, is_number, is_bad_range, range_of, addresses_of, folded, spread}
-use Rattle.rule_lines.specs.Spreads.{spread_of}
+use Rattle.rule_lines.specs.ReadAddresses.{addresses_read}
 use Rattle.rule_lines.proofs.FoundLemmas.{list_any-found, list_any-nowhere}
 
 -- the first i bytes of a part are digits with the value n
@@ -115,9 +115,9 @@ pub is_range-nowhere : (address : List ℕ) → Nowhere (Passes (is_byte 45) add
 is_range-nowhere address none = and_left _ _ (and_left _ _ (list_any-nowhere (is_byte 45) address none))
 
 -- what is read of a range is what its address stands for
-pub spread-range : (address : List ℕ) (read : Option Spread) → is_range address ≡ true
-    → MatchOption read ((is_number (range_of address).low && is_number (range_of address).high) ≡ false) (λ s. ((is_number (range_of address).low && is_number (range_of address).high) ≡ true) × (spread_of s ≡ addresses_of (range_of address)))
-    → MatchOption read (is_bad_range address ≡ true) (λ s. (is_bad_range address ≡ false) × (spread_of s ≡ spread address))
+pub spread-range : (address : List ℕ) (read : Option ReadAddress) → is_range address ≡ true
+    → MatchOption read ((is_number (range_of address).low && is_number (range_of address).high) ≡ false) (λ s. ((is_number (range_of address).low && is_number (range_of address).high) ≡ true) × (addresses_read s ≡ addresses_of (range_of address)))
+    → MatchOption read (is_bad_range address ≡ true) (λ s. (is_bad_range address ≡ false) × (addresses_read s ≡ spread address))
 spread-range address None range bad = and_from _ _ range (ap not bad)
 spread-range address (Some s) range good = (and_right (is_range address) _ (ap not good.0), good.1 ∙ sym (cond-true (is_range address) _ _ range))
 

@@ -44,10 +44,14 @@ settings_in (piece ∷ pieces) =
     if piece.ended then option_and_then (λ setting. option_map (λ settings. setting ∷ settings) (settings_in pieces)) (setting_in piece.bytes)
     else None
 
+-- the verdict of a code
+abbrev pub verdict_in : List ℕ → Verdict
+verdict_in bytes = if starts_with nat_eq bytes (verdict_code Deny) then Deny else Allow
+
 -- the instruction whose code the bytes are, if they are one
 abbrev pub decoded : List ℕ → Option Instr
 decoded bytes =
-    let verdict : Verdict = if starts_with nat_eq bytes (verdict_code Deny) then Deny else Allow in
+    let verdict = verdict_in bytes in
     option_map (λ settings. record { verdict = verdict; settings = settings }) (settings_in (pieces_of 0 (drop (length (verdict_code verdict)) bytes)))
 
 -- a refusal to decode says that the bytes are no code; want of memory says nothing of them

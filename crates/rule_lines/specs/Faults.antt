@@ -1,5 +1,5 @@
 -- Which lines are faulty, with their least kind, and the first fault of a text.
-use Rattle.std.specs.Prelude.{◌≡◌, ℕ, ◌+◌, not, is_none, nat_lt, List, [], ◌∷◌, length, Option, Some, None, if◌then◌else◌}
+use Rattle.std.specs.Prelude.{◌≡◌, ℕ, ◌+◌, ◌≤◌, not, is_none, nat_lt, List, [], ◌∷◌, length, Option, Some, None, if◌then◌else◌}
 use Rattle.std.specs.Str.{is_utf8}
 use Rattle.rule_lines.specs.declared.fault.LineKind.{LineKind}
 use Rattle.rule_lines.specs.declared.fault.LineKind.TheVariants.{NoVerdict, BadSetting, BadRange, NotText, NulByte, LongLine, LongText}
@@ -49,7 +49,7 @@ fault_of limits text =
 abbrev pub IsAccepted : Limits → List ℕ → Type 0
 IsAccepted limits text = fault_of limits text ≡ None
 
--- a refusal names the fault of the text; want of memory says nothing of it
+-- a refusal names the fault of the text; want of memory comes only to a text within the limit, and says no more of it
 abbrev pub Refuses : Limits → List ℕ → ParseFault → Type 0
 Refuses limits text (AtLine fault) = fault_of limits text ≡ Some fault
-Refuses limits text OutOfMemory = Unit {0}
+Refuses limits text OutOfMemory = length text ≤ limits.text

@@ -1,5 +1,5 @@
 -- A text cut into lines, and a line trimmed at its end.
-use Rattle.std.specs.Prelude.{ℕ, Bool, true, false, ◌&&◌, ◌||◌, ◌==◌, List, [], ◌∷◌, length, if◌then◌else◌}
+use Rattle.std.specs.Prelude.{◌≡◌, ℕ, Bool, true, false, ◌&&◌, ◌||◌, ◌==◌, List, [], ◌∷◌, length, if◌then◌else◌}
 use Rattle.std.specs.List.{list_any}
 
 -- whether a byte stands among them
@@ -29,6 +29,10 @@ pieces_of separator (b ∷ bs) =
 -- the lines of a text: its pieces between line feeds
 abbrev pub lines_of : List ℕ → List Line
 lines_of text = pieces_of 10 text
+
+-- the first line of a text, whether or not a line feed ended it, and what follows it
+abbrev pub IsFirstLine : List ℕ → List ℕ → List ℕ → Type 0
+IsFirstLine text line rest = (ended : Bool) × (lines_of text ≡ record { bytes = line; ended = ended } ∷ lines_of rest)
 
 -- a space or a tab
 abbrev pub is_blank : ℕ → Bool

@@ -56,9 +56,13 @@ abbrev pub pairs_under : Option Instr → List ℕ → List Rule
 pairs_under None address = []
 pairs_under (Some instr) address = pairs_with instr (spread address)
 
+-- the pairs of a line that is a rule
+abbrev pub rule_pairs : List ℕ → List Rule
+rule_pairs line = pairs_under (instr_of (is_utf8 line) (instructions_in line)) (address_in line)
+
 -- the pairs of a trimmed line: none where it is ignored
 abbrev pub pairs_in : List ℕ → List Rule
-pairs_in line = if is_ignored line then [] else pairs_under (instr_of (is_utf8 line) (instructions_in line)) (address_in line)
+pairs_in line = if is_ignored line then [] else rule_pairs line
 
 -- the pairs of an accepted text; faulty lines are not left out here, since such a text has none
 abbrev pub pairs_of : List ℕ → List Rule

@@ -22,6 +22,11 @@ abbrev pub addresses_under : List ℕ → Option Numbers → List ℕ → List (
 addresses_under front None back = front ∷ []
 addresses_under front (Some numbers) back = map (λ n. front ++ decimal n ++ back) (range_with_len numbers.first numbers.count)
 
+-- the addresses of two parts of the bytes: from a place up to another, and from there to the end
+abbrev pub addresses_from : ℕ → ℕ → Option Numbers → List ℕ → List (List ℕ)
+addresses_from start front_end numbers bytes =
+    addresses_under (slice_range bytes start front_end) numbers (slice_range bytes front_end (length bytes))
+
 -- how many there are
 abbrev pub count_of : Option Numbers → ℕ
 count_of None = 1

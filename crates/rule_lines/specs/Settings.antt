@@ -47,6 +47,9 @@ pub record Front : Type 0 where
   pub setting : Assignment
   pub rest : List ℕ
 
+abbrev pub front_of : List ℕ → List ℕ → List ℕ → Front
+front_of name value rest = record { setting = record { name = name; value = value }; rest = rest }
+
 -- `NAME=` was read, and a quote, the value and the quote again are next
 abbrev pub value_at : Bool → List ℕ → List ℕ → Option Front
 value_at is_text name bytes =

@@ -1,8 +1,7 @@
 //! The code of an instruction: the bytes under which a rule is stored in a compiled file.
-ghost use Rattle.std.specs.Prelude.{◌≡◌, ◌∷◌, ◌++◌, length, drop, nat_eq, true, false, if◌then◌else◌, IfOk, IfErr, OnOk, OnErr, MatchOption};
-ghost use Rattle.std.specs.List.{starts_with};
+ghost use Rattle.std.specs.Prelude.{◌≡◌, ◌∷◌, ◌++◌, length, drop, true, false, IfOk, IfErr, OnOk, OnErr, MatchOption};
 ghost use Rattle.std.specs.Str.{is_utf8};
-ghost use Rattle.rule_lines.specs.Codes.{code_of, verdict_code, setting_code, setting_in, settings_in, decoded, IsInstr, RefusesCode};
+ghost use Rattle.rule_lines.specs.Codes.{code_of, verdict_code, verdict_in, setting_code, setting_in, settings_in, decoded, IsInstr, RefusesCode};
 ghost use Rattle.rule_lines.specs.Lines.{pieces_of, has_byte};
 ghost use Rattle.rule_lines.specs.declared.code.CodeFault.{CodeFault};
 ghost use Rattle.rule_lines.specs.declared.code.DecodeFault.TheVariants.{OutOfMemory};
@@ -66,7 +65,8 @@ pub(crate) fn append_setting(
     value: &[u8],
     code: &mut Vec<u8>,
 ) -> Result<(), AllocError>
-    ensures { OnOk result (code.new.items ≡ code.old.items ++ setting_code (record { name = name.now; value = value.now })) }
+    ensures { OnOk result (code.new.items ≡ code.old.items
+        ++ setting_code (record { name = name.now; value = value.now })) }
 {
     code.push(b'+')?;
     code.extend_from_slice(name)?;
@@ -107,7 +107,7 @@ pub fn encode_instr(alloc: Global, instr: &Instr) -> Result<Vec<u8>, AllocError>
 
 /// The verdict of a code, and the codes of its settings.
 fn split_verdict(bytes: &[u8]) -> (Verdict, &[u8])
-    ensures verdict { result.0 ≡ (if starts_with nat_eq bytes.now (verdict_code Verdict.Deny) then Verdict.Deny else Verdict.Allow) }
+    ensures verdict { result.0 ≡ verdict_in bytes.now }
     ensures codes { result.1.now ≡ drop (length (verdict_code result.0)) bytes.now }
 {
     if bytes.starts_with(DENY_CODE) {
@@ -157,7 +157,8 @@ fn read_setting(piece: &[u8]) -> Option<(&str, &str)>
 /// The settings whose codes the bytes are.
 fn decode_settings(alloc: Global, codes: &[u8]) -> Result<Settings, DecodeFault>
     ensures found { IfOk result (λ settings. settings_in (pieces_of 0 codes.now) ≡ Some settings) }
-    ensures refused { (fault : CodeFault) → result ≡ Err (DecodeFault.Code fault) → settings_in (pieces_of 0 codes.now) ≡ None }
+    ensures refused { (fault : CodeFault) → result ≡ Err (DecodeFault.Code fault)
+        → settings_in (pieces_of 0 codes.now) ≡ None }
 {
     let mut settings = Settings::new(alloc);
     let mut rest = codes;

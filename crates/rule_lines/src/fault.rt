@@ -1,39 +1,58 @@
 //! Why a rule text is refused.
 ghost use Rattle.std.specs.Prelude.{◌≡◌};
+ghost use Rattle.rule_lines.specs.FaultTexts.{kind_text};
 ghost use Rattle.rule_lines.specs.declared.fault.ParseFault.TheVariants.{OutOfMemory};
 
 use std::alloc::{AllocError, AllocFailed};
-use thiserror::Error;
+use std::error::Error;
+use std::fmt;
 
 /// What is wrong with a line of a rule text. Of several the first one in this order is named.
-#[derive(Clone, Copy, PartialEq, Eq, Debug, Error)]
+#[derive(Clone, Copy, PartialEq, Eq, Debug)]
 pub enum LineKind {
     /// The instructions begin with neither `allow` nor `deny`.
-    #[error("no verdict")]
     NoVerdict,
     /// What follows the word is not a series of settings.
-    #[error("bad setting")]
     BadSetting,
     /// A range has a part with a byte that is no digit, or a value above 4,294,967,295.
-    #[error("bad range")]
     BadRange,
     /// The line is not UTF-8.
-    #[error("not text")]
     NotText,
     /// The line has a zero byte.
-    #[error("nul byte")]
     NulByte,
     /// The line, without the blanks at its end, is longer than the limit for a line.
-    #[error("long line")]
     LongLine,
     /// The text is longer than the limit for a text; this names line 0.
-    #[error("text too long")]
     LongText,
 }
 
+impl LineKind {
+    /// What the tools print of it.
+    pub fn as_str(self) -> &'static str
+        ensures { result.now ≡ kind_text self }
+    {
+        match self {
+            LineKind::NoVerdict => "no verdict",
+            LineKind::BadSetting => "bad setting",
+            LineKind::BadRange => "bad range",
+            LineKind::NotText => "not text",
+            LineKind::NulByte => "nul byte",
+            LineKind::LongLine => "long line",
+            LineKind::LongText => "text too long",
+        }
+    }
+}
+
+impl fmt::Display for LineKind {
+    fn fmt<W: fmt::Write>(&self, f: &mut fmt::Formatter<W>) -> fmt::Result {
+        f.write_str(self.as_str())
+    }
+}
+
+impl Error for LineKind {}
+
 /// The first faulty line of a text, counted from 1, and its least kind.
-#[derive(Clone, Copy, PartialEq, Eq, Debug, Error)]
-#[error("line {line}: {kind}")]
+#[derive(Clone, Copy, PartialEq, Eq, Debug)]
 pub struct LineFault {
     /// The line's number, from 1; 0 where the whole text is too long.
     pub line: u64,
@@ -41,8 +60,19 @@ pub struct LineFault {
     pub kind: LineKind,
 }
 
+impl fmt::Display for LineFault {
+    fn fmt<W: fmt::Write>(&self, f: &mut fmt::Formatter<W>) -> fmt::Result {
+        if self.kind == LineKind::LongText {
+            return write!(f, "{}", self.kind);
+        }
+        write!(f, "line {}: {}", self.line, self.kind)
+    }
+}
+
+impl Error for LineFault {}
+
 /// Why `parse` gives no list.
-#[derive(Clone, Copy, PartialEq, Eq, Debug, Error)]
+#[derive(Clone, Copy, PartialEq, Eq, Debug, thiserror::Error)]
 pub enum ParseFault {
     /// The text is not accepted.
     #[error("{0}")]

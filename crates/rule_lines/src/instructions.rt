@@ -1,9 +1,10 @@
 //! The instructions of a rule line, read into their code.
-ghost use Rattle.std.specs.Prelude.{◌≡◌, ◌++◌, ◌<◌, ◌≤◌, ℕ, suc, List, if◌then◌else◌, IfOk, IfSome, MatchOption, true, false, Ok, Err, flat_map, length, drop};
+ghost use Rattle.std.specs.Prelude.{◌≡◌, ◌++◌, ◌<◌, ◌≤◌, ℕ, suc, List, if◌then◌else◌, IfOk, IfSome, MatchOption, true, false, flat_map, length, drop};
 ghost use Rattle.std.specs.Str.{continuation_len};
-ghost use Rattle.rule_lines.specs.Codes.{code_of, setting_code};
-ghost use Rattle.rule_lines.specs.Pairs.{verdict_of, word_length, settings_after};
-ghost use Rattle.rule_lines.specs.Settings.{cut_at, first_character, value_at, setting_at, settings_of};
+ghost use Rattle.rule_lines.specs.Appended.{AppendsCode};
+ghost use Rattle.rule_lines.specs.Codes.{setting_code};
+ghost use Rattle.rule_lines.specs.Pairs.{verdict_of, word_length};
+ghost use Rattle.rule_lines.specs.Settings.{cut_at, first_character, front_of, value_at, setting_at, settings_of};
 
 use crate::code::{append_setting, append_verdict, split_at_byte};
 use crate::fault::LineKind;
@@ -63,8 +64,7 @@ fn quote_of(is_text: bool, bytes: &[u8]) -> &[u8]
 fn read_value(is_text: bool, bytes: &[u8]) -> Option<(&[u8], &[u8])>
     ensures { MatchOption result
         ((name : List ℕ) → value_at is_text name bytes.now ≡ None)
-        (λ read. (name : List ℕ) → value_at is_text name bytes.now
-        ≡ Some (record { setting = record { name = name; value = read.0.now }; rest = read.1.now })) }
+        (λ read. (name : List ℕ) → value_at is_text name bytes.now ≡ Some (front_of name read.0.now read.1.now)) }
 {
     if bytes.is_empty() {
         return None;
@@ -78,7 +78,7 @@ fn first_setting(is_text: bool, bytes: &[u8]) -> Option<FirstSetting<'_>>
     ensures read { MatchOption result
         (setting_at is_text bytes.now ≡ None)
         (λ first. setting_at is_text bytes.now
-        ≡ Some (record { setting = record { name = first.name.now; value = first.value.now }; rest = first.rest.now })) }
+        ≡ Some (front_of first.name.now first.value.now first.rest.now)) }
     ensures shorter { IfSome result (λ first. length first.rest.now ≤ length bytes.now) }
 {
     let (name, quoted) = split_at_byte(b'=', bytes)?;
@@ -115,7 +115,8 @@ pub fn append_settings(is_text: bool, bytes: &[u8], code: &mut Vec<u8>) -> Resul
 fn read_verdict(instructions: &[u8]) -> Option<(Verdict, &[u8])>
     ensures { MatchOption result
         (verdict_of instructions.now ≡ None)
-        (λ read. (verdict_of instructions.now ≡ Some read.0) × (read.1.now ≡ drop (word_length read.0) instructions.now)) }
+        (λ read. (verdict_of instructions.now ≡ Some read.0)
+        × (read.1.now ≡ drop (word_length read.0) instructions.now)) }
 {
     if instructions.starts_with(ALLOW_WORD) {
         Some((Verdict::Allow, &instructions[ALLOW_WORD.len()..]))
@@ -133,11 +134,7 @@ pub fn append_code(
     instructions: &[u8],
     code: &mut Vec<u8>,
 ) -> Result<Result<(), LineKind>, AllocError>
-    ensures { IfOk result (λ read. MatchOption (verdict_of instructions.now)
-        (read ≡ Err LineKind.NoVerdict)
-        (λ verdict. MatchOption (settings_after is_text verdict instructions.now)
-        (read ≡ Err LineKind.BadSetting)
-        (λ settings. (read ≡ Ok tt) × (code.new.items ≡ code.old.items ++ code_of (record { verdict = verdict; settings = settings }))))) }
+    ensures { IfOk result (λ read. AppendsCode is_text instructions.now read code.old.items code.new.items) }
 {
     let Some((verdict, settings)) = read_verdict(instructions) else {
         return Ok(Err(LineKind::NoVerdict));

@@ -23,6 +23,4 @@ pub use source::{FindFault, ListPairs, PairSource};
 pub use text::parse;
 
 #[cfg(test)]
-mod plain;
-#[cfg(test)]
 mod tests;

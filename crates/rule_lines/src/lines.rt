@@ -1,13 +1,13 @@
 //! The lines of a text.
-ghost use Rattle.std.specs.Prelude.{◌≡◌, ◌<◌, ◌∷◌, Bool, length};
-ghost use Rattle.rule_lines.specs.Lines.{lines_of, is_blank, trimmed};
+ghost use Rattle.std.specs.Prelude.{◌≡◌, ◌<◌, length};
+ghost use Rattle.rule_lines.specs.Lines.{IsFirstLine, is_blank, trimmed};
 
 use memchr::memchr;
 
 /// The first line of a text that is not empty, without its line feed, and what follows it.
 pub fn first_line(text: &[u8]) -> (&[u8], &[u8])
     requires { 0 < length text.now }
-    ensures lines { (ended : Bool) × (lines_of text.now ≡ record { bytes = result.0.now; ended = ended } ∷ lines_of result.1.now) }
+    ensures lines { IsFirstLine text.now result.0.now result.1.now }
     ensures shorter { length result.1.now < length text.now }
 {
     match memchr(b'\n', text) {
@@ -30,7 +30,7 @@ pub fn trim_blanks(line: &[u8]) -> &[u8]
 }
 
 /// Whether a byte is a space or a tab.
-fn is_blank(byte: u8) -> bool
+pub fn is_blank(byte: u8) -> bool
     ensures { result ≡ is_blank byte }
 {
     byte == b' ' || byte == b'\t'

@@ -1,16 +1,18 @@
 //! Lists of rules.
 ghost use Rattle.std.specs.Prelude.{option_map, ◌≡◌, ◌≢◌, ◌↔◌, ◌++◌, ◌<◌, ◌≤◌, ◌+◌, ◌^◌, ℕ, [], ◌==◌, length, take, slice_get, slice_range, is_some, true, IsTrue, IfOk, OnOk, OnErr, MatchOption, decimal};
 ghost use Rattle.std.specs.List.{Contains};
+ghost use Rattle.byte_text.specs.Outcomes.{AppendsPart};
 ghost use Rattle.rule_lines.specs.Codes.{code_of, decoded};
 ghost use Rattle.rule_lines.specs.Lookups.{found_among, code_found};
 ghost use Rattle.rule_lines.specs.Pairs.{pairs_with};
-ghost use Rattle.rule_lines.specs.Rows.{the_instr, AreRules, addresses_under, count_of, code_in, rules_under, IsRow};
+ghost use Rattle.rule_lines.specs.Rows.{the_instr, AreRules, addresses_from, addresses_under, count_of, code_in, rules_under, IsRow};
 ghost use Rattle.rule_lines.specs.Spread.{folded};
-ghost use Rattle.rule_lines.specs.Spreads.{spread_of};
+ghost use Rattle.rule_lines.specs.ReadAddresses.{addresses_read};
 
 use crate::code::{DecodeFault, decode_instr};
 use crate::instr::Instr;
-use crate::spread::{Numbers, Spread};
+use crate::spread::{Numbers, ReadAddress};
+use byte_text::whole_or_none;
 use itoa::Buffer;
 use memchr::memchr;
 use std::alloc::{AllocError, Global};
@@ -117,18 +119,14 @@ impl<'a> Pair<'a> {
         ensures ok { OnOk result (out.new.items ≡ out.old.items ++ self.now.address) }
         ensures err { OnErr result (out.new.items ≡ out.old.items) }
     {
-        let start = out.len();
-        let appended = self.append_parts(out);
-        if appended.is_err() {
-            out.truncate(start);
-        }
-        appended
+        let whole = out.len();
+        let done = self.append_parts(out);
+        whole_or_none(out, whole, done)
     }
 
     /// Adds the address at the end of `out`. After an `Err` there may be any more bytes at the end.
     fn append_parts(&self, out: &mut Vec<u8>) -> Result<(), AllocError>
-        ensures kept { take (length out.old.items) out.new.items ≡ out.old.items }
-        ensures ok { OnOk result (out.new.items ≡ out.old.items ++ self.now.address) }
+        ensures { AppendsPart self.now.address out.old.items out.new.items result }
     {
         out.extend_from_slice(self.front)?;
         if let Some(number) = self.number {
@@ -172,11 +170,10 @@ impl RuleList {
         }
     }
 
-    /// How many rules there are: as many as addresses.
+    /// How many rules there are: as many as addresses. Each of them sets what may be set.
     pub fn len(&self) -> usize
-        // each of them has an instruction that may be
+        ensures count { result ≡ length self.now }
         ensures known { AreRules self.now }
-        ensures len { result ≡ length self.now }
     {
         self.len
     }
@@ -234,9 +231,10 @@ impl RuleList {
 
     /// Adds the rules of a line: its addresses, each with the instruction that has this code. For want of memory nothing is
     /// added.
-    pub(crate) fn push(&mut self, addresses: Spread<'_>, code: &[u8]) -> Result<(), AllocError>
+    pub(crate) fn push(&mut self, addresses: ReadAddress<'_>, code: &[u8]) -> Result<(), AllocError>
         requires { is_some (decoded code.now) ≡ true }
-        ensures ok { OnOk result (self.new ≡ self.old ++ pairs_with (the_instr code.now) (spread_of addresses.entry)) }
+        ensures ok { OnOk result (self.new
+            ≡ self.old ++ pairs_with (the_instr code.now) (addresses_read addresses.entry)) }
         ensures err { OnErr result (self.new ≡ self.old) }
     {
         let count = count_in(&addresses);
@@ -253,12 +251,12 @@ impl RuleList {
 }
 
 /// How many addresses there are.
-fn count_in(addresses: &Spread<'_>) -> usize
-    ensures { result ≡ length (spread_of addresses.now) }
+fn count_in(addresses: &ReadAddress<'_>) -> usize
+    ensures { result ≡ length (addresses_read addresses.now) }
 {
     match addresses {
-        Spread::One(_) => 1,
-        Spread::Range { numbers, .. } => usize::from(numbers.count),
+        ReadAddress::One(_) => 1,
+        ReadAddress::Range { numbers, .. } => usize::from(numbers.count),
     }
 }
 
@@ -266,14 +264,15 @@ fn count_in(addresses: &Spread<'_>) -> usize
 fn append_row(
     bytes: &mut Vec<u8>,
     before: usize,
-    addresses: Spread<'_>,
+    addresses: ReadAddress<'_>,
     code: &[u8],
 ) -> Result<Row, AllocError>
     requires { is_some (decoded code.now) ≡ true }
     ensures kept { take (length bytes.old.items) bytes.new.items ≡ bytes.old.items }
     ensures row { IfOk result (λ row. IsRow bytes.new.items before row) }
-    ensures count { IfOk result (λ row. count_of row.numbers ≡ length (spread_of addresses.entry)) }
-    ensures rules { IfOk result (λ row. rules_under bytes.new.items row ≡ pairs_with (the_instr code.now) (spread_of addresses.entry)) }
+    ensures count { IfOk result (λ row. count_of row.numbers ≡ length (addresses_read addresses.entry)) }
+    ensures rules { IfOk result (λ row. rules_under bytes.new.items row
+        ≡ pairs_with (the_instr code.now) (addresses_read addresses.entry)) }
 {
     let start = bytes.len();
     let (front_end, numbers) = append_addresses(bytes, addresses)?;
@@ -293,20 +292,21 @@ fn append_row(
 /// After an `Err` there may be any more bytes at the end.
 fn append_addresses(
     bytes: &mut Vec<u8>,
-    addresses: Spread<'_>,
+    addresses: ReadAddress<'_>,
 ) -> Result<(usize, Option<Numbers>), AllocError>
     ensures kept { take (length bytes.old.items) bytes.new.items ≡ bytes.old.items }
     ensures after { IfOk result (λ parts. length bytes.old.items ≤ parts.0) }
     ensures inside { IfOk result (λ parts. parts.0 ≤ length bytes.new.items) }
-    ensures count { IfOk result (λ parts. count_of parts.1 ≡ length (spread_of addresses.entry)) }
-    ensures addresses { IfOk result (λ parts. addresses_under (slice_range bytes.new.items (length bytes.old.items) parts.0) parts.1 (slice_range bytes.new.items parts.0 (length bytes.new.items)) ≡ spread_of addresses.entry) }
+    ensures count { IfOk result (λ parts. count_of parts.1 ≡ length (addresses_read addresses.entry)) }
+    ensures addresses { IfOk result (λ parts.
+        addresses_from (length bytes.old.items) parts.0 parts.1 bytes.new.items ≡ addresses_read addresses.entry) }
 {
     match addresses {
-        Spread::One(address) => {
+        ReadAddress::One(address) => {
             append_folded(bytes, address)?;
             Ok((bytes.len(), None))
         }
-        Spread::Range {
+        ReadAddress::Range {
             front,
             numbers,
             back,

@@ -1,5 +1,5 @@
 //! Where a decision looks its rules up.
-ghost use Rattle.std.specs.Prelude.{◌≡◌, ℕ, List, MatchResult, option_map, vec_items};
+ghost use Rattle.std.specs.Prelude.{◌≡◌, ℕ, List, Err, MatchResult, option_map, vec_items};
 ghost use Rattle.rule_lines.specs.Lookups.{Finding, Trust, Answers, Fails, found_among};
 ghost use Rattle.rule_lines.specs.Lookups.Trust.{Sound};
 ghost use Rattle.rule_lines.specs.declared.source.FindFault.TheVariants.{OutOfMemory};
@@ -47,12 +47,16 @@ pub trait PairSource {
     /// How far that is known to be what it answers.
     ghost trust: { Self → Trust };
 
+    /// Under which keys its device may fail.
+    ghost may_fail: { Self → List ℕ → Type 0 };
+
     /// The value of the first pair with this key, or `None` where there is none. `Short` says that the source is damaged,
     /// `Device` that it could not be read; a look-up changes nothing, and may be made again.
     fn find(&self, alloc: Global, key: &[u8]) -> Result<Option<Vec<u8>>, FindFault>
-        ensures { MatchResult result
+        ensures answer { MatchResult result
             (λ o. Answers (trust self.now) (finds self.now key.now) (option_map vec_items o))
-            (Fails (trust self.now) (finds self.now key.now)) };
+            (Fails (trust self.now) (finds self.now key.now)) }
+        ensures device { result ≡ Err FindFault.Device → may_fail self.now key.now };
 }
 
 /// A list of rules as a source: it answers the code of the first instruction with an address.
@@ -83,6 +87,8 @@ impl PairSource for ListPairs<'_> {
     ghost finds = { found_among };
 
     ghost trust = { λ _. Sound };
+
+    ghost may_fail = { λ _ _. ⊥ };
 
     fn find(&self, alloc: Global, key: &[u8]) -> Result<Option<Vec<u8>>, FindFault> {
         match self.list.find(key) {

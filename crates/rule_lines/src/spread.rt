@@ -3,7 +3,7 @@ ghost use Rattle.std.specs.Prelude.{◌≡◌, ◌<◌, ◌≤◌, ◌+◌, ◌-
 ghost use Rattle.std.specs.List.{position_or_len, suffix_len, range_with_len};
 ghost use Rattle.std.specs.Str.Parse.{digits_value};
 ghost use Rattle.rule_lines.specs.Spread.{addresses_of, is_bad_range, is_number, range_of, spread};
-ghost use Rattle.rule_lines.specs.Spreads.{spread_of};
+ghost use Rattle.rule_lines.specs.ReadAddresses.{addresses_read};
 
 use memchr::{memchr, memchr2, memrchr};
 
@@ -18,7 +18,7 @@ pub struct Numbers {
 
 /// An address of a rule line, read.
 #[derive(Clone, Copy, Debug)]
-pub enum Spread<'a> {
+pub enum ReadAddress<'a> {
     /// An address that stands for itself, its letters from the first `=` on in lower case.
     One(&'a [u8]),
     /// A range: an address for each number, between the two parts.
@@ -33,29 +33,29 @@ pub enum Spread<'a> {
 }
 
 /// What an address stands for, or nothing where it is a range with a part that is no number.
-pub fn read_address(address: &[u8]) -> Option<Spread<'_>>
+pub fn read_address(address: &[u8]) -> Option<ReadAddress<'_>>
     ensures { MatchOption result
         (is_bad_range address.now ≡ true)
-        (λ s. (is_bad_range address.now ≡ false) × (spread_of s ≡ spread address.now)) }
+        (λ s. (is_bad_range address.now ≡ false) × (addresses_read s ≡ spread address.now)) }
 {
     match memchr(b'-', address) {
         Some(dash) if memchr2(b'=', b'@', address).is_none() => read_range(address, dash),
-        _ => Some(Spread::One(address)),
+        _ => Some(ReadAddress::One(address)),
     }
 }
 
 /// The addresses of a range, whose first `-` stands at `dash`, or nothing where a part is no number.
-fn read_range(address: &[u8], dash: usize) -> Option<Spread<'_>>
+fn read_range(address: &[u8], dash: usize) -> Option<ReadAddress<'_>>
     requires inside { dash < length address.now }
     requires first { dash ≡ position_or_len (λ b. b == 45) address.now }
     ensures { let range = range_of address.now in MatchOption result
         ((is_number range.low && is_number range.high) ≡ false)
-        (λ s. ((is_number range.low && is_number range.high) ≡ true) × (spread_of s ≡ addresses_of range)) }
+        (λ s. ((is_number range.low && is_number range.high) ≡ true) × (addresses_read s ≡ addresses_of range)) }
 {
     let parts = cut_range(address, dash);
     let low = number(parts.low)?;
     let high = number(parts.high)?;
-    Some(Spread::Range {
+    Some(ReadAddress::Range {
         front: parts.front,
         numbers: numbers_between(low, high),
         back: parts.back,

@@ -638,11 +638,19 @@ fn printed_faults(rt: HostRuntime) -> Result<(), Fail> {
         (LineKind::NotText, "line 7: not text"),
         (LineKind::NulByte, "line 7: nul byte"),
         (LineKind::LongLine, "line 7: long line"),
-        (LineKind::LongText, "line 7: text too long"),
     ] {
         let fault = ParseFault::Line(LineFault { line: 7, kind });
         assert_eq!(rt; fault.to_string(rt.alloc())?.as_str(), text);
+        assert_eq!(rt;
+            kind.to_string(rt.alloc())?.as_str(),
+            &text["line 7: ".len()..]
+        );
     }
+    let long = ParseFault::Line(LineFault {
+        line: 0,
+        kind: LineKind::LongText,
+    });
+    assert_eq!(rt; long.to_string(rt.alloc())?.as_str(), "text too long");
     assert_eq!(rt;
         ParseFault::OutOfMemory.to_string(rt.alloc())?.as_str(),
         "out of memory"

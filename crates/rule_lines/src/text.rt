@@ -3,7 +3,7 @@ ghost use Rattle.std.specs.Prelude.{◌≡◌, ◌<◌, ◌++◌, ◌==◌, fals
 ghost use Rattle.std.specs.List.{position_or_len};
 ghost use Rattle.std.specs.Str.{is_utf8};
 ghost use Rattle.rule_lines.specs.Faults.{fault_beside, fault_in, fault_under, IsAccepted, Refuses};
-ghost use Rattle.rule_lines.specs.Pairs.{address_in, instr_of, instructions_in, pairs_in, pairs_of, pairs_under, verdict_of};
+ghost use Rattle.rule_lines.specs.Pairs.{address_in, instructions_in, pairs_in, pairs_of, rule_pairs, verdict_of};
 ghost use Rattle.rule_lines.specs.Rows.{AreRules};
 ghost use Rattle.rule_lines.specs.Spread.{is_bad_range};
 
@@ -74,8 +74,7 @@ fn read_rule(
     requires inside { colon < length line.now }
     requires first { colon ≡ position_or_len (λ b. b == 58) line.now }
     ensures fault { IfOk result (λ fault. fault ≡ fault_under limit line.now (verdict_of (instructions_in line.now))) }
-    ensures pairs { IfOk result (λ fault. IfNone fault
-        (list.new ≡ list.old ++ pairs_under (instr_of (is_utf8 line.now) (instructions_in line.now)) (address_in line.now))) }
+    ensures pairs { IfOk result (λ fault. IfNone fault (list.new ≡ list.old ++ rule_pairs line.now)) }
 {
     let is_text = is_text(line);
     code.clear();

@@ -1,5 +1,6 @@
 -- The first form under which a source has something decides.
-use Rattle.std.proofs.Common.{◌≡◌, ℕ, ◌+◌, ◌<◌, true, cond, List, Some, Result, Ok, Err, IfOk, IfErr, String, string_bytes, arith, map, length, get_or, drop, find, refl, sym, ap, ◌∙◌}
+use Rattle.std.proofs.Common.{◌≡◌, ℕ, suc, ◌+◌, ◌<◌, true, cond, List, [], ◌∷◌, Some, Result, Ok, Err, IfOk, IfErr, String, string_bytes, arith, map, length, get_or, drop, find, refl, sym, ap, subst, ◌∙◌}
+use Rattle.std.specs.List.{Any}
 use Rattle.std.proofs.lemmas.List.{at_drop_more, length-map, get_or-map}
 use Rattle.std.specs.declared.alloc.Global.{Global}
 use Rattle.rule_lines.specs.declared.source.FindFault.TheVariants.{Short, Device, OutOfMemory as NoMemoryToFind}
@@ -8,7 +9,7 @@ use Rattle.rule_lines.specs.Lookups.{Finding, Has, Absent, Broken, Trust, Unknow
 use Rattle.rule_lookup.specs.declared.decision.Decision.{Decision}
 use Rattle.rule_lookup.specs.declared.decision.DecideFault.{DecideFault}
 use Rattle.rule_lookup.specs.declared.decision.DecideFault.TheVariants.{Find, Code, OutOfMemory}
-use Rattle.rule_lookup.specs.Decisions.{is_there, by_first, by_finding, by_code, DecisionFails, LookupFails, CodeFails}
+use Rattle.rule_lookup.specs.Decisions.{asked, is_there, by_first, by_finding, by_code, DecisionFails, LookupFails, CodeFails}
 
 -- what follows from a fact is known where the fact is
 pub WhereKnown-map : (t : Trust) {A B : Type 0} → (A → B) → WhereKnown t A → WhereKnown t B
@@ -38,6 +39,24 @@ module _ (finds : List ℕ → Finding) (t : Trust) (forms : List (List ℕ)) (i
   first-later so_far absent =
       WhereKnown-map2 t (λ s e. sym (step ∙ ap (λ x. cond (is_there x) (Some form) (find (λ f. is_there (finds f)) (drop (i + 1) forms))) e) ∙ s) so_far absent
 
+  -- the forms that are looked up from this one on
+  asked-step : asked finds (drop i forms) ≡ form ∷ cond (is_there (finds form)) [] (asked finds (drop (i + 1) forms))
+  asked-step =
+      at_drop_more (asked finds) forms i form inside
+      ∙ ap (λ (f : List ℕ). f ∷ cond (is_there (finds f)) [] (asked finds (drop (i + 1) forms))) (sym at)
+
+  -- a fault under this form is one under them
+  pub Any-asked-here : (P : List ℕ → Type 0) → WhereKnown t (Any P (asked finds (drop i forms)) → Any P (asked finds forms)) → P form → WhereKnown t (Any P (asked finds forms))
+  Any-asked-here P so_far holds =
+      WhereKnown-map t (λ back. back (subst (Any P) (sym asked-step) (0, form, omega arith, refl, holds))) so_far
+
+  -- where a form has nothing, so is one under the later ones
+  pub Any-asked-later : (P : List ℕ → Type 0) → WhereKnown t (Any P (asked finds (drop i forms)) → Any P (asked finds forms)) → WhereKnown t (finds form ≡ Absent) → WhereKnown t (Any P (asked finds (drop (i + 1) forms)) → Any P (asked finds forms))
+  Any-asked-later P so_far absent =
+      WhereKnown-map2 t (λ back e any.
+      let here = asked-step ∙ ap (λ x. form ∷ cond (is_there x) [] (asked finds (drop (i + 1) forms))) e in
+      back (subst (Any P) (sym here) (suc any.0, any.1, omega (arith, any.2), any.3, any.4))) so_far absent
+
   -- where it has something this decides
   pub first-here : (x : Finding) → is_there x ≡ true → WhereKnown t (find (λ f. is_there (finds f)) (drop i forms) ≡ find (λ f. is_there (finds f)) forms) → WhereKnown t (finds form ≡ x) → WhereKnown t (by_first finds (find (λ f. is_there (finds f)) forms) ≡ by_finding form x)
   first-here x there so_far has =
@@ -66,6 +85,10 @@ module _ (finds : List ℕ → Finding) (t : Trust) (forms : List (List ℕ)) (i
   refused-look_up (Find NoMemoryToFind) so_far fails = fails
   refused-look_up (Code fault) so_far fails = absurd fails
   refused-look_up OutOfMemory so_far fails = tt
+
+-- a decision by a code is no fault of a device
+pub no_device : {P : Type 0} (form code : List ℕ) (r : Result Decision DecideFault) → IfErr r (CodeFails form code) → r ≡ Err (Find Device) → P
+no_device form code r fails is = absurd (subst (λ (r : Result Decision DecideFault). IfErr r (CodeFails form code)) is fails)
 
 -- a form that is read from a list of texts is one of the forms that they are
 pub form_at : (texts : List (String Global)) (forms : List (List ℕ)) (i : ℕ) (text : String Global) → map string_bytes texts ≡ forms → i < length texts → text ≡ get_or texts i text → (i < length forms) × (string_bytes text ≡ get_or forms i (string_bytes text))

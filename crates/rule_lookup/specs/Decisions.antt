@@ -1,5 +1,5 @@
 -- Which rule decides a peer.
-use Rattle.std.specs.Prelude.{◌≡◌, ◌≢◌, ℕ, Bool, true, false, is_some, List, [], Option, Some, None, Result, Ok, Err, option_map, find, bytes_eq}
+use Rattle.std.specs.Prelude.{◌≡◌, ◌≢◌, ℕ, Bool, true, false, is_some, List, [], ◌∷◌, Any, Option, Some, None, Result, Ok, Err, option_map, find, bytes_eq, if◌then◌else◌}
 use Rattle.std.specs.Borrow.{Bor}
 use Rattle.rule_lines.specs.declared.code.CodeFault.TheVariants.{NotCode}
 use Rattle.rule_lines.specs.declared.instr.Instr.{Instr}
@@ -75,6 +75,20 @@ finds_of {S} finds source = option_map (λ (s : Bor S). finds s.now) source
 abbrev pub trust_of : {S : Type 0} → (S → Trust) → Option (Bor S) → Trust
 trust_of trust None = Sound
 trust_of trust (Some s) = trust s.now
+
+-- the forms that are looked up: up to the first under which a source has something
+abbrev pub asked : (List ℕ → Finding) → List (List ℕ) → List (List ℕ)
+asked finds [] = []
+asked finds (form ∷ forms) = form ∷ (if is_there (finds form) then [] else asked finds forms)
+
+-- a look-up under one of them may fail
+abbrev pub MayFail : (List ℕ → Type 0) → (List ℕ → Finding) → Client → Type 0
+MayFail may_fail finds peer = Any may_fail (asked finds (forms_of peer))
+
+-- the same of a source, if there is one
+abbrev pub MayFailFrom : {S : Type 0} → (S → List ℕ → Type 0) → (S → List ℕ → Finding) → Option (Bor S) → Client → Type 0
+MayFailFrom may_fail finds None peer = ⊥
+MayFailFrom may_fail finds (Some s) peer = MayFail (may_fail s.now) (finds s.now) peer
 
 -- a decision fails where it does by its definition; for a device fault only where the source is not sound
 abbrev pub DecisionFails : Trust → Result Decision DecideFault → DecideFault → Type 0

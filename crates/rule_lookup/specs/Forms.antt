@@ -1,6 +1,8 @@
 -- The lookup forms of a peer, in their order.
-use Rattle.std.specs.Prelude.{ℕ, ◌==◌, List, [], ◌∷◌, ◌++◌, map, drop, Option, Some, None, if◌then◌else◌}
+use Rattle.std.specs.Prelude.{◌≡◌, ℕ, ◌==◌, List, [], ◌∷◌, ◌++◌, map, drop, Option, Some, None, string_bytes, if◌then◌else◌}
 use Rattle.std.specs.Net.Text.{ipv4_text}
+use Rattle.std.specs.declared.alloc.Global.{Global}
+use Rattle.std.specs.declared.string.String.{String}
 use Rattle.rule_lines.specs.Spread.{folded}
 use Rattle.rule_lookup.specs.Peers.{Client}
 
@@ -50,3 +52,7 @@ plain_forms peer =
 -- the lookup forms: those with their letters from the first `=` on in lower case
 abbrev pub forms_of : Client → List (List ℕ)
 forms_of peer = map folded (plain_forms peer)
+
+-- texts, and after them these, with their letters from the first `=` on in lower case
+abbrev pub AddsForms : List (String Global) → List (String Global) → List (List ℕ) → Type 0
+AddsForms old new added = map string_bytes new ≡ map string_bytes old ++ map folded added

@@ -30,8 +30,19 @@ lowered host = option_map (λ (name : Bor (List ℕ)). map to_ascii_lowercase na
 abbrev pub given : Option (Bor (List ℕ)) → Option (List ℕ)
 given name = option_map (λ (name : Bor (List ℕ)). name.now) name
 
--- why a peer is refused: for its host, or else for its user
+-- the same of a name as it is kept
+abbrev pub fits : Option (List ℕ) → Bool
+fits None = true
+fits (Some name) = is_peer_name name
+
+-- the names that a peer keeps may be names, and that of its host is in lower case
+pub record HasNames (host info : Option (List ℕ)) : Type 0 where
+  pub host_fits : fits host ≡ true
+  pub info_fits : fits info ≡ true
+  pub lower : option_map (map to_ascii_lowercase) host ≡ host
+
+-- why a peer is refused: for its host, or else for its user; want of memory comes only to names that may be
 abbrev pub RefusesNames : Option (Bor (List ℕ)) → Option (Bor (List ℕ)) → PeerFault → Type 0
 RefusesNames host info BadHost = may_be_name host ≡ false
 RefusesNames host info BadInfo = (may_be_name host ≡ true) × (may_be_name info ≡ false)
-RefusesNames host info OutOfMemory = Unit {0}
+RefusesNames host info OutOfMemory = (may_be_name host ≡ true) × (may_be_name info ≡ true)

@@ -1,8 +1,8 @@
 //! Decisions.
-ghost use Rattle.std.specs.Prelude.{◌≡◌, Ok, IfOk, IfErr, IfNone, option_map, vec_items};
+ghost use Rattle.std.specs.Prelude.{◌≡◌, Ok, Err, IfOk, IfErr, IfNone, option_map, vec_items};
 ghost use Rattle.rule_lines.specs.Codes.{decoded};
 ghost use Rattle.rule_lines.specs.Lookups.{WhereKnown, Answers};
-ghost use Rattle.rule_lookup.specs.Decisions.{decision_by, decision_from, finds_of, trust_of, by_default, without_file, DecisionFails, LookupFails, CodeFails, by_code};
+ghost use Rattle.rule_lookup.specs.Decisions.{decision_by, decision_from, finds_of, trust_of, by_default, without_file, DecisionFails, LookupFails, CodeFails, MayFail, MayFailFrom, by_code};
 ghost use Rattle.rule_lookup.specs.declared.decision.DecideFault.TheVariants.{OutOfMemory};
 
 use crate::form::forms;
@@ -166,8 +166,8 @@ impl<T: Drop> From<AllocFailed<T>> for DecideFault {
 }
 
 /// The decision for a peer: by the first of its lookup forms under which the source has something. Without a source it is
-/// that of a missing rules file, which takes no memory. A fault is that of this form; want of memory is always `OutOfMemory`
-/// itself.
+/// that of a missing rules file, which takes no memory. A fault is that of this form, or of a device that failed under one of
+/// those before it; want of memory is always `OutOfMemory` itself.
 pub fn decide<S: PairSource>(
     alloc: Global,
     source: Option<&S>,
@@ -179,6 +179,9 @@ pub fn decide<S: PairSource>(
         (decision_from (finds_of S.finds source.entry) missing peer.now ≡ Ok decision)) }
     ensures refused { IfErr result (DecisionFails (trust_of S.trust source.entry)
         (decision_from (finds_of S.finds source.entry) missing peer.now)) }
+    // a device fault is that of a form up to the one that decides, and of no other
+    ensures device { result ≡ Err (DecideFault.Find FindFault.Device) → WhereKnown (trust_of S.trust source.entry)
+        (MayFailFrom S.may_fail S.finds source.entry peer.now) }
 {
     match source {
         None => Ok(Decision::without_file(alloc, missing)),
@@ -187,8 +190,11 @@ pub fn decide<S: PairSource>(
 }
 
 fn decide_by<S: PairSource>(alloc: Global, source: &S, peer: &Peer) -> Result<Decision, DecideFault>
-    ensures decided { IfOk result (λ decision. WhereKnown (S.trust source.now) (decision_by (S.finds source.now) peer.now ≡ Ok decision)) }
+    ensures decided { IfOk result (λ decision. WhereKnown (S.trust source.now)
+        (decision_by (S.finds source.now) peer.now ≡ Ok decision)) }
     ensures refused { IfErr result (DecisionFails (S.trust source.now) (decision_by (S.finds source.now) peer.now)) }
+    ensures device { result ≡ Err (DecideFault.Find FindFault.Device) → WhereKnown (S.trust source.now)
+        (MayFail (S.may_fail source.now) (S.finds source.now) peer.now) }
 {
     let forms = forms(alloc, peer)?;
     for form in &forms {
@@ -205,8 +211,10 @@ fn found_under<S: PairSource>(
     source: &S,
     form: &str,
 ) -> Result<Option<Vec<u8>>, DecideFault>
-    ensures found { IfOk result (λ o. Answers (S.trust source.now) (S.finds source.now form.now) (option_map vec_items o)) }
+    ensures found { IfOk result (λ code. Answers (S.trust source.now) (S.finds source.now form.now)
+        (option_map vec_items code)) }
     ensures refused { IfErr result (LookupFails (S.trust source.now) (S.finds source.now form.now)) }
+    ensures device { result ≡ Err (DecideFault.Find FindFault.Device) → S.may_fail source.now form.now }
 {
     match source.find(alloc, form.as_bytes()) {
         Ok(code) => Ok(code),

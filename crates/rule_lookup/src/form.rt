@@ -1,7 +1,7 @@
 //! The lookup forms of a peer.
-ghost use Rattle.std.specs.Prelude.{◌≡◌, ◌++◌, ◌∷◌, [], map, drop, option_map, string_bytes, IfOk, OnOk};
+ghost use Rattle.std.specs.Prelude.{◌≡◌, ◌++◌, ◌∷◌, [], map, option_map, string_bytes, IfOk, OnOk};
 ghost use Rattle.rule_lines.specs.Spread.{folded};
-ghost use Rattle.rule_lookup.specs.Forms.{forms_of, dotted_fronts, dotted_ends, user_at_address, user_at_host, host_alone, host_ends, any_host};
+ghost use Rattle.rule_lookup.specs.Forms.{AddsForms, forms_of, dotted_fronts, user_at_address, user_at_host, host_alone, host_ends, any_host};
 ghost use Rattle.rule_lookup.specs.Peers.{given};
 
 use crate::peer::Peer;
@@ -32,8 +32,8 @@ fn push_user_forms(
     peer: &Peer,
     ip: &str,
 ) -> Result<(), AllocError>
-    ensures { OnOk result (map string_bytes forms.new.items
-        ≡ map string_bytes forms.old.items ++ map folded (user_at_address peer.now.info ip.now ++ user_at_host peer.now.info peer.now.host)) }
+    ensures { OnOk result (AddsForms forms.old.items forms.new.items
+        (user_at_address peer.now.info ip.now ++ user_at_host peer.now.info peer.now.host)) }
 {
     let Some(user) = peer.info() else {
         return Ok(());
@@ -49,7 +49,7 @@ fn push_user_forms(
 
 /// Adds `=` and the host.
 fn push_host(alloc: Global, forms: &mut Vec<String>, peer: &Peer) -> Result<(), AllocError>
-    ensures { OnOk result (map string_bytes forms.new.items ≡ map string_bytes forms.old.items ++ map folded (host_alone peer.now.host)) }
+    ensures { OnOk result (AddsForms forms.old.items forms.new.items (host_alone peer.now.host)) }
 {
     if let Some(host) = peer.host() {
         push_form(alloc, forms, "=", host)?;
@@ -59,7 +59,8 @@ fn push_host(alloc: Global, forms: &mut Vec<String>, peer: &Peer) -> Result<(), 
 
 /// Adds `=` before the host's suffixes, and alone.
 fn push_host_forms(alloc: Global, forms: &mut Vec<String>, peer: &Peer) -> Result<(), AllocError>
-    ensures { OnOk result (map string_bytes forms.new.items ≡ map string_bytes forms.old.items ++ map folded (host_ends peer.now.host ++ any_host peer.now.host)) }
+    ensures { OnOk result (AddsForms forms.old.items forms.new.items
+        (host_ends peer.now.host ++ any_host peer.now.host)) }
 {
     if let Some(host) = peer.host() {
         push_ends(alloc, forms, host)?;
@@ -75,7 +76,7 @@ fn push_form(
     front: &str,
     back: &str,
 ) -> Result<(), AllocError>
-    ensures { OnOk result (map string_bytes forms.new.items ≡ map string_bytes forms.old.items ++ folded (front.now ++ back.now) ∷ []) }
+    ensures { OnOk result (AddsForms forms.old.items forms.new.items ((front.now ++ back.now) ∷ [])) }
 {
     let text = text_of(alloc, front, back)?;
     forms.push(fold(alloc, text.as_str())?)?;
@@ -84,7 +85,7 @@ fn push_form(
 
 /// Adds the prefixes of an address that end with a dot, longest first.
 fn push_fronts(alloc: Global, forms: &mut Vec<String>, ip: &str) -> Result<(), AllocError>
-    ensures { OnOk result (map string_bytes forms.new.items ≡ map string_bytes forms.old.items ++ map folded (dotted_fronts ip.now)) }
+    ensures { OnOk result (AddsForms forms.old.items forms.new.items (dotted_fronts ip.now)) }
 {
     for i in (0..ip.len()).rev() {
         if ip.as_bytes()[i] == b'.' {
@@ -96,7 +97,7 @@ fn push_fronts(alloc: Global, forms: &mut Vec<String>, ip: &str) -> Result<(), A
 
 /// Adds `=` before each proper suffix of a host that begins with a dot, longest first.
 fn push_ends(alloc: Global, forms: &mut Vec<String>, host: &str) -> Result<(), AllocError>
-    ensures { OnOk result (map string_bytes forms.new.items ≡ map string_bytes forms.old.items ++ map folded (map (λ end. 61 ∷ end) (dotted_ends (drop 1 host.now)))) }
+    ensures { OnOk result (AddsForms forms.old.items forms.new.items (host_ends (Some host.now))) }
 {
     for i in 1..host.len() {
         if host.as_bytes()[i] == b'.' {

@@ -1,6 +1,6 @@
 //! The other end of a connection.
 ghost use Rattle.std.specs.Prelude.{◌≡◌, IfOk, IfErr, option_map, string_bytes, true};
-ghost use Rattle.rule_lookup.specs.Peers.{Client, is_peer_name, may_be_name, lowered, given, RefusesNames};
+ghost use Rattle.rule_lookup.specs.Peers.{Client, HasNames, is_peer_name, may_be_name, lowered, given, RefusesNames};
 ghost use Rattle.rule_lookup.specs.declared.peer.PeerFault.TheVariants.{OutOfMemory};
 
 use std::alloc::{AllocError, AllocFailed, Global};
@@ -53,7 +53,17 @@ impl Model for Peer {
 
     ghost Value = { Client };
 
-    ghost view = { λ p. record { ip = p.ip; port = p.port; host = option_map string_bytes p.host; info = option_map string_bytes p.info } };
+    ghost use Rattle.rule_lookup.specs.Peers.{HasNames};
+
+    ghost view = { λ p.
+        record {
+          ip = p.ip;
+          port = p.port;
+          host = option_map string_bytes p.host;
+          info = option_map string_bytes p.info;
+        } };
+
+    ghost invariant = { λ p. HasNames (option_map string_bytes p.host) (option_map string_bytes p.info) };
 }
 
 impl Peer {
@@ -65,7 +75,8 @@ impl Peer {
         host: Option<&str>,
         info: Option<&str>,
     ) -> Result<Peer, PeerFault>
-        ensures kept { IfOk result (λ peer. peer ≡ record { ip = ip; port = port; host = lowered host.entry; info = given info.entry }) }
+        ensures kept { IfOk result (λ peer.
+            peer ≡ record { ip = ip; port = port; host = lowered host.entry; info = given info.entry }) }
         ensures host_fits { IfOk result (λ _. may_be_name host.entry ≡ true) }
         ensures info_fits { IfOk result (λ _. may_be_name info.entry ≡ true) }
         ensures refused { IfErr result (RefusesNames host.entry info.entry) }
@@ -100,14 +111,16 @@ impl Peer {
 
     /// Its host's name in lower case, if it is known.
     pub fn host(&self) -> Option<&str>
-        ensures { given result ≡ self.now.host }
+        ensures value { given result ≡ self.now.host }
+        ensures names { HasNames self.now.host self.now.info }
     {
         name_in(&self.host)
     }
 
     /// Its user's name, if it is known.
     pub fn info(&self) -> Option<&str>
-        ensures { given result ≡ self.now.info }
+        ensures value { given result ≡ self.now.info }
+        ensures names { HasNames self.now.host self.now.info }
     {
         name_in(&self.info)
     }

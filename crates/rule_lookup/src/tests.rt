@@ -1,14 +1,16 @@
 //! Worked cases of peers and their forms, and decisions over sources of the tests' own.
-ghost use Rattle.std.specs.Prelude.{◌≡◌, List, ℕ};
-ghost use Rattle.rule_lines.specs.Lookups.{Finding, Trust};
-ghost use Rattle.rule_lines.specs.Lookups.Trust.{Unknown};
+ghost use Rattle.std.specs.Prelude.{◌≡◌, ⊤, List, ℕ};
+ghost use Rattle.rule_lines.specs.Lookups.{Finding, Trust, found_among};
+ghost use Rattle.rule_lines.specs.Lookups.Trust.{Unknown, Honest};
 ghost use Rattle.rule_lines.specs.Lookups.Finding.{Absent};
 
 use crate::address::parse_address;
 use crate::decision::{DecideFault, Decision, Found, Missing, decide};
 use crate::form::forms;
 use crate::peer::{Peer, PeerFault};
-use rule_lines::{CodeFault, FindFault, Limits, ListPairs, PairSource, Setting, Verdict, parse};
+use rule_lines::{
+    CodeFault, FindFault, Limits, ListPairs, PairSource, RuleList, Setting, Verdict, parse,
+};
 use std::alloc::{AllocError, Global};
 use std::test::Fail;
 
@@ -131,6 +133,8 @@ impl PairSource for Same {
     ghost finds = { λ _ _. Absent };
 
     ghost trust = { λ _. Unknown };
+
+    ghost may_fail = { λ _ _. ⊤ };
 
     fn find(&self, alloc: Global, _key: &[u8]) -> Result<Option<Vec<u8>>, FindFault> {
         match self.code {
@@ -350,6 +354,67 @@ fn the_order_of_the_forms(rt: HostRuntime) -> Result<(), Fail> {
         for text in [&falling, &rising] {
             let words = decided(rt.alloc(), text.as_str(), &peer)?;
             assert_eq!(rt; words.as_str(), wanted);
+        }
+    }
+    Ok(())
+}
+
+/// A list whose device fails under one key.
+#[derive(Drop)]
+struct FailsAt<'a> {
+    list: &'a RuleList,
+    key: &'a [u8],
+}
+
+impl PairSource for FailsAt<'_> {
+    ghost finds = { λ source. found_among source.list.now };
+
+    ghost trust = { λ _. Honest };
+
+    ghost may_fail = { λ source key. key ≡ source.key.now };
+
+    fn find(&self, alloc: Global, key: &[u8]) -> Result<Option<Vec<u8>>, FindFault> {
+        if key == self.key {
+            return Err(FindFault::Device);
+        }
+        ListPairs::new(self.list).find(alloc, key)
+    }
+}
+
+/// Up to the form that decides, a fault of the device is the answer; after it no form is looked up.
+#[test]
+fn a_device_that_fails_under_one_form(rt: HostRuntime) -> Result<(), Fail> {
+    let list = parse(rt.alloc(), b"1.2.:deny\n1.:allow\n", &Limits::profile())?;
+    let peer = Peer::new(rt.alloc(), [1, 2, 3, 4], 0, Some("a.b"), Some("joe"))?;
+    for (key, fails) in [
+        ("joe@1.2.3.4", true),
+        ("joe@=a.b", true),
+        ("1.2.3.4", true),
+        ("=a.b", true),
+        ("1.2.3.", true),
+        ("1.2.", true),
+        ("1.", false),
+        ("=.b", false),
+        ("=", false),
+        ("", false),
+        ("1.2", false),
+    ] {
+        let source = FailsAt {
+            list: &list,
+            key: key.as_bytes(),
+        };
+        match decide(rt.alloc(), Some(&source), Missing::Drop, &peer) {
+            Ok(decision) => {
+                assert!(rt; !fails, "at {key:?}");
+                assert_eq!(rt;
+                    in_words(rt.alloc(), &decision)?.as_str(),
+                    "rule 1.2.: deny"
+                );
+            }
+            Err(fault) => {
+                assert!(rt; fault == DecideFault::Find(FindFault::Device));
+                assert!(rt; fails, "at {key:?}");
+            }
         }
     }
     Ok(())

@@ -1,3 +1,2 @@
--- Lemmas on what a call that appends leaves, and on fields.
-pub mod Appends
+-- Lemmas on fields.
 pub mod FieldTexts

@@ -1,3 +1,2 @@
--- The lines of the server's log, and what a call that appends one leaves.
-pub mod Outcomes
+-- The lines of the server's log.
 pub mod Texts

@@ -1,11 +1,11 @@
 //! The parts of lines. After an `Err` some of a part may stand at the end.
-ghost use Rattle.std.specs.Prelude.{◌≡◌, ◌++◌, codes, decimal};
+ghost use Rattle.std.specs.Prelude.{◌≡◌, ◌++◌, codes};
 ghost use Rattle.std.specs.Net.Text.{ipv4_text};
 ghost use Rattle.rule_lookup.specs.Peers.{given};
-ghost use Rattle.status_lines.specs.Outcomes.{AppendsPart};
+ghost use Rattle.byte_text.specs.Outcomes.{AppendsPart};
 ghost use Rattle.status_lines.specs.Texts.{field, field_text, local_text, mark, remote_text, status_text};
 
-use itoa::Buffer;
+use byte_text::{push_number, push_text};
 use rule_lookup::{Peer, Status};
 use std::alloc::AllocError;
 use ucspi_env::Local;
@@ -22,20 +22,6 @@ pub fn mark(byte: u8) -> u8
         33..=126 => byte,
         _ => b'?',
     }
-}
-
-/// Adds a text.
-pub fn push_text(out: &mut Vec<u8>, text: &str) -> Result<(), AllocError>
-    ensures { AppendsPart text.now out.old.items out.new.items result }
-{
-    out.extend_from_slice(text.as_bytes())
-}
-
-/// Adds a number.
-pub fn push_number(out: &mut Vec<u8>, number: u64) -> Result<(), AllocError>
-    ensures { AppendsPart (decimal number) out.old.items out.new.items result }
-{
-    push_text(out, Buffer::new().format(number))
 }
 
 /// Adds an address.

@@ -1,28 +1,15 @@
 //! The lines.
-ghost use Rattle.std.specs.Prelude.{◌≡◌, ◌++◌, List, ℕ, codes, decimal, length};
+ghost use Rattle.std.specs.Prelude.{◌≡◌, ◌++◌, codes, decimal};
 ghost use Rattle.rule_lookup.specs.Peers.{given};
-ghost use Rattle.status_lines.specs.Outcomes.{AppendsLine, AppendsPart};
+ghost use Rattle.byte_text.specs.Outcomes.{AppendsLine, AppendsPart};
 ghost use Rattle.status_lines.specs.Texts.{cause_text, drop_text, end_text, fault_text, full_text, pid_line, retired_text, start_text, status_line, verdict_text, verdict_word};
 
-use crate::fields::{push_address, push_local, push_number, push_remote, push_status, push_text};
+use crate::fields::{push_address, push_local, push_remote, push_status};
+use byte_text::{push_number, push_text, whole_or_none};
 use rule_lines::Verdict;
 use rule_lookup::{DropCause, Peer, StartFault, Status};
 use std::alloc::AllocError;
 use ucspi_env::Local;
-
-/// Takes back what was appended after a length, where that was not a whole line.
-fn whole_or_none(
-    out: &mut Vec<u8>,
-    whole: usize,
-    done: Result<(), AllocError>,
-) -> Result<(), AllocError>
-    ensures { (old line : List ℕ) → length old ≡ whole → AppendsPart line old out.old.items done → AppendsLine line old out.new.items result }
-{
-    if done.is_err() {
-        out.truncate(whole);
-    }
-    done
-}
 
 /// How many connections are alive, and how many may be.
 ///
@@ -204,7 +191,8 @@ fn push_reason_line(
     after: &str,
     out: &mut Vec<u8>,
 ) -> Result<(), AllocError>
-    ensures { AppendsPart (before.now ++ decimal serial ++ codes " " ++ after.now ++ codes "\n") out.old.items out.new.items result }
+    ensures { AppendsPart (before.now ++ decimal serial ++ codes " " ++ after.now ++ codes "\n")
+        out.old.items out.new.items result }
 {
     push_text(out, before)?;
     push_number(out, serial)?;

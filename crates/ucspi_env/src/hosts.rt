@@ -1,6 +1,6 @@
 //! The host table.
 ghost use Rattle.std.specs.Prelude.{◌≡◌, ◌⊎◌, ◌||◌, ℕ, List, Some, None, IfOk, IfErr, IfSome, OnOk, OnErr, length};
-ghost use Rattle.rule_lines.specs.Lines.{is_blank, trimmed};
+ghost use Rattle.rule_lines.specs.Lines.{trimmed};
 ghost use Rattle.rule_lookup.specs.Addresses.{ipv4_in};
 ghost use Rattle.rule_lookup.specs.Peers.{given};
 ghost use Rattle.ucspi_env.specs.HostMaps.{HasHostName, host_name_in, key_of, option_or, row_said, row_read};
@@ -8,7 +8,7 @@ ghost use Rattle.ucspi_env.specs.HostRows.{after_blanks, are_visible, first_bad,
 ghost use Rattle.ucspi_env.specs.Hosts.{SaysAs, confirms, name_of};
 ghost use Rattle.ucspi_env.specs.declared.hosts.HostFault.TheVariants.{BadLine, OutOfMemory};
 
-use rule_lines::lines::{first_line, trim_blanks};
+use rule_lines::lines::{first_line, is_blank, trim_blanks};
 use std::alloc::{AllocError, AllocFailed, Global};
 use std::collections::{BTreeMap, BTreeSet};
 use std::marker::Model;
@@ -81,8 +81,10 @@ impl HostTable {
     /// # Errors
     /// `BadLine` with the number of the first line that is bad; `OutOfMemory`.
     pub fn read(alloc: Global, text: &[u8]) -> Result<HostTable, HostFault>
-        ensures table { IfOk result (λ table. (first_bad 1 (rows_of text.now) ≡ None) × SaysAs table (rows_of text.now)) }
-        ensures refused { IfErr result (λ fault. (fault ≡ OutOfMemory) ⊎ ((n : ℕ) × (fault ≡ BadLine n) × (first_bad 1 (rows_of text.now) ≡ Some n))) }
+        ensures table { IfOk result (λ table.
+            (first_bad 1 (rows_of text.now) ≡ None) × SaysAs table (rows_of text.now)) }
+        ensures refused { IfErr result (λ fault. (fault ≡ OutOfMemory)
+            ⊎ ((n : ℕ) × (fault ≡ BadLine n) × (first_bad 1 (rows_of text.now) ≡ Some n))) }
     {
         let mut table = HostTable {
             names: BTreeMap::new(alloc),
@@ -122,8 +124,10 @@ impl HostTable {
     /// Adds what a line says. Of an address the first name stays.
     fn add(&mut self, alloc: Global, said: Said<'_>) -> Result<(), HostFault>
         requires { HasHostName said }
-        ensures names { OnOk result ((ip : List ℕ) → name_of self.new ip ≡ option_or (name_of self.old ip) (name_in (row_said said.entry) ip None)) }
-        ensures addresses { OnOk result ((name ip : List ℕ) → length ip ≡ 4 → confirms self.new name ip ≡ (confirms self.old name ip || says_so name ip (row_said said.entry))) }
+        ensures names { OnOk result ((ip : List ℕ) → name_of self.new ip
+            ≡ option_or (name_of self.old ip) (name_in (row_said said.entry) ip None)) }
+        ensures addresses { OnOk result ((name ip : List ℕ) → length ip ≡ 4 → confirms self.new name ip
+            ≡ (confirms self.old name ip || says_so name ip (row_said said.entry))) }
         ensures err { IfErr result (λ fault. fault ≡ OutOfMemory) }
     {
         match said {
@@ -199,13 +203,6 @@ fn skip_blanks(text: &[u8]) -> &[u8]
         rest = later;
     }
     rest
-}
-
-/// Whether a byte is a space or a tab.
-fn is_blank(byte: u8) -> bool
-    ensures { result ≡ is_blank byte }
-{
-    byte == b' ' || byte == b'\t'
 }
 
 /// The name of a host that these bytes are.

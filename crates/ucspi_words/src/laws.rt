@@ -6,5 +6,6 @@ ghost use Rattle.ucspi_words.specs.Words.{Reading, Reads, reading};
 
 /// The reading of words is exactly what the rules allow.
 pub fn by_the_rules()
-    ensures { (letters : List ℕ) (words : List (List ℕ)) (result : Result Reading WordFault) → Reads (chars letters) [] words result ↔ (result ≡ reading letters words) }
+    ensures { (letters : List ℕ) (words : List (List ℕ)) (result : Result Reading WordFault)
+        → Reads (chars letters) [] words result ↔ (result ≡ reading letters words) }
 {}

@@ -106,7 +106,8 @@ impl<'a> Options<'a> {
 
 /// The last of the options with a letter.
 fn last_given<'s, 'a>(options: &'s [Given<'a>], letter: char) -> Option<&'s Given<'a>>
-    ensures { option_map (λ (given : Bor Given). letter_of given.now) result ≡ last_given (map letter_of options.now) letter }
+    ensures { option_map (λ (given : Bor Given). letter_of given.now) result
+        ≡ last_given (map letter_of options.now) letter }
 {
     options.iter().rev().find(|given| given.letter == letter)
 }

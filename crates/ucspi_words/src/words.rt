@@ -24,7 +24,8 @@ pub fn read_words<'a>(
     letters: &str,
     words: &'a [String],
 ) -> Result<(Options<'a>, &'a [String]), WordFault>
-    ensures read { IfOk result (λ r. Reads (chars letters.now) [] (map string_bytes words.now) (Ok (record { options = r.0; rest = map string_bytes r.1.now }))) }
+    ensures read { IfOk result (λ r. Reads (chars letters.now) [] (map string_bytes words.now)
+        (Ok (record { options = r.0; rest = map string_bytes r.1.now }))) }
     ensures refused { IfErr result (RefusesWords (chars letters.now) (map string_bytes words.now)) }
 {
     by_the_rules();
@@ -36,7 +37,8 @@ fn read_options<'a>(
     letters: &str,
     words: &'a [String],
 ) -> Result<(Options<'a>, &'a [String]), WordFault>
-    ensures read { IfOk result (λ r. reading letters.now (map string_bytes words.now) ≡ Ok (record { options = r.0; rest = map string_bytes r.1.now })) }
+    ensures read { IfOk result (λ r. reading letters.now (map string_bytes words.now)
+        ≡ Ok (record { options = r.0; rest = map string_bytes r.1.now })) }
     ensures refused { IfErr result (Refuses (reading letters.now (map string_bytes words.now))) }
 {
     let mut options = Options::new(alloc);
@@ -89,8 +91,11 @@ fn read_letters<'a>(
     letters: &str,
     text: &'a str,
 ) -> Result<Option<char>, WordFault>
-    ensures read { IfOk result (λ wanting. before_letters options.old (letters_read (chars letters.now) (chars text.now)) ≡ Ok (record { options = options.new; wanting = wanting })) }
-    ensures refused { IfErr result (Refuses (before_letters options.old (letters_read (chars letters.now) (chars text.now)))) }
+    ensures read { IfOk result (λ wanting.
+        before_letters options.old (letters_read (chars letters.now) (chars text.now))
+        ≡ Ok (record { options = options.new; wanting = wanting })) }
+    ensures refused { IfErr result
+        (Refuses (before_letters options.old (letters_read (chars letters.now) (chars text.now)))) }
 {
     let mut rest = text;
     while let Some((letter, after)) = split_first_char(rest) {
@@ -114,7 +119,8 @@ fn read_value<'a>(
     letter: char,
     rest: &'a str,
 ) -> Result<Option<char>, WordFault>
-    ensures read { IfOk result (λ wanting. before_letters options.old (Ok (value_in_rest letter (chars rest.now))) ≡ Ok (record { options = options.new; wanting = wanting })) }
+    ensures read { IfOk result (λ wanting. before_letters options.old (Ok (value_in_rest letter (chars rest.now)))
+        ≡ Ok (record { options = options.new; wanting = wanting })) }
     ensures refused { IfErr result (λ fault. fault ≡ OutOfMemory) }
 {
     if rest.is_empty() {
@@ -133,8 +139,11 @@ fn take_value<'a>(
     wanting: Option<char>,
     words: &'a [String],
 ) -> Result<&'a [String], WordFault>
-    ensures read { IfOk result (λ rest. (letters : List ℕ) → before options.old (reading_from letters (map string_bytes words.now) wanting) ≡ before options.new (reading_from letters (map string_bytes rest.now) None)) }
-    ensures refused { IfErr result (λ fault. (letters : List ℕ) → Refuses (reading_from letters (map string_bytes words.now) wanting) fault) }
+    ensures read { IfOk result (λ rest. (letters : List ℕ)
+        → before options.old (reading_from letters (map string_bytes words.now) wanting)
+        ≡ before options.new (reading_from letters (map string_bytes rest.now) None)) }
+    ensures refused { IfErr result (λ fault. (letters : List ℕ)
+        → Refuses (reading_from letters (map string_bytes words.now) wanting) fault) }
     ensures shorter { IfOk result (λ rest. length rest.now ≤ length words.now) }
 {
     let Some(letter) = wanting else {

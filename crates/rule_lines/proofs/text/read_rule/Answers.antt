@@ -3,7 +3,7 @@ use Rattle.rule_lines.specs.Codes.{decoded}
 use Rattle.rule_lines.specs.Faults.{fault_beside}
 use Rattle.rule_lines.specs.Pairs.{pairs_with}
 use Rattle.rule_lines.specs.Rows.{the_instr}
-use Rattle.rule_lines.specs.Spreads.{spread_of}
+use Rattle.rule_lines.specs.ReadAddresses.{addresses_read}
 use Rattle.rule_lines.proofs.FaultLemmas.{IsReadLine, none-answer, fault_under-append, IsReadLine-append, is_some-decoded, pairs-read, address_in-cut, instructions_in-cut, has_byte-colon}
 use Rattle.rule_lines.proofs.text.read_rule.Goals as goal
 use Rattle.rule_lines.proofs.text.read_rule.Goals.{In-Some, Then-is_none}
@@ -43,6 +43,6 @@ returns-in_ok-push-clause-pairs c =
     let line = c.args.line.now in
     let colon = has_byte-colon line c.args.colon c.requires.inside c.requires.first in
     let none = none-answer c.fault_beside_range-fault.result c.if-is_none.ensures in
-    let pushed = c.in_ok-push.ensures.ok ∙ ap (λ bytes. c.args.list.now ++ pairs_with (the_instr bytes) (spread_of c.in-Some.addresses)) c.deref.ensures.value in
+    let pushed = c.in_ok-push.ensures.ok ∙ ap (λ bytes. c.args.list.now ++ pairs_with (the_instr bytes) (addresses_read c.in-Some.addresses)) c.deref.ensures.value in
     rw none (pairs-read c.args.limit line c.append_code.new.code.items (read (goal.at.returns-in_ok-push-clause-pairs c).In-Some) (clear (goal.at.returns-in_ok-push-clause-pairs c).Then-is_none) colon
     c.args.list.now c.push.new.self c.in-Some.addresses (take c.args.colon line) c.in-Some.ensures.1 (address_in-cut line c.args.colon c.requires.first) pushed)

@@ -1,7 +1,7 @@
-use Rattle.std.proofs.Common.{arith, string_bytes}
+use Rattle.std.proofs.Common.{◌∙◌, ap, arith, map, refl, string_bytes}
 use Rattle.std.proofs.lemmas.Result.{err_from_is_err_and}
 use Rattle.rule_lookup.specs.Forms.{forms_of}
-use Rattle.rule_lookup.proofs.DecisionLemmas.{form_at, first-later, decided-here, refused-here, refused-look_up}
+use Rattle.rule_lookup.proofs.DecisionLemmas.{Any-asked-here, Any-asked-later, WhereKnown-of, form_at, first-later, no_device, decided-here, refused-here, refused-look_up}
 use Rattle.rule_lookup.proofs.decision.decide_by.Goals as goal
 
 pub returns-in_err-code-clause-refused : goal.returns-in_err-code-clause-refused
@@ -38,4 +38,24 @@ loop-form-preserved g c =
       all = c.loop-form.invariant.all;
       first = first-later (g.S.PairSource.finds c.args.source.now) (g.S.PairSource.trust c.args.source.now) (forms_of c.args.peer.now) c.loop-form.form-index (string_bytes c.form-item.result) at.0 at.1 c.loop-form.invariant.first
           (rw (c.in_default.is, c.as_str.ensures.value) at c.in_ok-code.ensures.found);
+      asked = Any-asked-later (g.S.PairSource.finds c.args.source.now) (g.S.PairSource.trust c.args.source.now) (forms_of c.args.peer.now) c.loop-form.form-index (string_bytes c.form-item.result) at.0 at.1
+          (g.S.PairSource.may_fail c.args.source.now) c.loop-form.invariant.asked (rw (c.in_default.is, c.as_str.ensures.value) at c.in_ok-code.ensures.found);
     }
+
+pub loop-form-init : goal.loop-form-init
+loop-form-init g c = record {
+  all = ap (map string_bytes) c.deref-form-items.ensures.value ∙ c.in_ok-forms.ensures;
+  first = WhereKnown-of (g.S.PairSource.trust c.args.source.now) refl;
+  asked = WhereKnown-of (g.S.PairSource.trust c.args.source.now) (λ any. any);
+}
+
+pub returns-in_err-code-clause-device : goal.returns-in_err-code-clause-device
+returns-in_err-code-clause-device g c = λ is.
+    let at = form_at c.deref-form-items.result.now (forms_of c.args.peer.now) c.loop-form.form-index c.form-item.result c.loop-form.invariant.all (omega arith) c.form-item.is in
+    let p = err_from_is_err_and c.from_residual-in_err-code.result c.from_residual-in_err-code.ensures.1 in
+    let fails = rw c.as_str.ensures.value at (c.in_err-code.ensures.device (cc (p.1, p.2, is))) in
+    Any-asked-here (g.S.PairSource.finds c.args.source.now) (g.S.PairSource.trust c.args.source.now) (forms_of c.args.peer.now) c.loop-form.form-index (string_bytes c.form-item.result) at.0 at.1
+    (g.S.PairSource.may_fail c.args.source.now) c.loop-form.invariant.asked fails
+
+pub returns-in-Some-clause-device : goal.returns-in-Some-clause-device
+returns-in-Some-clause-device g c = no_device c.as_str-in-Some.result.now c.as_slice.result.now c.by_code.result c.by_code.ensures.refused

@@ -1,6 +1,6 @@
 use Rattle.std.proofs.Common.{◌≡◌}
 use Rattle.std.specs.Net.Text.{dotted_text, ipv4_text}
-use Rattle.status_lines.proofs.Appends.{first, next, last, renamed}
+use Rattle.byte_text.proofs.Appends.{first, next, last, renamed}
 use Rattle.status_lines.proofs.fields.push_address.Goals as goal
 
 pub returns : goal.returns

@@ -2,7 +2,7 @@ use Rattle.std.proofs.Common.{◌≡◌, ◌++◌, codes, decimal}
 use Rattle.std.specs.Net.Text.{ipv4_text}
 use Rattle.rule_lookup.specs.Peers.{given}
 use Rattle.status_lines.specs.Texts.{field, local_text}
-use Rattle.status_lines.proofs.Appends.{first, next, last, renamed}
+use Rattle.byte_text.proofs.Appends.{first, next, last, renamed}
 use Rattle.status_lines.proofs.fields.push_local.Goals as goal
 
 pub returns : goal.returns

@@ -1,6 +1,6 @@
 use Rattle.std.proofs.Common.{◌++◌, map, take, ap, ◌∙◌}
 use Rattle.status_lines.specs.Texts.{mark}
-use Rattle.status_lines.proofs.Appends.{cut_off, first, last, renamed}
+use Rattle.byte_text.proofs.Appends.{cut_off, first, last, renamed}
 use Rattle.status_lines.proofs.FieldTexts.{field_text-long, field_text-short, take-printed}
 use Rattle.status_lines.proofs.fields.push_marked.Goals as goal
 

@@ -2,7 +2,7 @@ use Rattle.std.proofs.Common.{◌≡◌, ◌++◌, codes, decimal}
 use Rattle.std.specs.Net.Text.{ipv4_text}
 use Rattle.rule_lookup.specs.Peers.{given}
 use Rattle.status_lines.specs.Texts.{field, remote_text}
-use Rattle.status_lines.proofs.Appends.{first, next, last, renamed}
+use Rattle.byte_text.proofs.Appends.{first, next, last, renamed}
 use Rattle.status_lines.proofs.fields.push_remote.Goals as goal
 
 pub returns : goal.returns
@@ -11,5 +11,5 @@ returns c =
     let so_far_2 = next _ so_far_1 c.in_ok-push_text.ensures in
     let so_far_3 = next _ so_far_2 c.in_ok-push_field.ensures in
     let so_far_4 = next _ so_far_3 c.in_ok-push_text-2.ensures in
-    let same : field (given c.host.result) ++ codes ":" ++ ipv4_text c.ip.result ++ codes ":" ++ field (given c.info.result) ++ codes ":" ++ decimal c.from.result ≡ remote_text c.args.peer.now = rw (c.host.ensures, c.ip.ensures, c.info.ensures, c.from.ensures, c.port.ensures) in
+    let same : field (given c.host.result) ++ codes ":" ++ ipv4_text c.ip.result ++ codes ":" ++ field (given c.info.result) ++ codes ":" ++ decimal c.from.result ≡ remote_text c.args.peer.now = rw (c.host.ensures.value, c.ip.ensures, c.info.ensures.value, c.from.ensures, c.port.ensures) in
     renamed _ c.push_number.new.out.items c.push_number.result same (last _ c.push_number.new.out.items c.push_number.result so_far_4 c.push_number.ensures)

@@ -1,4 +1,4 @@
-use Rattle.status_lines.proofs.Appends.{first, next, last}
+use Rattle.byte_text.proofs.Appends.{first, next, last}
 use Rattle.status_lines.proofs.lines.push_full_line.Goals as goal
 
 pub returns : goal.returns

@@ -1,6 +1,6 @@
 use Rattle.std.proofs.Common.{◌≡◌, ◌++◌, codes, decimal}
 use Rattle.status_lines.specs.Texts.{local_text, remote_text, verdict_text}
-use Rattle.status_lines.proofs.Appends.{first, next, last, renamed}
+use Rattle.byte_text.proofs.Appends.{first, next, last, renamed}
 use Rattle.status_lines.proofs.lines.push_verdict_line.Goals as goal
 
 pub returns : goal.returns

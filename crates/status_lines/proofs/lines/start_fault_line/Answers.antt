@@ -1,6 +1,6 @@
 use Rattle.std.proofs.Common.{◌≡◌, ◌++◌, codes, decimal, arith}
 use Rattle.status_lines.specs.Texts.{start_text}
-use Rattle.status_lines.proofs.Appends.{renamed}
+use Rattle.byte_text.proofs.Appends.{renamed}
 use Rattle.status_lines.proofs.lines.start_fault_line.Goals as goal
 
 pub returns : goal.returns

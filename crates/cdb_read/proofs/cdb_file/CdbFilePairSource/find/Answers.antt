@@ -4,8 +4,8 @@ use Rattle.cdb_read.proofs.FaultLemmas.{MatchResult-whole}
 use Rattle.cdb_read.proofs.ProbeLemmas.{found_in_slots-reading}
 use Rattle.cdb_read.proofs.cdb_file.CdbFilePairSource.find.Goals as goal
 
-pub returns : goal.returns
-returns g c =
+pub returns-clause-answer : goal.returns-clause-answer
+returns-clause-answer g c =
     let file = g.F.RulesFile.bytes c.args.self.now in
     let key = c.args.key.now in
     MatchResult-whole g.F.RulesFile.honest g.F.RulesFile.sound g.met.F.RulesFile.sound_is_honest _ (reading file key) (λ honest.

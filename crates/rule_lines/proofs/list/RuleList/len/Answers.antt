@@ -1,13 +1,12 @@
--- The rows count their rules.
-use Rattle.std.proofs.Common.{List, arith, ap, length, subst}
-use Rattle.rule_lines.specs.Pairs.{Rule}
+-- The rows count their rules, and have the codes of their instructions.
+use Rattle.std.proofs.Common.{arith, ap, length, subst}
 use Rattle.rule_lines.specs.Rows.{AreRules}
-use Rattle.rule_lines.proofs.KnownRows.{AreRules-rows}
+use Rattle.rule_lines.proofs.KnownLemmas.{AreRules-rows}
 use Rattle.rule_lines.proofs.RowLemmas.{length-rules_in}
 use Rattle.rule_lines.proofs.list.RuleList.len.Goals as goal
 
-pub returns-clause-len : goal.returns-clause-len
-returns-clause-len c =
+pub returns-clause-count : goal.returns-clause-count
+returns-clause-count c =
     let list = c.self.inside in
     let counted = length-rules_in list.bytes.items list.rows.items 0 list.len c.self.invariant in
     let same = ap length c.self.view_is in
@@ -16,4 +15,4 @@ returns-clause-len c =
 pub returns-clause-known : goal.returns-clause-known
 returns-clause-known c =
     let list = c.self.inside in
-    subst (λ (rules : List Rule). AreRules rules) c.self.view_is (AreRules-rows list.bytes.items 0 list.len list.rows.items c.self.invariant)
+    subst AreRules c.self.view_is (AreRules-rows list.bytes.items list.rows.items 0 list.len c.self.invariant)

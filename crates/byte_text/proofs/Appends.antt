@@ -1,7 +1,7 @@
 -- Parts that are appended one after another.
-use Rattle.std.proofs.Common.{◌≡◌, ℕ, List, ◌++◌, Result, Ok, Err, ap, subst, ◌∙◌, append_assoc}
+use Rattle.std.proofs.Common.{◌≡◌, ℕ, List, ◌++◌, Result, Ok, Err, OnOk, OnErr, ap, subst, ◌∙◌, append_assoc}
 use Rattle.std.specs.Result.{IsErr}
-use Rattle.status_lines.specs.Outcomes.{AppendsPart}
+use Rattle.byte_text.specs.Outcomes.{AppendsLine, AppendsPart}
 
 -- what was appended so far
 pub record Grown (old some new : List ℕ) : Type 0 where
@@ -28,3 +28,12 @@ cut_off part old some new (Err e) failed is = (some, is)
 -- the same part, written otherwise
 pub renamed : {E : Type 0} {part whole : List ℕ} (old new : List ℕ) (done : Result (Unit {0}) E) → part ≡ whole → AppendsPart part old new done → AppendsPart whole old new done
 renamed old new done same h = subst (λ (p : List ℕ). AppendsPart p old new done) same h
+
+-- what a whole leaves, by how the call ended
+pub OnOk-line : {E : Type 0} (line old new : List ℕ) (done : Result (Unit {0}) E) → AppendsLine line old new done → OnOk done (new ≡ old ++ line)
+OnOk-line line old new (Ok done) is = is
+OnOk-line line old new (Err e) is = tt
+
+pub OnErr-line : {E : Type 0} (line old new : List ℕ) (done : Result (Unit {0}) E) → AppendsLine line old new done → OnErr done (new ≡ old)
+OnErr-line line old new (Ok done) is = tt
+OnErr-line line old new (Err e) is = is

@@ -1,0 +1,2 @@
+-- Lemmas on what a call that appends leaves.
+pub mod Appends

@@ -1,0 +1,2 @@
+-- What a call that appends leaves.
+pub mod Outcomes

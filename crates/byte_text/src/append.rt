@@ -1,0 +1,42 @@
+//! Calls that append. After an `Err` some of a part may stand at the end.
+ghost use Rattle.std.specs.Prelude.{◌≡◌, List, ℕ, decimal, length};
+ghost use Rattle.byte_text.specs.Outcomes.{AppendsLine, AppendsPart};
+
+use itoa::Buffer;
+use std::alloc::AllocError;
+
+/// Adds a text.
+///
+/// # Errors
+/// There was no memory; some of the text may have been added.
+pub fn push_text(out: &mut Vec<u8>, text: &str) -> Result<(), AllocError>
+    ensures { AppendsPart text.now out.old.items out.new.items result }
+{
+    out.extend_from_slice(text.as_bytes())
+}
+
+/// Adds a number, in decimal digits.
+///
+/// # Errors
+/// There was no memory; some of the digits may have been added.
+pub fn push_number(out: &mut Vec<u8>, number: u64) -> Result<(), AllocError>
+    ensures { AppendsPart (decimal number) out.old.items out.new.items result }
+{
+    push_text(out, Buffer::new().format(number))
+}
+
+/// Takes back what was appended after a length, where that was not all: so a whole that was appended in parts is appended or
+/// not at all. `done` is what the parts gave, and is given back.
+pub fn whole_or_none(
+    out: &mut Vec<u8>,
+    whole: usize,
+    done: Result<(), AllocError>,
+) -> Result<(), AllocError>
+    ensures { (old line : List ℕ) → length old ≡ whole → AppendsPart line old out.old.items done
+        → AppendsLine line old out.new.items result }
+{
+    if done.is_err() {
+        out.truncate(whole);
+    }
+    done
+}

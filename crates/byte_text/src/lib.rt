@@ -1,0 +1,9 @@
+//! Texts that are appended to bytes: parts, and wholes that are appended or not at all.
+#![tactic(auto)]
+
+pub mod append;
+
+pub use append::{push_number, push_text, whole_or_none};
+
+#[cfg(test)]
+mod tests;
