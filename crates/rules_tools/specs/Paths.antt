@@ -1,5 +1,5 @@
 -- Paths, and what is wrong with those of `tcprules`.
-use Rattle.std.specs.Prelude.{◌≡◌, ◌⊎◌, ◌==◌, ◌||◌, ℕ, List, [], ◌∷◌, ◌++◌, Option, Some, None, is_some, codes, bytes_eq, if◌then◌else◌, Result, Ok, Err}
+use Rattle.std.specs.Prelude.{◌≡◌, ◌⊎◌, ◌==◌, ◌||◌, ℕ, List, [], ◌∷◌, ◌++◌, Option, Some, None, IsSome, is_some, codes, bytes_eq, if◌then◌else◌, Result, Ok, Err}
 use Rattle.std.specs.Borrow.{Bor}
 use Rattle.std.specs.Str.{NoCharPasses}
 use Rattle.dir_disk.specs.Names.{name_fault}
@@ -16,6 +16,10 @@ pub record IsSplit (path folder name : List ℕ) : Type 0 where
 abbrev pub folder_path : List ℕ → List ℕ
 folder_path [] = codes "/"
 folder_path (b ∷ bs) = b ∷ bs
+
+-- a text is taken for no name: it is none, or there is no memory
+abbrev pub RefusesName : List ℕ → TcprulesFault → Type 0
+RefusesName name fault = (fault ≡ OutOfMemory) ⊎ ((fault ≡ BadName) × IsSome (name_fault name))
 
 -- what is wrong with two names in their folders, the first in this order
 abbrev pub paths_fault : List ℕ → List ℕ → NamePair → Option TcprulesFault

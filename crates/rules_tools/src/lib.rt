@@ -9,4 +9,6 @@ pub use tcprules::{TcprulesFault, run_tcprules};
 pub use tcprulescheck::{CheckFault, run_tcprulescheck};
 
 #[cfg(test)]
+mod check_tests;
+#[cfg(test)]
 mod path_tests;

@@ -1,7 +1,7 @@
 //! `tcprules`: compiles a rule text from standard input, and installs it.
-ghost use Rattle.std.specs.Prelude.{◌≡◌, ◌⊎◌, ◌<◌, ◌^◌, ◌-◌, ◌+◌, None, IfOk, IfErr, IfSome, IsSome, take};
+ghost use Rattle.std.specs.Prelude.{◌≡◌, ◌⊎◌, ◌<◌, ◌^◌, ◌-◌, ◌+◌, None, IfOk, IfErr, IfSome, take};
 ghost use Rattle.dir_disk.specs.Names.{name_fault};
-ghost use Rattle.rules_tools.specs.Paths.{PlacesOf};
+ghost use Rattle.rules_tools.specs.Paths.{PlacesOf, RefusesName};
 ghost use Rattle.rules_tools.specs.Rules.{told_fault};
 ghost use Rattle.rules_tools.specs.declared.tcprules.TcprulesFault.TheVariants.{OutOfMemory};
 
@@ -34,7 +34,7 @@ pub enum TcprulesFault {
     #[error("{0}")]
     Line(LineFault),
     /// The text is over its limit.
-    #[error("text too long")]
+    #[error("{kind}", kind = LineKind::LongText)]
     LongText,
     /// The compiled file would be over its limit.
     #[error("compiled file too large")]
@@ -129,7 +129,7 @@ pub fn read_places<'a>(
 /// A name of a file.
 fn read_name(alloc: Global, text: &str) -> Result<Name, TcprulesFault>
     ensures kept { IfOk result (λ name. (name ≡ text.now) × (name_fault text.now ≡ None)) }
-    ensures refused { IfErr result (λ fault. (fault ≡ TcprulesFault.OutOfMemory) ⊎ ((fault ≡ TcprulesFault.BadName) × IsSome (name_fault text.now))) }
+    ensures refused { IfErr result (RefusesName text.now) }
 {
     match Name::new(alloc, text.as_bytes()) {
         Ok(name) => Ok(name),
@@ -145,8 +145,10 @@ pub(crate) fn read_text<R: Read>(
     limit: u64,
 ) -> Result<Vec<u8>, TcprulesFault>
     requires { limit < 2 ^ 64 - 1 }
-    ensures text { IfOk result (λ text. IfSome (R.remaining reader.old) (λ all. text.items ≡ take (limit + 1) all)) }
-    ensures faults { IfErr result (λ fault. (fault ≡ TcprulesFault.ReadFault) ⊎ (fault ≡ TcprulesFault.OutOfMemory)) }
+    ensures text { IfOk result (λ text.
+        IfSome (R.remaining reader.old) (λ all. text.items ≡ take (limit + 1) all)) }
+    ensures faults { IfErr result (λ fault.
+        (fault ≡ TcprulesFault.ReadFault) ⊎ (fault ≡ TcprulesFault.OutOfMemory)) }
 {
     let mut text = Vec::new(alloc);
     match reader.take(limit + 1).read_to_end(&mut text) {

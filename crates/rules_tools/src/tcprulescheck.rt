@@ -88,7 +88,7 @@ where
 }
 
 /// The peer of the variables.
-fn read_peer<E: Env + AllocGlobal>(env: &E) -> Result<Peer, CheckFault> {
+pub(crate) fn read_peer<E: Env + AllocGlobal>(env: &E) -> Result<Peer, CheckFault> {
     let ip = match read_variable(env, "TCPREMOTEIP")? {
         None => NO_ADDRESS,
         Some(text) => parse_address(text.as_str()).ok_or(CheckFault::BadIp)?,
@@ -150,8 +150,10 @@ pub fn decide_at<D: Dir>(
     name: &Name,
     peer: &Peer,
 ) -> Result<Decision, CheckFault>
-    ensures decided { IsTrue D.honest → IfOk result (DecidesBy (content (D.state dir.old) name.now) peer.now) }
-    ensures refused { IsTrue D.honest → IfErr result (FailsBy (content (D.state dir.old) name.now) peer.now) }
+    ensures decided { IsTrue D.honest
+        → IfOk result (DecidesBy (content (D.state dir.old) name.now) peer.now) }
+    ensures refused { IsTrue D.honest
+        → IfErr result (FailsBy (content (D.state dir.old) name.now) peer.now) }
     ensures blames { IfErr result (Blames (D.failed dir.old) (D.failed dir.new) D.File.sound) }
 {
     let file = match dir.open(alloc, name) {
@@ -175,7 +177,8 @@ pub fn decide_at<D: Dir>(
 
 /// Writes an answer, and flushes it.
 fn write_answer<W: Write>(writer: &mut W, answer: &[u8]) -> Result<(), CheckFault>
-    ensures written { OnOk result (Appends (W.contents writer.old) (W.contents writer.new) answer.now) }
+    ensures written { OnOk result
+        (Appends (W.contents writer.old) (W.contents writer.new) answer.now) }
     ensures fault { IfErr result (λ fault. fault ≡ CheckFault.WriteFault) }
 {
     if writer.write_all(answer).is_err() || writer.flush().is_err() {

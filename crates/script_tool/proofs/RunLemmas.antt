@@ -5,8 +5,9 @@ use Rattle.std.proofs.lemmas.Bool.{eqb-true, lt-ltb}
 use Rattle.std.specs.Io.BufRead.{take_through, drop_through, strip_last, DropsThrough}
 use Rattle.std.specs.Io.KnownBytes.{Appends, IsAtEnd}
 use Rattle.rule_lines.specs.Lines.{empty_line, lines_of, onto_line}
-use Rattle.script_tool.specs.declared.sim.SimEnd.{SimEnd}
-use Rattle.script_tool.specs.declared.sim.SimEnd.TheVariants.{Ended, BadCommand, ReadFault, OutOfMemory}
+use Rattle.std.specs.Prelude.{Ok, Err}
+use Rattle.script_tool.specs.declared.sim.SimFault.{SimFault}
+use Rattle.script_tool.specs.declared.sim.SimFault.TheVariants.{BadCommand, ReadFault, OutOfMemory}
 use Rattle.script_tool.specs.Commands.{Carries}
 use Rattle.script_tool.specs.Kept.{IsAt}
 use Rattle.script_tool.specs.declared.simulation.Simulation.{Simulation}
@@ -120,16 +121,16 @@ front_so_far before now rest script n kept so_far = record {
 }
 
 module _ (before now rest : Option (List ℕ)) (n : ℕ) (kept : Simulation) where
-  pub at_no_memory : (script : Option (List ℕ)) → IfSome script (λ all. RunsOn before now rest all n kept) → IfSome script (λ all. Prints before now (sim all) OutOfMemory)
+  pub at_no_memory : (script : Option (List ℕ)) → IfSome script (λ all. RunsOn before now rest all n kept) → IfSome script (λ all. Prints before now (sim all) (Err OutOfMemory))
   at_no_memory None so_far = tt
   at_no_memory (Some all) so_far = front_so_far before now rest all n kept so_far
 
-  pub at_fault : (script : Option (List ℕ)) (end : SimEnd) → (end ≡ ReadFault) ⊎ (end ≡ OutOfMemory) → IfSome script (λ all. RunsOn before now rest all n kept) → IfSome script (λ all. Prints before now (sim all) end)
+  pub at_fault : (script : Option (List ℕ)) (end : SimFault) → (end ≡ ReadFault) ⊎ (end ≡ OutOfMemory) → IfSome script (λ all. RunsOn before now rest all n kept) → IfSome script (λ all. Prints before now (sim all) (Err end))
   at_fault None end is so_far = tt
   at_fault (Some all) end (inl is) so_far =
-      subst (λ e. Prints before now (sim all) e) (sym is) (front_so_far before now rest all n kept so_far)
+      subst (λ e. Prints before now (sim all) (Err e)) (sym is) (front_so_far before now rest all n kept so_far)
   at_fault (Some all) end (inr is) so_far =
-      subst (λ e. Prints before now (sim all) e) (sym is) (front_so_far before now rest all n kept so_far)
+      subst (λ e. Prints before now (sim all) (Err e)) (sym is) (front_so_far before now rest all n kept so_far)
 
 -- a fault of the writer says nothing of what was written
 pub at_write_fault : (script : Option (List ℕ)) → IfSome script (λ all. Unit {0})
@@ -143,7 +144,7 @@ printing-twice xs ys run =
 
 -- a line more, which was carried out
 module _ (before now rest : Option (List ℕ)) (script : List ℕ) (n : ℕ) (kept : Simulation) (so_far : RunsOn before now rest script n kept) where
-  pub runs_to_end : IsAtEnd rest → Prints before now (sim script) Ended
+  pub runs_to_end : IsAtEnd rest → Prints before now (sim script) (Ok tt)
   runs_to_end over =
       let all : printing so_far.done (run_from n [] so_far.state) ≡ sim script = ap (λ (l : List ℕ). printing so_far.done (run_from n (lines_of l) so_far.state)) (sym (nothing_left over)) ∙ so_far.same in
       (Appends-same before now (so_far.done ++ []) (sim script).output (ap (λ r. r.output) all) (Appends-same before now so_far.done (so_far.done ++ []) (sym (append-nil so_far.done)) so_far.written), sym (ap (λ r. r.bad) all)) where
@@ -157,7 +158,7 @@ module _ (before now rest : Option (List ℕ)) (script : List ℕ) (n : ℕ) (ke
         ∙ ap (λ lines. run_from n lines so_far.state) (first_line x xs).lines
         ∙ ap (λ (l : List ℕ). run_line n (command_at so_far.state (strip_last 10 l)) so_far.state (run_from (n + 1) (lines_of (drop_through 10 (x ∷ xs))))) (sym line_is)
 
-    pub runs_to_bad : command_at so_far.state (strip_last 10 line) ≡ None → Prints before now (sim script) (BadCommand n)
+    pub runs_to_bad : command_at so_far.state (strip_last 10 line) ≡ None → Prints before now (sim script) (Err (BadCommand n))
     runs_to_bad bad =
         let all : printing so_far.done (record { output = []; bad = Some n }) ≡ sim script =
         sym (ap (printing so_far.done) (next ∙ ap (λ c. run_line n c so_far.state (run_from (n + 1) (lines_of (drop_through 10 (x ∷ xs))))) bad)) ∙ so_far.same in
@@ -194,7 +195,7 @@ module _ (before now rest : Option (List ℕ)) (n : ℕ) (kept : Simulation) (li
   line_front script so_far =
       front_of so_far.left line ((rw so_far.remains at read) ∙ ap (λ (c : List ℕ). c ++ take_through 10 so_far.left) none) some
 
-  pub at_bad_line : (script : Option (List ℕ)) → ((state : State) → IsAt kept state → command_at state (strip_last 10 line) ≡ None) → IfSome script (λ all. RunsOn before now rest all n kept) → IfSome script (λ all. Prints before now (sim all) (BadCommand n))
+  pub at_bad_line : (script : Option (List ℕ)) → ((state : State) → IsAt kept state → command_at state (strip_last 10 line) ≡ None) → IfSome script (λ all. RunsOn before now rest all n kept) → IfSome script (λ all. Prints before now (sim all) (Err (BadCommand n)))
   at_bad_line None bad so_far = tt
   at_bad_line (Some all) bad so_far =
       let f = line_front all so_far in
@@ -206,6 +207,6 @@ module _ (before now rest : Option (List ℕ)) (n : ℕ) (kept : Simulation) (li
       let f = line_front all so_far in
       runs_on before now rest all n kept so_far line f.x f.xs f.left_is f.line_is later rest_later kept_later out (carried so_far.state so_far.at) (rw so_far.remains at drops ∙ ap (λ (l : List ℕ). Some (drop_through 10 l)) f.left_is) wrote
 
-pub at_end : (before now rest : Option (List ℕ)) (n : ℕ) (kept : Simulation) → IsAtEnd rest → (script : Option (List ℕ)) → IfSome script (λ all. RunsOn before now rest all n kept) → IfSome script (λ all. Prints before now (sim all) Ended)
+pub at_end : (before now rest : Option (List ℕ)) (n : ℕ) (kept : Simulation) → IsAtEnd rest → (script : Option (List ℕ)) → IfSome script (λ all. RunsOn before now rest all n kept) → IfSome script (λ all. Prints before now (sim all) (Ok tt))
 at_end before now rest n kept over None so_far = tt
 at_end before now rest n kept over (Some all) so_far = runs_to_end before now rest all n kept so_far over

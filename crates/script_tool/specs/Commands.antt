@@ -1,5 +1,5 @@
 -- What a command that was read means, and what it does.
-use Rattle.std.specs.Prelude.{◌≡◌, ℕ, List, map, Option, Some, None}
+use Rattle.std.specs.Prelude.{◌≡◌, ℕ, List, ◌++◌, map, Option, Some, None}
 use Rattle.std.specs.Borrow.{Bor}
 use Rattle.script_tool.specs.declared.script.Command.{Command as Read}
 use Rattle.script_tool.specs.declared.script.Command.TheVariants as read
@@ -32,6 +32,11 @@ texts words = map (λ (word : Bor (List ℕ)). word.now) words
 abbrev pub RefusesAs : {X : Type 0} → Option X → LineEnd → Type 0
 RefusesAs wanted Bad = wanted ≡ None
 RefusesAs wanted OutOfMemory = Unit {0}
+
+-- a command leads to the state after it, and what it prints is added
+abbrev pub Obeys : Command → State → Simulation → List ℕ → List ℕ → Type 0
+Obeys command state now before printed_now =
+    IsAt now (after state command) × (printed_now ≡ before ++ printed state command)
 
 -- a line was carried out: from the state before to the one after, with what it prints
 pub record Carries (line : List ℕ) (state : State) (now : Simulation) (out : List ℕ) : Type 0 where

@@ -11,13 +11,14 @@ use Rattle.cdb_read.specs.Compiled.{Compiled}
 use Rattle.rule_lines.specs.Pairs.{pairs_of}
 use Rattle.rule_lines.specs.Rows.{AreRules}
 use Rattle.rules_install.specs.Filled.{fillings_left}
-use Rattle.rules_install.specs.Installing.{Installing, Fits, file_among}
+use Rattle.rules_install.specs.Installing.{Installing, Fits, file_among, next_phase}
 use Rattle.rules_install.specs.Installs.{installing}
 use Rattle.rules_install.specs.NamePair.{NamePair}
+use Rattle.rules_install.specs.declared.Phase.{Phase}
 use Rattle.script_tool.specs.declared.simulation.Simulation.{Simulation}
 use Rattle.script_tool.specs.declared.simulation.Progress.{Progress}
-use Rattle.script_tool.specs.Sim.{Begun, State}
-use Rattle.script_tool.specs.Texts.{Texts, left_by, place_reached}
+use Rattle.script_tool.specs.Sim.{Begun, State, begun_to}
+use Rattle.script_tool.specs.Texts.{Texts, at_phases, later_of, left_by, place_reached}
 
 -- the names of the rules file and of the scratch file
 abbrev pub sim_names : NamePair
@@ -54,6 +55,17 @@ pub record IsInstalling (d : Directory) (p : Progress) (b : Begun) : Type 0 wher
 -- how many steps are left at most: for each byte of the scratch file, its pointers and each phase
 abbrev pub steps_left : Installing → ℕ
 steps_left s = fillings_left s.rules s.filled s.patched + (5 - place_reached s.reached)
+
+-- an installation that was begun went on to a phase, or is at a later one: to the phase that is told, which the texts follow
+abbrev pub GoesOn : Phase → Begun → Texts → Directory → Progress → Phase → Type 0
+GoesOn target b t d now phase =
+    (phase ≡ later_of b.reached target) × IsInstalling d now (begun_to target b)
+    × HasTexts d (at_phases b.text b.reached target t)
+
+-- an installation that was begun reached its next phase, which is told
+abbrev pub Steps : Installing → Begun → Directory → Progress → Phase → Type 0
+Steps before b d now phase =
+    (phase ≡ next_phase before) × IsInstalling d now (record b { reached = Some phase })
 
 abbrev pub MayBeInstalling : Directory → Option Progress → Option Begun → Type 0
 MayBeInstalling d None None = Unit {0}

@@ -1,5 +1,5 @@
 -- What `rulesim` prints for a script.
-use Rattle.std.specs.Prelude.{◌≡◌, ℕ, ◌+◌, Bool, true, nat_lt, List, [], ◌∷◌, ◌++◌, Option, Some, None, option_map, option_and_then, is_some, codes, bytes_eq, if◌then◌else◌}
+use Rattle.std.specs.Prelude.{◌≡◌, ℕ, ◌+◌, Bool, true, nat_lt, List, [], ◌∷◌, ◌++◌, Option, Some, None, Result, Ok, Err, option_map, option_and_then, is_some, codes, bytes_eq, if◌then◌else◌}
 use Rattle.std.specs.Io.KnownBytes.{Appends}
 use Rattle.cdb_write.specs.Image.{finished_length}
 use Rattle.cdb_read.specs.Compiled.{stored}
@@ -15,8 +15,8 @@ use Rattle.rules_install.specs.declared.Phase.TheVariants.{Done}
 use Rattle.server_core.specs.declared.event.Event.{Event}
 use Rattle.server_core.specs.Reports.{first_illegal, report_of}
 use Rattle.server_core.specs.ServerState.{start as server_at_start}
-use Rattle.script_tool.specs.declared.sim.SimEnd.{SimEnd}
-use Rattle.script_tool.specs.declared.sim.SimEnd.TheVariants.{Ended, BadCommand, ReadFault, WriteFault, OutOfMemory}
+use Rattle.script_tool.specs.declared.sim.SimFault.{SimFault}
+use Rattle.script_tool.specs.declared.sim.SimFault.TheVariants.{BadCommand, ReadFault, WriteFault, OutOfMemory}
 use Rattle.answer_lines.specs.Answers.{answer_lines}
 use Rattle.script_tool.specs.Replies.{fault_text, illegal_line, reached_line, report_line}
 use Rattle.script_tool.specs.Events.{History, with_event}
@@ -187,9 +187,9 @@ pub record PrintsFront (before now : Option (List ℕ)) (run : Run) : Type 0 whe
 
 -- what was written from one moment to another is what a run prints, and it ended as the run does; at a fault of the reader,
 -- or for want of memory, a front of it was written, and a fault of the writer says nothing of what was
-abbrev pub Prints : Option (List ℕ) → Option (List ℕ) → Run → SimEnd → Type 0
-Prints before now run Ended = Appends before now run.output × (run.bad ≡ None)
-Prints before now run (BadCommand n) = Appends before now run.output × (run.bad ≡ Some n)
-Prints before now run ReadFault = PrintsFront before now run
-Prints before now run WriteFault = Unit {0}
-Prints before now run OutOfMemory = PrintsFront before now run
+abbrev pub Prints : Option (List ℕ) → Option (List ℕ) → Run → Result (Unit {0}) SimFault → Type 0
+Prints before now run (Ok done) = Appends before now run.output × (run.bad ≡ None)
+Prints before now run (Err (BadCommand n)) = Appends before now run.output × (run.bad ≡ Some n)
+Prints before now run (Err ReadFault) = PrintsFront before now run
+Prints before now run (Err WriteFault) = Unit {0}
+Prints before now run (Err OutOfMemory) = PrintsFront before now run

@@ -47,7 +47,8 @@ fn event_named(alloc: Global, name: &str, words: &[&str]) -> Result<Event, LineE
 
 /// The event of a connection that is let in from an address, without names and with port 0.
 fn admission(alloc: Global, words: &[&str]) -> Result<Event, LineEnd>
-    ensures read { IfOk result (λ event. event_named (codes "admitted") (texts words.now) ≡ Some event) }
+    ensures read { IfOk result (λ event.
+        event_named (codes "admitted") (texts words.now) ≡ Some event) }
     ensures refused { IfErr result (RefusesAs (event_named (codes "admitted") (texts words.now))) }
 {
     let (serial, address) = serial_and_word(words).ok_or(LineEnd::Bad)?;
@@ -136,7 +137,8 @@ pub fn only_phase(words: &[&str]) -> Option<Phase>
 
 /// The serial that the first of two words is, and the second.
 fn serial_and_word<'a>(words: &[&'a str]) -> Option<(u64, &'a str)>
-    ensures { option_map (λ (p : ℕ × Bor (List ℕ)). (p.0, p.1.now)) result ≡ serial_and_word (texts words.now) }
+    ensures { option_map (λ (p : ℕ × Bor (List ℕ)). (p.0, p.1.now)) result
+        ≡ serial_and_word (texts words.now) }
 {
     match words {
         [serial, word] => Some((serial_in(serial)?, word)),

@@ -6,8 +6,10 @@ mod replies;
 pub mod script;
 pub mod sim;
 mod simulation;
+pub mod standard;
 
-pub use sim::{SimEnd, run_rulesim};
+pub use sim::{SimFault, run_rulesim};
+pub use standard::run_script;
 
 #[cfg(test)]
 mod source_tests;

@@ -11,7 +11,8 @@ use std::alloc::AllocError;
 /// Adds what is wrong with a rule text: the line and its kind, but for a text that is too long. After an `Err` a part may
 /// stand at the end of `out`.
 pub fn append_fault(out: &mut Vec<u8>, fault: &LineFault) -> Result<(), AllocError>
-    ensures { OnOk result (out.new.items ≡ out.old.items ++ fault_text fault.now.line fault.now.kind) }
+    ensures { OnOk result
+        (out.new.items ≡ out.old.items ++ fault_text fault.now.line fault.now.kind) }
 {
     match fault.kind {
         LineKind::LongText => out.extend_from_slice(b"text too long"),

@@ -87,7 +87,8 @@ pub fn read_command(alloc: Global, line: &[u8]) -> Result<Command<'_>, LineEnd>
 
 /// The command that the words of a line are.
 fn read_words(alloc: Global, line: &str) -> Result<Command<'_>, LineEnd>
-    ensures read { IfOk result (λ command. command_in (words_of line.now) ≡ Some (meaning command)) }
+    ensures read { IfOk result (λ command.
+        command_in (words_of line.now) ≡ Some (meaning command)) }
     ensures refused { IfErr result (RefusesAs (command_in (words_of line.now))) }
 {
     let words = words_in(alloc, line)?;
@@ -113,7 +114,8 @@ fn command_from<'a>(alloc: Global, words: &[&'a str]) -> Result<Command<'a>, Lin
 
 /// The command with a name, and the words after that.
 fn command_named<'a>(alloc: Global, name: &str, words: &[&'a str]) -> Result<Command<'a>, LineEnd>
-    ensures read { IfOk result (λ command. command_named name.now (texts words.now) ≡ Some (meaning command)) }
+    ensures read { IfOk result (λ command.
+        command_named name.now (texts words.now) ≡ Some (meaning command)) }
     ensures refused { IfErr result (RefusesAs (command_named name.now (texts words.now))) }
 {
     match name {
@@ -200,7 +202,8 @@ fn read_limits(words: &[&str]) -> Option<(u64, u64)>
 
 /// A command that has no more words.
 fn alone<'a>(command: Command<'a>, words: &[&str]) -> Result<Command<'a>, LineEnd>
-    ensures read { IfOk result (λ read. alone (meaning command.entry) (texts words.now) ≡ Some (meaning read)) }
+    ensures read { IfOk result (λ read.
+        alone (meaning command.entry) (texts words.now) ≡ Some (meaning read)) }
     ensures refused { IfErr result (RefusesAs (alone (meaning command.entry) (texts words.now))) }
 {
     if words.is_empty() {
@@ -243,8 +246,10 @@ fn make_peer(
     info: Option<&str>,
     host: Option<&str>,
 ) -> Result<Peer, LineEnd>
-    ensures read { IfOk result (λ peer. peer_of ip.now (given info.entry) (given host.entry) ≡ Some peer) }
-    ensures refused { IfErr result (RefusesAs (peer_of ip.now (given info.entry) (given host.entry))) }
+    ensures read { IfOk result (λ peer.
+        peer_of ip.now (given info.entry) (given host.entry) ≡ Some peer) }
+    ensures refused { IfErr result
+        (RefusesAs (peer_of ip.now (given info.entry) (given host.entry))) }
 {
     let Some(ip) = parse_address(ip) else {
         return Err(LineEnd::Bad);

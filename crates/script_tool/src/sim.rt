@@ -9,75 +9,93 @@ ghost use Rattle.script_tool.specs.Sim.{State, command_at, sim, Prints};
 use crate::script::{LineEnd, read_command};
 use crate::simulation::Simulation;
 use std::alloc::Global;
-use std::io::{BufRead, Error, ErrorKind, Write};
+use std::io;
+use std::io::{BufRead, ErrorKind, Write};
+use thiserror::Error;
 
 /// How many lines are read at most.
 const MOST_LINES: u64 = 1 << 40;
 
-/// How a run of `rulesim` ends.
-#[derive(Clone, Copy, PartialEq, Eq, Debug)]
-pub enum SimEnd {
-    /// At the end of the script.
-    Ended,
-    /// At this line, from 1, which is no command.
+/// Why a run of `rulesim` does not come to the end of its script.
+#[derive(Clone, Copy, PartialEq, Eq, Debug, Error)]
+pub enum SimFault {
+    /// This line, from 1, is no command.
+    #[error("line {0}: bad command")]
     BadCommand(u64),
     /// The script could not be read, or has more than 2^40 lines.
+    #[error("read fault")]
     ReadFault,
     /// The answers could not be written.
+    #[error("write fault")]
     WriteFault,
     /// There was no memory.
+    #[error("out of memory")]
     OutOfMemory,
 }
 
-/// Runs a script, and writes what it prints: a line or more for each command that answers, as soon as it is read. What was
-/// printed before a bad line stays written. The writer is flushed before the return.
-pub fn run_rulesim<R: BufRead, W: Write>(alloc: Global, reader: &mut R, writer: &mut W) -> SimEnd
-    ensures { IfSome (R.remaining reader.old) (λ script. Prints (W.contents writer.old) (W.contents writer.new) (sim script) result) }
+/// Runs a script, and writes what it prints: a line or more for each command that answers, as soon as it is read. The writer is flushed
+/// before the return.
+///
+/// # Errors
+/// As of `SimFault`. What was printed before a bad line stays written.
+pub fn run_rulesim<R: BufRead, W: Write>(
+    alloc: Global,
+    reader: &mut R,
+    writer: &mut W,
+) -> Result<(), SimFault>
+    ensures { IfSome (R.remaining reader.old) (λ script.
+        Prints (W.contents writer.old) (W.contents writer.new) (sim script) result) }
 {
     let end = run_lines(alloc, reader, writer);
     match writer.flush() {
         Ok(()) => end,
-        Err(_) => SimEnd::WriteFault,
+        Err(_) => Err(SimFault::WriteFault),
     }
 }
 
-fn run_lines<R: BufRead, W: Write>(alloc: Global, reader: &mut R, writer: &mut W) -> SimEnd
-    ensures { IfSome (R.remaining reader.old) (λ script. Prints (W.contents writer.old) (W.contents writer.new) (sim script) result) }
+fn run_lines<R: BufRead, W: Write>(
+    alloc: Global,
+    reader: &mut R,
+    writer: &mut W,
+) -> Result<(), SimFault>
+    ensures { IfSome (R.remaining reader.old) (λ script.
+        Prints (W.contents writer.old) (W.contents writer.new) (sim script) result) }
 {
     let Ok(mut sim) = Simulation::new(alloc) else {
-        return SimEnd::OutOfMemory;
+        return Err(SimFault::OutOfMemory);
     };
     let mut line = Vec::new(alloc);
     for number in 1..=MOST_LINES {
         line.clear();
         match reader.read_until(b'\n', &mut line) {
-            Ok(0) => return SimEnd::Ended,
+            Ok(0) => return Ok(()),
             Ok(_) => {}
-            Err(error) => return read_end(&error),
+            Err(error) => return Err(read_fault(&error)),
         }
         match answer(alloc, &mut sim, line.as_slice()) {
             Ok(out) => match write_out(writer, out.as_slice()) {
                 Ok(()) => {}
-                Err(_) => return SimEnd::WriteFault,
+                Err(_) => return Err(SimFault::WriteFault),
             },
-            Err(LineEnd::Bad) => return SimEnd::BadCommand(number),
-            Err(LineEnd::OutOfMemory) => return SimEnd::OutOfMemory,
+            Err(LineEnd::Bad) => return Err(SimFault::BadCommand(number)),
+            Err(LineEnd::OutOfMemory) => return Err(SimFault::OutOfMemory),
         }
     }
-    SimEnd::ReadFault
+    Err(SimFault::ReadFault)
 }
 
-fn read_end(error: &Error) -> SimEnd
-    ensures { (result ≡ SimEnd.ReadFault) ⊎ (result ≡ SimEnd.OutOfMemory) }
+/// What a fault of the reader is.
+fn read_fault(error: &io::Error) -> SimFault
+    ensures { (result ≡ SimFault.ReadFault) ⊎ (result ≡ SimFault.OutOfMemory) }
 {
     match error.kind() {
-        ErrorKind::OutOfMemory => SimEnd::OutOfMemory,
-        _ => SimEnd::ReadFault,
+        ErrorKind::OutOfMemory => SimFault::OutOfMemory,
+        _ => SimFault::ReadFault,
     }
 }
 
 /// Writes an answer, if there is one, and flushes it.
-fn write_out<W: Write>(writer: &mut W, out: &[u8]) -> Result<(), Error>
+fn write_out<W: Write>(writer: &mut W, out: &[u8]) -> io::Result<()>
     ensures { OnOk result (Appends (W.contents writer.old) (W.contents writer.new) out.now) }
 {
     if out.is_empty() {
@@ -90,8 +108,10 @@ fn write_out<W: Write>(writer: &mut W, out: &[u8]) -> Result<(), Error>
 /// Carries out a line, which may have a line feed at its end, and gives what it prints.
 fn answer(alloc: Global, sim: &mut Simulation, line: &[u8]) -> Result<Vec<u8>, LineEnd>
     requires { (state : State) × IsAt sim.old state }
-    ensures done { IfOk result (λ out. (state : State) → IsAt sim.old state → Carries (strip_last 10 line.now) state sim.new out.items) }
-    ensures refused { (state : State) → IsAt sim.old state → IfErr result (RefusesAs (command_at state (strip_last 10 line.now))) }
+    ensures done { IfOk result (λ out. (state : State) → IsAt sim.old state
+        → Carries (strip_last 10 line.now) state sim.new out.items) }
+    ensures refused { (state : State) → IsAt sim.old state
+        → IfErr result (RefusesAs (command_at state (strip_last 10 line.now))) }
 {
     let command = read_command(alloc, without_feed(line))?;
     if !sim.may_take(&command) {

@@ -5,15 +5,15 @@ ghost use Rattle.dir_disk.specs.Names.{name_fault};
 ghost use Rattle.rule_lines.specs.Pairs.{pairs_of};
 ghost use Rattle.rule_lines.specs.Rows.{AreRules};
 ghost use Rattle.rule_lookup.specs.Decisions.{decision_of};
-ghost use Rattle.rules_install.specs.Installing.{begun, next_phase};
+ghost use Rattle.rules_install.specs.Installing.{begun};
 ghost use Rattle.rules_install.specs.Installs.{installing};
 ghost use Rattle.rules_install.specs.Whole.{Begins, RefusesText};
-ghost use Rattle.script_tool.specs.Commands.{meaning};
+ghost use Rattle.script_tool.specs.Commands.{Obeys, meaning};
 ghost use Rattle.script_tool.specs.Events.{with_event};
-ghost use Rattle.script_tool.specs.Kept.{HasTexts, IsAt, IsFileOf, IsInstalling, Reads, sim_names, steps_left};
+ghost use Rattle.script_tool.specs.Kept.{GoesOn, HasTexts, IsAt, IsFileOf, IsInstalling, Reads, Steps, sim_names, steps_left};
 ghost use Rattle.script_tool.specs.Scripts.{Add, Install as InstallText, Begin, To, Stop, Ask, Open, AskBy, BeginEvents, AddEvent, Replay};
-ghost use Rattle.script_tool.specs.Sim.{Begun, State, start, after, begun_to, is_in_place, printed, profile, refusal_of, replayed, told};
-ghost use Rattle.script_tool.specs.Texts.{Texts, at_phase, at_phases, later_of, place_of};
+ghost use Rattle.script_tool.specs.Sim.{Begun, State, start, after, is_in_place, printed, profile, refusal_of, replayed, told};
+ghost use Rattle.script_tool.specs.Texts.{Texts, at_phase, place_of};
 
 use crate::replies::{append_fault, append_illegal, append_reached, append_report};
 use crate::script::Command;
@@ -45,7 +45,11 @@ impl Model for History {
 
     ghost Value = { Listed };
 
-    ghost view = { λ h. record { limit = h.limit; per_address = h.per_address; events = h.events.items } };
+    ghost view = { λ h. record {
+      limit = h.limit;
+      per_address = h.per_address;
+      events = h.events.items;
+    } };
 }
 
 /// An installation under way, and the phase that its last step reached.
@@ -84,7 +88,8 @@ impl Simulation {
 
     /// Whether a command may stand here: an event, or what the list comes to, needs a list that was begun.
     pub fn may_take(&self, command: &Command<'_>) -> bool
-        ensures { (state : State) → IsAt self.now state → result ≡ is_in_place state (meaning command.now) }
+        ensures { (state : State) → IsAt self.now state
+            → result ≡ is_in_place state (meaning command.now) }
     {
         match command {
             Command::Event(_) | Command::Replay => self.history.is_some(),
@@ -100,7 +105,8 @@ impl Simulation {
         out: &mut Vec<u8>,
     ) -> Result<(), AllocError>
         requires { (state : State) × IsAt self.old state }
-        ensures { (state : State) → IsAt self.old state → OnOk result (IsAt self.new (after state (meaning command.entry)) × (out.new.items ≡ out.old.items ++ printed state (meaning command.entry))) }
+        ensures { (state : State) → IsAt self.old state
+            → OnOk result (Obeys (meaning command.entry) state self.new out.old.items out.new.items) }
     {
         match command {
             Command::Skip => Ok(()),
@@ -122,7 +128,8 @@ impl Simulation {
     }
 
     fn add_line(&mut self, text: &[u8]) -> Result<(), AllocError>
-        ensures { (state : State) → IsAt self.old state → OnOk result (IsAt self.new (after state (Add text.now))) }
+        ensures { (state : State) → IsAt self.old state
+            → OnOk result (IsAt self.new (after state (Add text.now))) }
     {
         self.pending.extend_from_slice(text)?;
         self.pending.push(b'\n')?;
@@ -131,8 +138,10 @@ impl Simulation {
 
     /// Begins to install the pending text, which is empty then. The installation that was begun before is dropped.
     fn prepare(&mut self, alloc: Global) -> Result<Install, InstallFault>
-        ensures emptied { (state : State) → IsAt self.old state → IsAt self.new (record state { pending = []; begun = None }) }
-        ensures begun { IfOk result (λ install. installing install ≡ begun (pairs_of self.old.pending.items) sim_names) }
+        ensures emptied { (state : State) → IsAt self.old state
+            → IsAt self.new (record state { pending = []; begun = None }) }
+        ensures begun { IfOk result (λ install.
+            installing install ≡ begun (pairs_of self.old.pending.items) sim_names) }
         ensures ends { Begins profile self.old.pending.items result }
         ensures known { IfOk result (λ _. AreRules (pairs_of self.old.pending.items)) }
     {
@@ -142,7 +151,8 @@ impl Simulation {
     }
 
     fn install(&mut self, alloc: Global, out: &mut Vec<u8>) -> Result<(), AllocError>
-        ensures { (state : State) → IsAt self.old state → OnOk result (IsAt self.new (after state InstallText) × (out.new.items ≡ out.old.items ++ printed state InstallText)) }
+        ensures { (state : State) → IsAt self.old state
+            → OnOk result (Obeys InstallText state self.new out.old.items out.new.items) }
     {
         match self.prepare(alloc) {
             Ok(install) => {
@@ -158,7 +168,8 @@ impl Simulation {
     }
 
     fn begin(&mut self, alloc: Global, out: &mut Vec<u8>) -> Result<(), AllocError>
-        ensures { (state : State) → IsAt self.old state → OnOk result (IsAt self.new (after state Begin) × (out.new.items ≡ out.old.items ++ printed state Begin)) }
+        ensures { (state : State) → IsAt self.old state
+            → OnOk result (Obeys Begin state self.new out.old.items out.new.items) }
     {
         match self.prepare(alloc) {
             Ok(install) => {
@@ -175,7 +186,8 @@ impl Simulation {
     /// Goes on with the installation that was begun, up to a phase.
     fn go_to(&mut self, alloc: Global, target: Phase, out: &mut Vec<u8>) -> Result<(), AllocError>
         requires { (state : State) × IsAt self.old state }
-        ensures { (state : State) → IsAt self.old state → OnOk result (IsAt self.new (after state (To target)) × (out.new.items ≡ out.old.items ++ printed state (To target))) }
+        ensures { (state : State) → IsAt self.old state
+            → OnOk result (Obeys (To target) state self.new out.old.items out.new.items) }
     {
         let reached = match &mut self.begun {
             None => None,
@@ -185,7 +197,8 @@ impl Simulation {
     }
 
     fn stop(&mut self, alloc: Global, choice: Choice, out: &mut Vec<u8>) -> Result<(), AllocError>
-        ensures { (state : State) → IsAt self.old state → OnOk result (IsAt self.new (after state (Stop choice)) × (out.new.items ≡ out.old.items ++ printed state (Stop choice))) }
+        ensures { (state : State) → IsAt self.old state
+            → OnOk result (Obeys (Stop choice) state self.new out.old.items out.new.items) }
     {
         self.dir = self.dir.crash(alloc, choice)?;
         self.begun = None;
@@ -196,7 +209,8 @@ impl Simulation {
     /// The file that stands under the name of the rules file.
     fn open(&mut self, alloc: Global) -> Result<Option<CdbFile<MemFile>>, AllocError>
         ensures same { (state : State) → IsAt self.old state → IsAt self.new state }
-        ensures file { (state : State) → IsAt self.old state → IfOk result (λ file. Reads file state.texts.standing) }
+        ensures file { (state : State) → IsAt self.old state
+            → IfOk result (λ file. Reads file state.texts.standing) }
     {
         match self.dir.open(alloc, &self.rules) {
             Ok(file) => Ok(file.map(CdbFile::new)),
@@ -207,7 +221,8 @@ impl Simulation {
 
     fn ask(&mut self, alloc: Global, peer: &Peer, out: &mut Vec<u8>) -> Result<(), AllocError>
         requires { (state : State) × IsAt self.old state }
-        ensures { (state : State) → IsAt self.old state → OnOk result (IsAt self.new (after state (Ask peer.now)) × (out.new.items ≡ out.old.items ++ printed state (Ask peer.now))) }
+        ensures { (state : State) → IsAt self.old state
+            → OnOk result (Obeys (Ask peer.now) state self.new out.old.items out.new.items) }
     {
         match self.open(alloc)? {
             None => out.extend_from_slice(b"no file\n"),
@@ -221,7 +236,8 @@ impl Simulation {
         name: &str,
         out: &mut Vec<u8>,
     ) -> Result<(), AllocError>
-        ensures { (state : State) → IsAt self.old state → OnOk result (IsAt self.new (after state (Open name.now)) × (out.new.items ≡ out.old.items ++ printed state (Open name.now))) }
+        ensures { (state : State) → IsAt self.old state
+            → OnOk result (Obeys (Open name.now) state self.new out.old.items out.new.items) }
     {
         match self.open(alloc)? {
             None => out.extend_from_slice(b"no file\n"),
@@ -240,7 +256,8 @@ impl Simulation {
         out: &mut Vec<u8>,
     ) -> Result<(), AllocError>
         requires { (state : State) × IsAt self.now state }
-        ensures { (state : State) → IsAt self.now state → OnOk result (out.new.items ≡ out.old.items ++ printed state (AskBy name.now peer.now)) }
+        ensures { (state : State) → IsAt self.now state
+            → OnOk result (out.new.items ≡ out.old.items ++ printed state (AskBy name.now peer.now)) }
     {
         match self.readers.get(name) {
             None => out.extend_from_slice(b"no reader\n"),
@@ -249,7 +266,8 @@ impl Simulation {
     }
 
     fn begin_events(&mut self, alloc: Global, limit: u64, per_address: u64)
-        ensures { (state : State) → IsAt self.old state → IsAt self.new (after state (BeginEvents limit per_address)) }
+        ensures { (state : State) → IsAt self.old state
+            → IsAt self.new (after state (BeginEvents limit per_address)) }
     {
         self.history = Some(History {
             limit,
@@ -260,7 +278,8 @@ impl Simulation {
 
     /// Adds an event to the list, if one was begun.
     fn add_event(&mut self, event: Event) -> Result<(), AllocError>
-        ensures { (state : State) → IsAt self.old state → OnOk result (IsAt self.new (after state (AddEvent event))) }
+        ensures { (state : State) → IsAt self.old state
+            → OnOk result (IsAt self.new (after state (AddEvent event))) }
     {
         if let Some(history) = &mut self.history {
             history.events.push(event)?;
@@ -269,7 +288,8 @@ impl Simulation {
     }
 
     fn replay(&self, alloc: Global, out: &mut Vec<u8>) -> Result<(), AllocError>
-        ensures { (state : State) → IsAt self.now state → OnOk result (out.new.items ≡ out.old.items ++ printed state Replay) }
+        ensures { (state : State) → IsAt self.now state
+            → OnOk result (out.new.items ≡ out.old.items ++ printed state Replay) }
     {
         match &self.history {
             None => Ok(()),
@@ -287,9 +307,9 @@ impl Progress {
         target: Phase,
     ) -> Result<Phase, AllocError>
         requires { (b : Begun) × IsInstalling (mem_state dir.old) self.old b }
-        ensures { (b : Begun) (t : Texts) → IsInstalling (mem_state dir.old) self.old b → HasTexts (mem_state dir.old) t
-            → IfOk result (λ phase. (phase ≡ later_of b.reached target) × IsInstalling (mem_state dir.new) self.new (begun_to target b)
-            × HasTexts (mem_state dir.new) (at_phases b.text b.reached target t)) }
+        ensures { (b : Begun) (t : Texts) → IsInstalling (mem_state dir.old) self.old b
+            → HasTexts (mem_state dir.old) t
+            → IfOk result (GoesOn target b t (mem_state dir.new) self.new) }
     {
         loop {
             match self.reached {
@@ -303,12 +323,15 @@ impl Progress {
 
     /// Makes a step, and tells the phase that it reached.
     fn step(&mut self, alloc: Global, dir: &mut MemDir) -> Result<Phase, AllocError>
-        requires { (b : Begun) × IsInstalling (mem_state dir.old) self.old b × (b.reached ≢ Some Phase.Done) }
+        requires { (b : Begun) × IsInstalling (mem_state dir.old) self.old b
+            × (b.reached ≢ Some Phase.Done) }
         ensures goes { (b : Begun) → IsInstalling (mem_state dir.old) self.old b
-            → IfOk result (λ phase. (phase ≡ next_phase (installing (self.old).install)) × IsInstalling (mem_state dir.new) self.new (record b { reached = Some phase })) }
-        ensures texts { (b : Begun) (t : Texts) → IsInstalling (mem_state dir.old) self.old b → HasTexts (mem_state dir.old) t
+            → IfOk result (Steps (installing (self.old).install) b (mem_state dir.new) self.new) }
+        ensures texts { (b : Begun) (t : Texts) → IsInstalling (mem_state dir.old) self.old b
+            → HasTexts (mem_state dir.old) t
             → IfOk result (λ phase. HasTexts (mem_state dir.new) (at_phase b.text t phase)) }
-        ensures fewer { OnOk result (steps_left (installing (self.new).install) < steps_left (installing (self.old).install)) }
+        ensures fewer { OnOk result
+            (steps_left (installing (self.new).install) < steps_left (installing (self.old).install)) }
     {
         match self.install.step(alloc, dir) {
             Ok(phase) => {
@@ -364,7 +387,8 @@ fn names(alloc: Global) -> Result<Names, AllocError>
 /// Adds why a text was not installed.
 fn append_refusal(out: &mut Vec<u8>, fault: InstallFault) -> Result<(), AllocError>
     requires { (text : List ℕ) × RefusesText profile text fault }
-    ensures { (text words : List ℕ) → RefusesText profile text fault → OnOk result (out.new.items ≡ out.old.items ++ told words (refusal_of text)) }
+    ensures { (text words : List ℕ) → RefusesText profile text fault
+        → OnOk result (out.new.items ≡ out.old.items ++ told words (refusal_of text)) }
 {
     match fault {
         InstallFault::Line(fault) => {
@@ -380,7 +404,8 @@ fn append_refusal(out: &mut Vec<u8>, fault: InstallFault) -> Result<(), AllocErr
 /// The decision by a file that is compiled of a text.
 fn decide_by(alloc: Global, file: &CdbFile<MemFile>, peer: &Peer) -> Result<Decision, AllocError>
     requires { (text : List ℕ) × IsFileOf text file.now }
-    ensures { (text : List ℕ) → IsFileOf text file.now → IfOk result (λ decision. decision ≡ decision_of text peer.now) }
+    ensures { (text : List ℕ) → IsFileOf text file.now
+        → IfOk result (λ decision. decision ≡ decision_of text peer.now) }
 {
     decides();
     match decide(alloc, Some(file), Missing::Drop, peer) {

@@ -1,5 +1,5 @@
 //! Scripts of `rulesim` with readers, and with stops during installations.
-use crate::sim::{SimEnd, run_rulesim};
+use crate::sim::run_rulesim;
 use std::process::Abort;
 use std::str;
 use std::test::Fail;
@@ -10,7 +10,7 @@ fn expect<R: Abort + AllocGlobal>(rt: &R, script: &str, printed: &str) {
     let mut out = Vec::new(rt.alloc());
     let ended = run_rulesim(rt.alloc(), &mut reader, &mut out);
     assert_eq!(rt; str::from_utf8(out.as_slice()), Ok(printed));
-    assert_eq!(rt; ended, SimEnd::Ended);
+    assert_eq!(rt; ended, Ok(()));
 }
 
 #[test]

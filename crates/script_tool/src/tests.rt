@@ -1,5 +1,5 @@
 //! Scripts of `rulesim`, and what they print.
-use crate::sim::{SimEnd, run_rulesim};
+use crate::sim::{SimFault, run_rulesim};
 use std::alloc::{AllocError, Global};
 use std::io::{BufRead, Error, ErrorKind, Read, Write};
 use std::process::Abort;
@@ -7,7 +7,7 @@ use std::test::Fail;
 use std::{io, str};
 
 /// Runs a script, and compares what it prints and how it ends.
-fn expect<R: Abort + AllocGlobal>(rt: &R, script: &[u8], printed: &str, end: SimEnd) {
+fn expect<R: Abort + AllocGlobal>(rt: &R, script: &[u8], printed: &str, end: Result<(), SimFault>) {
     let mut reader = script;
     let mut out = Vec::new(rt.alloc());
     let ended = run_rulesim(rt.alloc(), &mut reader, &mut out);
@@ -20,13 +20,13 @@ fn the_stored_run(rt: HostRuntime) {
     let script = b"|10.3.0.1:allow\n|10.:deny\ninstall\nask 10.3.0.1\nask 10.3.0.2\nask 11.0.0.1\n";
     let printed =
         "installed\nrule 10.3.0.1:\nallow connection\nrule 10.:\ndeny connection\ndefault:\nallow connection\n";
-    expect(&rt, script, printed, SimEnd::Ended);
+    expect(&rt, script, printed, Ok(()));
 }
 
 #[test]
 fn the_empty_text(rt: HostRuntime) {
     let printed = "installed\ndefault:\nallow connection\n";
-    expect(&rt, b"install\nask 1.1.1.1\n", printed, SimEnd::Ended);
+    expect(&rt, b"install\nask 1.1.1.1\n", printed, Ok(()));
 }
 
 #[test]
@@ -35,14 +35,14 @@ fn questions_about_names(rt: HostRuntime) {
         b"|joe@127.0.0.1:allow,R=\"1\"\n|=.Example:allow,H=\"x\"\n|:deny,D=\"y\"\ninstall\nask 127.0.0.1 info=joe\nask 1.1.1.1 host=A.Example\nask 1.1.1.1 info=joe host=b.org\n";
     let printed =
         "installed\nrule joe@127.0.0.1:\nset environment variable R=1\nallow connection\nrule =.example:\nset environment variable H=x\nallow connection\nrule :\ndeny connection\n";
-    expect(&rt, script, printed, SimEnd::Ended);
+    expect(&rt, script, printed, Ok(()));
 }
 
 #[test]
 fn questions_before_an_installation(rt: HostRuntime) {
-    expect(&rt, b"ask 1.1.1.1\n", "no file\n", SimEnd::Ended);
-    expect(&rt, b"", "", SimEnd::Ended);
-    expect(&rt, b"\n# a comment \xff\n\n", "", SimEnd::Ended);
+    expect(&rt, b"ask 1.1.1.1\n", "no file\n", Ok(()));
+    expect(&rt, b"", "", Ok(()));
+    expect(&rt, b"\n# a comment \xff\n\n", "", Ok(()));
 }
 
 #[test]
@@ -51,7 +51,7 @@ fn refused_texts_leave_the_one_before(rt: HostRuntime) {
         b"|:deny\ninstall\n|:deny\n|1.2.3.4:allowed\ninstall\nask 1.2.3.4\n|1.2.3.4:permit\ninstall\n|1-2-3:allow\ninstall\n|:\xff\n|a:\0\ninstall\n|a:allow,A=\"\xff\"\ninstall\n|a:allow,A=\"\0\"\ninstall\ninstall\nask 1.1.1.1\n";
     let printed =
         "installed\nline 2: bad setting\nrule :\ndeny connection\nline 1: no verdict\nline 1: bad range\nline 1: no verdict\nline 1: not text\nline 1: nul byte\ninstalled\ndefault:\nallow connection\n";
-    expect(&rt, script, printed, SimEnd::Ended);
+    expect(&rt, script, printed, Ok(()));
 }
 
 #[test]
@@ -99,9 +99,14 @@ fn bad_commands(rt: HostRuntime) -> Result<(), Fail> {
         let mut script = Vec::from_slice(rt.alloc(), b"|:deny\ninstall\n")?;
         script.extend_from_slice(line.as_bytes())?;
         script.extend_from_slice(b"\nask 1.1.1.1\n")?;
-        expect(&rt, script.as_slice(), "installed\n", SimEnd::BadCommand(3));
+        expect(
+            &rt,
+            script.as_slice(),
+            "installed\n",
+            Err(SimFault::BadCommand(3)),
+        );
     }
-    expect(&rt, b"install\xff\n", "", SimEnd::BadCommand(1));
+    expect(&rt, b"install\xff\n", "", Err(SimFault::BadCommand(1)));
     Ok(())
 }
 
@@ -141,7 +146,7 @@ fn lists_of_events(rt: HostRuntime) -> Result<(), Fail> {
     ];
     for (more, answer) in cases {
         let script = format!(in rt.alloc(); "{STARTED}{more}replay\n")?;
-        expect(&rt, script.as_str().as_bytes(), answer, SimEnd::Ended);
+        expect(&rt, script.as_str().as_bytes(), answer, Ok(()));
     }
     Ok(())
 }
@@ -159,7 +164,7 @@ fn short_lists_of_events(rt: HostRuntime) -> Result<(), Fail> {
     ];
     for (events, answer) in cases {
         let script = replay_of(rt.alloc(), "1", events)?;
-        expect(&rt, script.as_str().as_bytes(), answer, SimEnd::Ended);
+        expect(&rt, script.as_str().as_bytes(), answer, Ok(()));
     }
     Ok(())
 }
@@ -185,7 +190,7 @@ fn lists_of_events_under_a_limit_per_address(rt: HostRuntime) -> Result<(), Fail
     ];
     for (limits, events, answer) in cases {
         let script = replay_of(rt.alloc(), limits, events)?;
-        expect(&rt, script.as_str().as_bytes(), answer, SimEnd::Ended);
+        expect(&rt, script.as_str().as_bytes(), answer, Ok(()));
     }
     Ok(())
 }
@@ -230,7 +235,7 @@ fn every_event_and_phase(rt: HostRuntime) -> Result<(), Fail> {
     ];
     let script = replay_of(rt.alloc(), "00010000 10000", &events)?;
     let answer = "admitted 5 live 1 retired 1 most 1\n";
-    expect(&rt, script.as_str().as_bytes(), answer, SimEnd::Ended);
+    expect(&rt, script.as_str().as_bytes(), answer, Ok(()));
     Ok(())
 }
 
@@ -240,7 +245,7 @@ fn an_answer_changes_nothing_and_a_list_begins_anew(rt: HostRuntime) {
         b"events 1\nevent admitted 1 1.1.1.1\nreplay\nreplay\n|:deny\ninstall\nevent stop\nask 1.1.1.1\nreplay\nevents 1\nreplay\n";
     let printed =
         "admitted 1 live 1 retired 0 most 1\nadmitted 1 live 1 retired 0 most 1\ninstalled\nrule :\ndeny connection\nadmitted 1 live 0 retired 0 most 1\nadmitted 0 live 0 retired 0 most 0\n";
-    expect(&rt, script, printed, SimEnd::Ended);
+    expect(&rt, script, printed, Ok(()));
 }
 
 #[test]
@@ -289,27 +294,32 @@ fn bad_events(rt: HostRuntime) -> Result<(), Fail> {
         script.extend_from_slice(line.as_bytes())?;
         script.extend_from_slice(b"\nreplay\n")?;
         let printed = "admitted 0 live 0 retired 0 most 0\n";
-        expect(&rt, script.as_slice(), printed, SimEnd::BadCommand(3));
+        expect(
+            &rt,
+            script.as_slice(),
+            printed,
+            Err(SimFault::BadCommand(3)),
+        );
     }
     let greatest = b"events 1\nevent admitted 18446744073709551615 1.1.1.1\nreplay\n";
-    expect(&rt, greatest, "illegal 1\n", SimEnd::Ended);
+    expect(&rt, greatest, "illegal 1\n", Ok(()));
     Ok(())
 }
 
 #[test]
 fn a_last_line_without_a_line_feed(rt: HostRuntime) {
-    expect(&rt, b"|:deny\ninstall", "installed\n", SimEnd::Ended);
+    expect(&rt, b"|:deny\ninstall", "installed\n", Ok(()));
     expect(
         &rt,
         b"install\nask 1.1.1.1",
         "installed\ndefault:\nallow connection\n",
-        SimEnd::Ended,
+        Ok(()),
     );
 }
 
 #[test]
 fn names_of_full_length(rt: HostRuntime) -> Result<(), Fail> {
-    for (len, end) in [(255, SimEnd::Ended), (256, SimEnd::BadCommand(2))] {
+    for (len, end) in [(255, Ok(())), (256, Err(SimFault::BadCommand(2)))] {
         let mut script = Vec::from_slice(rt.alloc(), b"install\nask 1.1.1.1 host=")?;
         script.extend_from_slice("a".repeat(rt.alloc(), len)?.as_bytes())?;
         let mut reader = script.as_slice();
@@ -351,8 +361,8 @@ impl BufRead for FailingReader<'_> {
 #[test]
 fn scripts_that_cannot_be_read(rt: HostRuntime) {
     for (kind, end) in [
-        (ErrorKind::Other, SimEnd::ReadFault),
-        (ErrorKind::OutOfMemory, SimEnd::OutOfMemory),
+        (ErrorKind::Other, Err(SimFault::ReadFault)),
+        (ErrorKind::OutOfMemory, Err(SimFault::OutOfMemory)),
     ] {
         for (text, printed) in [
             ("", ""),
@@ -398,12 +408,12 @@ impl Write for FailingWriter {
 #[test]
 fn answers_that_cannot_be_written(rt: HostRuntime) {
     for (room, end) in [
-        (0, SimEnd::WriteFault),
-        (5, SimEnd::WriteFault),
-        (10, SimEnd::WriteFault),
-        (20, SimEnd::WriteFault),
-        (36, SimEnd::WriteFault),
-        (37, SimEnd::Ended),
+        (0, Err(SimFault::WriteFault)),
+        (5, Err(SimFault::WriteFault)),
+        (10, Err(SimFault::WriteFault)),
+        (20, Err(SimFault::WriteFault)),
+        (36, Err(SimFault::WriteFault)),
+        (37, Ok(())),
     ] {
         let mut reader = b"install\nask 1.1.1.1\n".as_slice();
         let mut writer = FailingWriter { room };

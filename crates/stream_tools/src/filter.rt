@@ -14,6 +14,8 @@ use wrapper_chain::{Chain, LineStage};
 /// How many reads a pump of a tool makes at most.
 pub const TURNS: u64 = 1 << 40;
 
+const _: () = prove!(TURNS == 1_099_511_627_776);
+
 /// Why a stream was not passed on to its end.
 #[derive(Clone, Copy, PartialEq, Eq, Debug, Error)]
 pub enum FilterFault {
@@ -46,7 +48,9 @@ pub fn run_filter<R: Read, W: Write, S: LineStage>(
     writer: &mut W,
     chain: &mut Chain<S>,
 ) -> Result<(), FilterFault>
-    ensures passed { OnOk result (IfSome (R.remaining reader.old) (λ text. Appends (W.contents writer.old) (W.contents writer.new) (through S.rest (stages_of chain.old) text))) }
+    ensures passed { OnOk result (IfSome (R.remaining reader.old) (λ text.
+        Appends (W.contents writer.old) (W.contents writer.new)
+        (through S.rest (stages_of chain.old) text))) }
 {
     match pump(alloc, reader, writer, chain, &mut NoTap, TURNS).why {
         Why::End => Ok(()),

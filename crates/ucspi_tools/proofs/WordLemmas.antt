@@ -6,7 +6,7 @@ use Rattle.std.specs.List.{list_all}
 use Rattle.std.specs.Str.{is_utf8}
 use Rattle.std.proofs.lemmas.Str.{is_utf8-from_IsUtf8}
 use Rattle.stream_tools.proofs.WordLemmas.{is_utf8-no_text}
-use Rattle.ucspi_tools.specs.declared.choice.Tool.TheVariants.{Tcprules, Tcprulescheck}
+use Rattle.ucspi_tools.specs.declared.tool.Tool.TheVariants.{Tcprules, Tcprulescheck}
 use Rattle.ucspi_tools.specs.Choices.{installs, checks, usage_of, tcprules_by, tcprulescheck_by}
 
 -- the bytes of each word

@@ -5,8 +5,8 @@ use Rattle.std.specs.Str.{is_utf8}
 use Rattle.stream_tools.specs.Programs.{texts_of}
 use Rattle.ucspi_tools.specs.declared.choice.Choice.{Choice}
 use Rattle.ucspi_tools.specs.declared.choice.Choice.TheVariants as choice
-use Rattle.ucspi_tools.specs.declared.choice.Tool.{Tool}
-use Rattle.ucspi_tools.specs.declared.choice.Tool.TheVariants.{Rulesim, Tcprules, Tcprulescheck, Addcr, Delcr, Fixcrio, Recordio}
+use Rattle.ucspi_tools.specs.declared.tool.Tool.{Tool}
+use Rattle.ucspi_tools.specs.declared.tool.Tool.TheVariants.{Rulesim, Tcprules, Tcprulescheck, Addcr, Delcr, Fixcrio, Recordio}
 
 -- a run of `rulesim`; of `tcprules` with the paths of the rules file and of the scratch file; of `tcprulescheck` with that of the rules
 -- file; of `addcr`; of `delcr`; of `fixcrio` and of `recordio` with a program and its arguments; the usage line of a tool; or that of
@@ -63,15 +63,36 @@ run_of Delcr words = alone deletes Delcr words
 run_of Fixcrio words = with_program (fixes words) Fixcrio words
 run_of Recordio words = with_program (records words) Recordio words
 
+-- the name of a tool
+abbrev pub name_of : Tool → List ℕ
+name_of Rulesim = codes "rulesim"
+name_of Tcprules = codes "tcprules"
+name_of Tcprulescheck = codes "tcprulescheck"
+name_of Addcr = codes "addcr"
+name_of Delcr = codes "delcr"
+name_of Fixcrio = codes "fixcrio"
+name_of Recordio = codes "recordio"
+
+-- its name, and what it takes
+abbrev pub usage_text : Tool → List ℕ
+usage_text Rulesim = codes "rulesim"
+usage_text Tcprules = codes "tcprules cdb tmp"
+usage_text Tcprulescheck = codes "tcprulescheck cdb"
+usage_text Addcr = codes "addcr"
+usage_text Delcr = codes "delcr"
+usage_text Fixcrio = codes "fixcrio prog [args]"
+usage_text Recordio = codes "recordio prog [args]"
+
+-- the tool with a name
 abbrev pub tool_of : List ℕ → Option Tool
 tool_of name =
-    if bytes_eq name (codes "rulesim") then Some Rulesim
-    else (if bytes_eq name (codes "tcprules") then Some Tcprules
-    else (if bytes_eq name (codes "tcprulescheck") then Some Tcprulescheck
-    else (if bytes_eq name (codes "addcr") then Some Addcr
-    else (if bytes_eq name (codes "delcr") then Some Delcr
-    else (if bytes_eq name (codes "fixcrio") then Some Fixcrio
-    else (if bytes_eq name (codes "recordio") then Some Recordio else None))))))
+    if bytes_eq name (name_of Rulesim) then Some Rulesim
+    else (if bytes_eq name (name_of Tcprules) then Some Tcprules
+    else (if bytes_eq name (name_of Tcprulescheck) then Some Tcprulescheck
+    else (if bytes_eq name (name_of Addcr) then Some Addcr
+    else (if bytes_eq name (name_of Delcr) then Some Delcr
+    else (if bytes_eq name (name_of Fixcrio) then Some Fixcrio
+    else (if bytes_eq name (name_of Recordio) then Some Recordio else None))))))
 
 -- the first word names the tool
 abbrev pub run_by : Option Tool → List (List ℕ) → Wanted
@@ -82,3 +103,15 @@ run_by None words = usage
 abbrev pub choice_of : List (List ℕ) → Wanted
 choice_of [] = simulates
 choice_of (tool ∷ words) = run_by (tool_of tool) words
+
+-- the tool that is asked for, if it is one
+abbrev pub tool_in : Wanted → Option Tool
+tool_in simulates = Some Rulesim
+tool_in (installs cdb tmp) = Some Tcprules
+tool_in (checks cdb) = Some Tcprulescheck
+tool_in adds = Some Addcr
+tool_in deletes = Some Delcr
+tool_in (fixes words) = Some Fixcrio
+tool_in (records words) = Some Recordio
+tool_in (usage_of tool) = Some tool
+tool_in usage = None

@@ -6,20 +6,19 @@ use Rattle.rules_tools.specs.declared.tcprules.TcprulesFault.{TcprulesFault}
 use Rattle.rules_tools.specs.declared.tcprules.TcprulesFault.TheVariants as rules
 use Rattle.rules_tools.specs.declared.tcprulescheck.CheckFault.{CheckFault}
 use Rattle.rules_tools.specs.declared.tcprulescheck.CheckFault.TheVariants as check
-use Rattle.script_tool.specs.declared.sim.SimEnd.{SimEnd}
-use Rattle.script_tool.specs.declared.sim.SimEnd.TheVariants.{Ended, BadCommand, ReadFault, WriteFault, OutOfMemory}
-use Rattle.stream_tools.specs.declared.between.BetweenFault.{BetweenFault}
-use Rattle.stream_tools.specs.declared.filter.FilterFault.{FilterFault}
+use Rattle.script_tool.specs.declared.sim.SimFault.{SimFault}
+use Rattle.script_tool.specs.declared.sim.SimFault.TheVariants.{BadCommand, ReadFault, WriteFault, OutOfMemory}
+use Rattle.ucspi_tools.specs.declared.fault.ToolFault.{ToolFault}
+use Rattle.ucspi_tools.specs.declared.fault.ToolFault.TheVariants as tool
 
--- 0 at the end of the script, 100 for a bad command, and 111 for a fault of the system
-abbrev pub exit_of : SimEnd → ℕ
-exit_of Ended = 0
-exit_of (BadCommand n) = 100
-exit_of ReadFault = 111
-exit_of WriteFault = 111
-exit_of OutOfMemory = 111
+-- 100 for a bad command, and 111 for a fault of the system
+abbrev pub script_exit : SimFault → ℕ
+script_exit (BadCommand n) = 100
+script_exit ReadFault = 111
+script_exit WriteFault = 111
+script_exit OutOfMemory = 111
 
--- 100 for wrong words or a refused text, and 111 for a fault of the system
+-- 100 for wrong paths or a refused text, and 111 for a fault of the system
 abbrev pub rules_exit : TcprulesFault → ℕ
 rules_exit rules.ReadFault = 111
 rules_exit (rules.Device phase) = 111
@@ -33,13 +32,22 @@ check_exit check.BadHost = 100
 check_exit check.BadInfo = 100
 check_exit fault = 111
 
--- 0 where a stream was passed on to its end, and 111 for a fault of the system
-abbrev pub filter_exit : Result (Unit {0}) FilterFault → ℕ
-filter_exit (Ok done) = 0
-filter_exit (Err fault) = 111
+-- 100 for wrong words; a stream that fails, a program that can't be run, and want of memory are faults of the system
+abbrev pub exit_of : ToolFault → ℕ
+exit_of (tool.Usage words) = 100
+exit_of (tool.Script fault) = script_exit fault
+exit_of (tool.Rules fault) = rules_exit fault
+exit_of (tool.Check fault) = check_exit fault
+exit_of (tool.Filter fault) = 111
+exit_of (tool.Between fault) = 111
+exit_of tool.OutOfMemory = 111
 
--- the code of a program that was run between pumps, and 111 after a signal or where it could not be run
-abbrev pub between_exit : Result Status BetweenFault → ℕ
-between_exit (Ok (Code code)) = code
-between_exit (Ok Signal) = 111
-between_exit (Err fault) = 111
+-- the code of a program that was run, and 111 after a signal
+abbrev pub status_exit : Status → ℕ
+status_exit (Code code) = code
+status_exit Signal = 111
+
+-- the code that a run answers, or that of its fault
+abbrev pub end_code : Result ℕ ToolFault → ℕ
+end_code (Ok code) = code
+end_code (Err fault) = exit_of fault

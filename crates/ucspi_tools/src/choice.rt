@@ -3,26 +3,9 @@ ghost use Rattle.std.specs.Prelude.{◌≡◌};
 ghost use Rattle.std.specs.List.{list_all};
 ghost use Rattle.std.specs.Str.{is_utf8};
 ghost use Rattle.stream_tools.specs.Programs.{texts_of};
-ghost use Rattle.ucspi_tools.specs.Choices.{alone, choice_of, run_of, tcprules_by, tcprulescheck_by, tool_of, wanted, with_program};
+ghost use Rattle.ucspi_tools.specs.Choices.{alone, choice_of, run_of, tcprules_by, tcprulescheck_by, tool_in, wanted, with_program};
 
-/// A tool.
-#[derive(Clone, Copy, PartialEq, Eq, Debug)]
-pub enum Tool {
-    /// Runs scripts.
-    Rulesim,
-    /// Installs rules.
-    Tcprules,
-    /// Tells which rule decides.
-    Tcprulescheck,
-    /// Puts a carriage return before each line feed.
-    Addcr,
-    /// Takes one carriage return away at the end of each line.
-    Delcr,
-    /// Runs a program and puts a carriage return before each line feed that has none, both ways.
-    Fixcrio,
-    /// Runs a program and records what goes both ways.
-    Recordio,
-}
+use crate::tool::Tool;
 
 /// What words ask for.
 #[derive(Clone, Copy, PartialEq, Eq, Debug)]
@@ -61,6 +44,25 @@ pub enum Choice<'a> {
     Usage,
 }
 
+impl Choice<'_> {
+    /// The tool that is asked for, if it is one.
+    pub fn tool(&self) -> Option<Tool>
+        ensures { result ≡ tool_in (wanted self.now) }
+    {
+        match self {
+            Choice::Rulesim => Some(Tool::Rulesim),
+            Choice::Tcprules { .. } => Some(Tool::Tcprules),
+            Choice::Tcprulescheck { .. } => Some(Tool::Tcprulescheck),
+            Choice::Addcr => Some(Tool::Addcr),
+            Choice::Delcr => Some(Tool::Delcr),
+            Choice::Fixcrio { .. } => Some(Tool::Fixcrio),
+            Choice::Recordio { .. } => Some(Tool::Recordio),
+            Choice::UsageOf(tool) => Some(*tool),
+            Choice::Usage => None,
+        }
+    }
+}
+
 /// What words, after the program's name, ask for.
 pub fn choose(words: &[Vec<u8>]) -> Choice<'_>
     ensures { wanted result ≡ choice_of (texts_of words.now) }
@@ -68,32 +70,9 @@ pub fn choose(words: &[Vec<u8>]) -> Choice<'_>
     let Some((tool, words)) = words.split_first() else {
         return Choice::Rulesim;
     };
-    match tool_named(tool) {
+    match Tool::named(tool) {
         Some(tool) => choose_tool(tool, words),
         None => Choice::Usage,
-    }
-}
-
-/// The tool of a name.
-fn tool_named(name: &[u8]) -> Option<Tool>
-    ensures { result ≡ tool_of name.now }
-{
-    if name == b"rulesim".as_slice() {
-        Some(Tool::Rulesim)
-    } else if name == b"tcprules".as_slice() {
-        Some(Tool::Tcprules)
-    } else if name == b"tcprulescheck".as_slice() {
-        Some(Tool::Tcprulescheck)
-    } else if name == b"addcr".as_slice() {
-        Some(Tool::Addcr)
-    } else if name == b"delcr".as_slice() {
-        Some(Tool::Delcr)
-    } else if name == b"fixcrio".as_slice() {
-        Some(Tool::Fixcrio)
-    } else if name == b"recordio".as_slice() {
-        Some(Tool::Recordio)
-    } else {
-        None
     }
 }
 

@@ -2,11 +2,13 @@
 #![tactic(auto)]
 
 pub mod choice;
+pub mod fault;
 pub mod program;
+pub mod tool;
 
 pub use program::run_program;
 pub use rules_tools::{CheckFault, TcprulesFault, run_tcprules, run_tcprulescheck};
-pub use script_tool::{SimEnd, run_rulesim};
+pub use script_tool::{SimFault, run_rulesim};
 pub use stream_tools::{
     BetweenFault, FilterFault, Lane, OsJob, OsLauncher, SharedWriter, run_between, run_filter,
 };

@@ -1,5 +1,6 @@
 //! Words, and the tool that they ask for.
-use crate::choice::{Choice, Tool, choose};
+use crate::choice::{Choice, choose};
+use crate::tool::Tool;
 use std::test::Fail;
 use stream_tools::started::program_of;
 

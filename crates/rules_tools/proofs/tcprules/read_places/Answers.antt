@@ -1,11 +1,11 @@
-use Rattle.std.proofs.Common.{◌≡◌, ◌⊎◌, inl, inr, ℕ, Bool, true, false, ◌||◌, cond, List, Option, Some, None, Result, Err, IsSome, is_some, bytes_eq, refl, sym, ap, ◌∙◌}
+use Rattle.std.proofs.Common.{◌≡◌, inl, inr, ℕ, Bool, true, false, ◌||◌, cond, List, Option, Some, None, Result, Err, is_some, bytes_eq, refl, sym, ap, ◌∙◌}
 use Rattle.std.specs.Borrow.{Bor}
 use Rattle.std.proofs.lemmas.Bool.{not-true, not-false, or_left, or_right}
 use Rattle.std.proofs.lemmas.Result.{err_from_is_err_and}
 use Rattle.cdb_read.proofs.Passing.{bytes_eq-same}
 use Rattle.dir_disk.specs.Names.{name_fault}
 use Rattle.rules_install.specs.NamePair.{NamePair}
-use Rattle.rules_tools.specs.Paths.{PlacesOf, IsSplit, IsPlaced, paths_fault}
+use Rattle.rules_tools.specs.Paths.{PlacesOf, RefusesName, IsSplit, IsPlaced, paths_fault}
 use Rattle.rules_tools.specs.declared.tcprules.TcprulesFault.{TcprulesFault}
 use Rattle.rules_tools.specs.declared.tcprules.TcprulesFault.TheVariants.{BadName, OtherFolder, SameName, OutOfMemory}
 use Rattle.rules_tools.proofs.tcprules.read_places.Goals as goal
@@ -14,10 +14,6 @@ use Rattle.rules_tools.proofs.tcprules.read_places.Goals as goal
 abbrev fault_by : Bool → Bool → Bool → Option TcprulesFault
 fault_by bad one_folder one_name =
     cond bad (Some BadName) (cond one_folder (cond one_name (Some SameName) None) (Some OtherFolder))
-
--- a look at a name fails
-abbrev Refuses : List ℕ → TcprulesFault → Type 0
-Refuses name fault = (fault ≡ OutOfMemory) ⊎ ((fault ≡ BadName) × IsSome (name_fault name))
 
 -- the parts of two paths
 module _ (cdb tmp folder other first second : List ℕ) (splits_cdb : IsSplit cdb folder first) (splits_tmp : IsSplit tmp other second) where
@@ -30,11 +26,11 @@ module _ (cdb tmp folder other first second : List ℕ) (splits_cdb : IsSplit cd
   bad_name bad =
       places (Err BadName) (ap (λ b. fault_by b (bytes_eq folder other) (bytes_eq first second)) bad)
 
-  refuses_first : (fault : TcprulesFault) → Refuses first fault → PlacesOf cdb tmp (Err fault)
+  refuses_first : (fault : TcprulesFault) → RefusesName first fault → PlacesOf cdb tmp (Err fault)
   refuses_first fault (inl is) = rw is (places (Err OutOfMemory) tt)
   refuses_first fault (inr is) = rw is.0 (bad_name (or_left (is_some (name_fault first)) (is_some (name_fault second)) is.1))
 
-  refuses_second : (fault : TcprulesFault) → Refuses second fault → PlacesOf cdb tmp (Err fault)
+  refuses_second : (fault : TcprulesFault) → RefusesName second fault → PlacesOf cdb tmp (Err fault)
   refuses_second fault (inl is) = rw is (places (Err OutOfMemory) tt)
   refuses_second fault (inr is) = rw is.0 (bad_name (or_right (is_some (name_fault first)) (is_some (name_fault second)) is.1))
 

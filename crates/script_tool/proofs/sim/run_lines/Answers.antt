@@ -1,5 +1,5 @@
 use Rattle.std.proofs.Common.{◌<◌, inl, arith, length, refl}
-use Rattle.script_tool.specs.declared.sim.SimEnd.TheVariants.{ReadFault}
+use Rattle.script_tool.specs.declared.sim.SimFault.TheVariants.{ReadFault}
 use Rattle.script_tool.specs.Sim.{after, start}
 use Rattle.script_tool.proofs.RunLemmas.{at_bad_line, at_end, at_fault, at_line, at_no_memory, at_write_fault, runs_from_start}
 use Rattle.script_tool.proofs.sim.run_lines.Goals as goal
@@ -31,7 +31,7 @@ loop-number-preserved g c =
 
 pub returns-in-Err : goal.returns-in-Err
 returns-in-Err g c =
-    at_fault (g.W.Write.contents c.args.writer.now) _ (g.R.Read.remaining c.loop-number.reader) c.loop-number.number c.loop-number.sim (g.R.Read.remaining c.args.reader.now) c.read_end.result c.read_end.ensures c.loop-number.invariant.1
+    at_fault (g.W.Write.contents c.args.writer.now) _ (g.R.Read.remaining c.loop-number.reader) c.loop-number.number c.loop-number.sim (g.R.Read.remaining c.args.reader.now) c.read_fault.result c.read_fault.ensures c.loop-number.invariant.1
 
 pub returns-in-Err-OutOfMemory : goal.returns-in-Err-OutOfMemory
 returns-in-Err-OutOfMemory g c =
