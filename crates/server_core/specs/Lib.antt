@@ -1,5 +1,10 @@
 -- Programs; and what a server's events lead to and leave.
+pub mod Counts
+pub mod Full
+pub mod Journals
+pub mod Plans
 pub mod Programs
+pub mod Runs
 pub use Rattle.server_events.specs.ServerState
 pub use Rattle.server_events.specs.Table
 pub use Rattle.server_events.specs.Live

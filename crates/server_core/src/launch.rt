@@ -1,5 +1,6 @@
 //! Programs, and jobs that run them.
-ghost use Rattle.std.specs.Prelude.{◌≡◌, true, false, Bool, map, string_bytes, IfOk, IfErr, OnOk};
+ghost use Rattle.std.specs.Prelude.{◌≡◌, true, false, Bool, Result, map, string_bytes, IfOk, IfErr, OnOk};
+ghost use Rattle.server_core.specs.declared.launch.WaitFault.{WaitFault};
 ghost use Rattle.ucspi_env.specs.Variables.{Variables};
 ghost use Rattle.server_core.specs.Programs.{ProgramText};
 
@@ -97,6 +98,9 @@ pub trait Job {
     /// Whether its pipe ends were not given yet.
     ghost has_ends: { Self → Bool };
 
+    /// What a kill may answer, with the job before it and after it. A job of which nothing is known may answer anything.
+    ghost killed: { Self → Self → Result (Unit {0}) WaitFault → Type 0 };
+
     /// The two ends of its pipes: what is written into the first the program reads on descriptor 0, and what it writes on descriptor 1
     /// is read from the second. They are given once. It takes no memory.
     ///
@@ -113,6 +117,7 @@ pub trait Job {
     /// # Errors
     /// `Failed` where the system refused it; `OutOfMemory`. The job is as before.
     fn kill(&mut self) -> Result<(), WaitFault>
+        ensures told { killed self.old self.new result }
         ensures ends { has_ends self.new ≡ has_ends self.old }
         ensures program { program self.new ≡ program self.old }
         ensures environment { environment self.new ≡ environment self.old };
@@ -120,12 +125,14 @@ pub trait Job {
     /// Waits until the program has ended, and tells how it ended.
     ///
     /// # Errors
-    /// `Failed` where the system refused it; `OutOfMemory`. The job is handed back as it was, and may be waited for again.
+    /// `Failed` where the system refused it; `OutOfMemory`. The job is handed back and may be waited for again; pipe ends that were not
+    /// given are closed, so that a program that reads its input to the end can end.
     fn wait(self) -> Result<Status, (Self, WaitFault)>
     where
         Self: Sized,
         ensures program { IfErr result (λ refused. program refused.0 ≡ program self) }
-        ensures environment { IfErr result (λ refused. environment refused.0 ≡ environment self) };
+        ensures environment { IfErr result (λ refused. environment refused.0 ≡ environment self) }
+        ensures no_ends { IfErr result (λ refused. has_ends refused.0 ≡ false) };
 }
 
 /// What starts programs.

@@ -1,5 +1,5 @@
 //! Programs of the system.
-ghost use Rattle.std.specs.Prelude.{◌≡◌, false, is_some, IfOk};
+ghost use Rattle.std.specs.Prelude.{◌≡◌, false, is_some, IfOk, ⊤};
 
 use rule_lookup::{StartFault, Status};
 use server_core::{Job, Launcher, NoEnds, Program, WaitFault};
@@ -123,6 +123,8 @@ impl<P: OpenProcess + Drop> Job for OsJob<P> {
     ghost environment = { λ job. job.environment.value };
 
     ghost has_ends = { λ job. is_some job.ends };
+
+    ghost killed = { λ _ _ _. ⊤ };
 
     fn ends(&mut self) -> Result<(P::Stdin, P::Stdout), NoEnds> {
         self.ends.take().ok_or(NoEnds)

@@ -43,11 +43,11 @@ where
 /// Runs what words ask for, and answers the exit code.
 fn run<R, E>(rt: &R, errors: E, choice: Choice<'_>) -> Result<u8, ToolFault>
 where
-    R: Env + Input + Print + AllocGlobal + Files + Processes + Threads + Wait + Sync,
-    R::File: FileExt,
+    R: Env + Input + Print + AllocGlobal,
+    R: Files<File = File> + Processes + Threads + Wait + Sync + Clock + Net,
     R::Reader: Send,
     E: Write + Send + Drop,
-    <R::Started as OpenProcess>::Stdin: Send,
+    <R::Started as OpenProcess>::Stdin: Send + AsRawFd,
 {
     match choice {
         Choice::Rulesim => run_script(rt)?,

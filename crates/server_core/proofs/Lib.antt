@@ -1,0 +1,2 @@
+pub mod Countings
+pub mod ReportSteps
