@@ -15,4 +15,6 @@ pub use shared::SharedWriter;
 pub use tools::{run_addcr, run_delcr, run_fixcrio, run_recordio};
 
 #[cfg(test)]
+mod between_tests;
+#[cfg(test)]
 mod tests;
