@@ -1,10 +1,12 @@
 //! Benchmarks of calls that no tool reaches: the words are a benchmark's name and a size. With no words it does nothing.
 #![tactic(auto)]
 
+mod journals;
 mod places;
 
 use cdb_write::{AddFault, Maker};
 use dir_disk::{Name, OsDir};
+use journals::time_journals;
 use places::{TURNS, time_places};
 use rule_lines::{Limits, ParseFault, RuleList, parse};
 use rule_lookup::{DropCause, Peer, PeerFault};
@@ -115,6 +117,14 @@ fn time_replay<R: Print + Clock>(rt: &R, alloc: Global, events: usize) -> io::Re
         taken.as_micros(),
         report.admitted
     )
+}
+
+/// Prints how long the journals take for so many such events.
+fn time_both_journals<R: Print + Clock>(rt: &R, alloc: Global, events: usize) -> io::Result<()> {
+    let (Ok(first), Ok(second)) = (turnover(alloc, events), turnover(alloc, events)) else {
+        return Err(io::Error::from(io::ErrorKind::OutOfMemory));
+    };
+    time_journals(rt, alloc, first, second)
 }
 
 /// A maker with so many pairs: keys of 12 bytes, and values of 2.
@@ -245,6 +255,7 @@ where
     match name {
         "hosts" => time_hosts(rt, alloc, size),
         "install" => time_install(rt, alloc, size),
+        "journals" => time_both_journals(rt, alloc, size),
         "get" => time_get(rt, alloc, size),
         "maker" => time_maker(rt, alloc, size),
         "places" => time_places_out(rt, alloc, size),
