@@ -2,7 +2,7 @@
 use Rattle.std.specs.Prelude.{◌≡◌, ℕ, ◌+◌, ◌^◌, ◌<◌, List, [], ◌∷◌, ◌++◌, length, flat_map, slice_index_or}
 use Rattle.std.specs.List.{range_with_len}
 use Rattle.cdb_write.specs.Format.{Pair, entries_of}
-use Rattle.cdb_write.specs.Image.{finished_length, records_length, table_bytes}
+use Rattle.cdb_write.specs.Image.{finished_length, pointers_of, records_length, table_bytes}
 use Rattle.cdb_write.specs.Slots.{entries_in}
 
 -- 256 lists hold the entries by their tables, each in order
@@ -15,6 +15,10 @@ pub record AreTablesOf (pairs : List Pair) (lists : List (List (ℕ × ℕ))) (f
   pub by_table : HoldsByTable lists (entries_of pairs)
   pub begins : first ≡ 2048 + records_length pairs
   pub fits : finished_length pairs < 2 ^ 32
+
+-- these are the pointers of the file whose tables they are
+abbrev pub ArePointers : List (List (ℕ × ℕ)) → ℕ → List (ℕ × ℕ) → Type 0
+ArePointers lists first pointers = (pairs : List Pair) → AreTablesOf pairs lists first → pointers ≡ pointers_of pairs
 
 -- lists that hold an entry more, behind those that they held
 abbrev pub AddsEntry : ℕ × ℕ → List (List (ℕ × ℕ)) → List (List (ℕ × ℕ)) → Type 0

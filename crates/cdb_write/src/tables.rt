@@ -1,9 +1,8 @@
 //! Entries by their tables.
 ghost use Rattle.std.specs.Prelude.{◌≡◌, ℕ, ◌<◌, List, [], OnErr, OnOk, IfOk};
 ghost use Rattle.cdb_write.specs.Format.{Pair};
-ghost use Rattle.cdb_write.specs.Image.{pointers_of};
 ghost use Rattle.cdb_write.specs.Slots.{entries_in};
-ghost use Rattle.cdb_write.specs.Tables.{AddsEntry, AreTablesOf, HoldsByTable};
+ghost use Rattle.cdb_write.specs.Tables.{AddsEntry, ArePointers, AreTablesOf, HoldsByTable};
 
 use crate::layout::TABLE_COUNT;
 use std::alloc::{AllocError, Global};
@@ -68,7 +67,7 @@ impl Tables {
     /// There was no memory.
     pub fn pointers(&self, alloc: Global, first: u32) -> Result<Vec<(u32, u32)>, AllocError>
         requires { (pairs : List Pair) × AreTablesOf pairs self.now first }
-        ensures { IfOk result (λ found. (pairs : List Pair) → AreTablesOf pairs self.now first → found.items ≡ pointers_of pairs) }
+        ensures { IfOk result (λ found. ArePointers self.now first found.items) }
     {
         let mut pointers = Vec::with_capacity(alloc, TABLE_COUNT)?;
         let mut place = first;

@@ -47,10 +47,12 @@ pub fn finish<D: Dir>(alloc: Global, dir: &mut D, install: &mut Install) -> Resu
     ensures ends { EndsRun (installing install.new) result }
     ensures fits { IsTrue D.honest → Fits (installing install.new) (D.state dir.new) }
     // a fault of the directory tells on the way to which phase it came
-    ensures tells { IsTrue D.honest → IfErr result (TellsWhere (installing install.old) (D.state dir.old) (D.state dir.new)) }
+    ensures tells { IsTrue D.honest
+        → IfErr result (TellsWhere (installing install.old) (D.state dir.old) (D.state dir.new)) }
     ensures stands { IsTrue D.honest → IfErr result (StandsAtDone (installing install.old) (D.state dir.new)) }
 
-    ensures any_moment { IsTrue D.honest → RunKeeps D.state D.moment D.left_since (installing install.old) dir.old dir.new }
+    ensures any_moment { IsTrue D.honest
+        → RunKeeps D.state D.moment D.left_since (installing install.old) dir.old dir.new }
     ensures lasts { IsTrue D.honest → RunLasts (installing install.old) (D.state dir.old) (D.state dir.new) result }
     ensures done { IsTrue D.honest → OnOk result (HasForGood (installing install.old) (D.state dir.new)) }
     // the new file is compiled of the rules
@@ -78,12 +80,14 @@ pub fn install<D: Dir>(
     ensures unchanged { IsRefused result → dir.new ≡ dir.old }
 
     // a fault of the directory tells on the way to which phase it came
-    ensures tells { IsTrue D.honest → IfErr result (TellsWhere (begun_of text.now names) (D.state dir.old) (D.state dir.new)) }
+    ensures tells { IsTrue D.honest
+        → IfErr result (TellsWhere (begun_of text.now names) (D.state dir.old) (D.state dir.new)) }
     ensures stands { IsTrue D.honest → IfErr result (StandsAtDone (begun_of text.now names) (D.state dir.new)) }
 
     // whenever the machine stops since the installation began, what stood under the name of the rules file stands there, or the new
     // file, whole
-    ensures any_moment { IsTrue D.honest → RunKeeps D.state D.moment D.left_since (begun_of text.now names) dir.old dir.new }
+    ensures any_moment { IsTrue D.honest
+        → RunKeeps D.state D.moment D.left_since (begun_of text.now names) dir.old dir.new }
     ensures lasts { IsTrue D.honest → RunLasts (begun_of text.now names) (D.state dir.old) (D.state dir.new) result }
     // and once it is done, the new file alone, which is compiled of the text, and decides each peer as it does
     ensures done { IsTrue D.honest → OnOk result (HasForGood (begun_of text.now names) (D.state dir.new)) }
