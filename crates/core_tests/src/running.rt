@@ -1,5 +1,5 @@
 //! Jobs that run, with jobs and a launcher of the tests' own.
-ghost use Rattle.std.specs.Prelude.{◌≡◌, ◌×◌, false, ⊤};
+ghost use Rattle.std.specs.Prelude.{◌≡◌, false, ⊤};
 
 use child_table::Table;
 use rule_lookup::{Peer, StartFault, Status};
