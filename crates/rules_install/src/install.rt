@@ -240,7 +240,8 @@ impl Install {
         requires fits { IsTrue D.honest → Fits (installing self.old) (D.state dir.old) }
         ensures same { IsSame (installing self.old) (installing self.new) }
         ensures over { IsOver self.old → OnlyAnswers (Err Over) self.old self.new dir.old dir.new result }
-        ensures after_done { IsOpen self.old → IsAtDone self.old → OnlyAnswers (Ok Done) self.old self.new dir.old dir.new result }
+        ensures after_done { IsOpen self.old → IsAtDone self.old
+            → OnlyAnswers (Ok Done) self.old self.new dir.old dir.new result }
         ensures goes { IsOpen self.old → StepGoes self.old self.new result }
         ensures more { result ≡ Ok Filling → FillsMore (installing self.old) (installing self.new) }
         ensures kept { result ≢ Ok Filling → HasFilled (installing self.old) (installing self.new) }

@@ -16,6 +16,8 @@ use thiserror::Error;
 /// How many lines are read at most.
 const MOST_LINES: u64 = 1 << 40;
 
+const _: () = prove!(MOST_LINES == 1_099_511_627_776);
+
 /// Why a run of `rulesim` does not come to the end of its script.
 #[derive(Clone, Copy, PartialEq, Eq, Debug, Error)]
 pub enum SimFault {
