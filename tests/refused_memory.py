@@ -216,3 +216,25 @@ def check(program, failures):
         refusals.expect_streams("fixcrio", ["fixcrio", "cat"], STREAM)
         refusals.expect_streams("recordio", ["recordio", "cat"], STREAM)
         return refusals.runs
+
+
+def check_calls(bench, failures):
+    """Calls that no tool reaches, by the benchmarks that make them: want of memory ends each of them, and nothing is printed."""
+    runs = 0
+    with tempfile.TemporaryDirectory() as folder:
+        mark = os.path.join(folder, "mark")
+        env = {"LD_PRELOAD": library(folder, SOURCE, "refusals"), "REFUSAL_MARK": mark}
+        for words in (["maker", "40"], ["journals", "40"], ["replay", "40"], ["hosts", "20"]):
+            request, is_refused = 0, True
+            while is_refused:
+                request += 1
+                runs += 1
+                env["REFUSED_REQUEST"] = str(request)
+                ended = subprocess.run([bench] + words, env=env, stdout=subprocess.PIPE, stderr=subprocess.PIPE, timeout=60)
+                is_refused = os.path.exists(mark)
+                wanted = (1, True) if is_refused else (0, False)
+                if (ended.returncode, ended.stdout == b"") != wanted:
+                    failures.append("%s, request %d refused: %r" % (words[0], request, (ended.returncode, ended.stdout, ended.stderr)))
+                if is_refused:
+                    os.remove(mark)
+    return runs

@@ -2,19 +2,10 @@
 use Rattle.std.specs.Prelude.{ℕ, List, ◌++◌, Option, Some, None, codes, decimal}
 use Rattle.rule_lines.specs.declared.fault.LineKind.{LineKind}
 use Rattle.rule_lines.specs.declared.fault.LineKind.TheVariants.{NoVerdict, BadSetting, BadRange, NotText, NulByte, LongLine, LongText}
+use Rattle.rule_lines.specs.FaultTexts.{kind_text}
 use Rattle.rules_install.specs.declared.Phase.{Phase}
 use Rattle.rules_install.specs.PhaseWords.{phase_text}
 use Rattle.server_core.specs.declared.report.Report.{Report}
-
--- what is wrong with a line
-abbrev pub kind_text : LineKind → List ℕ
-kind_text NoVerdict = codes "no verdict"
-kind_text BadSetting = codes "bad setting"
-kind_text BadRange = codes "bad range"
-kind_text NotText = codes "not text"
-kind_text NulByte = codes "nul byte"
-kind_text LongLine = codes "long line"
-kind_text LongText = codes "text too long"
 
 -- a numbered line and its fault
 abbrev pub numbered : ℕ → LineKind → List ℕ

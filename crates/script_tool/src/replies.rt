@@ -1,6 +1,6 @@
 //! The lines that tell a fault of a rule text, a phase that was reached, and what events come to.
 ghost use Rattle.std.specs.Prelude.{◌≡◌, ◌++◌, OnOk, codes, decimal};
-ghost use Rattle.script_tool.specs.Replies.{kind_text, numbered, fault_text, reached_line, report_line, illegal_line};
+ghost use Rattle.script_tool.specs.Replies.{numbered, fault_text, reached_line, report_line, illegal_line};
 
 use itoa::Buffer;
 use rule_lines::{LineFault, LineKind};
@@ -31,21 +31,7 @@ fn append_numbered(out: &mut Vec<u8>, line: u64, kind: LineKind) -> Result<(), A
     out.extend_from_slice(b"line ")?;
     out.extend_from_slice(Buffer::new().format(line).as_bytes())?;
     out.extend_from_slice(b": ")?;
-    out.extend_from_slice(kind_text(kind).as_bytes())
-}
-
-fn kind_text(kind: LineKind) -> &'static str
-    ensures { result.now ≡ kind_text kind }
-{
-    match kind {
-        LineKind::NoVerdict => "no verdict",
-        LineKind::BadSetting => "bad setting",
-        LineKind::BadRange => "bad range",
-        LineKind::NotText => "not text",
-        LineKind::NulByte => "nul byte",
-        LineKind::LongLine => "long line",
-        LineKind::LongText => "text too long",
-    }
+    out.extend_from_slice(kind.as_str().as_bytes())
 }
 
 /// Adds the line with the phase that an installation reached, or `none`. After an `Err` a part of it may stand at the end of `out`.
