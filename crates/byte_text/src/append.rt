@@ -1,5 +1,5 @@
 //! Calls that append. After an `Err` some of a part may stand at the end.
-ghost use Rattle.std.specs.Prelude.{◌≡◌, List, ℕ, decimal, length};
+ghost use Rattle.std.specs.Prelude.{◌≡◌, List, ℕ, OnErr, OnOk, decimal, length, take};
 ghost use Rattle.byte_text.specs.Outcomes.{AppendsLine, AppendsPart};
 
 use itoa::Buffer;
@@ -25,6 +25,22 @@ pub fn push_number(out: &mut Vec<u8>, number: u64) -> Result<(), AllocError>
     push_text(out, Buffer::new().format(number))
 }
 
+/// Takes back what was appended after a length, where that was not all. `done` is what appending gave, and is given back.
+pub fn take_back<T>(
+    out: &mut Vec<u8>,
+    whole: usize,
+    done: Result<T, AllocError>,
+) -> Result<T, AllocError>
+    ensures done { result ≡ done }
+    ensures ok { OnOk done (out.new.items ≡ out.old.items) }
+    ensures err { OnErr done (out.new.items ≡ take whole out.old.items) }
+{
+    if done.is_err() {
+        out.truncate(whole);
+    }
+    done
+}
+
 /// Takes back what was appended after a length, where that was not all: so a whole that was appended in parts is appended or
 /// not at all. `done` is what the parts gave, and is given back.
 pub fn whole_or_none(
@@ -35,8 +51,5 @@ pub fn whole_or_none(
     ensures { (old line : List ℕ) → length old ≡ whole → AppendsPart line old out.old.items done
         → AppendsLine line old out.new.items result }
 {
-    if done.is_err() {
-        out.truncate(whole);
-    }
-    done
+    take_back(out, whole, done)
 }

@@ -3,7 +3,7 @@
 
 pub mod append;
 
-pub use append::{push_number, push_text, whole_or_none};
+pub use append::{push_number, push_text, take_back, whole_or_none};
 
 #[cfg(test)]
 mod tests;

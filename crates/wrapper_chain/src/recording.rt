@@ -3,6 +3,7 @@ ghost use Rattle.std.specs.Prelude.{◌≡◌, ◌++◌, OnOk, OnErr};
 ghost use Rattle.wrapper_chain.specs.Records.{before_part, end_text, record_text};
 ghost use Rattle.wrapper_chain.specs.Stages.{Extends};
 
+use byte_text::take_back;
 use itoa::Buffer;
 use memchr::memchr;
 use std::alloc::AllocError;
@@ -27,10 +28,7 @@ pub fn record(number: u64, way: Way, piece: &[u8], out: &mut Vec<u8>) -> Result<
 {
     let before = out.len();
     let done = record_parts(number, way, piece, out);
-    if done.is_err() {
-        out.truncate(before);
-    }
-    done
+    take_back(out, before, done)
 }
 
 /// Adds the line that records the end of a stream.
@@ -43,10 +41,7 @@ pub fn record_end(number: u64, way: Way, out: &mut Vec<u8>) -> Result<(), AllocE
 {
     let before = out.len();
     let done = add_line(number, way, b"", b"[EOF]\n", out);
-    if done.is_err() {
-        out.truncate(before);
-    }
-    done
+    take_back(out, before, done)
 }
 
 /// Adds the lines that record a piece. After an `Err` some of them may have been added.

@@ -3,6 +3,7 @@ ghost use Rattle.std.specs.Prelude.{◌≡◌, ◌++◌, [], List, ℕ, false, O
 ghost use Rattle.wrapper_chain.specs.Stages.{Extends, Feeds, deleted_from, fixed_from};
 ghost use Rattle.wrapper_chain.specs.Wrapped.{IsOneLine, added, deleted, fixed};
 
+use byte_text::take_back;
 use memchr::memchr;
 use std::alloc::AllocError;
 
@@ -85,10 +86,7 @@ impl LineStage for AddCr {
     fn feed(&mut self, piece: &[u8], out: &mut Vec<u8>) -> Result<(), AllocError> {
         let before = out.len();
         let done = add_returns(piece, out);
-        if done.is_err() {
-            out.truncate(before);
-        }
-        done
+        take_back(out, before, done)
     }
 
     fn finish(&mut self, _out: &mut Vec<u8>) -> Result<(), AllocError> {
@@ -105,16 +103,9 @@ impl LineStage for DelCr {
 
     fn feed(&mut self, piece: &[u8], out: &mut Vec<u8>) -> Result<(), AllocError> {
         let before = out.len();
-        match delete_returns(self.held, piece, out) {
-            Ok(held) => {
-                self.held = held;
-                Ok(())
-            }
-            Err(error) => {
-                out.truncate(before);
-                Err(error)
-            }
-        }
+        let done = delete_returns(self.held, piece, out);
+        self.held = take_back(out, before, done)?;
+        Ok(())
     }
 
     fn finish(&mut self, _out: &mut Vec<u8>) -> Result<(), AllocError> {
@@ -133,16 +124,9 @@ impl LineStage for FixCr {
 
     fn feed(&mut self, piece: &[u8], out: &mut Vec<u8>) -> Result<(), AllocError> {
         let before = out.len();
-        match fix_returns(self.after_cr, piece, out) {
-            Ok(after_cr) => {
-                self.after_cr = after_cr;
-                Ok(())
-            }
-            Err(error) => {
-                out.truncate(before);
-                Err(error)
-            }
-        }
+        let done = fix_returns(self.after_cr, piece, out);
+        self.after_cr = take_back(out, before, done)?;
+        Ok(())
     }
 
     fn finish(&mut self, _out: &mut Vec<u8>) -> Result<(), AllocError> {
