@@ -42,15 +42,15 @@ retired_in-with_stage n s t [] e = cc
 retired_in-with_stage n s t (c ∷ cs) e =
     elim (c.serial == n) as (λ b. (if b then Some c.stage else stage_of n cs) ≡ Some t → retired_in (if b then ((record c { stage = s }) ∷ cs) else (c ∷ with_stage n s cs)) + weight t ≡ retired_in (c ∷ cs) + weight s) [
       | true ↦ λ here.
-        let same = ap weight (some_same c.stage t here) in
-        let whole = retired_in-cons c cs in
-        let changed = retired_in-cons (record c { stage = s }) cs in
-        omega arith
+          let same = ap weight (some_same c.stage t here) in
+          let whole = retired_in-cons c cs in
+          let changed = retired_in-cons (record c { stage = s }) cs in
+          omega arith
       | false ↦ λ below.
-        let rest = retired_in-with_stage n s t cs below in
-        let whole = retired_in-cons c cs in
-        let changed = retired_in-cons c (with_stage n s cs) in
-        omega arith
+          let rest = retired_in-with_stage n s t cs below in
+          let whole = retired_in-cons c cs in
+          let changed = retired_in-cons c (with_stage n s cs) in
+          omega arith
     ] e
 
 retired_in-without : (n : ℕ) (t : Stage) (cs : List Connection) → stage_of n cs ≡ Some t → retired_in (without n cs) + weight t ≡ retired_in cs
@@ -58,14 +58,14 @@ retired_in-without n t [] e = cc
 retired_in-without n t (c ∷ cs) e =
     elim (c.serial == n) as (λ b. (if b then Some c.stage else stage_of n cs) ≡ Some t → retired_in (if b then cs else (c ∷ without n cs)) + weight t ≡ retired_in (c ∷ cs)) [
       | true ↦ λ here.
-        let same = ap weight (some_same c.stage t here) in
-        let whole = retired_in-cons c cs in
-        omega arith
+          let same = ap weight (some_same c.stage t here) in
+          let whole = retired_in-cons c cs in
+          omega arith
       | false ↦ λ below.
-        let rest = retired_in-without n t cs below in
-        let whole = retired_in-cons c cs in
-        let changed = retired_in-cons c (without n cs) in
-        omega arith
+          let rest = retired_in-without n t cs below in
+          let whole = retired_in-cons c cs in
+          let changed = retired_in-cons c (without n cs) in
+          omega arith
     ] e
 
 length-without-some : (n : ℕ) (t : Stage) (cs : List Connection) → stage_of n cs ≡ Some t → length (without n cs) + 1 ≡ length cs

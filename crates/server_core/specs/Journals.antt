@@ -47,7 +47,7 @@ FitsSerial _ = ⊤
 -- allowed after it, then those are the report and the number of the list with the event
 abbrev pub GoesOn : (told : Report) (count : ℕ) → Event → (told' : Report) (count' : ℕ) → Type 0
 GoesOn told count event told' count' =
-  (limit per_address : ℕ) (history : List Event) → limit < 2 ^ 64 → FitsSerial event → TellsOf told count history
+    (limit per_address : ℕ) (history : List Event) → limit < 2 ^ 64 → FitsSerial event → TellsOf told count history
     → is_legal (start limit per_address) (history ++ event ∷ []) ≡ true → TellsOf told' count' (history ++ event ∷ [])
 
 -- a journal tells and stores the same

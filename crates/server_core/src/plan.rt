@@ -33,10 +33,10 @@ impl Plan {
     /// A plan of these. It takes no memory.
     pub fn new(program: Program, inherited: Environment, local: Local, banner: Vec<u8>) -> Plan
         ensures { result ≡ record {
-            program = program;
-            inherited = inherited;
-            local = local;
-            banner = banner.items;
+          program = program;
+          inherited = inherited;
+          local = local;
+          banner = banner.items;
         } }
     {
         Plan {
