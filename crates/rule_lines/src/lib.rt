@@ -21,6 +21,3 @@ pub use limits::Limits;
 pub use list::{Pair, RuleList};
 pub use source::{FindFault, ListPairs, PairSource};
 pub use text::parse;
-
-#[cfg(test)]
-mod tests;

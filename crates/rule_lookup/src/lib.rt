@@ -14,6 +14,3 @@ pub use decision::{Address, DecideFault, Decision, Found, Missing, decide};
 pub use form::forms;
 pub use outcome::{DropCause, StartFault, Status};
 pub use peer::{Peer, PeerFault};
-
-#[cfg(test)]
-mod tests;

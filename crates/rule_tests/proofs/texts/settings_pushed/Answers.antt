@@ -2,7 +2,7 @@
 use Rattle.std.proofs.Common.{refl}
 use Rattle.std.specs.Str.{is_utf8, chars}
 use lib.Utf8.{encode}
-use Rattle.rule_lines.proofs.tests.settings_pushed.Goals as goal
+use Rattle.rule_tests.proofs.texts.settings_pushed.Goals as goal
 
 pub push-requires : goal.push-requires
 unfolding is_utf8 chars encode

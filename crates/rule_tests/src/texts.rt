@@ -1,6 +1,6 @@
 //! Worked cases of rule texts, lists and codes.
 
-use crate::{
+use rule_lines::{
     CodeFault, DecodeFault, Instr, Limits, LineFault, LineKind, ListPairs, PairSource, ParseFault,
     RuleList, Settings, Verdict, decode_instr, encode_instr, parse,
 };

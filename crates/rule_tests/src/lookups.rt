@@ -4,12 +4,11 @@ ghost use Rattle.rule_lines.specs.Lookups.{Finding, Trust, found_among};
 ghost use Rattle.rule_lines.specs.Lookups.Trust.{Unknown, Honest};
 ghost use Rattle.rule_lines.specs.Lookups.Finding.{Absent};
 
-use crate::address::parse_address;
-use crate::decision::{DecideFault, Decision, Found, Missing, decide};
-use crate::form::forms;
-use crate::peer::{Peer, PeerFault};
 use rule_lines::{
     CodeFault, FindFault, Limits, ListPairs, PairSource, RuleList, Setting, Verdict, parse,
+};
+use rule_lookup::{
+    DecideFault, Decision, Found, Missing, Peer, PeerFault, decide, forms, parse_address,
 };
 use std::alloc::{AllocError, Global};
 use std::test::Fail;
