@@ -59,7 +59,7 @@ AreRules-line limit line false is none =
     AreRules-under line text.0 text.1 (has_byte-rule line is) (instr_of (is_utf8 line) (instructions_in line)) refl
 
 -- lines without a fault
-pub AreRules-lines : (limit n : ℕ) (lines : List Line) → first_faulty limit n lines ≡ None → AreRules (flat_map (λ (line : Line). pairs_in (trimmed line.bytes)) lines)
+AreRules-lines : (limit n : ℕ) (lines : List Line) → first_faulty limit n lines ≡ None → AreRules (flat_map (λ (line : Line). pairs_in (trimmed line.bytes)) lines)
 AreRules-lines limit n [] none = tt
 AreRules-lines limit n (line ∷ lines) none =
     let parts = neither (fault_in limit (trimmed line.bytes)) none in

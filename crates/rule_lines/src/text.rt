@@ -4,7 +4,6 @@ ghost use Rattle.std.specs.List.{position_or_len};
 ghost use Rattle.std.specs.Str.{is_utf8};
 ghost use Rattle.rule_lines.specs.Faults.{fault_beside, fault_in, fault_under, IsAccepted, Refuses};
 ghost use Rattle.rule_lines.specs.Pairs.{address_in, instructions_in, pairs_in, pairs_of, rule_pairs, verdict_of};
-ghost use Rattle.rule_lines.specs.Rows.{AreRules};
 ghost use Rattle.rule_lines.specs.Spread.{is_bad_range};
 
 use crate::fault::{LineFault, LineKind, ParseFault};
@@ -22,7 +21,6 @@ use std::str;
 pub fn parse(alloc: Global, text: &[u8], limits: &Limits) -> Result<RuleList, ParseFault>
     ensures accepted { IfOk result (λ _. IsAccepted limits.now text.now) }
     ensures pairs { IfOk result (λ list. list ≡ pairs_of text.now) }
-    ensures known { IfOk result AreRules }
     ensures refused { IfErr result (Refuses limits.now text.now) }
 {
     if text.len() as u64 > limits.text {

@@ -3,7 +3,6 @@ ghost use Rattle.std.specs.Prelude.{◌≡◌, ◌≢◌, ◌^◌, ◌≤◌, �
 ghost use Rattle.cdb_write.specs.Image.{finished_length};
 ghost use Rattle.cdb_write.specs.Making.{limit_of};
 ghost use Rattle.cdb_read.specs.Compiled.{stored};
-ghost use Rattle.rule_lines.specs.Rows.{AreRules};
 ghost use Rattle.rules_install.specs.Filled.{IsWritten, blank_file};
 ghost use Rattle.rules_install.specs.Pieces.{IsLeft};
 ghost use Rattle.rules_install.specs.Installing.{IsConsistent, IsUnfilled, begun, next_phase, FillsMore, Fits, HasForGood};
@@ -81,8 +80,7 @@ impl Install {
 
     /// The rules.
     pub fn list(&self) -> &RuleList
-        ensures list { result.now ≡ (installing self.now).rules }
-        ensures known { AreRules (installing self.now).rules }
+        ensures { result.now ≡ (installing self.now).rules }
     {
         self.pieces.list()
     }
@@ -100,7 +98,8 @@ impl Install {
     {
         self.pieces.written();
         let _ = self.cdb();
-        let _ = self.list();
+        // this tells the proof that the rules are rules
+        let _ = self.list().len();
     }
 
     // Takes note of what a call of the directory answered.

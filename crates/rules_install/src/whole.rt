@@ -3,7 +3,6 @@ ghost use Rattle.std.specs.Prelude.{◌≡◌, IsTrue, false, OnOk, IfOk, IfErr}
 ghost use Rattle.dir_disk.specs.Directory.{content};
 ghost use Rattle.cdb_read.specs.Compiled.{Compiled};
 ghost use Rattle.rule_lines.specs.Pairs.{pairs_of};
-ghost use Rattle.rule_lines.specs.Rows.{AreRules};
 ghost use Rattle.rules_install.specs.Filled.{IsWritten, whole_file};
 ghost use Rattle.rules_install.specs.Installing.{begun, Fits, HasForGood};
 ghost use Rattle.rules_install.specs.Installs.{installing};
@@ -29,7 +28,6 @@ pub fn prepare(
     ensures begun { IfOk result (λ install. installing install ≡ begun (pairs_of text.now) names) }
     // which answer comes of which text
     ensures ends { Begins limits.now text.now result }
-    ensures known { IfOk result (λ _. AreRules (pairs_of text.now)) }
 {
     Install::begin(alloc, parse(alloc, text, limits)?, names, limits)
 }
@@ -92,7 +90,6 @@ pub fn install<D: Dir>(
     // and once it is done, the new file alone, which is compiled of the text, and decides each peer as it does
     ensures done { IsTrue D.honest → OnOk result (HasForGood (begun_of text.now names) (D.state dir.new)) }
     ensures compiled { OnOk result (Compiled (whole_file (pairs_of text.now)) text.now) }
-    ensures known { OnOk result (AreRules (pairs_of text.now)) }
     ensures decides { IsTrue D.honest → OnOk result (DecidesAs (content (D.state dir.new) names.cdb) text.now) }
     ensures blames { IfErr result (BlamesFault (D.failed dir.old) (D.failed dir.new)) }
 {

@@ -5,8 +5,8 @@ use Rattle.std.proofs.lemmas.Option.{none-some, same_Some}
 use Rattle.std.proofs.lemmas.Result.{IfOk-weaker}
 use Rattle.dir_disk.specs.Directory.{Directory}
 use Rattle.rule_lines.specs.declared.limits.Limits.{Limits}
+use Rattle.rule_lines.specs.Faults.{IsAccepted}
 use Rattle.rule_lines.specs.Pairs.{pairs_of}
-use Rattle.rule_lines.specs.Rows.{AreRules}
 use Rattle.rules_install.specs.declared.fault.InstallFault.{InstallFault}
 use Rattle.rules_install.specs.declared.install.Install.{Install}
 use Rattle.rules_install.specs.Installing.{Fits, Installing, begun}
@@ -31,12 +31,9 @@ module _ (r : Result Install InstallFault) (text pending : List ℕ) (same : tex
   Begins-pending limits of_text of_line of_file begins =
       subst (λ l. Begins l pending r) (limits_are limits of_text of_line of_file) (subst (λ t. Begins limits t r) same begins)
 
-  pub known-pending : IfOk r (λ _. AreRules (pairs_of text)) → IfOk r (λ _. AreRules (pairs_of pending))
-  known-pending = subst (λ t. IfOk r (λ _. AreRules (pairs_of t))) same
-
 -- an installation that was begun finds any directory as its steps left it, for it made none
-pub IsInstalling-begun : (d : Directory) (install : Install) (text : List ℕ) → installing install ≡ begun (pairs_of text) sim_names → AreRules (pairs_of text) → IsInstalling d (record { install = install; reached = None }) (record { text = text; reached = None })
-IsInstalling-begun d install text is known = record {
+pub IsInstalling-begun : (d : Directory) (install : Install) (text : List ℕ) → installing install ≡ begun (pairs_of text) sim_names → IsAccepted profile text → IsInstalling d (record { install = install; reached = None }) (record { text = text; reached = None })
+IsInstalling-begun d install text is accepted = record {
   reached = refl;
   phase = ap (λ (s : Installing). s.reached) is;
   rules = ap (λ (s : Installing). s.rules) is;
@@ -44,7 +41,7 @@ IsInstalling-begun d install text is known = record {
   blank = λ early. ap (λ (s : Installing). s.patched) is;
   goes_on = ap (λ (s : Installing). s.over) is;
   fits = subst (λ (s : Installing). Fits s d) (sym is) (λ goes_on. tt);
-  known = known;
+  accepted = accepted;
 }
 
 -- where no installation is under way, none was begun, and the directory is no matter

@@ -89,7 +89,7 @@ module _ (d new : Directory) (p : Progress) (b : Begun) (at : IsInstalling d p b
     goes_on = goes.2;
     blank = λ early. still_blank (installing p.install) (installing p'.install) phase same goes kept phase refl early unfilled;
     fits = fits;
-    known = at.known;
+    accepted = at.accepted;
   }
 
   pub texts_on : (t : Texts) (phase : Phase) → phase ≡ next_phase (installing p.install) → Changes (installing p.install) (next_phase (installing p.install)) d new (Ok phase)
@@ -102,7 +102,7 @@ module _ (d new : Directory) (p : Progress) (b : Begun) (at : IsInstalling d p b
       s = installing p.install
 
       compiled : IsFileOf b.text (whole_file (installing p.install).rules)
-      compiled = record { compiled = subst (λ rules. IsCdb (whole_file (installing p.install).rules) (stored rules)) at.rules written.cdb; known = at.known }
+      compiled = record { compiled = subst (λ rules. IsCdb (whole_file (installing p.install).rules) (stored rules)) at.rules written.cdb; accepted = at.accepted }
 
 -- ---- some of the steps to a phase
 

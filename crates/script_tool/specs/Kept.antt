@@ -8,8 +8,8 @@ use Rattle.dir_disk.specs.MemDir.{mem_state}
 use Rattle.dir_disk.specs.NameTable.{Names, after_changes}
 use Rattle.dir_disk.specs.Stop.{chosen_changes}
 use Rattle.cdb_read.specs.Compiled.{Compiled}
+use Rattle.rule_lines.specs.Faults.{IsAccepted}
 use Rattle.rule_lines.specs.Pairs.{pairs_of}
-use Rattle.rule_lines.specs.Rows.{AreRules}
 use Rattle.rules_install.specs.Filled.{fillings_left}
 use Rattle.rules_install.specs.Installing.{Installing, Fits, file_among, next_phase}
 use Rattle.rules_install.specs.Installs.{installing}
@@ -17,17 +17,17 @@ use Rattle.rules_install.specs.NamePair.{NamePair}
 use Rattle.rules_install.specs.declared.Phase.{Phase}
 use Rattle.script_tool.specs.declared.simulation.Simulation.{Simulation}
 use Rattle.script_tool.specs.declared.simulation.Progress.{Progress}
-use Rattle.script_tool.specs.Sim.{Begun, State, begun_to}
+use Rattle.script_tool.specs.Sim.{Begun, State, begun_to, profile}
 use Rattle.script_tool.specs.Texts.{Texts, at_phases, later_of, left_by, place_reached}
 
 -- the names of the rules file and of the scratch file
 abbrev pub sim_names : NamePair
 sim_names = record { cdb = codes "rules"; tmp = codes "rules.tmp" }
 
--- a file is compiled of a text, whose rules set what may be set
+-- a file is compiled of an accepted text
 pub record IsFileOf (text file : List ℕ) : Type 0 where
   pub compiled : Compiled file text
-  pub known : AreRules (pairs_of text)
+  pub accepted : IsAccepted profile text
 
 -- where these are the names, a synced file of this text stands under the name of the rules file, or nothing does
 abbrev pub Shows : Names → List FileState → Option (List ℕ) → Type 0
@@ -50,7 +50,7 @@ pub record IsInstalling (d : Directory) (p : Progress) (b : Begun) : Type 0 wher
   -- before it fills the scratch file, the pointers are not in place
   pub blank : place_reached b.reached < 2 → (installing p.install).patched ≡ false
   pub fits : Fits (installing p.install) d
-  pub known : AreRules (pairs_of b.text)
+  pub accepted : IsAccepted profile b.text
 
 -- how many steps are left at most: for each byte of the scratch file, its pointers and each phase
 abbrev pub steps_left : Installing → ℕ

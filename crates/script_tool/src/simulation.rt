@@ -3,7 +3,6 @@ ghost use Rattle.std.specs.Prelude.{◌≡◌, ◌≢◌, ◌++◌, ◌<◌, Non
 ghost use Rattle.dir_disk.specs.MemDir.{mem_state};
 ghost use Rattle.dir_disk.specs.Names.{name_fault};
 ghost use Rattle.rule_lines.specs.Pairs.{pairs_of};
-ghost use Rattle.rule_lines.specs.Rows.{AreRules};
 ghost use Rattle.rule_lookup.specs.Decisions.{decision_of};
 ghost use Rattle.rules_install.specs.Installing.{begun};
 ghost use Rattle.rules_install.specs.Installs.{installing};
@@ -143,7 +142,6 @@ impl Simulation {
         ensures begun { IfOk result (λ install.
             installing install ≡ begun (pairs_of self.old.pending.items) sim_names) }
         ensures ends { Begins profile self.old.pending.items result }
-        ensures known { IfOk result (λ _. AreRules (pairs_of self.old.pending.items)) }
     {
         self.begun = None;
         let text = mem::replace(&mut self.pending, Vec::new(alloc));

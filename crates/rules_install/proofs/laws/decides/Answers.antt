@@ -1,5 +1,6 @@
 use Rattle.std.proofs.Common.{◌∙◌, ap}
 use Rattle.rule_lines.specs.Pairs.{pairs_of}
+use Rattle.rule_lines.proofs.KnownLemmas.{AreRules-accepted}
 use Rattle.rule_lookup.specs.Decisions.{decision_by}
 use Rattle.rule_lookup.proofs.ListedLemmas.{decision_by-listed}
 use Rattle.cdb_read.specs.Compiled.{stored}
@@ -8,6 +9,6 @@ use Rattle.cdb_read.proofs.StoredRules.{first_value-stored}
 use Rattle.rules_install.proofs.laws.decides.Goals as goal
 
 pub returns : goal.returns
-returns c file text peer compiled known =
+returns c limits file text peer accepted compiled =
     ap (λ finds. decision_by finds peer) (λ i address. (reading_is file (stored (pairs_of text)) compiled address ∙ first_value-stored (pairs_of text) address) i)
-    ∙ decision_by-listed (pairs_of text) peer known
+    ∙ decision_by-listed (pairs_of text) peer (AreRules-accepted limits text accepted)

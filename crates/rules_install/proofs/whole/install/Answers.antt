@@ -46,9 +46,6 @@ returns-clause-compiled g c =
     on_ok_weaker c.finish.result (λ written. written.cdb)
     (subst (λ (s : Installing). OnOk c.finish.result (IsWritten s.rules)) (begins g (goal.at.returns-clause-compiled g c).After-finish) c.finish.ensures.written)
 
-pub returns-clause-known : goal.returns-clause-known
-returns-clause-known g c = on_ok_weaker c.finish.result (λ _. c.in_ok-install.ensures.known) c.finish.ensures.written
-
 pub returns-in_err-install-clause-tells : goal.returns-in_err-install-clause-tells
 returns-in_err-install-clause-tells g c = λ honest.
     let p = err_from_is_err_and c.from_residual.result c.from_residual.ensures.1 in
@@ -75,4 +72,4 @@ pub returns-clause-decides : goal.returns-clause-decides
 returns-clause-decides g c = λ honest.
     let file = whole_file (pairs_of c.args.text.now) in
     on_both c.finish.result (returns-clause-done g c honest) (returns-clause-compiled g c)
-    (λ lasts compiled. (file, stands_now (g.D.Dir.state c.finish.new.dir) c.args.names.cdb file lasts, λ peer. c.decides.ensures file c.args.text.now peer compiled c.in_ok-install.ensures.known))
+    (λ lasts compiled. (file, stands_now (g.D.Dir.state c.finish.new.dir) c.args.names.cdb file lasts, λ peer. c.decides.ensures c.args.limits.now file c.args.text.now peer c.in_ok-install.ensures.ends.0 compiled))

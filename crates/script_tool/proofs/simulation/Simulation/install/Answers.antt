@@ -13,7 +13,7 @@ use Rattle.script_tool.proofs.simulation.Simulation.install.Goals as goal
 pub advance-requires : goal.advance-requires
 advance-requires c =
     let text = c.args.self.now.pending.items in
-    (record { text = text; reached = None }, IsInstalling-begun (mem_state c.prepare.new.self.dir) c.in-Ok.install text c.in-Ok.ensures.begun c.in-Ok.ensures.known)
+    (record { text = text; reached = None }, IsInstalling-begun (mem_state c.prepare.new.self.dir) c.in-Ok.install text c.in-Ok.ensures.begun c.in-Ok.ensures.ends.0)
 
 pub append_refusal-requires : goal.append_refusal-requires
 append_refusal-requires c = (c.args.self.now.pending.items, c.in-Err.ensures.ends)
@@ -22,7 +22,7 @@ pub returns-in_ok-advance-in-Ok : goal.returns-in_ok-advance-in-Ok
 returns-in_ok-advance-in-Ok c = λ state at.
     let emptied = c.in-Ok.ensures.emptied state at in
     let text = c.args.self.now.pending.items in
-    let begins = IsInstalling-begun (mem_state c.prepare.new.self.dir) c.in-Ok.install text c.in-Ok.ensures.begun c.in-Ok.ensures.known in
+    let begins = IsInstalling-begun (mem_state c.prepare.new.self.dir) c.in-Ok.install text c.in-Ok.ensures.begun c.in-Ok.ensures.ends.0 in
     let ends = c.in_ok-advance-in-Ok.ensures (record { text = text; reached = None }) state.texts begins emptied.texts in
     let accepted = refusal_of-none state.pending (subst (MayBeInstalled profile) at.pending c.in-Ok.ensures.ends) in
     let d = mem_state c.advance.new.dir in

@@ -1,5 +1,5 @@
 use Rattle.std.proofs.Common.{◌≡◌, ℕ, Vec, Global, ap, ◌∙◌}
-use Rattle.script_tool.proofs.InstallLemmas.{begun-pending, Begins-pending, known-pending}
+use Rattle.script_tool.proofs.InstallLemmas.{begun-pending, Begins-pending}
 use Rattle.script_tool.proofs.simulation.Simulation.prepare.Goals as goal
 
 -- the text that is prepared is the one that was pending
@@ -14,7 +14,3 @@ pub returns-clause-ends : goal.returns-clause-ends
 returns-clause-ends c =
     let limits = c.profile.ensures in
     Begins-pending c.prepare.result _ _ (text_is c) c.profile.result limits.text limits.line limits.file c.prepare.ensures.ends
-
-pub returns-clause-known : goal.returns-clause-known
-returns-clause-known c =
-    known-pending c.prepare.result _ _ (text_is c) c.prepare.ensures.known
