@@ -13,7 +13,7 @@ use Rattle.std.specs.Str.{is_utf8}
 use Rattle.rule_lines.specs.declared.instr.Verdict.{Verdict}
 use Rattle.rule_lines.specs.declared.instr.Verdict.TheVariants.{Allow, Deny}
 use Rattle.rule_lines.specs.declared.instr.Instr.{Instr}
-use Rattle.rule_lines.specs.Codes.{code_of, decoded, IsInstr, setting_code, verdict_code, setting_in, settings_in}
+use Rattle.rule_lines.specs.Codes.{code_of, decoded, IsInstr, setting_code, verdict_code, verdict_in, setting_in, settings_in}
 use Rattle.rule_lines.specs.Lines.{Line, pieces_of, onto_line, has_byte}
 use Rattle.rule_lines.specs.Settings.{Assignment, AreSettings, is_setting, is_name, is_value}
 
@@ -165,10 +165,6 @@ decoded-code Allow (setting ∷ settings) known = rw (settings_in-codes (setting
 -- the code of an instruction is decoded to it
 pub decoded-code_of : (instr : Instr) → IsInstr instr → decoded (code_of instr) ≡ Some instr
 decoded-code_of instr known = decoded-code instr.verdict instr.settings known
-
--- the verdict that bytes begin with
-abbrev pub verdict_in : List ℕ → Verdict
-verdict_in bytes = if starts_with nat_eq bytes (verdict_code Deny) then Deny else Allow
 
 -- bytes are the code of their verdict, and what follows it
 pub verdict_code-drop : (bytes : List ℕ) → verdict_code (verdict_in bytes) ++ drop (length (verdict_code (verdict_in bytes))) bytes ≡ bytes

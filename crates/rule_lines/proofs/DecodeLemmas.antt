@@ -10,10 +10,10 @@ use Rattle.rule_lines.specs.declared.code.DecodeFault.{DecodeFault}
 use Rattle.rule_lines.specs.declared.code.DecodeFault.TheVariants.{Code, OutOfMemory}
 use Rattle.rule_lines.specs.declared.instr.Instr.{Instr}
 use Rattle.rule_lines.specs.declared.instr.Verdict.{Verdict}
-use Rattle.rule_lines.specs.Codes.{setting_in, settings_in, verdict_code, decoded, RefusesCode}
+use Rattle.rule_lines.specs.Codes.{setting_in, settings_in, verdict_code, decoded, RefusesCode, verdict_in}
 use Rattle.rule_lines.specs.Lines.{pieces_of, has_byte}
 use Rattle.rule_lines.specs.Settings.{Assignment, is_setting, is_name, is_value}
-use Rattle.rule_lines.proofs.CodeLemmas.{pieces_of-stop, before_first-stop, after_first-stop, setting_around, verdict_in, decoded-code_of}
+use Rattle.rule_lines.proofs.CodeLemmas.{pieces_of-stop, before_first-stop, after_first-stop, setting_around, decoded-code_of}
 
 -- bytes with no separator are a piece that none ended
 pub pieces_of-unended : (separator : ℕ) (bytes : List ℕ) → has_byte separator bytes ≡ false → 0 < length bytes → pieces_of separator bytes ≡ record { bytes = bytes; ended = false } ∷ []

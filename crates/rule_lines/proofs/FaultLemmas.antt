@@ -1,6 +1,7 @@
 -- The least kind for which a line is faulty, and its pairs.
-use Rattle.std.proofs.Common.{◌≡◌, ℕ, ◌<◌, Bool, true, false, cond, not, nat_lt, is_ok, is_some, is_none, Option, None, Some, option_map, option_and_then, unwrap_or, MatchOption, Result, Ok, Err, MatchResult, List, [], ◌∷◌, ◌++◌, length, take, drop, get_or, ◌+◌, ◌-◌, ◌==◌, refl, sym, ap, subst, ◌∙◌, arith}
-use Rattle.std.proofs.lemmas.Bool.{cond-false, false_from_ne_true, true≢false, or_right}
+use Rattle.std.proofs.Common.{◌≡◌, ℕ, ◌<◌, Bool, true, false, cond, not, nat_lt, is_ok, is_some, is_none, Option, None, Some, option_map, option_and_then, unwrap_or, Result, Ok, Err, MatchResult, List, [], ◌∷◌, ◌++◌, length, take, drop, get_or, ◌+◌, ◌-◌, ◌==◌, refl, sym, ap, subst, ◌∙◌, arith}
+use Rattle.std.proofs.lemmas.Bool.{cond-false, false_from_ne_true, or_right}
+use Rattle.std.proofs.lemmas.Option.{none-some}
 use Rattle.std.proofs.lemmas.Str.{IsUtf8-from_is_utf8, is_utf8-from_IsUtf8}
 use Rattle.std.specs.Str.{is_utf8, IsUtf8}
 use Rattle.std.specs.List.{position_or_len}
@@ -8,21 +9,23 @@ use Rattle.std.proofs.lemmas.List.{take_rest}
 use Rattle.std.proofs.lemmas.List.Sums.{passes_at_first}
 use Rattle.memchr.specs.Find.{Nowhere, Passes, is_byte}
 use Rattle.rule_lines.specs.declared.fault.LineKind.{LineKind}
-use Rattle.rule_lines.specs.declared.fault.LineKind.TheVariants.{NoVerdict, BadSetting, BadRange, NotText, NulByte, LongLine}
+use Rattle.rule_lines.specs.declared.fault.LineKind.TheVariants.{BadSetting, BadRange, NotText, NulByte, LongLine}
+use Rattle.rule_lines.specs.declared.fault.RuleFault.{RuleFault}
+use Rattle.rule_lines.specs.declared.fault.RuleFault.TheVariants.{Kind, OutOfMemory}
 use Rattle.rule_lines.specs.declared.instr.Instr.{Instr}
 use Rattle.rule_lines.specs.declared.instr.Verdict.{Verdict}
 use Rattle.rule_lines.specs.declared.instr.Verdict.TheVariants.{Allow}
 use Rattle.rule_lines.specs.declared.spread.ReadAddress.{ReadAddress}
-use Rattle.rule_lines.specs.Appended.{AppendsCode}
 use Rattle.rule_lines.specs.Codes.{code_of, decoded}
 use Rattle.rule_lines.specs.Faults.{fault_beside, fault_under}
 use Rattle.rule_lines.specs.Lines.{has_byte}
 use Rattle.rule_lines.specs.Pairs.{Rule, address_in, instr_of, instructions_in, is_ignored, pairs_under, pairs_with, settings_after, verdict_of}
 use Rattle.rule_lines.specs.Rows.{the_instr}
+use Rattle.rule_lines.specs.RuleFaults.{Names, fault_behind, fault_within}
 use Rattle.rule_lines.specs.Settings.{Assignment}
 use Rattle.rule_lines.specs.Spread.{is_bad_range, spread}
 use Rattle.rule_lines.specs.ReadAddresses.{addresses_read}
-use Rattle.rule_lines.proofs.CodeLemmas.{decoded-code_of}
+use Rattle.rule_lines.proofs.CodeLemmas.{decoded-code_of, option_map_found}
 use Rattle.rule_lines.proofs.FoundLemmas.{list_any-found, list_any-nowhere}
 use Rattle.rule_lines.proofs.SettingLemmas.{IsInstr-instr_of}
 
@@ -43,52 +46,43 @@ pub record IsReadLine (limit : ℕ) (line old new : List ℕ) : Type 0 where
   pub code : new ≡ old ++ code_of instr
   pub fault : fault_under limit line (verdict_of (instructions_in line)) ≡ fault_beside limit line
 
-module _ (limit : ℕ) (line : List ℕ) (is_text : Bool) (instructions : List ℕ) (text : is_text ≡ is_utf8 line) (rest : instructions ≡ instructions_in line) (read : Result (Unit {0}) LineKind) (old new : List ℕ) (appended : AppendsCode is_text instructions read old new) where
-  -- the same of the instructions of the line
-  here : AppendsCode (is_utf8 line) (instructions_in line) read old new
-  here = subst (λ t. AppendsCode t (instructions_in line) read old new) text (subst (λ i. AppendsCode is_text i read old new) rest appended)
+-- a fault within the instructions of a line is that of the line
+Names-verdict : (limit : ℕ) (line : List ℕ) (verdict : Option Verdict) (fault : RuleFault) → Names (fault_behind (is_utf8 line) (instructions_in line) verdict) fault → Names (fault_under limit line verdict) fault
+Names-verdict limit line verdict OutOfMemory named = tt
+Names-verdict limit line None (Kind kind) named = named
+Names-verdict limit line (Some verdict) (Kind kind) named = behind (is_none (settings_after (is_utf8 line) verdict (instructions_in line))) named
+  where
+    behind : (bad : Bool) → ◌≡◌ {A = Option LineKind} (cond bad (Some BadSetting) None) (Some kind) → ◌≡◌ {A = Option LineKind} (cond bad (Some BadSetting) (fault_beside limit line)) (Some kind)
+    behind true named = named
+    behind false named = absurd cc
 
-  -- settings that cannot be read
-  fault-settings : (kind : LineKind) → read ≡ Err kind → (verdict : Verdict) (settings : Option (List Assignment))
-      → MatchOption settings (read ≡ Err BadSetting) (λ s. (read ≡ Ok tt) × (new ≡ old ++ code_of (record { verdict = verdict; settings = s })))
-      → Some kind ≡ cond (is_none settings) (Some BadSetting) (fault_beside limit line)
-  fault-settings kind failed verdict None bad = cc
-  fault-settings kind failed verdict (Some s) good = let ok = good.0 in cc
+-- a line whose instruction was read has none of the first two kinds
+fault_under-read : (limit : ℕ) (line : List ℕ) (verdict : Option Verdict) (instr : Instr) → option_and_then (λ v. option_map (λ settings. let read : Instr = record { verdict = v; settings = settings } in read) (settings_after (is_utf8 line) v (instructions_in line))) verdict ≡ Some instr → fault_under limit line verdict ≡ fault_beside limit line
+fault_under-read limit line None instr is = absurd (none-some instr is)
+fault_under-read limit line (Some v) instr is = behind (settings_after (is_utf8 line) v (instructions_in line)) is
+  where
+    behind : (settings : Option (List Assignment)) → option_map (λ settings. let read : Instr = record { verdict = v; settings = settings } in read) settings ≡ Some instr → ◌≡◌ {A = Option LineKind} (cond (is_none settings) (Some BadSetting) (fault_beside limit line)) (fault_beside limit line)
+    behind None is = absurd (none-some instr is)
+    behind (Some settings) is = refl
 
-  -- a word that is none, or settings that cannot be read
-  fault-verdict : (kind : LineKind) → read ≡ Err kind → (verdict : Option Verdict)
-      → MatchOption verdict (read ≡ Err NoVerdict) (λ v. MatchOption (settings_after (is_utf8 line) v (instructions_in line)) (read ≡ Err BadSetting) (λ s. (read ≡ Ok tt) × (new ≡ old ++ code_of (record { verdict = v; settings = s }))))
-      → Some kind ≡ fault_under limit line verdict
-  fault-verdict kind failed None bad = cc
-  fault-verdict kind failed (Some v) good = fault-settings kind failed v (settings_after (is_utf8 line) v (instructions_in line)) good
-
-  -- instructions that cannot be read are what the line is named for
-  pub fault_under-append : (kind : LineKind) → read ≡ Err kind → Some kind ≡ fault_under limit line (verdict_of (instructions_in line))
-  fault_under-append kind failed = fault-verdict kind failed (verdict_of (instructions_in line)) here
-
-  -- settings that can be read
-  read-settings : (u : Unit {0}) → read ≡ Ok u → (verdict : Verdict) (settings : Option (List Assignment)) → verdict_of (instructions_in line) ≡ Some verdict → settings_after (is_utf8 line) verdict (instructions_in line) ≡ settings
-      → MatchOption settings (read ≡ Err BadSetting) (λ s. (read ≡ Ok tt) × (new ≡ old ++ code_of (record { verdict = verdict; settings = s })))
-      → IsReadLine limit line old new
-  read-settings u ok verdict None word none bad = absurd cc
-  read-settings u ok verdict (Some s) word some good = record {
-    instr = record { verdict = verdict; settings = s };
-    is = ap (λ v. option_and_then (λ v. option_map (λ settings. record { verdict = v; settings = settings }) (settings_after (is_utf8 line) v (instructions_in line))) v) word
-        ∙ ap (option_map (λ settings. record { verdict = verdict; settings = settings })) some;
-    code = good.1;
-    fault = ap (fault_under limit line) word ∙ ap (λ t. cond (is_none t) (Some BadSetting) (fault_beside limit line)) some;
-  }
-
-  -- a word and settings that can be read
-  read-verdict : (u : Unit {0}) → read ≡ Ok u → (verdict : Option Verdict) → verdict_of (instructions_in line) ≡ verdict
-      → MatchOption verdict (read ≡ Err NoVerdict) (λ v. MatchOption (settings_after (is_utf8 line) v (instructions_in line)) (read ≡ Err BadSetting) (λ s. (read ≡ Ok tt) × (new ≡ old ++ code_of (record { verdict = v; settings = s }))))
-      → IsReadLine limit line old new
-  read-verdict u ok None word bad = absurd cc
-  read-verdict u ok (Some v) word good = read-settings u ok v (settings_after (is_utf8 line) v (instructions_in line)) word refl good
+module _ (limit : ℕ) (line : List ℕ) (is_text : Bool) (instructions : List ℕ) (text : is_text ≡ is_utf8 line) (rest : instructions ≡ instructions_in line) where
+  -- instructions that can't be read are what the line is named for
+  pub Names-line : (fault : RuleFault) → Names (fault_within is_text instructions) fault → Names (fault_under limit line (verdict_of (instructions_in line))) fault
+  Names-line fault named =
+      Names-verdict limit line (verdict_of (instructions_in line)) fault
+      (subst (λ t. Names (fault_within t (instructions_in line)) fault) text (subst (λ i. Names (fault_within is_text i) fault) rest named))
 
   -- instructions that can be read
-  pub IsReadLine-append : (u : Unit {0}) → read ≡ Ok u → IsReadLine limit line old new
-  IsReadLine-append u ok = read-verdict u ok (verdict_of (instructions_in line)) refl here
+  pub IsReadLine-added : (old new : List ℕ) → option_map (λ (instr : Instr). old ++ code_of instr) (instr_of is_text instructions) ≡ Some new → IsReadLine limit line old new
+  IsReadLine-added old new added =
+      let here = subst (λ t. option_map (λ (instr : Instr). old ++ code_of instr) (instr_of t (instructions_in line)) ≡ Some new) text (subst (λ i. option_map (λ (instr : Instr). old ++ code_of instr) (instr_of is_text i) ≡ Some new) rest added) in
+      let found = option_map_found (λ (instr : Instr). old ++ code_of instr) (instr_of (is_utf8 line) (instructions_in line)) new here in
+      record {
+        instr = found.0;
+        is = found.1;
+        code = sym found.2;
+        fault = fault_under-read limit line (verdict_of (instructions_in line)) found.0 found.1;
+      }
 
 -- where no test names a kind, the line is text without a zero byte
 none-parts : (range text nul long : Bool) → ◌≡◌ {A = Option LineKind} (cond range (Some BadRange) (cond (not text) (Some NotText) (cond nul (Some NulByte) (cond long (Some LongLine) None)))) None → (text ≡ true) × (nul ≡ false)
@@ -101,15 +95,10 @@ none-parts false true false long none = (refl, refl)
 pub fault_beside-none : (limit : ℕ) (line : List ℕ) → fault_beside limit line ≡ None → (is_utf8 line ≡ true) × (has_byte 0 line ≡ false)
 fault_beside-none limit line none = none-parts (is_bad_range (address_in line)) (is_utf8 line) (has_byte 0 line) (nat_lt limit (length line)) none
 
--- an answer that is no fault
-pub none-answer : (o : Option LineKind) → is_some o ≡ false → o ≡ None
-none-answer None clear = refl
-none-answer (Some kind) clear = absurd (true≢false clear)
-
 -- the code of a line without a fault is that of its instruction
 module _ (limit : ℕ) (line new : List ℕ) (read : IsReadLine limit line [] new) (none : fault_beside limit line ≡ None) (colon : has_byte 58 line ≡ true) where
   -- the code decodes to the instruction
-  pub decoded-read : decoded new ≡ Some read.instr
+  decoded-read : decoded new ≡ Some read.instr
   decoded-read =
       let text = fault_beside-none limit line none in
       let known = IsInstr-instr_of line read.instr text.0 text.1 colon (ap (λ t. instr_of t (instructions_in line)) (sym text.0) ∙ read.is) in

@@ -1,30 +1,13 @@
 -- An address in lower case from its first `=` on, where it stands at the end of a list of bytes.
-use Rattle.std.proofs.Common.{◌≡◌, ℕ, ◌+◌, ◌-◌, ◌≤◌, List, [], ◌++◌, map, length, take, drop, get_or, eqb, Option, Some, None, unwrap_or, refl, sym, ap, ◌∙◌, inl, inr, arith, append_assoc, length-append, length-drop}
+use Rattle.std.proofs.Common.{◌≡◌, ℕ, ◌+◌, ◌-◌, ◌≤◌, List, [], ◌++◌, map, length, take, drop, eqb, refl, ap, ◌∙◌, arith, append_assoc, length-append, length-drop}
 use Rattle.std.specs.Char.{to_ascii_lowercase}
 use Rattle.std.specs.List.{position_or_len}
 use Rattle.std.proofs.Math.Seq.{take-append-add, drop-append-add}
-use Rattle.std.proofs.lemmas.Bool.{cases_Bool}
 use Rattle.std.proofs.lemmas.List.{append-nil, length-map, take-append-drop, take_all, take_at, drop_all}
-use Rattle.std.proofs.lemmas.List.Sums.{position_or_len_is}
-use Rattle.memchr.specs.Find.{IsFirstByte, is_byte}
 use Rattle.rule_lines.specs.Spread.{folded}
 use borrow.Rule.Slice.PartMut.{put_mid}
 
--- where the first `=` was sought, or the end
-pub unwrap_or-IsFirstByte : (address : List ℕ) (found : Option ℕ) → IsFirstByte (is_byte 61) address found → unwrap_or found (length address) ≡ position_or_len (λ b. eqb b 61) address
-unwrap_or-IsFirstByte address None none =
-    sym (position_or_len_is (λ b. eqb b 61) address (length address) 0 (omega arith)
-    (λ k inside. elim (cases_Bool (eqb (get_or address k 0) 61)) [ inl is ↦ absurd (none k (omega arith) inside is) | inr differs ↦ differs ])
-    (λ past. absurd (omega arith)))
-unwrap_or-IsFirstByte address (Some place) first =
-    sym (position_or_len_is (λ b. eqb b 61) address place 0 (omega (arith, first.0.high))
-    (λ k before. elim (cases_Bool (eqb (get_or address k 0) 61)) [ inl is ↦ absurd (first.0.before k (omega arith) before is) | inr differs ↦ differs ])
-    (λ inside. first.1))
-
--- what follows the first `=` put into lower case behind what stands before it
-pub folded-parts : (address : List ℕ) (place : ℕ) → place ≡ position_or_len (λ b. eqb b 61) address → take place address ++ map to_ascii_lowercase (drop place address) ≡ folded address
-folded-parts address place is = ap (λ n. take n address ++ map to_ascii_lowercase (drop n address)) is
-
+-- putting letters into lower case leaves their number
 pub length-folded : (address : List ℕ) → length (folded address) ≡ length address
 length-folded address =
     let place = position_or_len (λ b. eqb b 61) address in

@@ -1,6 +1,5 @@
 -- A text read line by line: the pairs so far and those of the rest are the pairs of the text, and so with its first fault.
-use Rattle.std.proofs.Common.{◌≡◌, ℕ, ◌+◌, ◌≤◌, None, List, ◌++◌, length, sym, ap, ◌∙◌}
-use Rattle.std.proofs.lemmas.List.{append-nil, nil_from_length}
+use Rattle.std.proofs.Common.{◌≡◌, ℕ, ◌+◌, ◌≤◌, List, ◌++◌, length}
 use Rattle.rule_lines.specs.Faults.{first_faulty}
 use Rattle.rule_lines.specs.Lines.{lines_of}
 use Rattle.rule_lines.specs.Pairs.{Rule, pairs_of}
@@ -10,12 +9,3 @@ pub record IsReadUpTo (limit : ℕ) (text rest : List ℕ) (number : ℕ) (list 
   pub pairs : list ++ pairs_of rest ≡ pairs_of text
   pub faults : first_faulty limit (number + 1) (lines_of rest) ≡ first_faulty limit 1 (lines_of text)
   pub room : number + length rest ≤ length text
-
-module _ (limit : ℕ) (text rest : List ℕ) (number : ℕ) (list : List Rule) (read : IsReadUpTo limit text rest number list) (end : length rest ≡ 0) where
-  -- once all was read, the list has the pairs of the text
-  pub pairs-end : list ≡ pairs_of text
-  pairs-end = sym (append-nil list) ∙ ap (λ bytes. list ++ pairs_of bytes) (sym (nil_from_length rest end)) ∙ read.pairs
-
-  -- once all was read, no line was faulty
-  pub first_faulty-end : first_faulty limit 1 (lines_of text) ≡ None
-  first_faulty-end = sym read.faults ∙ ap (λ bytes. first_faulty limit (number + 1) (lines_of bytes)) (nil_from_length rest end)

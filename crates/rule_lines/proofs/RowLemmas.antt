@@ -268,10 +268,10 @@ get_or-rules_in bytes (row ∷ rows) before total are (suc k) d place e inside w
 -- the rule at a place of a list
 pub slice_get-rules_in : (bytes : List ℕ) (rows : List Row) (total : ℕ) → AreRows bytes 0 rows total → (k : ℕ) (d : Row) (i : ℕ) → k < length rows → (get_or rows k d).before ≤ i → i < (get_or rows k d).before + count_of (get_or rows k d).numbers → i < total → slice_get (rules_in bytes rows) i ≡ Some (rule_at bytes (get_or rows k d) (i - (get_or rows k d).before))
 slice_get-rules_in bytes rows total are k d i inside low high within =
-    let row = get_or rows k d in
-    let e = rule_at bytes row 0 in
-    let here : row.before - 0 + (i - row.before) ≡ i = omega arith in
-    let found = get_or-rules_in bytes rows 0 total are k d (i - row.before) e inside (omega arith) in
+    let at_place = get_or rows k d in
+    let e = rule_at bytes at_place 0 in
+    let here : at_place.before - 0 + (i - at_place.before) ≡ i = omega arith in
+    let found = get_or-rules_in bytes rows 0 total are k d (i - at_place.before) e inside (omega arith) in
     slice_get-get_or (rules_in bytes rows) i e (omega (arith, length-rules_in bytes rows 0 total are))
     ∙ ap Some (ap (λ n. get_or (rules_in bytes rows) n e) (sym here) ∙ found.1)
 

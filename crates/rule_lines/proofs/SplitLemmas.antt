@@ -1,23 +1,16 @@
 -- Bytes split at the first place of a byte.
 use Rattle.std.proofs.Common.{◌≡◌, ℕ, ◌+◌, ◌-◌, ◌<◌, false, List, ◌∷◌, ◌++◌, length, take, drop, get_or, sym, ap, ◌∙◌, arith, length-take}
 use Rattle.std.specs.Prelude.{◌==◌}
-use Rattle.std.proofs.lemmas.Bool.{false_from_ne_true, eqb-true}
+use Rattle.std.proofs.lemmas.Bool.{eqb-true}
 use Rattle.std.proofs.lemmas.List.{get_or-take, take-append-drop, drop_more, take_rest}
-use Rattle.std.proofs.lemmas.List.Sums.{passes_at_first}
 use Rattle.memchr.specs.Find.{Nowhere, Passes, is_byte}
 use Rattle.rule_lines.specs.Lines.{has_byte}
-use Rattle.rule_lines.proofs.CodeLemmas.{position_or_len-within}
+use Rattle.rule_lines.proofs.FoundLemmas.{list_any-nowhere}
 
--- bytes have none that stands at no place
-pub has_byte-nowhere : (b : ℕ) (bytes : List ℕ) → Nowhere (Passes (is_byte b) bytes) 0 (length bytes) → has_byte b bytes ≡ false
-has_byte-nowhere b bytes nowhere =
-    false_from_ne_true (has_byte b bytes)
-    (λ has. let within = position_or_len-within b bytes has in nowhere _ (omega arith) within (passes_at_first (λ x. x == b) bytes 0 within))
-
--- nor do the bytes before its first place
+-- the bytes before the first place of a byte have none
 pub has_byte-before : (b place : ℕ) (bytes : List ℕ) → Nowhere (Passes (is_byte b) bytes) 0 place → has_byte b (take place bytes) ≡ false
 has_byte-before b place bytes before =
-    has_byte-nowhere b (take place bytes)
+    list_any-nowhere (is_byte b) (take place bytes)
     (λ k low high passes.
     let below : k < place = omega (arith, length-take place bytes) in
     before k low below (ap (λ x. x == b) (sym (get_or-take place bytes k 0 below)) ∙ passes))

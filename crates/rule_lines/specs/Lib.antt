@@ -1,6 +1,5 @@
 -- The rules language: a text cut into lines, what a line is, the addresses that a range stands for, the pairs of a
 -- text, the code of an instruction, and what a look-up answers.
-pub mod Appended
 pub mod Codes
 pub mod Faults
 pub mod FaultTexts
@@ -9,5 +8,6 @@ pub mod Lookups
 pub mod Pairs
 pub mod ReadAddresses
 pub mod Rows
+pub mod RuleFaults
 pub mod Settings
 pub mod Spread

@@ -2,6 +2,7 @@
 ghost use Rattle.std.specs.Prelude.{◌≡◌};
 ghost use Rattle.rule_lines.specs.FaultTexts.{kind_text};
 ghost use Rattle.rule_lines.specs.declared.fault.ParseFault.TheVariants.{OutOfMemory};
+ghost use Rattle.rule_lines.specs.declared.fault.RuleFault.TheVariants.{OutOfMemory as NoMemory};
 
 use std::alloc::{AllocError, AllocFailed};
 use std::error::Error;
@@ -70,6 +71,23 @@ impl fmt::Display for LineFault {
 }
 
 impl Error for LineFault {}
+
+/// Why a line gives no rules: what is wrong with it, or that there was no memory for them.
+#[derive(Clone, Copy, Debug)]
+pub(crate) enum RuleFault {
+    /// The line is faulty.
+    Kind(LineKind),
+    /// There was no memory for its rules.
+    OutOfMemory,
+}
+
+impl From<AllocError> for RuleFault {
+    ghost from_gives = { λ _ e. e ≡ NoMemory };
+
+    fn from(_error: AllocError) -> RuleFault {
+        RuleFault::OutOfMemory
+    }
+}
 
 /// Why `parse` gives no list.
 #[derive(Clone, Copy, PartialEq, Eq, Debug, thiserror::Error)]

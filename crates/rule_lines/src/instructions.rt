@@ -1,16 +1,15 @@
 //! The instructions of a rule line, read into their code.
-ghost use Rattle.std.specs.Prelude.{◌≡◌, ◌++◌, ◌<◌, ◌≤◌, ℕ, suc, List, if◌then◌else◌, IfOk, IfSome, MatchOption, true, false, flat_map, length, drop};
+ghost use Rattle.std.specs.Prelude.{◌≡◌, ◌++◌, ◌<◌, ◌≤◌, ℕ, suc, List, Some, Err, if◌then◌else◌, option_map, IfErr, IfSome, MatchOption, OnOk, flat_map, length, drop};
 ghost use Rattle.std.specs.Str.{continuation_len};
-ghost use Rattle.rule_lines.specs.Appended.{AppendsCode};
-ghost use Rattle.rule_lines.specs.Codes.{setting_code};
-ghost use Rattle.rule_lines.specs.Pairs.{verdict_of, word_length};
+ghost use Rattle.rule_lines.specs.Codes.{code_of, setting_code};
+ghost use Rattle.rule_lines.specs.Pairs.{instr_of, verdict_of, word_length};
+ghost use Rattle.rule_lines.specs.RuleFaults.{Names, fault_within};
 ghost use Rattle.rule_lines.specs.Settings.{cut_at, first_character, front_of, value_at, setting_at, settings_of};
 
 use crate::code::{append_setting, append_verdict, split_at_byte};
-use crate::fault::LineKind;
+use crate::fault::{LineKind, RuleFault};
 use crate::instr::Verdict;
 use memchr::memmem;
-use std::alloc::AllocError;
 
 /// The word of the verdict that allows.
 const ALLOW_WORD: &[u8] = b"allow";
@@ -89,26 +88,29 @@ fn first_setting(is_text: bool, bytes: &[u8]) -> Option<FirstSetting<'_>>
     Some(FirstSetting { name, value, rest })
 }
 
-/// Adds the codes of the settings that the bytes are, and answers true, or answers false where they are no series of
-/// settings. A quote is a character in a text, and else a byte. Where the answer is not `Ok(true)`, `code` may have any
-/// more bytes at its end.
-pub fn append_settings(is_text: bool, bytes: &[u8], code: &mut Vec<u8>) -> Result<bool, AllocError>
-    ensures { IfOk result (λ known. MatchOption (settings_of is_text bytes.now)
-        (known ≡ false)
-        (λ settings. (known ≡ true) × (code.new.items ≡ code.old.items ++ flat_map setting_code settings))) }
+/// Adds the codes of the settings that the bytes are. A quote is a character in a text, and else a byte.
+///
+/// # Errors
+/// `BadSetting` where they are no series of settings, and `OutOfMemory`. After them `code` may have any more bytes at its end.
+fn append_settings(is_text: bool, bytes: &[u8], code: &mut Vec<u8>) -> Result<(), RuleFault>
+    ensures added { OnOk result
+        (option_map (λ settings. code.old.items ++ flat_map setting_code settings) (settings_of is_text bytes.now)
+        ≡ Some code.new.items) }
+    ensures refused { (kind : LineKind) → result ≡ Err (RuleFault.Kind kind)
+        → (kind ≡ LineKind.BadSetting) × (settings_of is_text bytes.now ≡ None) }
 {
     let mut rest = bytes;
     while let Some((comma, assignment)) = rest.split_first() {
         if *comma != b',' {
-            return Ok(false);
+            return Err(RuleFault::Kind(LineKind::BadSetting));
         }
         let Some(first) = first_setting(is_text, assignment) else {
-            return Ok(false);
+            return Err(RuleFault::Kind(LineKind::BadSetting));
         };
         append_setting(first.name, first.value, code)?;
         rest = first.rest;
     }
-    Ok(true)
+    Ok(())
 }
 
 /// The verdict that instructions begin with, and what follows its word.
@@ -127,22 +129,23 @@ fn read_verdict(instructions: &[u8]) -> Option<(Verdict, &[u8])>
     }
 }
 
-/// Adds the code of the instruction that the bytes say, or answers which of the first two kinds of fault they have; then,
-/// as after want of memory, `code` may have any more bytes at its end.
-pub fn append_code(
+/// Adds the code of the instruction that the bytes say.
+///
+/// # Errors
+/// `NoVerdict` or `BadSetting` where they say none, and `OutOfMemory`. After them `code` may have any more bytes at its end.
+pub(crate) fn append_code(
     is_text: bool,
     instructions: &[u8],
     code: &mut Vec<u8>,
-) -> Result<Result<(), LineKind>, AllocError>
-    ensures { IfOk result (λ read. AppendsCode is_text instructions.now read code.old.items code.new.items) }
+) -> Result<(), RuleFault>
+    ensures added { OnOk result
+        (option_map (λ instr. code.old.items ++ code_of instr) (instr_of is_text instructions.now)
+        ≡ Some code.new.items) }
+    ensures refused { IfErr result (Names (fault_within is_text instructions.now)) }
 {
     let Some((verdict, settings)) = read_verdict(instructions) else {
-        return Ok(Err(LineKind::NoVerdict));
+        return Err(RuleFault::Kind(LineKind::NoVerdict));
     };
     append_verdict(verdict, code)?;
-    if append_settings(is_text, settings, code)? {
-        Ok(Ok(()))
-    } else {
-        Ok(Err(LineKind::BadSetting))
-    }
+    append_settings(is_text, settings, code)
 }

@@ -243,8 +243,8 @@ impl RuleList {
         }
         // A list of more than `usize::MAX` addresses is one for which there is no memory.
         let len = self.len.checked_add(count).ok_or(AllocError)?;
-        let row = append_row(&mut self.bytes, self.len, addresses, code)?;
-        self.rows.push(row)?;
+        let added = append_row(&mut self.bytes, self.len, addresses, code)?;
+        self.rows.push(added)?;
         self.len = len;
         Ok(())
     }

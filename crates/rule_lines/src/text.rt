@@ -1,19 +1,20 @@
 //! Rule texts.
-ghost use Rattle.std.specs.Prelude.{◌≡◌, ◌<◌, ◌++◌, ◌==◌, false, length, IfOk, IfErr, IfNone};
+ghost use Rattle.std.specs.Prelude.{◌≡◌, ◌<◌, ◌++◌, ◌==◌, None, false, length, IfOk, IfErr, OnOk};
 ghost use Rattle.std.specs.List.{position_or_len};
 ghost use Rattle.std.specs.Str.{is_utf8};
 ghost use Rattle.rule_lines.specs.Faults.{fault_beside, fault_in, fault_under, IsAccepted, Refuses};
 ghost use Rattle.rule_lines.specs.Pairs.{address_in, instructions_in, pairs_in, pairs_of, rule_pairs, verdict_of};
+ghost use Rattle.rule_lines.specs.RuleFaults.{Names};
 ghost use Rattle.rule_lines.specs.Spread.{is_bad_range};
 
-use crate::fault::{LineFault, LineKind, ParseFault};
+use crate::fault::{LineFault, LineKind, ParseFault, RuleFault};
 use crate::instructions::append_code;
 use crate::limits::Limits;
 use crate::lines::{first_line, trim_blanks};
 use crate::list::RuleList;
 use crate::spread::read_address;
 use memchr::memchr;
-use std::alloc::{AllocError, Global};
+use std::alloc::Global;
 use std::str;
 
 /// The rules of an accepted text, in order. Any other text is refused with its first faulty line and the least kind for
@@ -36,28 +37,34 @@ pub fn parse(alloc: Global, text: &[u8], limits: &Limits) -> Result<RuleList, Pa
     while !rest.is_empty() {
         let (line, after) = first_line(rest);
         number += 1;
-        if let Some(kind) = read_line(trim_blanks(line), limits.line, &mut list, &mut code)? {
-            return Err(ParseFault::Line(LineFault { line: number, kind }));
+        match read_line(trim_blanks(line), limits.line, &mut list, &mut code) {
+            Ok(()) => rest = after,
+            Err(RuleFault::Kind(kind)) => {
+                return Err(ParseFault::Line(LineFault { line: number, kind }));
+            }
+            Err(RuleFault::OutOfMemory) => return Err(ParseFault::OutOfMemory),
         }
-        rest = after;
     }
     Ok(list)
 }
 
-/// Adds the rules of a trimmed line, or answers the least kind for which it is faulty. The bytes of `code` are overwritten.
-/// After a fault, or for want of memory, the list may have any rules.
+/// Adds the rules of a trimmed line. The bytes of `code` are overwritten.
+///
+/// # Errors
+/// The least kind for which the line is faulty, and `OutOfMemory`. After them the list may have any rules.
 fn read_line(
     line: &[u8],
     limit: u64,
     list: &mut RuleList,
     code: &mut Vec<u8>,
-) -> Result<Option<LineKind>, AllocError>
-    ensures fault { IfOk result (λ fault. fault ≡ fault_in limit line.now) }
-    ensures pairs { IfOk result (λ fault. IfNone fault (list.new ≡ list.old ++ pairs_in line.now)) }
+) -> Result<(), RuleFault>
+    ensures faultless { OnOk result (fault_in limit line.now ≡ None) }
+    ensures pairs { OnOk result (list.new ≡ list.old ++ pairs_in line.now) }
+    ensures refused { IfErr result (Names (fault_in limit line.now)) }
 {
     match memchr(b':', line) {
         Some(colon) if line[0] != b'#' => read_rule(line, colon, limit, list, code),
-        _ => Ok(None),
+        _ => Ok(()),
     }
 }
 
@@ -68,25 +75,24 @@ fn read_rule(
     limit: u64,
     list: &mut RuleList,
     code: &mut Vec<u8>,
-) -> Result<Option<LineKind>, AllocError>
+) -> Result<(), RuleFault>
     requires inside { colon < length line.now }
     requires first { colon ≡ position_or_len (λ b. b == 58) line.now }
-    ensures fault { IfOk result (λ fault. fault ≡ fault_under limit line.now (verdict_of (instructions_in line.now))) }
-    ensures pairs { IfOk result (λ fault. IfNone fault (list.new ≡ list.old ++ rule_pairs line.now)) }
+    ensures faultless { OnOk result (fault_under limit line.now (verdict_of (instructions_in line.now)) ≡ None) }
+    ensures pairs { OnOk result (list.new ≡ list.old ++ rule_pairs line.now) }
+    ensures refused { IfErr result (Names (fault_under limit line.now (verdict_of (instructions_in line.now)))) }
 {
     let is_text = is_text(line);
     code.clear();
-    if let Err(kind) = append_code(is_text, &line[colon + 1..], code)? {
-        return Ok(Some(kind));
-    }
+    append_code(is_text, &line[colon + 1..], code)?;
     let Some(addresses) = read_address(&line[..colon]) else {
-        return Ok(Some(LineKind::BadRange));
+        return Err(RuleFault::Kind(LineKind::BadRange));
     };
-    let fault = fault_beside_range(line, is_text, limit);
-    if fault.is_none() {
-        list.push(addresses, code)?;
+    if let Some(kind) = fault_beside_range(line, is_text, limit) {
+        return Err(RuleFault::Kind(kind));
     }
-    Ok(fault)
+    list.push(addresses, code)?;
+    Ok(())
 }
 
 /// What is wrong with a rule line whose instructions and range can be read.

@@ -1,9 +1,11 @@
 -- The place that `memchr` finds splits the bytes.
-use Rattle.rule_lines.proofs.SplitLemmas.{has_byte-nowhere, has_byte-before, split_at_place}
+use Rattle.memchr.specs.Find.{is_byte}
+use Rattle.rule_lines.proofs.FoundLemmas.{list_any-nowhere}
+use Rattle.rule_lines.proofs.SplitLemmas.{has_byte-before, split_at_place}
 use Rattle.rule_lines.proofs.code.split_at_byte.Goals as goal
 
 pub returns-in_err-place : goal.returns-in_err-place
-returns-in_err-place c = rw c.from_residual.ensures (has_byte-nowhere _ _ c.in_err-place.ensures)
+returns-in_err-place c = rw c.from_residual.ensures (list_any-nowhere (is_byte c.args.byte) _ c.in_err-place.ensures)
 
 pub returns : goal.returns
 returns c =

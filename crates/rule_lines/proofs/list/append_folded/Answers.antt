@@ -1,7 +1,9 @@
 -- What was added is put into lower case from its first `=` on.
 use Rattle.std.proofs.Common.{◌≡◌, ◌∙◌, ◌+◌, eqb, length, arith, length-append}
 use Rattle.std.specs.List.{position_or_len}
-use Rattle.rule_lines.proofs.FoldLemmas.{unwrap_or-IsFirstByte, append_folded-is}
+use Rattle.memchr.specs.Find.{is_byte}
+use Rattle.rule_lines.proofs.FoldLemmas.{append_folded-is}
+use Rattle.rule_lines.proofs.FoundLemmas.{position_or_len-search}
 use Rattle.rule_lines.proofs.list.append_folded.Goals as goal
 
 pub returns-clause-ok : goal.returns-clause-ok
@@ -9,7 +11,7 @@ returns-clause-ok c =
     let out = c.args.out.now.items in
     let address = c.args.address.now in
     let place : c.unwrap_or-place.result ≡ position_or_len (λ b. eqb b 61) address =
-    c.unwrap_or-place.ensures ∙ unwrap_or-IsFirstByte address c.memchr.result c.memchr.ensures in
+    c.unwrap_or-place.ensures ∙ position_or_len-search (is_byte 61) address c.memchr.result c.memchr.ensures in
     let start : c.len-start.result ≡ length out = omega arith in
     append_folded-is out address c.deref_mut.result.now c.make_ascii_lowercase.new.self _ (c.len-start.result + c.unwrap_or-place.result) c.extend_from_slice.new.self.len
     (c.deref_mut.ensures.value ∙ c.in_ok-extend_from_slice.ensures.items)

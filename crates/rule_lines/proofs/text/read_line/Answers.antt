@@ -9,8 +9,8 @@ use Rattle.rule_lines.proofs.text.read_line.Goals as goal
 pub read_rule-requires-clause-first : goal.read_rule-requires-clause-first
 read_rule-requires-clause-first c = sym (position_or_len-found (λ b. b == 58) c.args.line.now c.in-Some.colon c.in-Some.ensures)
 
-pub returns-in_default-2-clause-fault : goal.returns-in_default-2-clause-fault
-returns-in_default-2-clause-fault c = sym (cond-true (is_ignored c.args.line.now) _ _ (is_ignored-nowhere c.args.line.now c.in_default.ensures))
+pub returns-in_default-2-clause-faultless : goal.returns-in_default-2-clause-faultless
+returns-in_default-2-clause-faultless c = cond-true (is_ignored c.args.line.now) _ _ (is_ignored-nowhere c.args.line.now c.in_default.ensures)
 
 pub returns-in_default-2-clause-pairs : goal.returns-in_default-2-clause-pairs
 returns-in_default-2-clause-pairs c =

@@ -1,0 +1,22 @@
+-- Why a line gives no rules, for contracts within the crate.
+use Rattle.std.specs.Prelude.{◌≡◌, ℕ, Bool, is_none, List, Option, Some, None, if◌then◌else◌}
+use Rattle.rule_lines.specs.declared.fault.LineKind.{LineKind}
+use Rattle.rule_lines.specs.declared.fault.LineKind.TheVariants.{NoVerdict, BadSetting}
+use Rattle.rule_lines.specs.declared.fault.RuleFault.{RuleFault}
+use Rattle.rule_lines.specs.declared.fault.RuleFault.TheVariants.{Kind, OutOfMemory}
+use Rattle.rule_lines.specs.declared.instr.Verdict.{Verdict}
+use Rattle.rule_lines.specs.Pairs.{settings_after, verdict_of}
+
+-- it has this fault, or there was no memory for its rules
+abbrev pub Names : Option LineKind → RuleFault → Type 0
+Names fault (Kind kind) = fault ≡ Some kind
+Names fault OutOfMemory = Unit {0}
+
+-- the first two kinds of fault: of the word, and of what follows it
+abbrev pub fault_behind : Bool → List ℕ → Option Verdict → Option LineKind
+fault_behind is_text instructions None = Some NoVerdict
+fault_behind is_text instructions (Some verdict) = if is_none (settings_after is_text verdict instructions) then Some BadSetting else None
+
+-- the fault for which instructions can't be read
+abbrev pub fault_within : Bool → List ℕ → Option LineKind
+fault_within is_text instructions = fault_behind is_text instructions (verdict_of instructions)
