@@ -1,5 +1,5 @@
 -- The rules of a text without a fault, and those of a list: each instruction sets what may be set.
-use Rattle.std.proofs.Common.{◌≡◌, ℕ, ◌+◌, Bool, true, false, cond, is_none, is_some, nat_lt, Option, None, Some, List, [], ◌∷◌, ◌++◌, length, unwrap_or, slice_range, refl, sym, ap, ◌∙◌}
+use Rattle.std.proofs.Common.{◌≡◌, ℕ, ◌+◌, Bool, true, false, cond, is_none, is_some, nat_lt, Option, None, Some, List, [], ◌∷◌, ◌++◌, length, unwrap_or, refl, sym, ap, ◌∙◌}
 use Rattle.std.proofs.lemmas.Bool.{not-false, or_parts}
 use Rattle.std.specs.List.{flat_map}
 use Rattle.std.specs.Str.{is_utf8}
@@ -15,7 +15,7 @@ use Rattle.rule_lines.specs.Codes.{IsInstr, decoded}
 use Rattle.rule_lines.specs.Faults.{IsAccepted, fault_beside, fault_in, fault_under, first_faulty, or_later}
 use Rattle.rule_lines.specs.Lines.{Line, has_byte, lines_of, trimmed}
 use Rattle.rule_lines.specs.Pairs.{Rule, address_in, instr_of, instructions_in, is_ignored, pairs_in, pairs_of, pairs_under, pairs_with, settings_after, verdict_of}
-use Rattle.rule_lines.specs.Rows.{AreRows, AreRules, addresses_under, code_in, count_of, rules_in, the_instr}
+use Rattle.rule_lines.specs.Rows.{AreRows, AreRules, addresses_in, code_in, count_under, rules_in, the_instr}
 use Rattle.rule_lines.specs.Spread.{spread}
 use Rattle.rule_lines.proofs.CodeLemmas.{IsInstr-decoded}
 use Rattle.rule_lines.proofs.FaultLemmas.{fault_beside-none}
@@ -89,6 +89,6 @@ AreRules-rows bytes [] before total are = tt
 AreRules-rows bytes (row ∷ rows) before total are =
     let code = code_in bytes row in
     let known : IsInstr (the_instr code) = IsInstr-unwrap_or code (decoded code) (record { verdict = Allow; settings = [] }) refl are.0.decodes in
-    let addresses = addresses_under (slice_range bytes row.start row.front_end) row.numbers (slice_range bytes row.front_end row.back_end) in
+    let addresses = addresses_in bytes row in
     AreRules-append (pairs_with (the_instr code) addresses) (rules_in bytes rows) (AreRules-pairs_with (the_instr code) addresses known)
-    (AreRules-rows bytes rows (before + count_of row.numbers) total are.1)
+    (AreRules-rows bytes rows (before + count_under row) total are.1)

@@ -1,13 +1,13 @@
 //! Lists of rules.
-ghost use Rattle.std.specs.Prelude.{option_map, ◌≡◌, ◌≢◌, ◌↔◌, ◌++◌, ◌<◌, ◌≤◌, ◌+◌, ◌^◌, ℕ, [], ◌==◌, length, take, slice_get, slice_range, is_some, true, IsTrue, IfOk, OnOk, OnErr, MatchOption, decimal};
+ghost use Rattle.std.specs.Prelude.{option_map, ◌≡◌, ◌≢◌, ◌↔◌, ◌++◌, ◌<◌, ◌≤◌, ◌+◌, ◌*◌, ◌^◌, ℕ, [], ◌==◌, length, take, slice_get, is_some, true, IsTrue, IfOk, OnOk, OnErr, MatchOption, decimal};
 ghost use Rattle.std.specs.List.{Contains};
 ghost use Rattle.byte_text.specs.Outcomes.{AppendsPart};
 ghost use Rattle.rule_lines.specs.Codes.{code_of, decoded};
 ghost use Rattle.rule_lines.specs.Lookups.{found_among, code_found};
 ghost use Rattle.rule_lines.specs.Pairs.{pairs_with};
-ghost use Rattle.rule_lines.specs.Rows.{the_instr, AreRules, addresses_from, addresses_under, count_of, code_in, rules_under, IsRow};
+ghost use Rattle.rule_lines.specs.Rows.{the_instr, AreRows, AreRules, HasForm, IsOpen, IsRow, addresses_in, addresses_under, back_in, code_in, count_of, front_in, line_start, rules_in};
 ghost use Rattle.rule_lines.specs.Spread.{folded};
-ghost use Rattle.rule_lines.specs.ReadAddresses.{addresses_read};
+ghost use Rattle.rule_lines.specs.ReadAddresses.{addresses_read, back_of, front_of, numbers_of};
 
 use crate::code::{DecodeFault, decode_instr};
 use crate::instr::Instr;
@@ -19,33 +19,50 @@ use std::alloc::{AllocError, Global};
 use std::marker::Model;
 use std::str;
 
-/// Where a row's parts stand in the bytes of its list: its address, in two parts where it is a range, and its code. Before it
-/// stand as many addresses as `before`.
+/// Lines one after another with one code, whose addresses have parts of the same lengths with the same numbers between them. The code
+/// stands in the bytes of the list from `code_start` to `start`, and from there to `end` the parts of each address. Before them stand as
+/// many addresses as `before`.
 #[derive(Clone, Copy, Debug)]
 struct Row {
+    code_start: usize,
     start: usize,
-    front_end: usize,
-    back_end: usize,
-    code_end: usize,
-    before: usize,
+    front: usize,
     numbers: Option<Numbers>,
+    back: usize,
+    lines: usize,
+    end: usize,
+    before: usize,
 }
 
 impl Row {
-    /// The one address, or what stands before the number in each of them.
-    fn front<'a>(&self, bytes: &'a [u8]) -> &'a [u8]
-        requires { IsRow bytes.now self.now.before self.now }
-        ensures { result.now ≡ slice_range bytes.now self.now.start self.now.front_end }
+    /// The one address of a line, or what stands before the number in each of them.
+    fn front<'a>(&self, bytes: &'a [u8], line: usize) -> &'a [u8]
+        requires row { IsRow bytes.now self.now.before self.now }
+        requires line { line < self.now.lines }
+        ensures { result.now ≡ front_in bytes.now self.now line }
     {
-        &bytes[self.start..self.front_end]
+        let start = self.line_start(bytes, line);
+        &bytes[start..start + self.front]
     }
 
     /// What stands after the number.
-    fn back<'a>(&self, bytes: &'a [u8]) -> &'a [u8]
-        requires { IsRow bytes.now self.now.before self.now }
-        ensures { result.now ≡ slice_range bytes.now self.now.front_end self.now.back_end }
+    fn back<'a>(&self, bytes: &'a [u8], line: usize) -> &'a [u8]
+        requires row { IsRow bytes.now self.now.before self.now }
+        requires line { line < self.now.lines }
+        ensures { result.now ≡ back_in bytes.now self.now line }
     {
-        &bytes[self.front_end..self.back_end]
+        let start = self.line_start(bytes, line) + self.front;
+        &bytes[start..start + self.back]
+    }
+
+    /// Where the address of a line begins.
+    fn line_start(&self, bytes: &[u8], line: usize) -> usize
+        requires row { IsRow bytes.now self.now.before self.now }
+        requires line { line < self.now.lines }
+        ensures start { result ≡ line_start self.now line }
+        ensures inside { result + self.now.front + self.now.back ≤ length bytes.now }
+    {
+        self.start + line * (self.front + self.back)
     }
 
     /// The code of the instruction.
@@ -53,11 +70,94 @@ impl Row {
         requires { IsRow bytes.now self.now.before self.now }
         ensures { result.now ≡ code_in bytes.now self.now }
     {
-        &bytes[self.back_end..self.code_end]
+        &bytes[self.code_start..self.start]
+    }
+
+    /// How many addresses a line has.
+    fn count(&self) -> usize
+        ensures { result ≡ count_of self.now.numbers }
+    {
+        match self.numbers {
+            Some(numbers) => usize::from(numbers.count),
+            None => 1,
+        }
+    }
+
+    /// Whether an address is one of those of a line.
+    fn has_address(&self, bytes: &[u8], address: &[u8]) -> bool
+        requires { IsRow bytes.now self.now.before self.now }
+        ensures { IsTrue result ↔ Contains (addresses_in bytes.now self.now) address.now }
+    {
+        for line in 0..self.lines {
+            if is_named(
+                self.front(bytes, line),
+                self.numbers,
+                self.back(bytes, line),
+                address,
+            ) {
+                return true;
+            }
+        }
+        false
+    }
+
+    /// Whether a line with an address of this form and this code goes on with it at the end of the bytes.
+    fn goes_on(&self, bytes: &[u8], form: Form, code: &[u8]) -> bool
+        requires { IsRow bytes.now self.now.before self.now }
+        ensures { IsTrue result → HasForm bytes.now self.now form code.now }
+    {
+        self.front == form.front
+            && self.back == form.back
+            && are_same(self.numbers, form.numbers)
+            && self.end == bytes.len()
+            && self.code(bytes) == code
     }
 }
 
-/// The number in the address at a place of a row, from 0, if the row is a range.
+/// Whether there are the same numbers.
+fn are_same(some: Option<Numbers>, others: Option<Numbers>) -> bool
+    ensures { IsTrue result → some ≡ others }
+{
+    match (some, others) {
+        (None, None) => true,
+        (Some(some), Some(others)) => some.first == others.first && some.count == others.count,
+        _ => false,
+    }
+}
+
+/// How long the parts of an address are, and the numbers between them.
+#[derive(Clone, Copy, Debug)]
+struct Form {
+    front: usize,
+    numbers: Option<Numbers>,
+    back: usize,
+}
+
+/// The form of an address.
+fn form_of(addresses: ReadAddress<'_>) -> Form
+    ensures front { result.front ≡ length (front_of addresses.entry) }
+    ensures numbers { result.numbers ≡ numbers_of addresses.entry }
+    ensures back { result.back ≡ length (back_of addresses.entry) }
+{
+    match addresses {
+        ReadAddress::One(address) => Form {
+            front: address.len(),
+            numbers: None,
+            back: 0,
+        },
+        ReadAddress::Range {
+            front,
+            numbers,
+            back,
+        } => Form {
+            front: front.len(),
+            numbers: Some(numbers),
+            back: back.len(),
+        },
+    }
+}
+
+/// The number in the address at a place of a line, from 0, if the line has a range.
 fn number_at(numbers: Option<Numbers>, place: usize) -> Option<u32>
     requires { place < count_of numbers }
     ensures { result ≡ option_map (λ range. range.first + place) numbers }
@@ -68,8 +168,8 @@ fn number_at(numbers: Option<Numbers>, place: usize) -> Option<u32>
     }
 }
 
-/// The rules of a text in order, one for each address. A range is kept as one row with its instruction once, however many
-/// addresses it stands for.
+/// The rules of a text in order, one for each address. A range is kept once, however many addresses it stands for, and so is the
+/// instruction of lines one after another.
 #[derive(Debug, Drop)]
 pub struct RuleList {
     bytes: Vec<u8>,
@@ -159,15 +259,15 @@ impl<'a> Pair<'a> {
 }
 
 impl RuleList {
-    /// No rules.
-    pub(crate) fn new(alloc: Global) -> RuleList
-        ensures { result ≡ [] }
+    /// No rules, and room for those of a text of so many bytes: none of its lines takes more than it has.
+    pub(crate) fn with_room(alloc: Global, bytes: usize) -> Result<RuleList, AllocError>
+        ensures { IfOk result (λ list. list ≡ []) }
     {
-        RuleList {
-            bytes: Vec::new(alloc),
+        Ok(RuleList {
+            bytes: Vec::with_capacity(alloc, bytes)?,
             rows: Vec::new(alloc),
             len: 0,
-        }
+        })
     }
 
     /// How many rules there are: as many as addresses. Each of them sets what may be set.
@@ -196,10 +296,11 @@ impl RuleList {
         let rows = self.rows.as_slice();
         let after = rows.partition_point(|row| row.before <= i);
         let row = rows[after - 1];
+        let (line, place) = split_place(i - row.before, row.count());
         Some(Pair {
-            front: row.front(bytes),
-            number: number_at(row.numbers, i - row.before),
-            back: row.back(bytes),
+            front: row.front(bytes, line),
+            number: number_at(row.numbers, place),
+            back: row.back(bytes, line),
             code: row.code(bytes),
         })
     }
@@ -222,7 +323,7 @@ impl RuleList {
     {
         let bytes = self.bytes.as_slice();
         for row in &self.rows {
-            if is_named(row.front(bytes), row.numbers, row.back(bytes), address) {
+            if row.has_address(bytes, address) {
                 return Some(row.code(bytes));
             }
         }
@@ -243,10 +344,32 @@ impl RuleList {
         }
         // A list of more than `usize::MAX` addresses is one for which there is no memory.
         let len = self.len.checked_add(count).ok_or(AllocError)?;
-        let added = append_row(&mut self.bytes, self.len, addresses, code)?;
-        self.rows.push(added)?;
+        let form = form_of(addresses);
+        open_row(&mut self.bytes, &mut self.rows, self.len, form, code)?;
+        append_addresses(&mut self.bytes, addresses)?;
+        let last = self.rows.len() - 1;
+        let row = self.rows[last];
+        self.rows[last] = Row {
+            lines: row.lines + 1,
+            end: self.bytes.len(),
+            ..row
+        };
         self.len = len;
         Ok(())
+    }
+}
+
+/// The line of a row in which an address is, and its place there.
+fn split_place(place: usize, count: usize) -> (usize, usize)
+    requires { 0 < count }
+    ensures sum { place ≡ result.0 * count + result.1 }
+    ensures inside { result.1 < count }
+{
+    // most rows have one address in each line, and a division takes long
+    if count == 1 {
+        (place, 0)
+    } else {
+        (place / count, place % count)
     }
 }
 
@@ -260,61 +383,54 @@ fn count_in(addresses: &ReadAddress<'_>) -> usize
     }
 }
 
-/// Adds the parts of a row at the end of the bytes, and answers the row. After an `Err` there may be any more bytes at the end.
-fn append_row(
+/// Sees to it that a line with an address of this form and this code goes on with the last row, at the end of the bytes: with an empty
+/// one where the last one is another. After an `Err` there may be any more bytes at the end.
+fn open_row(
     bytes: &mut Vec<u8>,
+    rows: &mut Vec<Row>,
     before: usize,
-    addresses: ReadAddress<'_>,
+    form: Form,
     code: &[u8],
-) -> Result<Row, AllocError>
-    requires { is_some (decoded code.now) ≡ true }
-    ensures kept { take (length bytes.old.items) bytes.new.items ≡ bytes.old.items }
-    ensures row { IfOk result (λ row. IsRow bytes.new.items before row) }
-    ensures count { IfOk result (λ row. count_of row.numbers ≡ length (addresses_read addresses.entry)) }
-    ensures rules { IfOk result (λ row. rules_under bytes.new.items row
-        ≡ pairs_with (the_instr code.now) (addresses_read addresses.entry)) }
+) -> Result<(), AllocError>
+    requires rows { AreRows bytes.old.items 0 rows.old.items before }
+    requires some { 0 < count_of form.numbers }
+    requires code { is_some (decoded code.now) ≡ true }
+    ensures rows { AreRows bytes.new.items 0 rows.new.items before }
+    ensures rules { rules_in bytes.new.items rows.new.items ≡ rules_in bytes.old.items rows.old.items }
+    ensures open { OnOk result (IsOpen bytes.new.items rows.new.items form code.now) }
 {
-    let start = bytes.len();
-    let (front_end, numbers) = append_addresses(bytes, addresses)?;
-    let back_end = bytes.len();
+    if let Some(last) = rows.last()
+        && last.goes_on(bytes, form, code)
+    {
+        return Ok(());
+    }
+    let code_start = bytes.len();
     bytes.extend_from_slice(code)?;
-    Ok(Row {
+    let start = bytes.len();
+    rows.push(Row {
+        code_start,
         start,
-        front_end,
-        back_end,
-        code_end: bytes.len(),
+        front: form.front,
+        numbers: form.numbers,
+        back: form.back,
+        lines: 0,
+        end: start,
         before,
-        numbers,
-    })
+    })?;
+    Ok(())
 }
 
-/// Adds the two parts of addresses at the end of the bytes, and answers where the first one ends, with the numbers between them.
-/// After an `Err` there may be any more bytes at the end.
-fn append_addresses(
-    bytes: &mut Vec<u8>,
-    addresses: ReadAddress<'_>,
-) -> Result<(usize, Option<Numbers>), AllocError>
+/// Adds the parts of addresses at the end of the bytes. After an `Err` there may be any more bytes at the end.
+fn append_addresses(bytes: &mut Vec<u8>, addresses: ReadAddress<'_>) -> Result<(), AllocError>
     ensures kept { take (length bytes.old.items) bytes.new.items ≡ bytes.old.items }
-    ensures after { IfOk result (λ parts. length bytes.old.items ≤ parts.0) }
-    ensures inside { IfOk result (λ parts. parts.0 ≤ length bytes.new.items) }
-    ensures count { IfOk result (λ parts. count_of parts.1 ≡ length (addresses_read addresses.entry)) }
-    ensures addresses { IfOk result (λ parts.
-        addresses_from (length bytes.old.items) parts.0 parts.1 bytes.new.items ≡ addresses_read addresses.entry) }
+    ensures added { OnOk result (bytes.new.items
+        ≡ bytes.old.items ++ (front_of addresses.entry ++ back_of addresses.entry)) }
 {
     match addresses {
-        ReadAddress::One(address) => {
-            append_folded(bytes, address)?;
-            Ok((bytes.len(), None))
-        }
-        ReadAddress::Range {
-            front,
-            numbers,
-            back,
-        } => {
+        ReadAddress::One(address) => append_folded(bytes, address),
+        ReadAddress::Range { front, back, .. } => {
             bytes.extend_from_slice(front)?;
-            let front_end = bytes.len();
-            bytes.extend_from_slice(back)?;
-            Ok((front_end, Some(numbers)))
+            bytes.extend_from_slice(back)
         }
     }
 }

@@ -30,7 +30,7 @@ pub fn parse(alloc: Global, text: &[u8], limits: &Limits) -> Result<RuleList, Pa
             kind: LineKind::LongText,
         }));
     }
-    let mut list = RuleList::new(alloc);
+    let mut list = RuleList::with_room(alloc, text.len())?;
     let mut code = Vec::new(alloc);
     let mut rest = text;
     let mut number = 0;
