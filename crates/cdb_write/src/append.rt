@@ -27,8 +27,11 @@ pub(crate) fn append_pairs(out: &mut Vec<u8>, pairs: &[(u32, u32)]) -> Result<()
     Ok(())
 }
 
-/// Appends a record. Where there was no memory, nothing changed.
-pub(crate) fn append_record(out: &mut Vec<u8>, key: &[u8], value: &[u8]) -> Result<(), AllocError>
+/// Appends a record: the lengths of its key and of its value, the key, and the value.
+///
+/// # Errors
+/// There was no memory. Nothing changed then.
+pub fn append_record(out: &mut Vec<u8>, key: &[u8], value: &[u8]) -> Result<(), AllocError>
     requires key_fits { length key.now < 2 ^ 32 }
     requires value_fits { length value.now < 2 ^ 32 }
     ensures appended { OnOk result (out.new.items ≡ out.old.items ++ record_bytes key.now value.now) }

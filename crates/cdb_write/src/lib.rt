@@ -10,6 +10,7 @@ pub mod piece;
 mod slot;
 pub mod tables;
 
+pub use append::append_record;
 pub use key_hash::hash;
 pub use maker::{AddFault, Maker};
 pub use piece::{header, record_piece, table_piece};

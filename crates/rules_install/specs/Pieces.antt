@@ -1,6 +1,5 @@
 -- The pieces of which a file is made.
-use Rattle.std.specs.Prelude.{◌≡◌, ◌-◌, ◌<◌, ℕ, List, [], ◌++◌, drop, length, flat_map, Option, MatchOption, Vec}
-use Rattle.std.specs.Global.{Global}
+use Rattle.std.specs.Prelude.{◌≡◌, ◌-◌, ◌<◌, ℕ, List, [], ◌++◌, drop, length, flat_map, Option, MatchOption}
 use Rattle.std.specs.List.{range_with_len}
 use Rattle.cdb_write.specs.Format.{records_of}
 use Rattle.cdb_write.specs.Image.{table_bytes, tables_of}
@@ -22,7 +21,7 @@ abbrev pub IsLeft : List Rule → List ℕ → ℕ → Piece → ℕ → Type 0
 IsLeft rules piece taken next filled = drop taken piece ++ from_piece rules next ≡ drop filled (blank_file rules)
 
 -- a piece at a place, and all after it from the next place on; or nothing is left there
-abbrev pub Continues : List Rule → Piece → Option (Vec ℕ Global × Piece) → Type 0
-Continues rules place piece =
-    MatchOption piece (from_piece rules place ≡ [])
-    (λ p. (0 < length p.0.items) × (from_piece rules place ≡ p.0.items ++ from_piece rules p.1))
+abbrev pub Continues : List Rule → Piece → List ℕ → Option Piece → Type 0
+Continues rules place piece next =
+    MatchOption next ((from_piece rules place ≡ []) × (piece ≡ []))
+    (λ n. (0 < length piece) × (from_piece rules place ≡ piece ++ from_piece rules n))

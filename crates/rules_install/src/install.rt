@@ -21,6 +21,8 @@ use std::alloc::{AllocError, Global};
 pub struct Install {
     pieces: Pieces,
     names: Names,
+    // the key of the record under way
+    key: Vec<u8>,
     // the piece under way, how much of it was appended, and the place of the next
     rest: Vec<u8>,
     taken: usize,
@@ -60,6 +62,7 @@ impl Install {
         Ok(Install {
             pieces: Pieces::new(alloc, list, limits.file)?,
             names,
+            key: Vec::new(alloc),
             rest: Vec::new(alloc),
             taken: 0,
             next: Piece::Zeros,
@@ -142,9 +145,11 @@ impl Install {
         if self.taken < self.rest.len() {
             return Ok(());
         }
-        if let Some((piece, next)) = self.pieces.get(alloc, self.next)? {
-            self.rest = piece;
-            self.taken = 0;
+        self.taken = 0;
+        let made = self
+            .pieces
+            .make(alloc, self.next, &mut self.key, &mut self.rest)?;
+        if let Some(next) = made {
             self.next = next;
         }
         Ok(())

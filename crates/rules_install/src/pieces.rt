@@ -1,5 +1,5 @@
 //! The pieces of which a compiled file is made.
-ghost use Rattle.std.specs.Prelude.{◌≡◌, ◌⊎◌, ◌<◌, ◌≤◌, IfOk, IfErr};
+ghost use Rattle.std.specs.Prelude.{◌≡◌, ◌⊎◌, ◌<◌, ◌≤◌, [], IfOk, IfErr, OnErr, OnOk};
 ghost use Rattle.cdb_write.specs.Image.{finished_length, pointers_of, header_bytes};
 ghost use Rattle.cdb_write.specs.Making.{limit_of};
 ghost use Rattle.cdb_read.specs.Compiled.{stored};
@@ -8,7 +8,7 @@ ghost use Rattle.rules_install.specs.Pieces.{Continues};
 
 use crate::InstallFault;
 use cdb_write::layout::{HEADER_LENGTH, LENGTHS_LENGTH, SLOTS_LENGTH, TABLE_COUNT, file_limit};
-use cdb_write::{Tables, hash, header, record_piece, table_piece};
+use cdb_write::{Tables, append_record, hash, header, table_piece};
 use rule_lines::{Pair, RuleList};
 use std::alloc::{AllocError, Global};
 use std::marker::Model;
@@ -43,13 +43,12 @@ impl Model for Pieces {
     ghost invariant = { λ p. AreTablesOf (stored p.list) p.tables p.end };
 }
 
-// The key of a rule.
-fn key_of(alloc: Global, pair: &Pair<'_>) -> Result<Vec<u8>, AllocError>
-    ensures { IfOk result (λ key. key.items ≡ pair.now.address) }
+// Puts the key of a rule in place of the bytes.
+fn write_key(pair: &Pair<'_>, key: &mut Vec<u8>) -> Result<(), AllocError>
+    ensures { OnOk result (key.new.items ≡ pair.now.address) }
 {
-    let mut key = Vec::new(alloc);
-    pair.append_address(&mut key)?;
-    Ok(key)
+    key.clear();
+    pair.append_address(key)
 }
 
 /// Where the records of a list stand, by their tables, and where the tables begin, if the finished file keeps to the limit.
@@ -64,8 +63,9 @@ fn place_records(alloc: Global, list: &RuleList, limit: u64) -> Result<(Tables, 
     let mut end = HEADER_LENGTH as u64;
     let mut finished = end;
     let mut place = 0;
+    let mut key = Vec::new(alloc);
     while let Some(pair) = list.get(place) {
-        let key = key_of(alloc, &pair)?;
+        write_key(&pair, &mut key)?;
         let length = (key.len() as u64).saturating_add(pair.code().len() as u64);
         finished = length.saturating_add(finished + (LENGTHS_LENGTH + SLOTS_LENGTH) as u64);
         if finished > limit {
@@ -97,34 +97,55 @@ impl Pieces {
         &self.list
     }
 
-    /// The piece at a place, if there is one, and the place of the next.
-    pub fn get(&self, alloc: Global, place: Piece) -> Result<Option<(Vec<u8>, Piece)>, AllocError>
-        ensures { IfOk result (Continues self.now place) }
+    /// Puts the piece at a place, if there is one, in place of the bytes of `piece`, and answers the place of the next. The bytes of `key`
+    /// are overwritten.
+    ///
+    /// # Errors
+    /// There was no memory. `piece` has no bytes then.
+    pub fn make(
+        &self,
+        alloc: Global,
+        place: Piece,
+        key: &mut Vec<u8>,
+        piece: &mut Vec<u8>,
+    ) -> Result<Option<Piece>, AllocError>
+        ensures made { IfOk result (Continues self.now place piece.new.items) }
+        ensures unmade { OnErr result (piece.new.items ≡ []) }
     {
+        piece.clear();
         match place {
             Piece::Zeros => {
-                let zeros = vec![in alloc; 0; HEADER_LENGTH]?;
-                Ok(Some((zeros, Piece::Record(0))))
+                *piece = vec![in alloc; 0; HEADER_LENGTH]?;
+                Ok(Some(Piece::Record(0)))
             }
             Piece::Record(i) => match self.list.get(i) {
                 Some(pair) => {
-                    let record = record_piece(alloc, &key_of(alloc, &pair)?, pair.code())?;
-                    Ok(Some((record, Piece::Record(i + 1))))
+                    write_key(&pair, key)?;
+                    append_record(piece, key, pair.code())?;
+                    Ok(Some(Piece::Record(i + 1)))
                 }
-                None => self.table(alloc, 0),
+                None => self.table(alloc, 0, piece),
             },
-            Piece::Table(t) => self.table(alloc, t),
+            Piece::Table(t) => self.table(alloc, t, piece),
         }
     }
 
-    // The first table from this one on that has records, and the place of the next.
-    fn table(&self, alloc: Global, first: usize) -> Result<Option<(Vec<u8>, Piece)>, AllocError>
-        ensures { IfOk result (Continues self.now (Piece.Table first)) }
+    // The same of the first table from this one on that has records.
+    fn table(
+        &self,
+        alloc: Global,
+        first: usize,
+        piece: &mut Vec<u8>,
+    ) -> Result<Option<Piece>, AllocError>
+        requires { piece.old.items ≡ [] }
+        ensures made { IfOk result (Continues self.now (Piece.Table first) piece.new.items) }
+        ensures unmade { OnErr result (piece.new.items ≡ []) }
     {
         for t in first..TABLE_COUNT {
             let entries = self.tables.get(t);
             if !entries.is_empty() {
-                return Ok(Some((table_piece(alloc, entries)?, Piece::Table(t + 1))));
+                *piece = table_piece(alloc, entries)?;
+                return Ok(Some(Piece::Table(t + 1)));
             }
         }
         Ok(None)

@@ -1,15 +1,16 @@
 //! `tcprules`: compiles a rule text from standard input, and installs it.
 ghost use Rattle.std.specs.Prelude.{◌≡◌, ◌⊎◌, ◌<◌, ◌^◌, ◌-◌, ◌+◌, None, IfOk, IfErr, IfSome, take};
 ghost use Rattle.dir_disk.specs.Names.{name_fault};
+ghost use Rattle.rules_install.specs.ParseFaults.{of_parse};
 ghost use Rattle.rules_tools.specs.Paths.{PlacesOf, RefusesName};
 ghost use Rattle.rules_tools.specs.Rules.{told_fault};
 ghost use Rattle.rules_tools.specs.declared.tcprules.TcprulesFault.TheVariants.{OutOfMemory};
 
 use crate::path::{folder_path, split_path};
 use dir_disk::{FolderFault, Name, NameFault, OsDir};
-use rule_lines::{Limits, LineFault, LineKind};
-use rules_install::whole::{finish, prepare};
-use rules_install::{InstallFault, Names, Phase};
+use rule_lines::{Limits, LineFault, LineKind, ParseFault, parse};
+use rules_install::whole::finish;
+use rules_install::{Install, InstallFault, Names, Phase};
 use std::alloc::{AllocError, Global};
 use std::fs::{File, Files};
 use std::io::{ErrorKind, Read};
@@ -72,6 +73,14 @@ impl From<InstallFault> for TcprulesFault {
     }
 }
 
+impl From<ParseFault> for TcprulesFault {
+    ghost from_gives = { λ given fault. fault ≡ told_fault (of_parse given) };
+
+    fn from(fault: ParseFault) -> Self {
+        InstallFault::from(fault).into()
+    }
+}
+
 /// Reads a rule text, compiles it, and installs the compiled file under the path `cdb`, with `tmp` as its scratch file.
 ///
 /// # Errors
@@ -89,8 +98,9 @@ pub fn run_tcprules<R: Read, F: Files<File = File> + Drop>(
     let (folder, names) = read_places(alloc, cdb, tmp)?;
     let limits = Limits::profile();
     let text = read_text(alloc, reader, limits.text)?;
-    let mut install = prepare(alloc, names, &limits, text.as_slice())?;
+    let list = parse(alloc, text.as_slice(), &limits)?;
     drop(text);
+    let mut install = Install::begin(alloc, list, names, &limits)?;
     let mut dir = match OsDir::new(alloc, files, folder_path(folder)) {
         Ok(dir) => dir,
         Err(FolderFault::NoFolder | FolderFault::Device) => {

@@ -16,7 +16,7 @@ overflow_add-finished c = omega (arith, c.loop-pair.invariant.fits, c.file_limit
 pub returns-then-finished-limit-clause-refused : goal.returns-then-finished-limit-clause-refused
 returns-then-finished-limit-clause-refused c = λ _.
     let rule = c.in-Some.pair in
-    let key = ap length c.in_ok-key.ensures in
+    let key = ap length c.in_ok-write_key.ensures in
     let code = ap length c.code.ensures in
     let more = finished_length-more c.args.list.now c.loop-pair.place rule (sym c.in-Some.ensures) in
     let whole = finished_length-le c.args.list.now (c.loop-pair.place + 1) in
@@ -43,9 +43,9 @@ loop-pair-smaller c = omega (arith, slice_get_within c.args.list.now c.loop-pair
 pub loop-pair-preserved : goal.loop-pair-preserved
 loop-pair-preserved c =
     let rule = c.in-Some.pair in
-    let key : c.len.result ≡ length rule.address = omega (arith, ap length c.in_ok-key.ensures, c.len.ensures) in
+    let key : c.len.result ≡ length rule.address = omega (arith, ap length c.in_ok-write_key.ensures, c.len.ensures) in
     let code : length c.code.result.now ≡ length (code_of rule.instr) = ap length c.code.ensures in
-    let hashed : c.hash.result ≡ hash_of rule.address = c.hash.ensures ∙ ap hash_of (c.deref.ensures.value ∙ c.in_ok-key.ensures) in
+    let hashed : c.hash.result ≡ hash_of rule.address = c.hash.ensures ∙ ap hash_of (c.deref.ensures.value ∙ c.in_ok-write_key.ensures) in
     let entries = entries_of (first_stored c.args.list.now c.loop-pair.place) in
     let held = subst (λ (h : ℕ). HoldsByTable c.push.new.self (entries ++ (h, c.loop-pair.end) ∷ [])) hashed (c.in_ok-push.ensures.added entries c.loop-pair.invariant.by_table) in
     Placed-more c.args.list.now c.loop-pair.place rule c.loop-pair.tables c.push.new.self c.loop-pair.end _ c.loop-pair.finished c.saturating_add-finished.result c.file_limit-limit.result

@@ -9,7 +9,7 @@ use Rattle.rules_install.proofs.install.Install.begin.Goals as goal
 
 pub invariant_of-result : goal.invariant_of-result
 invariant_of-result c = record {
-  rest_is = ap (λ (items : List ℕ). drop 0 items ++ from_piece c.in_ok-new.field-0 Zeros) c.new-2.ensures.items;
+  rest_is = ap (λ (items : List ℕ). drop 0 items ++ from_piece c.in_ok-new.field-0 Zeros) c.new-3.ensures.items;
   taken_fits = zero-le;
   filled_fits = zero-le;
   small = subst (λ (l : List Rule). finished_length (stored l) < 2 ^ 32) (sym c.in_ok-new.ensures.kept) (omega (arith, c.in_ok-new.ensures.fits));

@@ -9,16 +9,16 @@ use Rattle.cdb_read.specs.Compiled.{pair_of, stored}
 use Rattle.rules_install.specs.Pieces.{from_piece}
 use Rattle.rules_install.specs.declared.pieces.Piece.TheVariants.{Zeros, Record, Table}
 use Rattle.rules_install.proofs.PieceLemmas.{behind, past_from_none, place-fits, records-more, records-past, rule-fits}
-use Rattle.rules_install.proofs.pieces.Pieces.get.Goals as goal
+use Rattle.rules_install.proofs.pieces.Pieces.make.Goals as goal
 
-pub record_piece-requires-clause-key_fits : goal.record_piece-requires-clause-key_fits
-record_piece-requires-clause-key_fits c =
-    let key : length c.deref.result.now ≡ length c.in-Some.pair.address = ap length (c.deref.ensures.value ∙ c.in_ok-key_of-in-Some.ensures) in
+pub append_record-requires-clause-key_fits : goal.append_record-requires-clause-key_fits
+append_record-requires-clause-key_fits c =
+    let key : length c.deref.result.now ≡ length c.in-Some.pair.address = ap length (c.deref.ensures.value ∙ c.in_ok-write_key-in-Some.ensures) in
     let here = rule-fits c.self.inside.list c.in-Record.i c.in-Some.pair (sym c.in-Some.ensures) in
     omega (arith, c.self.invariant.fits)
 
-pub record_piece-requires-clause-value_fits : goal.record_piece-requires-clause-value_fits
-record_piece-requires-clause-value_fits c =
+pub append_record-requires-clause-value_fits : goal.append_record-requires-clause-value_fits
+append_record-requires-clause-value_fits c =
     let here = rule-fits c.self.inside.list c.in-Record.i c.in-Some.pair (sym c.in-Some.ensures) in
     omega (arith, c.self.invariant.fits, ap length c.code.ensures)
 
@@ -27,35 +27,37 @@ overflow_add-result c =
     let here = place-fits c.self.inside.list c.in-Record.i c.in-Some.pair (sym c.in-Some.ensures) in
     omega (arith, c.self.invariant.fits)
 
-pub returns-in_ok-zeros-in-Zeros : goal.returns-in_ok-zeros-in-Zeros
-returns-in_ok-zeros-in-Zeros c =
+pub returns-in_ok-piece-in-Zeros-clause-made : goal.returns-in_ok-piece-in-Zeros-clause-made
+returns-in_ok-piece-in-Zeros-clause-made c =
     let rules = c.args.self.now in
-    let zeros : c.in_ok-zeros-in-Zeros.zeros.items ≡ replicate 2048 0 = c.in_ok-zeros-in-Zeros.ensures.items_if_clones_equal (λ y same. same) in
-    let long : length c.in_ok-zeros-in-Zeros.zeros.items ≡ 2048 = ap length zeros ∙ length-replicate {A = ℕ} 2048 0 in
-    let whole : from_piece rules Zeros ≡ c.in_ok-zeros-in-Zeros.zeros.items ++ from_piece rules (Record 0) = behind c.in_ok-zeros-in-Zeros.zeros.items (records_of (stored rules)) (replicate 2048 0) (records_of (stored rules)) (tables_of (stored rules)) (sym zeros) refl in
+    let zeros : c.in_ok-piece-in-Zeros.field-0.items ≡ replicate 2048 0 = c.in_ok-piece-in-Zeros.ensures.items_if_clones_equal (λ y same. same) in
+    let long : length c.in_ok-piece-in-Zeros.field-0.items ≡ 2048 = ap length zeros ∙ length-replicate {A = ℕ} 2048 0 in
+    let whole : from_piece rules Zeros ≡ c.in_ok-piece-in-Zeros.field-0.items ++ from_piece rules (Record 0) = behind c.in_ok-piece-in-Zeros.field-0.items (records_of (stored rules)) (replicate 2048 0) (records_of (stored rules)) (tables_of (stored rules)) (sym zeros) refl in
     (omega arith, ap (from_piece rules) c.in-Zeros.is ∙ whole)
 
-pub returns-in_ok-record-in-Some : goal.returns-in_ok-record-in-Some
-returns-in_ok-record-in-Some c =
+pub returns-in_ok-append_record-in-Some-clause-made : goal.returns-in_ok-append_record-in-Some-clause-made
+returns-in_ok-append_record-in-Some-clause-made c =
     let rules = c.args.self.now in
     let rule = c.in-Some.pair in
     let rest = records_of (drop (c.in-Record.i + 1) (stored rules)) in
-    let key : c.deref.result.now ≡ rule.address = c.deref.ensures.value ∙ c.in_ok-key_of-in-Some.ensures in
-    let record_is : c.in_ok-record-in-Some.record.items ≡ record_of (pair_of rule) =
-    c.in_ok-record-in-Some.ensures ∙ ap (λ (bytes : List ℕ). record_bytes bytes c.code.result.now) key ∙ ap (record_bytes rule.address) c.code.ensures in
-    let long : length c.in_ok-record-in-Some.record.items ≡ 8 + length rule.address + length (code_of rule.instr) =
+    let key : c.deref.result.now ≡ rule.address = c.deref.ensures.value ∙ c.in_ok-write_key-in-Some.ensures in
+    let piece = c.append_record.new.out.items in
+    let record_is : piece ≡ record_of (pair_of rule) =
+    c.in_ok-append_record-in-Some.ensures.appended ∙ ap (λ (old : List ℕ). old ++ record_bytes c.deref.result.now c.code.result.now) c.clear.ensures.items
+    ∙ ap (λ (bytes : List ℕ). record_bytes bytes c.code.result.now) key ∙ ap (record_bytes rule.address) c.code.ensures in
+    let long : length piece ≡ 8 + length rule.address + length (code_of rule.instr) =
     ap length record_is ∙ length-record_bytes rule.address (code_of rule.instr) in
     let at = subst (λ (rs : List Rule). slice_get rs c.in-Record.i ≡ Some rule) c.self.view_is (sym c.in-Some.ensures) in
     let split : from_piece rules (Record c.in-Record.i) ≡ (record_of (pair_of rule) ++ rest) ++ tables_of (stored rules) =
     ap (λ (bytes : List ℕ). bytes ++ tables_of (stored rules)) (records-more rules c.in-Record.i rule at) in
-    (omega arith, ap (from_piece rules) c.in-Record.is ∙ split ∙ behind c.in_ok-record-in-Some.record.items rest (record_of (pair_of rule)) rest (tables_of (stored rules)) (sym record_is) refl)
+    (omega arith, ap (from_piece rules) c.in-Record.is ∙ split ∙ behind piece rest (record_of (pair_of rule)) rest (tables_of (stored rules)) (sym record_is) refl)
 
-pub returns-in-None : goal.returns-in-None
-returns-in-None c =
+pub returns-in-None-clause-made : goal.returns-in-None-clause-made
+returns-in-None-clause-made c =
     let rules = c.args.self.now in
     let past = past_from_none c.self.inside.list c.in-Record.i (sym c.in-None.ensures) in
     let none : records_of (drop c.in-Record.i (stored rules)) ≡ [] =
     ap (λ (rs : List Rule). records_of (drop c.in-Record.i (stored rs))) (sym c.self.view_is) ∙ records-past c.self.inside.list c.in-Record.i past in
     let whole : from_piece rules (Table 0) ≡ from_piece rules c.args.place =
     ap (λ (bytes : List ℕ). bytes ++ tables_of (stored rules)) (sym none) ∙ ap (from_piece rules) (sym c.in-Record.is) in
-    subst (λ (bytes : List ℕ). IfOk c.table.result (λ piece. MatchOption piece (bytes ≡ []) (λ p. (0 < length p.0.items) × (bytes ≡ p.0.items ++ from_piece rules p.1)))) whole c.table.ensures
+    subst (λ (bytes : List ℕ). IfOk c.table.result (λ next. MatchOption next ((bytes ≡ []) × (c.table.new.piece.items ≡ [])) (λ n. (0 < length c.table.new.piece.items) × (bytes ≡ c.table.new.piece.items ++ from_piece rules n)))) whole c.table.ensures.made
