@@ -1,5 +1,5 @@
 -- Paths, and what is wrong with those of `tcprules`.
-use Rattle.std.specs.Prelude.{◌≡◌, ◌⊎◌, ◌==◌, ◌||◌, ℕ, List, [], ◌∷◌, ◌++◌, Option, Some, None, IsSome, is_some, codes, bytes_eq, if◌then◌else◌, Result, Ok, Err}
+use Rattle.std.specs.Prelude.{◌≡◌, ◌⊎◌, ◌==◌, ◌||◌, ℕ, List, [], ◌∷◌, ◌++◌, Option, Some, None, is_some, codes, bytes_eq, if◌then◌else◌, Result, Ok, Err}
 use Rattle.std.specs.Borrow.{Bor}
 use Rattle.std.specs.Str.{NoCharPasses}
 use Rattle.dir_disk.specs.Names.{name_fault}
@@ -17,20 +17,16 @@ abbrev pub folder_path : List ℕ → List ℕ
 folder_path [] = codes "/"
 folder_path (b ∷ bs) = b ∷ bs
 
--- a text is taken for no name: it is none, or there is no memory
-abbrev pub RefusesName : List ℕ → TcprulesFault → Type 0
-RefusesName name fault = (fault ≡ OutOfMemory) ⊎ ((fault ≡ BadName) × IsSome (name_fault name))
-
 -- what is wrong with two names in their folders, the first in this order
 abbrev pub paths_fault : List ℕ → List ℕ → NamePair → Option TcprulesFault
 paths_fault folder other names =
     if is_some (name_fault names.cdb) || is_some (name_fault names.tmp) then Some BadName
     else (if bytes_eq folder other then (if bytes_eq names.cdb names.tmp then Some SameName else None) else Some OtherFolder)
 
--- two names in one folder, or what is wrong with them; want of memory says nothing of that
+-- two names in one folder, or what is wrong with them; want of memory comes only where nothing is
 abbrev pub IsPlaced : List ℕ → List ℕ → NamePair → Result (Bor (List ℕ) × NamePair) TcprulesFault → Type 0
 IsPlaced folder other names (Ok placed) = (paths_fault folder other names ≡ None) × (placed.0.now ≡ folder) × (placed.1 ≡ names)
-IsPlaced folder other names (Err OutOfMemory) = Unit {0}
+IsPlaced folder other names (Err OutOfMemory) = paths_fault folder other names ≡ None
 IsPlaced folder other names (Err fault) = paths_fault folder other names ≡ Some fault
 
 -- the parts of two paths, and what comes of them

@@ -1,8 +1,8 @@
 //! `tcprules`: compiles a rule text from standard input, and installs it.
-ghost use Rattle.std.specs.Prelude.{◌≡◌, ◌⊎◌, ◌<◌, ◌^◌, ◌-◌, ◌+◌, None, IfOk, IfErr, IfSome, take};
+ghost use Rattle.std.specs.Prelude.{◌≡◌, ◌⊎◌, ◌<◌, ◌^◌, ◌-◌, ◌+◌, None, IsSome, IfOk, IfErr, IfSome, OnOk, take};
 ghost use Rattle.dir_disk.specs.Names.{name_fault};
 ghost use Rattle.rules_install.specs.ParseFaults.{of_parse};
-ghost use Rattle.rules_tools.specs.Paths.{PlacesOf, RefusesName};
+ghost use Rattle.rules_tools.specs.Paths.{PlacesOf};
 ghost use Rattle.rules_tools.specs.Rules.{told_fault};
 ghost use Rattle.rules_tools.specs.declared.tcprules.TcprulesFault.TheVariants.{OutOfMemory};
 
@@ -115,7 +115,8 @@ pub fn run_tcprules<R: Read, F: Files<File = File> + Drop>(
     Ok(())
 }
 
-/// The folder of two paths, and the names in it. Names are looked at first, then folders, then whether the names are the same.
+/// The folder of two paths, and the names in it. Names are looked at first, then folders, then whether the names are the same; want of
+/// memory is told only where nothing is wrong with them.
 pub fn read_places<'a>(
     alloc: Global,
     cdb: &'a str,
@@ -125,25 +126,31 @@ pub fn read_places<'a>(
 {
     let (folder, cdb) = split_path(cdb);
     let (other, tmp) = split_path(tmp);
-    let cdb = read_name(alloc, cdb)?;
-    let tmp = read_name(alloc, tmp)?;
+    let cdb_name = read_name(alloc, cdb)?;
+    let tmp_name = read_name(alloc, tmp)?;
     if folder != other {
         return Err(TcprulesFault::OtherFolder);
     }
-    match Names::new(cdb, tmp) {
+    if cdb == tmp {
+        return Err(TcprulesFault::SameName);
+    }
+    let cdb_name = cdb_name.ok_or(TcprulesFault::OutOfMemory)?;
+    let tmp_name = tmp_name.ok_or(TcprulesFault::OutOfMemory)?;
+    match Names::new(cdb_name, tmp_name) {
         Ok(names) => Ok((folder, names)),
-        Err(_) => Err(TcprulesFault::SameName),
+        Err(_) => unreachable!("the names differ"),
     }
 }
 
-/// A name of a file.
-fn read_name(alloc: Global, text: &str) -> Result<Name, TcprulesFault>
-    ensures kept { IfOk result (λ name. (name ≡ text.now) × (name_fault text.now ≡ None)) }
-    ensures refused { IfErr result (RefusesName text.now) }
+/// A name of a file, or `None` where there is no memory for it.
+fn read_name(alloc: Global, text: &str) -> Result<Option<Name>, TcprulesFault>
+    ensures good { OnOk result (name_fault text.now ≡ None) }
+    ensures kept { IfOk result (λ made. IfSome made (λ name. name ≡ text.now)) }
+    ensures refused { IfErr result (λ fault. (fault ≡ TcprulesFault.BadName) × IsSome (name_fault text.now)) }
 {
     match Name::new(alloc, text.as_bytes()) {
-        Ok(name) => Ok(name),
-        Err(NameFault::OutOfMemory) => Err(TcprulesFault::OutOfMemory),
+        Ok(name) => Ok(Some(name)),
+        Err(NameFault::OutOfMemory) => Ok(None),
         Err(_) => Err(TcprulesFault::BadName),
     }
 }

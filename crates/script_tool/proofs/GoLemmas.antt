@@ -7,7 +7,7 @@ use Rattle.rules_install.specs.declared.Phase.{Phase}
 use Rattle.script_tool.specs.declared.simulation.Progress.{Progress}
 use Rattle.script_tool.specs.declared.simulation.Simulation.{Simulation}
 use Rattle.script_tool.specs.Kept.{HasTexts, IsAt, IsInstalling, MayBeInstalling}
-use Rattle.script_tool.specs.Scripts.{To}
+use Rattle.script_words.specs.Scripts.{To}
 use Rattle.script_tool.specs.Sim.{Begun, State, after, begun_to, texts_to}
 use Rattle.script_tool.specs.Texts.{Texts, at_phases, later_of}
 use Rattle.script_tool.proofs.InstallLemmas.{IsOfBegun-some, begun-none}

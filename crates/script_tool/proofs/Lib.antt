@@ -5,5 +5,4 @@ pub mod KeptLemmas
 pub mod ProgressLemmas
 pub mod ReaderLemmas
 pub mod RunLemmas
-pub mod ScriptLemmas
 pub mod TextLemmas

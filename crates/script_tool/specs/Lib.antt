@@ -1,8 +1,9 @@
--- The scripts of `rulesim`, and what it prints for them.
+-- What `rulesim` prints for scripts; it passes on their commands.
 pub mod Commands
-pub mod Events
 pub mod Kept
 pub mod Replies
-pub mod Scripts
 pub mod Sim
 pub mod Texts
+pub use Rattle.script_words.specs.Events
+pub use Rattle.script_words.specs.Readings
+pub use Rattle.script_words.specs.Scripts

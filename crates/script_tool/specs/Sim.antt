@@ -19,8 +19,8 @@ use Rattle.script_tool.specs.declared.sim.SimFault.{SimFault}
 use Rattle.script_tool.specs.declared.sim.SimFault.TheVariants.{BadCommand, ReadFault, WriteFault, OutOfMemory}
 use Rattle.answer_lines.specs.Answers.{answer_lines}
 use Rattle.script_tool.specs.Replies.{fault_text, illegal_line, reached_line, report_line}
-use Rattle.script_tool.specs.Events.{History, with_event}
-use Rattle.script_tool.specs.Scripts.{Command, Skip, Add, Install, Begin, To, Stop, Ask, Open, AskBy, BeginEvents, AddEvent, Replay, command_of}
+use Rattle.script_words.specs.Events.{History, with_event}
+use Rattle.script_words.specs.Scripts.{Command, Skip, Add, Install, Begin, To, Stop, Ask, Open, AskBy, BeginEvents, AddEvent, Replay, command_of}
 use Rattle.script_tool.specs.Texts.{Texts, no_texts, at_phases, later_of, stopped}
 
 -- the limits of the tools

@@ -1,19 +1,12 @@
-//! The script tool `rulesim`: questions about rule texts and lists of events, and stops during installations.
+//! The script tool `rulesim`: questions about rule texts and lists of events, and stops during installations. It passes on what the lines
+//! of a script ask for.
 #![tactic(auto)]
 
-mod event_words;
 mod replies;
-pub mod script;
 pub mod sim;
 mod simulation;
 pub mod standard;
 
+pub use script_words::{Command, LineEnd, read_command, script};
 pub use sim::{SimFault, run_rulesim};
 pub use standard::run_script;
-
-#[cfg(test)]
-mod source_tests;
-#[cfg(test)]
-mod stop_tests;
-#[cfg(test)]
-mod tests;

@@ -1,13 +1,13 @@
 //! `rulesim`: questions about rule texts and lists of events, and stops during installations, by a script.
-ghost use Rattle.std.specs.Prelude.{◌≡◌, ◌⊎◌, OnOk, IfOk, IfErr, IfSome};
+ghost use Rattle.std.specs.Prelude.{◌≡◌, ◌⊎◌, None, Err, OnOk, IfOk, IfErr, IfSome};
 ghost use Rattle.std.specs.Io.BufRead.{strip_last};
 ghost use Rattle.std.specs.Io.KnownBytes.{Appends};
-ghost use Rattle.script_tool.specs.Commands.{Carries, RefusesAs};
+ghost use Rattle.script_tool.specs.Commands.{Carries};
 ghost use Rattle.script_tool.specs.Kept.{IsAt};
 ghost use Rattle.script_tool.specs.Sim.{State, command_at, sim, Prints};
 
-use crate::script::{LineEnd, read_command};
 use crate::simulation::Simulation;
+use script_words::{LineEnd, read_command};
 use std::alloc::Global;
 use std::io;
 use std::io::{BufRead, ErrorKind, Write};
@@ -113,7 +113,7 @@ fn answer(alloc: Global, sim: &mut Simulation, line: &[u8]) -> Result<Vec<u8>, L
     ensures done { IfOk result (λ out. (state : State) → IsAt sim.old state
         → Carries (strip_last 10 line.now) state sim.new out.items) }
     ensures refused { (state : State) → IsAt sim.old state
-        → IfErr result (RefusesAs (command_at state (strip_last 10 line.now))) }
+        → result ≡ Err LineEnd.Bad → command_at state (strip_last 10 line.now) ≡ None }
 {
     let command = read_command(alloc, without_feed(line))?;
     if !sim.may_take(&command) {

@@ -7,15 +7,15 @@ ghost use Rattle.rule_lookup.specs.Decisions.{decision_of};
 ghost use Rattle.rules_install.specs.Installing.{begun};
 ghost use Rattle.rules_install.specs.Installs.{installing};
 ghost use Rattle.rules_install.specs.Whole.{Begins, RefusesText};
-ghost use Rattle.script_tool.specs.Commands.{Obeys, meaning};
-ghost use Rattle.script_tool.specs.Events.{with_event};
+ghost use Rattle.script_tool.specs.Commands.{Obeys};
+ghost use Rattle.script_words.specs.Events.{with_event};
 ghost use Rattle.script_tool.specs.Kept.{GoesOn, HasTexts, IsAt, IsFileOf, IsInstalling, Reads, Steps, sim_names, steps_left};
-ghost use Rattle.script_tool.specs.Scripts.{Add, Install as InstallText, Begin, To, Stop, Ask, Open, AskBy, BeginEvents, AddEvent, Replay};
+ghost use Rattle.script_words.specs.Readings.{meaning};
+ghost use Rattle.script_words.specs.Scripts.{Add, Install as InstallText, Begin, To, Stop, Ask, Open, AskBy, BeginEvents, AddEvent, Replay};
 ghost use Rattle.script_tool.specs.Sim.{Begun, State, start, after, is_in_place, printed, profile, refusal_of, replayed, told};
 ghost use Rattle.script_tool.specs.Texts.{Texts, at_phase, place_of};
 
 use crate::replies::{append_fault, append_illegal, append_reached, append_report};
-use crate::script::Command;
 use answer_lines::append_answer;
 use cdb_read::CdbFile;
 use dir_disk::{Choice, Dir, DirFault, MemDir, MemFile, Name, NameFault};
@@ -24,6 +24,7 @@ use rule_lookup::{DecideFault, Decision, Missing, Peer, decide};
 use rules_install::laws::decides;
 use rules_install::whole::prepare;
 use rules_install::{Install, InstallFault, Names, Phase, SameName};
+use script_words::Command;
 use server_core::laws::first_illegal;
 use server_core::{Event, ReplayFault, replay};
 use std::alloc::{AllocError, Global};
@@ -40,7 +41,7 @@ struct History {
 }
 
 impl Model for History {
-    ghost use Rattle.script_tool.specs.Events.{History as Listed};
+    ghost use Rattle.script_words.specs.Events.{History as Listed};
 
     ghost Value = { Listed };
 

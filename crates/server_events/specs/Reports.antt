@@ -1,6 +1,6 @@
 -- What a list of events comes to, and when it has no report.
-use Rattle.std.specs.Prelude.{◌≡◌, ℕ, ◌+◌, ◌-◌, List, [], ◌∷◌, Bool, true, false, Option, Some, None, is_some, option_map, length, map, take, max, if◌then◌else◌}
-use Rattle.std.specs.List.{count_by, list_any, range_with_len}
+use Rattle.std.specs.Prelude.{◌≡◌, ℕ, ◌+◌, ◌-◌, List, [], ◌∷◌, ◌++◌, Bool, true, false, Option, Some, None, is_some, option_map, length, map, take, max, if◌then◌else◌}
+use Rattle.std.specs.List.{count_by, range_with_len}
 use Rattle.server_events.specs.declared.event.Event.{Event}
 use Rattle.server_events.specs.declared.report.Report.{Report}
 use Rattle.server_events.specs.declared.report.ReplayFault.{ReplayFault}
@@ -40,7 +40,15 @@ first_illegal w [] = None
 first_illegal w (e ∷ es) =
     if may_happen w e then option_map (λ i. i + 1) (first_illegal (after w e) es) else Some 1
 
+-- there was no memory at event k, counted from 1: it lets a connection in, and may happen where it stands, as each before it may
+pub record WantsMemory (w : ServerState) (history : List Event) : Type 0 where
+  pub k : ℕ
+  pub event : Event
+  pub event_k : take k history ≡ take (k - 1) history ++ event ∷ []
+  pub lets_in : is_admission event ≡ true
+  pub legal : is_legal w (take k history) ≡ true
+
 -- why a list of events has no report: an event may not happen, or there was no memory for a connection that was let in
 abbrev pub RefusesReplay : ServerState → List Event → ReplayFault → Type 0
 RefusesReplay w history (IllegalEvent i) = IsFirstIllegal w history i
-RefusesReplay w history OutOfMemory = list_any is_admission history ≡ true
+RefusesReplay w history OutOfMemory = WantsMemory w history

@@ -45,8 +45,8 @@ impl From<AllocError> for ReplayFault {
 /// address, retired ones included.
 ///
 /// # Errors
-/// `IllegalEvent` with the place, from 1, of the first event that may not happen where it stands. `OutOfMemory` only of a list
-/// that lets a connection in: no other event takes memory.
+/// `IllegalEvent` with the place, from 1, of the first event that may not happen where it stands. `OutOfMemory` only at an event that lets
+/// a connection in, where no event up to it is illegal: no other event takes memory.
 pub fn replay(
     alloc: Global,
     limit: u64,

@@ -1,4 +1,4 @@
-use Rattle.std.proofs.Common.{◌<◌, inl, arith, length, refl}
+use Rattle.std.proofs.Common.{◌<◌, inl, arith, length, refl, ap, Err}
 use Rattle.script_tool.specs.declared.sim.SimFault.TheVariants.{ReadFault}
 use Rattle.script_tool.specs.Sim.{after, start}
 use Rattle.script_tool.proofs.RunLemmas.{at_bad_line, at_end, at_fault, at_line, at_no_memory, at_write_fault, runs_from_start}
@@ -18,7 +18,7 @@ returns-in-Err-write_out g c = at_write_fault (g.R.Read.remaining c.args.reader.
 pub returns-in-Err-Bad : goal.returns-in-Err-Bad
 returns-in-Err-Bad g c =
     let some : 0 < length c.read_until.new.buf.items = omega (arith, c.in-Ok-read_until.ensures.ok, c.read_until.new.buf.ok.0) in
-    at_bad_line (g.W.Write.contents c.args.writer.now) _ (g.R.Read.remaining c.loop-number.reader) c.loop-number.number c.loop-number.sim c.read_until.new.buf.items c.clear.new.self.items c.clear.ensures.items c.in-Ok-read_until.ensures.bytes some (g.R.Read.remaining c.args.reader.now) (rw (c.in-Err-Bad.field-0-is, c.as_slice.ensures.value) at c.in-Err-Bad.ensures.refused) c.loop-number.invariant.1
+    at_bad_line (g.W.Write.contents c.args.writer.now) _ (g.R.Read.remaining c.loop-number.reader) c.loop-number.number c.loop-number.sim c.read_until.new.buf.items c.clear.new.self.items c.clear.ensures.items c.in-Ok-read_until.ensures.bytes some (g.R.Read.remaining c.args.reader.now) (λ state at. (rw c.as_slice.ensures.value at c.in-Err-Bad.ensures.refused) state at (ap Err c.in-Err-Bad.field-0-is)) c.loop-number.invariant.1
 
 pub loop-number-preserved : goal.loop-number-preserved
 loop-number-preserved g c =

@@ -3,7 +3,7 @@ use Rattle.std.proofs.lemmas.Result.{on_ok_weaker}
 use Rattle.server_core.specs.Reports.{IsFirstIllegal, first_illegal}
 use Rattle.server_core.specs.ServerState.{start}
 use Rattle.script_tool.specs.Replies.{report_line}
-use Rattle.script_tool.specs.Events.{History}
+use Rattle.script_words.specs.Events.{History}
 use Rattle.script_tool.specs.Sim.{outcome, replayed}
 use Rattle.script_tool.proofs.simulation.append_outcome.Goals as goal
 

@@ -1,11 +1,12 @@
-use Rattle.std.proofs.Common.{◌≡◌, ◌+◌, ◌-◌, ◌<◌, length, take, take_all, true, sym, ap, ◌∙◌, arith}
+use Rattle.std.proofs.Common.{◌≡◌, ◌+◌, ◌-◌, ◌<◌, [], ◌∷◌, ◌++◌, length, take, take_all, true, sym, ap, ◌∙◌, arith}
 use Rattle.std.specs.Prelude.{max}
+use Rattle.std.proofs.lemmas.Result.{err_from_is_err_and}
 use Rattle.server_events.specs.Reports.{is_admission, most_of}
 use Rattle.server_events.specs.Live.{retired_of}
 use Rattle.server_events.specs.declared.state.Connection.{Connection}
 use Rattle.std.specs.List.{count_by}
 use Rattle.server_events.specs.ServerState.{ServerState, start, is_legal, state_after, may_happen, after, is_retired}
-use Rattle.server_events.proofs.History.{legal_next, state_next, last_state_after}
+use Rattle.server_events.proofs.History.{take_next, legal_next, state_next, last_state_after}
 use Rattle.server_events.proofs.LiveLemmas.{live_len, live_count, retired_count, most_up_to, most_next}
 use Rattle.server_events.proofs.report.replay.Goals as goal
 
@@ -22,6 +23,22 @@ returns-then-not-may_happen-clause-refused c =
       before = ap (λ k. is_legal w (take k es)) before ∙ inv.legal;
       with_it = ap (λ k. is_legal w (take k es)) up_to ∙ next ∙ ap (λ (u : ServerState). may_happen u e) (sym inv.state) ∙ sym c.may_happen.ensures ∙ c.if-not-may_happen.true;
     }
+
+pub returns-in_err-apply-clause-refused : goal.returns-in_err-apply-clause-refused
+returns-in_err-apply-clause-refused c =
+    let es = c.args.events.now in let i = c.loop-event.event-index in let w = start c.args.limit c.args.per_address in
+    let e = c.event-item.result in
+    let here : i < length es = omega arith in
+    let inv = c.loop-event.invariant in
+    let front : i + 1 - 1 ≡ i = omega arith in
+    let p = err_from_is_err_and c.from_residual.result c.from_residual.ensures.1 in
+    rw (p.1, p.2) (record {
+      k = i + 1;
+      event = e;
+      event_k = take_next w es i e here c.event-item.is ∙ ap (λ k. take k es ++ e ∷ []) (sym front);
+      lets_in = c.in_err-apply.ensures.memory;
+      legal = legal_next w es i e here c.event-item.is inv.legal ∙ ap (λ (u : ServerState). may_happen u e) (sym inv.state) ∙ sym c.may_happen.ensures ∙ c.if-not-may_happen.false;
+    })
 
 pub loop-event-preserved : goal.loop-event-preserved
 loop-event-preserved c =

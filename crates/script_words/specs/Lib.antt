@@ -1,0 +1,4 @@
+-- The lines of a script of `rulesim`, as commands.
+pub mod Events
+pub mod Readings
+pub mod Scripts

@@ -1,0 +1,197 @@
+//! Events in the words of a script.
+ghost use Rattle.std.specs.Borrow.{Bor};
+ghost use Rattle.std.specs.Prelude.{◌≡◌, ℕ, List, Some, IfOk, IfErr, codes, option_map};
+ghost use Rattle.rule_lookup.specs.Peers.{given};
+ghost use Rattle.script_words.specs.Readings.{RefusesAs, texts};
+ghost use Rattle.script_words.specs.Events.{decision_with, event_in, event_named, limit_in, only_phase, only_serial, other_event, phase_in, serial_and_word, serial_in, status_in, there_in, verdict_in};
+
+use crate::script::LineEnd;
+use rule_lines::{Settings, Verdict};
+use rule_lookup::{Decision, DropCause, Found, Peer, PeerFault, StartFault, Status, parse_address};
+use rules_install::Phase;
+use server_events::Event;
+use std::alloc::Global;
+use ucspi_words::number_in;
+
+/// The greatest limit of a list of events.
+const MOST_LIMIT: u64 = 10_000;
+
+/// The event that words are: its name, and what belongs to it.
+pub(crate) fn read_event(alloc: Global, words: &[&str]) -> Result<Event, LineEnd>
+    ensures read { IfOk result (λ event. event_in (texts words.now) ≡ Some event) }
+    ensures refused { IfErr result (RefusesAs (event_in (texts words.now))) }
+{
+    let Some((name, words)) = words.split_first() else {
+        return Err(LineEnd::Bad);
+    };
+    event_named(alloc, name, words)
+}
+
+/// A limit of a list of events.
+pub(crate) fn limit_in(word: &str) -> Option<u64>
+    ensures { result ≡ limit_in word.now }
+{
+    number_in(word, 1, MOST_LIMIT)
+}
+
+/// The event with a name, and the words after that.
+fn event_named(alloc: Global, name: &str, words: &[&str]) -> Result<Event, LineEnd>
+    ensures read { IfOk result (λ event. event_named name.now (texts words.now) ≡ Some event) }
+    ensures refused { IfErr result (RefusesAs (event_named name.now (texts words.now))) }
+{
+    if name == "admitted" {
+        return admission(alloc, words);
+    }
+    other_event(alloc, name, words).ok_or(LineEnd::Bad)
+}
+
+/// The event of a connection that is let in from an address, without names and with port 0.
+fn admission(alloc: Global, words: &[&str]) -> Result<Event, LineEnd>
+    ensures read { IfOk result (λ event.
+        event_named (codes "admitted") (texts words.now) ≡ Some event) }
+    ensures refused { IfErr result (RefusesAs (event_named (codes "admitted") (texts words.now))) }
+{
+    let (serial, address) = serial_and_word(words).ok_or(LineEnd::Bad)?;
+    let ip = parse_address(address).ok_or(LineEnd::Bad)?;
+    match Peer::new(alloc, ip, 0, None, None) {
+        Ok(peer) => Ok(Event::Admitted { serial, peer }),
+        Err(_) => Err(LineEnd::OutOfMemory),
+    }
+}
+
+/// The event with a name other than that of an admission.
+fn other_event(alloc: Global, name: &str, words: &[&str]) -> Option<Event>
+    ensures { result ≡ other_event name.now (texts words.now) }
+{
+    match name {
+        "opened" => {
+            let (serial, word) = serial_and_word(words)?;
+            let there = there_in(word)?;
+            Some(Event::Opened { serial, there })
+        }
+        "decided" => {
+            let (serial, word) = serial_and_word(words)?;
+            let decision = decision_with(alloc, verdict_in(word)?);
+            Some(Event::Decided { serial, decision })
+        }
+        "ended" => {
+            let (serial, word) = serial_and_word(words)?;
+            let status = status_in(word)?;
+            Some(Event::Ended { serial, status })
+        }
+        "started" => Some(Event::Started {
+            serial: only_serial(words)?,
+        }),
+        "startfailed" => Some(Event::StartFailed {
+            serial: only_serial(words)?,
+            fault: StartFault::Other,
+        }),
+        "retired" => Some(Event::Retired {
+            serial: only_serial(words)?,
+        }),
+        "dropped" => Some(Event::Dropped {
+            serial: only_serial(words)?,
+            cause: DropCause::Directory,
+        }),
+        "phase" => Some(Event::Stepped {
+            phase: only_phase(words)?,
+        }),
+        "failed" => Some(Event::StepFailed {
+            phase: only_phase(words)?,
+        }),
+        "stop" => words.is_empty().then_some(Event::Stop),
+        _ => None,
+    }
+}
+
+/// A decision with a verdict alone.
+fn decision_with(alloc: Global, verdict: Verdict) -> Decision
+    ensures { result ≡ decision_with verdict }
+{
+    Decision {
+        found: Found::Default,
+        verdict,
+        settings: Settings::new(alloc),
+    }
+}
+
+/// The serial that the only word is.
+fn only_serial(words: &[&str]) -> Option<u64>
+    ensures { result ≡ only_serial (texts words.now) }
+{
+    match words {
+        [word] => serial_in(word),
+        _ => None,
+    }
+}
+
+/// The phase that the only word is.
+pub fn only_phase(words: &[&str]) -> Option<Phase>
+    ensures { result ≡ only_phase (texts words.now) }
+{
+    match words {
+        [word] => phase_in(word),
+        _ => None,
+    }
+}
+
+/// The serial that the first of two words is, and the second.
+fn serial_and_word<'a>(words: &[&'a str]) -> Option<(u64, &'a str)>
+    ensures { option_map (λ (p : ℕ × Bor (List ℕ)). (p.0, p.1.now)) result
+        ≡ serial_and_word (texts words.now) }
+{
+    match words {
+        [serial, word] => Some((serial_in(serial)?, word)),
+        _ => None,
+    }
+}
+
+fn serial_in(word: &str) -> Option<u64>
+    ensures { result ≡ serial_in word.now }
+{
+    number_in(word, 0, u64::MAX)
+}
+
+fn there_in(word: &str) -> Option<bool>
+    ensures { result ≡ there_in word.now }
+{
+    match word {
+        "yes" => Some(true),
+        "no" => Some(false),
+        _ => None,
+    }
+}
+
+fn verdict_in(word: &str) -> Option<Verdict>
+    ensures { result ≡ verdict_in word.now }
+{
+    match word {
+        "allow" => Some(Verdict::Allow),
+        "deny" => Some(Verdict::Deny),
+        _ => None,
+    }
+}
+
+/// An exit code, or `signal`.
+fn status_in(word: &str) -> Option<Status>
+    ensures { result ≡ status_in word.now }
+{
+    if word == "signal" {
+        return Some(Status::Signal);
+    }
+    let code = number_in(word, 0, 255)?;
+    Some(Status::Code(code as u8))
+}
+
+fn phase_in(word: &str) -> Option<Phase>
+    ensures { result ≡ phase_in word.now }
+{
+    match word {
+        "fresh" => Some(Phase::Fresh),
+        "filling" => Some(Phase::Filling),
+        "synced" => Some(Phase::Synced),
+        "named" => Some(Phase::Named),
+        "done" => Some(Phase::Done),
+        _ => None,
+    }
+}

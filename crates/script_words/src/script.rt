@@ -1,0 +1,266 @@
+//! The lines of a script of `rulesim`.
+ghost use Rattle.std.specs.Prelude.{◌≡◌, ◌==◌, length, Some, IfOk, IfErr};
+ghost use Rattle.std.specs.List.{slice_split};
+ghost use Rattle.rule_lookup.specs.Peers.{given};
+ghost use Rattle.script_words.specs.Readings.{meaning, RefusesAs, RefusesLine, texts};
+ghost use Rattle.script_words.specs.Events.{alone, limits_in};
+ghost use Rattle.script_words.specs.Scripts.{command_of, command_in, command_named, words_of, option_in, peer_of, peer_in, choice_in, only_choice, reader_in, only_reader, question_in};
+ghost use Rattle.script_words.specs.declared.script.LineEnd.TheVariants.{OutOfMemory};
+
+use crate::event_words::{limit_in, only_phase, read_event};
+use dir_disk::Choice;
+use rule_lookup::{Peer, PeerFault, parse_address};
+use rules_install::Phase;
+use server_events::Event;
+use std::alloc::{AllocError, Global};
+
+/// What a line asks for.
+#[derive(Debug, Drop)]
+pub enum Command<'a> {
+    /// Nothing: it is empty or a comment.
+    Skip,
+    /// That this be added to the pending text as a line.
+    Add(&'a [u8]),
+    /// That the pending text be installed.
+    Install,
+    /// That the installation of the pending text begin.
+    Begin,
+    /// That the installation go on to this phase.
+    To(Phase),
+    /// A stop with this choice.
+    Stop(Choice),
+    /// A decision for this peer.
+    Ask(Peer),
+    /// That the rules file be opened, and kept under this name.
+    Reader(&'a str),
+    /// A decision for this peer, from the file that is kept under this name.
+    AskBy(&'a str, Peer),
+    /// An empty list of events, under these limits.
+    Events {
+        /// How many connections may be alive at once.
+        limit: u64,
+        /// How many of these from one address.
+        per_address: u64,
+    },
+    /// That this be added to the list of events.
+    Event(Event),
+    /// What the list of events comes to.
+    Replay,
+}
+
+/// Why a line gives no command.
+#[derive(Clone, Copy, PartialEq, Eq, Debug)]
+pub enum LineEnd {
+    /// It is none.
+    Bad,
+    /// There was no memory for it.
+    OutOfMemory,
+}
+
+impl From<AllocError> for LineEnd {
+    ghost from_gives = { λ _ e. e ≡ OutOfMemory };
+
+    fn from(_error: AllocError) -> LineEnd {
+        LineEnd::OutOfMemory
+    }
+}
+
+/// The command of a line, which has no line feed.
+///
+/// # Errors
+/// `Bad` where the line is no command; `OutOfMemory`, but only of a line that has words.
+pub fn read_command(alloc: Global, line: &[u8]) -> Result<Command<'_>, LineEnd>
+    ensures read { IfOk result (λ command. command_of line.now ≡ Some (meaning command)) }
+    ensures refused { IfErr result (RefusesLine line.now) }
+{
+    let Some((first, rest)) = line.split_first() else {
+        return Ok(Command::Skip);
+    };
+    if *first == b'#' {
+        return Ok(Command::Skip);
+    }
+    if *first == b'|' {
+        return Ok(Command::Add(rest));
+    }
+    match str::from_utf8(line) {
+        Ok(text) => read_words(alloc, text),
+        Err(_) => Err(LineEnd::Bad),
+    }
+}
+
+/// The command that the words of a line are.
+fn read_words(alloc: Global, line: &str) -> Result<Command<'_>, LineEnd>
+    ensures read { IfOk result (λ command.
+        command_in (words_of line.now) ≡ Some (meaning command)) }
+    ensures refused { result ≡ Err LineEnd.Bad → command_in (words_of line.now) ≡ None }
+{
+    let words = words_in(alloc, line)?;
+    command_from(alloc, words.as_slice())
+}
+
+/// The words of a line, one space between each two.
+fn words_in(alloc: Global, line: &str) -> Result<Vec<&str>, AllocError>
+    ensures { IfOk result (λ words. texts words.items ≡ words_of line.now) }
+{
+    line.split(' ').collect(alloc)
+}
+
+fn command_from<'a>(alloc: Global, words: &[&'a str]) -> Result<Command<'a>, LineEnd>
+    ensures read { IfOk result (λ command. command_in (texts words.now) ≡ Some (meaning command)) }
+    ensures refused { IfErr result (RefusesAs (command_in (texts words.now))) }
+{
+    let Some((name, words)) = words.split_first() else {
+        return Err(LineEnd::Bad);
+    };
+    command_named(alloc, name, words)
+}
+
+/// The command with a name, and the words after that.
+fn command_named<'a>(alloc: Global, name: &str, words: &[&'a str]) -> Result<Command<'a>, LineEnd>
+    ensures read { IfOk result (λ command.
+        command_named name.now (texts words.now) ≡ Some (meaning command)) }
+    ensures refused { IfErr result (RefusesAs (command_named name.now (texts words.now))) }
+{
+    match name {
+        "install" => alone(Command::Install, words),
+        "begin" => alone(Command::Begin, words),
+        "to" => Ok(Command::To(only_phase(words).ok_or(LineEnd::Bad)?)),
+        "stop" => Ok(Command::Stop(only_choice(words).ok_or(LineEnd::Bad)?)),
+        "ask" => Ok(Command::Ask(read_peer(alloc, words)?)),
+        "reader" => Ok(Command::Reader(only_reader(words).ok_or(LineEnd::Bad)?)),
+        "askby" => read_question(alloc, words),
+        "events" => {
+            let (limit, per_address) = read_limits(words).ok_or(LineEnd::Bad)?;
+            Ok(Command::Events { limit, per_address })
+        }
+        "event" => Ok(Command::Event(read_event(alloc, words)?)),
+        "replay" => alone(Command::Replay, words),
+        _ => Err(LineEnd::Bad),
+    }
+}
+
+/// The choice that the only word is.
+fn only_choice(words: &[&str]) -> Option<Choice>
+    ensures { result ≡ only_choice (texts words.now) }
+{
+    match words {
+        [word] => choice_in(word),
+        _ => None,
+    }
+}
+
+fn choice_in(word: &str) -> Option<Choice>
+    ensures { result ≡ choice_in word.now }
+{
+    match word {
+        "kept" => Some(Choice::Kept),
+        "empty" => Some(Choice::Empty),
+        "junk" => Some(Choice::Junk),
+        _ => None,
+    }
+}
+
+/// The reader's name that the only word is.
+fn only_reader<'a>(words: &[&'a str]) -> Option<&'a str>
+    ensures { given result ≡ only_reader (texts words.now) }
+{
+    match words {
+        [word] => reader_in(word),
+        _ => None,
+    }
+}
+
+/// A reader's name, which is not empty.
+fn reader_in(word: &str) -> Option<&str>
+    ensures { given result ≡ reader_in word.now }
+{
+    if word.is_empty() { None } else { Some(word) }
+}
+
+/// The question to a reader that words are: its name, and the peer.
+fn read_question<'a>(alloc: Global, words: &[&'a str]) -> Result<Command<'a>, LineEnd>
+    ensures read { IfOk result (λ command. question_in (texts words.now) ≡ Some (meaning command)) }
+    ensures refused { IfErr result (RefusesAs (question_in (texts words.now))) }
+{
+    let Some((name, words)) = words.split_first() else {
+        return Err(LineEnd::Bad);
+    };
+    let name = reader_in(name).ok_or(LineEnd::Bad)?;
+    Ok(Command::AskBy(name, read_peer(alloc, words)?))
+}
+
+/// The limit that the first word is, and the limit per address, which is the same where it is left out.
+fn read_limits(words: &[&str]) -> Option<(u64, u64)>
+    ensures { result ≡ limits_in (texts words.now) }
+{
+    match words {
+        [limit] => {
+            let limit = limit_in(limit)?;
+            Some((limit, limit))
+        }
+        [limit, per_address] => Some((limit_in(limit)?, limit_in(per_address)?)),
+        _ => None,
+    }
+}
+
+/// A command that has no more words.
+fn alone<'a>(command: Command<'a>, words: &[&str]) -> Result<Command<'a>, LineEnd>
+    ensures read { IfOk result (λ read.
+        alone (meaning command.entry) (texts words.now) ≡ Some (meaning read)) }
+    ensures refused { IfErr result (RefusesAs (alone (meaning command.entry) (texts words.now))) }
+{
+    if words.is_empty() {
+        Ok(command)
+    } else {
+        Err(LineEnd::Bad)
+    }
+}
+
+/// The peer that the words after `ask` name.
+fn read_peer(alloc: Global, words: &[&str]) -> Result<Peer, LineEnd>
+    ensures read { IfOk result (λ peer. peer_in (texts words.now) ≡ Some peer) }
+    ensures refused { IfErr result (RefusesAs (peer_in (texts words.now))) }
+{
+    match words {
+        [ip] => make_peer(alloc, ip, None, None),
+        [ip, word] => match (option_in("info=", word), option_in("host=", word)) {
+            (Some(info), _) => make_peer(alloc, ip, Some(info), None),
+            (None, Some(host)) => make_peer(alloc, ip, None, Some(host)),
+            (None, None) => Err(LineEnd::Bad),
+        },
+        [ip, first, second] => match (option_in("info=", first), option_in("host=", second)) {
+            (Some(info), Some(host)) => make_peer(alloc, ip, Some(info), Some(host)),
+            _ => Err(LineEnd::Bad),
+        },
+        _ => Err(LineEnd::Bad),
+    }
+}
+
+/// What stands after the mark in a word that begins with it.
+fn option_in<'a>(mark: &str, word: &'a str) -> Option<&'a str>
+    ensures { given result ≡ option_in mark.now word.now }
+{
+    word.strip_prefix(mark)
+}
+
+fn make_peer(
+    alloc: Global,
+    ip: &str,
+    info: Option<&str>,
+    host: Option<&str>,
+) -> Result<Peer, LineEnd>
+    ensures read { IfOk result (λ peer.
+        peer_of ip.now (given info.entry) (given host.entry) ≡ Some peer) }
+    ensures refused { IfErr result
+        (RefusesAs (peer_of ip.now (given info.entry) (given host.entry))) }
+{
+    let Some(ip) = parse_address(ip) else {
+        return Err(LineEnd::Bad);
+    };
+    match Peer::new(alloc, ip, 0, host, info) {
+        Ok(peer) => Ok(peer),
+        Err(PeerFault::OutOfMemory) => Err(LineEnd::OutOfMemory),
+        Err(PeerFault::BadHost) => Err(LineEnd::Bad),
+        Err(PeerFault::BadInfo) => Err(LineEnd::Bad),
+    }
+}
