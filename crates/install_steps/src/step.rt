@@ -2,7 +2,8 @@
 ghost use Rattle.std.specs.Prelude.{IsTrue};
 ghost use Rattle.install_steps.specs.UnderWay.{LeadsOn, Leaves};
 ghost use Rattle.rules_install.specs.Installing.{Fits};
-ghost use Rattle.rules_install.specs.Installs.{installing, IsOpen, IsUndone};
+ghost use Rattle.rules_install.specs.Steps.{IsOfDevice, IsSame};
+ghost use Rattle.rules_install.specs.Installs.{installing, IsOpen, IsUndone, StepChanges, StepGoes};
 
 use crate::laws::leads_on;
 use dir_disk::Dir;
@@ -30,6 +31,11 @@ pub fn make_step<D: Dir>(
     ensures stops { IsTrue D.honest
         → Leaves D.state D.moment D.left_since (installing install.old) dir.old dir.new }
     ensures fits { IsTrue D.honest → Fits (installing install.new) (D.state dir.new) }
+    // what it answers, and how far the installation is then
+    ensures goes { StepGoes install.old install.new result }
+    ensures same { IsSame (installing install.old) (installing install.new) }
+    ensures changes { IsTrue D.honest → StepChanges install.old (D.state dir.old) (D.state dir.new) result }
+    ensures device { IsTrue D.honest → IsOfDevice result }
 {
     leads_on();
     install.consistent();

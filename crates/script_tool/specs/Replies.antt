@@ -5,7 +5,7 @@ use Rattle.rule_lines.specs.declared.fault.LineKind.TheVariants.{NoVerdict, BadS
 use Rattle.rule_lines.specs.FaultTexts.{kind_text}
 use Rattle.rules_install.specs.declared.Phase.{Phase}
 use Rattle.rules_install.specs.PhaseWords.{phase_text}
-use Rattle.server_core.specs.declared.report.Report.{Report}
+use Rattle.server_events.specs.declared.report.Report.{Report}
 
 -- a numbered line and its fault
 abbrev pub numbered : ℕ → LineKind → List ℕ

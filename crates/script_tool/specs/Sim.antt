@@ -12,9 +12,9 @@ use Rattle.rule_lookup.specs.Decisions.{decision_of}
 use Rattle.rule_lookup.specs.Peers.{Client}
 use Rattle.rules_install.specs.declared.Phase.{Phase}
 use Rattle.rules_install.specs.declared.Phase.TheVariants.{Done}
-use Rattle.server_core.specs.declared.event.Event.{Event}
-use Rattle.server_core.specs.Reports.{first_illegal, report_of}
-use Rattle.server_core.specs.ServerState.{start as server_at_start}
+use Rattle.server_events.specs.declared.event.Event.{Event}
+use Rattle.server_events.specs.Reports.{first_illegal, report_of}
+use Rattle.server_events.specs.ServerState.{start as server_at_start}
 use Rattle.script_tool.specs.declared.sim.SimFault.{SimFault}
 use Rattle.script_tool.specs.declared.sim.SimFault.TheVariants.{BadCommand, ReadFault, WriteFault, OutOfMemory}
 use Rattle.answer_lines.specs.Answers.{answer_lines}

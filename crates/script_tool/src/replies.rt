@@ -5,7 +5,7 @@ ghost use Rattle.script_tool.specs.Replies.{numbered, fault_text, reached_line, 
 use itoa::Buffer;
 use rule_lines::{LineFault, LineKind};
 use rules_install::Phase;
-use server_core::Report;
+use server_events::Report;
 use std::alloc::AllocError;
 
 /// Adds what is wrong with a rule text: the line and its kind, but for a text that is too long. After an `Err` a part may

@@ -1,10 +1,10 @@
--- Programs; and what a server's events lead to and leave.
-pub mod Counts
-pub mod Full
-pub mod Journals
-pub mod Plans
-pub mod Programs
-pub mod Runs
+-- What the definitions of a server are, passed on from the crates that have them.
+pub use Rattle.child_jobs.specs.Plans
+pub use Rattle.child_jobs.specs.Programs
+pub use Rattle.child_jobs.specs.Runs
+pub use Rattle.event_journals.specs.Counts
+pub use Rattle.event_journals.specs.Full
+pub use Rattle.event_journals.specs.Journals
 pub use Rattle.server_events.specs.ServerState
 pub use Rattle.server_events.specs.Table
 pub use Rattle.server_events.specs.Live
@@ -16,3 +16,10 @@ pub use Rattle.server_events.specs.Witness
 pub use Rattle.rule_lookup.specs.Decisions
 pub use Rattle.rule_lookup.specs.Peers
 pub use Rattle.ucspi_env.specs.Variables
+pub use Rattle.server_yard.specs.Installed
+pub use Rattle.server_yard.specs.Passes
+pub use Rattle.server_yard.specs.Rolls
+pub use Rattle.server_yard.specs.Seating
+pub use Rattle.server_yard.specs.Standing
+pub use Rattle.server_yard.specs.Stepping
+pub use Rattle.server_yard.specs.Yards

@@ -1,20 +1,12 @@
-//! The core of a server: programs and the jobs that run them. It passes on what happens in a server: events and which lists of
-//! them may happen, what they come to, and the laws of what they leave.
+//! The core of a server. It passes on programs and the jobs that run them, journals, what happens in a server (events, which lists of
+//! them may happen, what they come to), the yard, and the laws of what they leave.
 #![tactic(auto)]
 
-pub mod counts;
-pub mod full;
-pub mod journal;
-pub mod launch;
-pub mod plan;
-pub mod running;
-
-pub use counts::Counts;
-pub use full::Full;
-pub use journal::{Journal, Noted};
-pub use launch::{Job, Launcher, NoEnds, Program, WaitFault};
-pub use plan::Plan;
-pub use running::{Running, finish, start};
+pub use child_jobs::{
+    Job, Launcher, NoEnds, Plan, Program, Running, WaitFault, finish, launch, plan, running, start,
+};
+pub use event_journals::{Counts, Full, Journal, Noted, counts, full, journal};
 pub use server_events::{
     Connection, Event, ReplayFault, Report, Stage, State, event, laws, replay, report, state,
 };
+pub use server_yard::{AdmitFault, Pass, Premises, Yard, laws as yard_laws, pass, premises, yard};

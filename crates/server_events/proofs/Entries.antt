@@ -11,6 +11,7 @@ use Rattle.server_events.specs.declared.event.Stage.{Stage}
 use Rattle.server_events.specs.declared.state.Connection.{Connection}
 use Rattle.server_events.specs.Kept.{HasOwnSerial, IsUpTo}
 use Rattle.server_events.specs.ServerState.{stage_of, with_stage, without}
+use Rattle.server_events.specs.Worlds.{peer_of}
 
 -- the test by which a map finds the serial n
 pub finds_serial : (n k : ℕ) → is_at (nat_cmp n) k ≡ (k == n)
@@ -42,6 +43,13 @@ module _ (test : ℕ → Bool) (n : ℕ) (finds : (k : ℕ) → test k ≡ (k ==
       let rest = lookup-stage_of es (All-tail HasOwnSerial e es h) in
       ap (λ b. option_map (λ (c : Connection). c.stage) (cond b (Some e.1) (lookup test es))) (finds_own e (All-head HasOwnSerial e es h))
       ∙ (elim (e.1.serial == n) as (λ b. option_map (λ (c : Connection). c.stage) (cond b (Some e.1) (lookup test es)) ≡ (if b then Some e.1.stage else stage_of n (values_of es))) [ true ↦ refl | false ↦ rest ])
+
+  pub lookup-peer_of : (es : List (ℕ × Connection)) → All HasOwnSerial es → option_map (λ (c : Connection). c.peer) (lookup test es) ≡ peer_of n (values_of es)
+  lookup-peer_of [] h = refl
+  lookup-peer_of (e ∷ es) h =
+      let rest = lookup-peer_of es (All-tail HasOwnSerial e es h) in
+      ap (λ b. option_map (λ (c : Connection). c.peer) (cond b (Some e.1) (lookup test es))) (finds_own e (All-head HasOwnSerial e es h))
+      ∙ (elim (e.1.serial == n) as (λ b. option_map (λ (c : Connection). c.peer) (cond b (Some e.1) (lookup test es)) ≡ (if b then Some e.1.peer else peer_of n (values_of es))) [ true ↦ refl | false ↦ rest ])
 
   pub values_of-remove_entry : (es : List (ℕ × Connection)) → All HasOwnSerial es → values_of (remove_entry test es) ≡ without n (values_of es)
   values_of-remove_entry [] h = refl

@@ -1,7 +1,8 @@
 //! What a list of events leads to.
-ghost use Rattle.std.specs.Prelude.{◌≡◌, length, true, OnOk, OnErr};
+ghost use Rattle.std.specs.Prelude.{◌≡◌, length, option_copied, true, OnOk, OnErr};
 ghost use Rattle.std.specs.List.{count_by};
 ghost use Rattle.server_events.specs.Reports.{is_admission};
+ghost use Rattle.server_events.specs.Worlds.{peer_of};
 ghost use Rattle.server_events.specs.ServerState.{start, stage_of, with_stage, without, count_from, may_admit, may_come, may_happen, after, is_retired, phase_after};
 
 use crate::addresses::AddressCounts;
@@ -69,6 +70,16 @@ impl State {
         ensures { result ≡ stage_of serial self.now.connections }
     {
         self.connections.get(&serial).map(|c| c.stage)
+    }
+
+    /// The other end of a connection that is alive.
+    pub fn peer(&self, serial: u64) -> Option<&Peer>
+        ensures { option_copied result ≡ peer_of serial self.now.connections }
+    {
+        match self.connections.get(&serial) {
+            Some(connection) => Some(&connection.peer),
+            None => None,
+        }
     }
 
     fn set_stage(&mut self, serial: u64, stage: Stage)

@@ -2,7 +2,7 @@
 use Rattle.std.specs.Prelude.{ℕ, List, [], ◌∷◌, map, Vec, Option, Some, None, nat_le, length, unwrap_or, if◌then◌else◌}
 use Rattle.std.specs.declared.alloc.Global.{Global}
 use Rattle.std.specs.Str.{is_utf8}
-use Rattle.server_core.specs.Programs.{ProgramText}
+use Rattle.child_jobs.specs.Programs.{ProgramText}
 use Rattle.ucspi_words.specs.Numbers.{number_in}
 
 -- words, as the bytes that they are

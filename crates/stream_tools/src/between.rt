@@ -4,9 +4,9 @@ ghost use Rattle.stream_tools.specs.declared.between.BetweenFault.TheVariants.{O
 
 use crate::filter::TURNS;
 use byte_pump::{Tap, pump};
+use child_jobs::{Job, Launcher, Program, WaitFault};
 use patient_streams::{Watch, Watched};
 use rule_lookup::{StartFault, Status};
-use server_core::{Job, Launcher, Program, WaitFault};
 use std::alloc::{AllocError, Global};
 use std::io::{Read, Write};
 use std::sync::Wait;
@@ -95,7 +95,13 @@ where
         chain: input.chain,
         tap: input.tap,
     };
-    if !pump_both(rt, alloc, (input, to), (from, output)) {
+    let served = pump_both(rt, alloc, (input, to), (from, output));
+    end_of(job, served)
+}
+
+/// The end of a program, which is waited for once. One that was not served, since its input got no thread, is given up.
+pub(crate) fn end_of<J: Job + Drop>(job: J, served: bool) -> Result<Status, BetweenFault> {
+    if !served {
         return Err(give_up(job));
     }
     match job.wait() {

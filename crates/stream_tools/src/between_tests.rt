@@ -1,11 +1,11 @@
 //! Programs between two pumps, by a launcher of the tests' own.
 ghost use Rattle.std.specs.Prelude.{is_some, ⊤};
 
-use crate::between::{BetweenFault, Lane, run_between};
+use crate::between::{BetweenFault, Lane, end_of, run_between};
 use crate::shared::SharedWriter;
 use byte_pump::NoTap;
+use child_jobs::{Job, Launcher, NoEnds, Program, WaitFault};
 use rule_lookup::{StartFault, Status};
-use server_core::{Job, Launcher, NoEnds, Program, WaitFault};
 use std::alloc::Global;
 use std::cell::Cell;
 use std::snapshot::Snapshot;
@@ -215,6 +215,50 @@ fn a_wait_that_fails_is_not_made_again(rt: HostRuntime) -> Result<(), Fail> {
         assert_eq!(rt; ran.written.as_slice(), b"up\r\nend".as_slice());
         assert_eq!(rt; (ran.kills, ran.waits), (0, 1));
     }
+    Ok(())
+}
+
+/// Ends a job that answers so, after it was served or not.
+fn end_with<H: Wait + AllocGlobal>(rt: &H, answers: Answers, served: bool) -> Ran {
+    let alloc = rt.alloc();
+    let calls = Calls {
+        kills: Cell::new(0),
+        waits: Cell::new(0),
+    };
+    let job: FakeJob<'_, H> = FakeJob {
+        ends: None,
+        answers,
+        calls: &calls,
+        program: Snapshot::of(&Program::new(String::new(alloc), Vec::new(alloc))),
+        environment: Snapshot::of(&Environment::new(alloc)),
+    };
+    let end = end_of(job, served);
+    Ran {
+        end,
+        given: Vec::new(alloc),
+        written: Vec::new(alloc),
+        kills: calls.kills.get(),
+        waits: calls.waits.get(),
+    }
+}
+
+#[test]
+fn a_program_whose_input_gets_no_thread_is_killed_and_waited_for(
+    rt: HostRuntime,
+) -> Result<(), Fail> {
+    for (kill, wait) in [
+        (Ok(()), Ok(Status::Signal)),
+        (Err(WaitFault::Failed), Ok(Status::Code(0))),
+        (Err(WaitFault::OutOfMemory), Err(WaitFault::Failed)),
+    ] {
+        let answers = Answers { kill, wait, ..WELL };
+        let ran = end_with(&rt, answers, false);
+        assert_eq!(rt; ran.end, Err(BetweenFault::CannotStart));
+        assert_eq!(rt; (ran.kills, ran.waits), (1, 1));
+    }
+    let served = end_with(&rt, WELL, true);
+    assert_eq!(rt; served.end, Ok(Status::Code(3)));
+    assert_eq!(rt; (served.kills, served.waits), (0, 1));
     Ok(())
 }
 

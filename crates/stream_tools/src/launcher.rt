@@ -1,8 +1,8 @@
 //! Programs of the system.
 ghost use Rattle.std.specs.Prelude.{◌≡◌, false, is_some, IfOk, ⊤};
 
+use child_jobs::{Job, Launcher, NoEnds, Program, WaitFault};
 use rule_lookup::{StartFault, Status};
-use server_core::{Job, Launcher, NoEnds, Program, WaitFault};
 use std::alloc::{AllocError, Global};
 use std::io::{Error, ErrorKind};
 use std::process::{Child, Command, ExitStatus, OpenProcess, Processes, Stdio};

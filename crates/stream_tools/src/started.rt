@@ -2,7 +2,7 @@
 ghost use Rattle.std.specs.Prelude.{◌≡◌, string_bytes, IfOk};
 ghost use Rattle.stream_tools.specs.Programs.{program_by, text_in, texts_of};
 
-use server_core::Program;
+use child_jobs::Program;
 use std::alloc::{AllocError, Global};
 use std::env::FillError;
 use std::rt::Env;

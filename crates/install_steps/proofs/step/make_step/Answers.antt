@@ -24,3 +24,9 @@ returns-clause-stops g c = λ honest.
     (λ image left. g.met.D.Dir.only_now c.args.dir.now image honest left)
     (record { consistent = c.consistent.ensures; is_open = c.requires.is_open; undone = c.requires.undone })
     (c.step.ensures.time honest c.requires.is_open c.requires.undone)
+
+pub returns-clause-goes : goal.returns-clause-goes
+returns-clause-goes g c = c.step.ensures.goes c.requires.is_open
+
+pub returns-clause-changes : goal.returns-clause-changes
+returns-clause-changes g c = λ honest. c.step.ensures.changes honest c.requires.is_open c.requires.undone

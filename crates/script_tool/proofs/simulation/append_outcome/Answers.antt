@@ -1,7 +1,7 @@
 use Rattle.std.proofs.Common.{◌≡◌, ◌++◌, List, ℕ, Some, None, sym, ap, ◌∙◌}
 use Rattle.std.proofs.lemmas.Result.{on_ok_weaker}
-use Rattle.server_core.specs.Reports.{IsFirstIllegal, first_illegal}
-use Rattle.server_core.specs.ServerState.{start}
+use Rattle.server_events.specs.Reports.{IsFirstIllegal, first_illegal}
+use Rattle.server_events.specs.ServerState.{start}
 use Rattle.script_tool.specs.Replies.{report_line}
 use Rattle.script_words.specs.Events.{History}
 use Rattle.script_tool.specs.Sim.{outcome, replayed}

@@ -1,0 +1,10 @@
+//! Programs, the jobs that run them, and the children that hold a place while they run.
+#![tactic(auto)]
+
+pub mod launch;
+pub mod plan;
+pub mod running;
+
+pub use launch::{Job, Launcher, NoEnds, Program, WaitFault};
+pub use plan::Plan;
+pub use running::{Running, finish, start};

@@ -1,0 +1,114 @@
+//! A child and its place, from start to end.
+ghost use Rattle.std.specs.Prelude.{◌≡◌, ◌+◌, IfOk, IfErr, OnOk, true, false};
+ghost use Rattle.child_table.specs.Seats.{is_used};
+ghost use Rattle.child_jobs.specs.Runs.{IsSameRun, job_of, place_of};
+
+use crate::launch::{Job, Launcher, NoEnds, Program, WaitFault};
+use child_table::{Place, Table};
+use rule_lookup::{StartFault, Status};
+use std::alloc::Global;
+use std::sync::ledger::Ledger;
+use ucspi_env::Environment;
+
+/// A child that runs, and the place that it holds: as long as it may be alive its place is counted. The language lets nobody drop or copy
+/// it, since a place can't be: it is spent by `finish`, `strand` or `retire`.
+pub struct Running<L: Ledger, J: Job> {
+    job: J,
+    place: Place<L>,
+}
+
+impl<L: Ledger, J: Job> Running<L, J> {
+    /// The place that it holds.
+    pub fn place(&self) -> &Place<L>
+        ensures { result.now ≡ place_of self.now }
+    {
+        &self.place
+    }
+
+    /// The two ends of its pipes, once, as `Job::ends` gives them. It takes no memory.
+    ///
+    /// # Errors
+    /// `NoEnds` where there are none.
+    pub fn ends(&mut self) -> Result<(J::Input, J::Output), NoEnds>
+        ensures had { OnOk result (J.has_ends (job_of self.old) ≡ true) }
+        ensures given { J.has_ends (job_of self.new) ≡ false }
+        ensures same { IsSameRun J.program J.environment self.old self.new }
+    {
+        self.job.ends()
+    }
+
+    /// Ends the child by force, as `Job::kill` does, and tells what that answered. It is to be waited for all the same.
+    ///
+    /// # Errors
+    /// Those of `Job::kill`. The child is as before.
+    pub fn kill(&mut self) -> Result<(), WaitFault>
+        ensures told { J.killed (job_of self.old) (job_of self.new) result }
+        ensures ends { J.has_ends (job_of self.new) ≡ J.has_ends (job_of self.old) }
+        ensures same { IsSameRun J.program J.environment self.old self.new }
+    {
+        self.job.kill()
+    }
+}
+
+impl<L: Ledger, J: Job + Drop> Running<L, J> {
+    /// Lets the child go, and strands its place: it stays counted for good.
+    pub fn strand(self) {
+        self.give_up().strand();
+    }
+
+    /// Lets the child go, and retires its place: it stays counted in its table for good. It takes no memory.
+    pub fn retire(self, table: &mut Table<L>)
+        requires { is_used table.old (place_of self) ≡ true }
+        ensures { table.new ≡ record table.old { retired = table.old.retired + 1 } }
+    {
+        table.retire(self.give_up());
+    }
+
+    // Lets the child go, and hands out its place.
+    fn give_up(self) -> Place<L>
+        ensures { result ≡ place_of self }
+    {
+        let Running { job: _, place } = self;
+        place
+    }
+}
+
+/// Starts a program with these variables at a place.
+///
+/// # Errors
+/// The launcher's, with the place handed back. Nothing runs then.
+pub fn start<L: Ledger, S: Launcher>(
+    alloc: Global,
+    place: Place<L>,
+    launcher: &S,
+    program: &Program,
+    environment: &Environment,
+) -> Result<Running<L, S::Job>, (Place<L>, StartFault)>
+    ensures place { IfOk result (λ running. place_of running ≡ place) }
+    ensures program { IfOk result (λ running. S.Job.program (job_of running) ≡ program.now) }
+    ensures environment { IfOk result (λ running. S.Job.environment (job_of running) ≡ environment.now) }
+    ensures back { IfErr result (λ refused. refused.0 ≡ place) }
+{
+    match launcher.start(alloc, program, environment) {
+        Ok(job) => Ok(Running { job, place }),
+        Err(fault) => Err((place, fault)),
+    }
+}
+
+/// Waits until a child has ended, and gives its place back with how it ended.
+///
+/// # Errors
+/// Those of `Job::wait`: the same child holds the same place, has no pipe ends to give, and may be waited for again.
+pub fn finish<L: Ledger, J: Job>(
+    running: Running<L, J>,
+) -> Result<(Place<L>, Status), (Running<L, J>, WaitFault)>
+    ensures place { IfOk result (λ ended. ended.0 ≡ place_of running) }
+    ensures same { IfErr result (λ refused. IsSameRun J.program J.environment running refused.0) }
+    ensures no_ends { IfErr result (λ refused. J.has_ends (job_of refused.0) ≡ false) }
+{
+    let Running { job, place } = running;
+    match job.wait() {
+        Ok(status) => Ok((place, status)),
+        Err((job, fault)) => Err((Running { job, place }, fault)),
+    }
+}

@@ -1,0 +1,110 @@
+//! A journal that stores each event.
+ghost use Rattle.std.specs.Prelude.{◌≡◌, ◌≤◌, ◌+◌, ◌-◌, ◌==◌, [], None, Some, nat_le, slice_get, option_copied, if◌then◌else◌, vec_len, vec_capacity};
+ghost use Rattle.event_journals.specs.Journals.{TellsOf};
+
+use crate::counts::Counts;
+use crate::journal::{Journal, Noted};
+use rule_lines::RuleList;
+use server_events::{Event, Report};
+use std::alloc::{AllocError, Global};
+
+/// Stores each event with its caller, and the rules of each installation, and keeps the report beside them.
+#[derive(Debug, Drop)]
+pub struct Full {
+    counts: Counts,
+    notes: Vec<Noted>,
+    lists: Vec<RuleList>,
+    // for how many more events there is room
+    credit: usize,
+    ghost room: { vec_len notes + credit ≤ vec_capacity notes },
+}
+
+impl Full {
+    ghost use Rattle.event_journals.specs.Full.{full_events, full_lists, full_notes, full_report};
+
+    /// No event yet. It takes no memory.
+    pub fn new(alloc: Global) -> Full
+        ensures told { TellsOf (full_report result) (full_events result) [] }
+        ensures notes { full_notes result ≡ [] }
+        ensures lists { full_lists result ≡ [] }
+    {
+        Full {
+            counts: Counts::new(),
+            notes: Vec::new(alloc),
+            lists: Vec::new(alloc),
+            credit: 0,
+        }
+    }
+
+    /// The event at a place, counted from 1, with its caller.
+    pub fn get(&self, at: u64) -> Option<&Noted>
+        ensures { option_copied result ≡ (if at == 0 then None else slice_get (full_notes self.now) (at - 1)) }
+    {
+        if at == 0 {
+            return None;
+        }
+        self.notes.get((at - 1) as usize)
+    }
+
+    /// The rules of an installation that is stored, counted from 1.
+    pub fn list(&self, number: u64) -> Option<&RuleList>
+        ensures { option_copied result ≡ (if number == 0 then None else slice_get (full_lists self.now) (number - 1)) }
+    {
+        if number == 0 {
+            return None;
+        }
+        self.lists.get((number - 1) as usize)
+    }
+}
+
+impl Journal for Full {
+    ghost use Rattle.event_journals.specs.Full.{full_credit, full_events, full_lists, full_notes, full_report, less_room, no_room_needed};
+
+    ghost told = { full_report };
+
+    ghost count = { full_events };
+
+    ghost stored = { λ full. Some (full_notes full) };
+
+    ghost lists = { λ full. Some (full_lists full) };
+
+    ghost has_room = { λ full events. nat_le events (full_credit full) };
+
+    fn report(&self) -> Report {
+        self.counts.report()
+    }
+
+    fn events(&self) -> u64 {
+        self.counts.events()
+    }
+
+    fn reserve(&mut self, events: usize) -> Result<(), AllocError> {
+        let wanted = self.credit.checked_add(events).ok_or(AllocError)?;
+        self.notes.reserve(wanted)?;
+        self.credit = wanted;
+        Ok(())
+    }
+
+    fn release(&mut self, events: usize) {
+        self.credit -= events;
+    }
+
+    fn note(&mut self, event: Event, caller: u64) {
+        self.credit -= 1;
+        self.counts.count(&event);
+        self.notes.push_reserved(Noted { event, caller });
+    }
+
+    fn keep_list(&mut self, list: &RuleList) -> Result<(), AllocError> {
+        self.lists.push(list.copy()?)?;
+        Ok(())
+    }
+
+    fn forget_list(&mut self) {
+        self.lists.pop();
+    }
+
+    ghost none_needed = { λ full. no_room_needed full };
+
+    ghost less_room = { λ full fewer events. less_room full fewer events };
+}

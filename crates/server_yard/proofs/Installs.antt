@@ -1,0 +1,110 @@
+-- What the installations of a yard left, after one event more.
+use Rattle.std.proofs.Common.{◌≡◌, ℕ, List, [], ◌∷◌, ◌++◌, map, Bool, true, false, cond, Option, None, Some, refl, sym, ap, subst, ◌∙◌}
+use Rattle.std.specs.Prelude.{IfSome, option_map}
+use Rattle.dir_disk.specs.Directory.{Directory}
+use Rattle.rule_lines.specs.Pairs.{Rule}
+use Rattle.rules_install.specs.Installing.{Installing}
+use Rattle.rules_install.specs.declared.Phase.{Phase}
+use Rattle.server_events.specs.Headline.{Reaches}
+use Rattle.server_events.specs.ServerState.{ServerState, after, start}
+use Rattle.server_events.specs.Steps.{none, more}
+use Rattle.server_events.specs.Worlds.{IsStart, RulesName, World}
+use Rattle.server_events.specs.declared.event.Event.{Event}
+use Rattle.server_events.specs.declared.event.Event.TheVariants.{Stepped, StepFailed}
+use Rattle.server_events.proofs.InstalledRuns.{legal_then}
+use Rattle.server_yard.specs.Installed.{IsInstalledBy, installs_of}
+use Rattle.server_yard.specs.Seating.{is_installing}
+use Rattle.server_yard.specs.Standing.{Begins, HasUnderWay}
+use Rattle.server_yard.proofs.Stepped.{GoesOn}
+
+-- the first world, in which nothing was installed
+pub none_installed : (lists : Option (List (List Rule))) (d : Directory) (rules : Option RulesName) (limit per_address : ℕ) → IfSome lists (λ all. all ≡ []) → Begins d rules → IsInstalledBy lists d rules None None []
+none_installed lists d rules limit per_address no_rules begins =
+    let w : World = record { directory = d; rules = rules; server = start limit per_address; accepted = begins.text ∷ []; acknowledged = 0; under_way = None; kept = [] } in
+    let first : IsStart w = record { text = begins.text; begins = begins.stands; none_pending = begins.none_pending; server = refl; accepted = refl; acknowledged = refl; under_way = refl; kept = refl } in
+    record {
+      world = w;
+      reached = record { begin = w; starts = first; legal = none };
+      has_directory = refl;
+      has_rules = refl;
+      has_phase = refl;
+      has_installing = refl;
+      first = begins.text;
+      accepted = texts lists no_rules;
+    }
+  where
+    texts : (o : Option (List (List Rule))) → IfSome o (λ all. all ≡ []) → IfSome o (λ all. begins.text ∷ [] ≡ begins.text ∷ map Some all)
+    texts None empty = tt
+    texts (Some all) empty = ap (λ (xs : List (List Rule)). begins.text ∷ map Some xs) (sym empty)
+
+installs-push : (h : List Event) (e : Event) → installs_of (h ++ e ∷ []) ≡ installs_of h ++ installs_of (e ∷ [])
+installs-push [] e = refl
+installs-push (x ∷ xs) e =
+    let rest = installs-push xs e in
+    elim (is_installing x) as (λ b. cond b (x ∷ installs_of (xs ++ e ∷ [])) (installs_of (xs ++ e ∷ [])) ≡ cond b (x ∷ installs_of xs) (installs_of xs) ++ installs_of (e ∷ [])) [
+      | true ↦ ap (λ (es : List Event). x ∷ es) rest
+      | false ↦ rest
+    ]
+
+append-none : (es : List Event) → es ++ [] ≡ es
+append-none [] = refl
+append-none (x ∷ xs) = ap (λ (es : List Event). x ∷ es) (append-none xs)
+
+pub installs-other : (h : List Event) (e : Event) → is_installing e ≡ false → installs_of (h ++ e ∷ []) ≡ installs_of h
+installs-other h e other =
+    installs-push h e ∙ ap (λ (b : Bool). installs_of h ++ cond b (e ∷ []) []) other ∙ append-none (installs_of h)
+
+pub installs-one : (h : List Event) (e : Event) → is_installing e ≡ true → installs_of (h ++ e ∷ []) ≡ installs_of h ++ e ∷ []
+installs-one h e one = installs-push h e ∙ ap (λ (b : Bool). installs_of h ++ cond b (e ∷ []) []) one
+
+-- what is the same is installed by the same
+pub installed_same : {lists lists' : Option (List (List Rule))} {d d' : Directory} {rules : Option RulesName} {phase phase' : Option Phase} {installing installing' : Option Installing} {h h' : List Event} → lists' ≡ lists → d' ≡ d → phase' ≡ phase → installing' ≡ installing → installs_of h' ≡ installs_of h → IsInstalledBy lists d rules phase installing h → IsInstalledBy lists' d' rules phase' installing' h'
+installed_same {lists} {lists'} {d} {d'} {rules} {phase} {phase'} {installing} {installing'} {h} {h'} l e p i same is = record {
+  world = is.world;
+  reached = subst (λ (es : List Event). Reaches es is.world) (sym same) is.reached;
+  has_directory = is.has_directory ∙ sym e;
+  has_rules = is.has_rules;
+  has_phase = is.has_phase ∙ sym p;
+  has_installing = subst (λ (o : Option Installing). HasUnderWay is.world o) (sym i) is.has_installing;
+  first = is.first;
+  accepted = subst (λ (o : Option (List (List Rule))). IfSome o (λ all. is.world.accepted ≡ is.first ∷ map Some all)) (sym l) is.accepted;
+}
+
+-- one more step
+pub installed_on : (lists lists' : Option (List (List Rule))) (d e : Directory) (rules : Option RulesName) (s s' : ServerState) (installing kept_then : Option Installing) (h : List Event) (event : Event) → is_installing event ≡ true → s' ≡ after s event
+    → ((x y : ServerState) → x.phase ≡ y.phase → (after x event).phase ≡ (after y event).phase) → (is : IsInstalledBy lists d rules s.phase installing h) → (v : World) → GoesOn is.world v event e kept_then
+    → IfSome lists' (λ all. v.accepted ≡ is.first ∷ map Some all) → IsInstalledBy lists' e rules s'.phase kept_then (h ++ event ∷ [])
+installed_on lists lists' d e rules s s' installing kept_then h event kind happens phases is v on texts = record {
+  world = v;
+  reached = subst (λ (es : List Event). Reaches es v) (sym (installs-one h event kind)) (record {
+    begin = is.reached.begin;
+    starts = is.reached.starts;
+    legal = legal_then is.reached.legal (more on.step none);
+  });
+  has_directory = on.directory;
+  has_rules = on.rules ∙ is.has_rules;
+  has_phase = ap (λ (x : ServerState). x.phase) on.server ∙ phases is.world.server s is.has_phase ∙ ap (λ (x : ServerState). x.phase) (sym happens);
+  has_installing = on.under;
+  first = is.first;
+  accepted = texts;
+}
+
+pub step_phases : (p : Phase) (x y : ServerState) → x.phase ≡ y.phase → (after x (Stepped p)).phase ≡ (after y (Stepped p)).phase
+step_phases p x y same = refl
+
+pub fail_phases : (p : Phase) (x y : ServerState) → x.phase ≡ y.phase → (after x (StepFailed p)).phase ≡ (after y (StepFailed p)).phase
+fail_phases p x y same = refl
+
+-- the texts that are accepted, with one more list
+map-push : (all : List (List Rule)) (rules : List Rule) → map (λ (r : List Rule). Some r) (all ++ rules ∷ []) ≡ map (λ (r : List Rule). Some r) all ++ Some rules ∷ []
+map-push [] rules = refl
+map-push (x ∷ xs) rules = ap (λ (rs : List (Option (List Rule))). Some x ∷ rs) (map-push xs rules)
+
+pub texts_more : (lists : Option (List (List Rule))) (w v : World) (first : Option (List Rule)) (rules : List Rule) → v.accepted ≡ w.accepted ++ Some rules ∷ [] → IfSome lists (λ all. w.accepted ≡ first ∷ map Some all) → IfSome (option_map (λ (all : List (List Rule)). all ++ rules ∷ []) lists) (λ all. v.accepted ≡ first ∷ map Some all)
+texts_more None w v first rules more_texts was = tt
+texts_more (Some all) w v first rules more_texts was =
+    more_texts ∙ ap (λ (xs : List (Option (List Rule))). xs ++ Some rules ∷ []) was ∙ ap (λ (xs : List (Option (List Rule))). first ∷ xs) (sym (map-push all rules))
+
+pub texts_same : (lists : Option (List (List Rule))) (w v : World) (first : Option (List Rule)) → v.accepted ≡ w.accepted → IfSome lists (λ all. w.accepted ≡ first ∷ map Some all) → IfSome lists (λ all. v.accepted ≡ first ∷ map Some all)
+texts_same None w v first same was = tt
+texts_same (Some all) w v first same was = same ∙ was

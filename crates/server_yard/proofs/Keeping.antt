@@ -1,0 +1,164 @@
+-- A yard after an event of a connection.
+use Rattle.std.proofs.Common.{◌≡◌, ◌<◌, ◌^◌, ℕ, List, [], ◌∷◌, ◌++◌, Bool, true, false, Option, None, Some, inl, inr, refl, sym, ap, subst, ◌∙◌}
+use Rattle.std.specs.Prelude.{◌⊎◌, ◌||◌, IfOk, IsTrue, OnErr, Result, Ok, Err, is_some, option_map}
+use Rattle.std.proofs.lemmas.Bool.{true≢false}
+use Rattle.rules_install.specs.declared.Phase.{Phase}
+use Rattle.dir_disk.specs.Directory.{Directory, content}
+use Rattle.event_journals.specs.Journals.{FitsSerial}
+use Rattle.event_journals.specs.declared.journal.Noted.{Noted}
+use Rattle.rule_lines.specs.Pairs.{Rule}
+use Rattle.rule_lines.specs.Lookups.{WhereKnown}
+use Rattle.rule_lookup.specs.Peers.{Client}
+use Rattle.rules_install.specs.Installing.{Installing}
+use Rattle.server_events.specs.ServerState.{ServerState}
+use Rattle.server_events.specs.Worlds.{RulesName, StandsFor}
+use Rattle.server_events.specs.declared.event.Event.{Event}
+use Rattle.server_events.specs.declared.event.Event.TheVariants.{Admitted, Opened, Decided, Started, StartFailed, Ended, Retired, Dropped, Stepped, StepFailed, Stop}
+use Rattle.server_events.specs.declared.report.Report.{Report}
+use Rattle.server_events.proofs.WholeText.{reached_whole}
+use Rattle.server_yard.specs.Installed.{IsKeptBy, IsWholeFile, installs_of}
+use Rattle.server_yard.specs.Passes.{trust_in}
+use Rattle.server_yard.specs.Rolls.{IsQuiet, Notes, Roll}
+use Rattle.server_yard.specs.Seating.{goes_on, is_installing, leaver}
+use Rattle.server_yard.specs.Yards.{IsSameBeside, yard_roll, yard_state}
+use Rattle.server_yard.specs.declared.yard.Yard.{Yard}
+use Rattle.server_yard.proofs.Histories.{OneMore, history_on, history_same}
+use Rattle.server_yard.proofs.Installs.{installed_same, installs-other}
+use Rattle.server_yard.proofs.Matching.{GoesTo, is_connection's, is_plain, phase_stays}
+
+pub own_other : (e : Event) → is_connection's e ≡ true → is_installing e ≡ false
+own_other (Admitted n peer) k = refl
+own_other (Opened n there) k = refl
+own_other (Decided n decision) k = refl
+own_other (Started n) k = refl
+own_other (StartFailed n fault) k = refl
+own_other (Ended n status) k = refl
+own_other (Retired n) k = refl
+own_other (Dropped n cause) k = refl
+own_other (Stepped phase) k = absurd (cc)
+own_other (StepFailed phase) k = absurd (cc)
+own_other Stop k = refl
+
+pub goes_on_own : (e : Event) → goes_on e ≡ true → is_connection's e ≡ true
+goes_on_own (Admitted n peer) k = refl
+goes_on_own (Opened n there) k = refl
+goes_on_own (Decided n decision) k = refl
+goes_on_own (Started n) k = refl
+goes_on_own (StartFailed n fault) k = refl
+goes_on_own (Ended n status) k = refl
+goes_on_own (Retired n) k = refl
+goes_on_own (Dropped n cause) k = refl
+goes_on_own (Stepped phase) k = absurd (cc)
+goes_on_own (StepFailed phase) k = absurd (cc)
+goes_on_own Stop k = absurd (cc)
+
+pub leaver_own : (e : Event) (n : ℕ) → leaver e ≡ Some n → is_connection's e ≡ true
+leaver_own (Admitted m peer) n k = refl
+leaver_own (Opened m there) n k = refl
+leaver_own (Decided m decision) n k = refl
+leaver_own (Started m) n k = refl
+leaver_own (StartFailed m fault) n k = refl
+leaver_own (Ended m status) n k = refl
+leaver_own (Retired m) n k = refl
+leaver_own (Dropped m cause) n k = refl
+leaver_own (Stepped phase) n k = absurd (cc)
+leaver_own (StepFailed phase) n k = absurd (cc)
+leaver_own Stop n k = absurd (cc)
+
+pub leaver_plain : (e : Event) (n : ℕ) → leaver e ≡ Some n → is_plain e ≡ true
+leaver_plain (Admitted m peer) n k = refl
+leaver_plain (Opened m there) n k = absurd (cc)
+leaver_plain (Decided m decision) n k = absurd (cc)
+leaver_plain (Started m) n k = refl
+leaver_plain (StartFailed m fault) n k = refl
+leaver_plain (Ended m status) n k = refl
+leaver_plain (Retired m) n k = refl
+leaver_plain (Dropped m cause) n k = refl
+leaver_plain (Stepped phase) n k = absurd (cc)
+leaver_plain (StepFailed phase) n k = absurd (cc)
+leaver_plain Stop n k = absurd (cc)
+
+-- what is noted is one event more
+pub one_more_of : {J : Type 0} (told : J → Report) (count : J → ℕ) (stored : J → Option (List Noted)) (e : Event) (old new : Roll J) → old.server.limit < 2 ^ 64 → FitsSerial e → Notes told count stored e old new
+    → OneMore (told old.journal) (count old.journal) (stored old.journal) old.server e old.speaker (told new.journal) (count new.journal) (stored new.journal) new.server
+one_more_of told count stored e old new small fits noted = record {
+  small = small;
+  fits = fits;
+  may = noted.may;
+  happens = noted.happens;
+  tells_so = noted.tells;
+  counts = noted.counts;
+  stores = noted.stores;
+}
+
+-- the installations of a history with one event of a connection more left the same
+pub kept_on : {told told' : Report} {count count' : ℕ} {stored stored' : Option (List Noted)} {lists lists' : Option (List (List Rule))} {s s' : ServerState} {d d' : Directory} {rules : Option RulesName} {installing installing' : Option Installing} {e : Event} {caller : ℕ}
+    → is_connection's e ≡ true → lists' ≡ lists → d' ≡ d → installing' ≡ installing → OneMore told count stored s e caller told' count' stored' s' → IsKeptBy told count stored lists s d rules installing → IsKeptBy told' count' stored' lists' s' d' rules installing'
+kept_on {told} {told'} {count} {count'} {stored} {stored'} {lists} {lists'} {s} {s'} {d} {d'} {rules} {installing} {installing'} {e} {caller} own l same i more k = record {
+  history = k.history ++ e ∷ [];
+  is_history = history_on more k.history k.is_history;
+  installed = installed_same l same (ap (λ (u : ServerState). u.phase) more.happens ∙ phase_stays s e own) i (installs-other k.history e (own_other e own)) k.installed;
+}
+
+-- a yard that noted an event of a connection, and is the same beside
+pub goes_to : {L D J F : Type 0} {p : _} {l : _} {d : _} {j : _} (state : D → Directory) (told : J → Report) (count : J → ℕ) (stored : J → Option (List Noted)) (lists : J → Option (List (List Rule))) (e : Event) (old new : Yard L D J F p l d j)
+    → Notes told count stored e (yard_roll old) (yard_roll new) → IsSameBeside lists old new → GoesTo (yard_state state old) (yard_state state new) e
+goes_to state told count stored lists e old new noted same = record {
+  may = noted.may;
+  happens = noted.happens;
+  directory = ap state same.directory;
+  rules = same.rules;
+  installing = same.installing;
+}
+
+-- what stands under the rules name is compiled of rules, or nothing
+whole_of : (text : Option (List Rule)) (bytes : Option (List ℕ)) → StandsFor text bytes → IsWholeFile bytes
+whole_of None bytes none = subst (λ (o : Option (List ℕ)). IsWholeFile o) (sym none) tt
+whole_of (Some rules) bytes stands = subst (λ (o : Option (List ℕ)). IsWholeFile o) (sym stands.1) (rules, stands.2)
+
+pub stands_whole : {told : Report} {count : ℕ} {stored : Option (List Noted)} {lists : Option (List (List Rule))} {s : ServerState} {d : Directory} {rules : Option RulesName} {installing : Option Installing} → IsKeptBy told count stored lists s d rules installing → (r : RulesName) → rules ≡ Some r → IsWholeFile (content d r.name)
+stands_whole {told} {count} {stored} {lists} {s} {d} {rules} {installing} k r is =
+    let it = k.installed in
+    let has = reached_whole (installs_of k.history) it.world r it.reached (it.has_rules ∙ is) in
+    subst (λ (x : Directory). IsWholeFile (content x r.name)) it.has_directory (whole_of has.now.text (content it.world.directory r.name) has.now.stands)
+
+-- what is known of an honest file
+pub known_of : (honest sound : Bool) (P : Type 0) (bytes : Option (List ℕ)) → IsTrue honest → WhereKnown (trust_in honest sound bytes) P → P
+known_of honest sound P None is known = known
+known_of true true P (Some bytes) is known = known
+known_of true false P (Some bytes) is known = known
+known_of false sound P (Some bytes) is known = absurd (cc)
+
+-- a connection was let in, or not
+pub admitted_or_not : {J X E : Type 0} (told : J → Report) (count : J → ℕ) (stored : J → Option (List Noted)) (peer : Client) (old new : Roll J) (result : Result (ℕ × X) E) → IfOk result (λ r. Notes told count stored (Admitted r.0 peer) old new) → IfOk result (λ r. r.0 < 2 ^ 64) → OnErr result (IsQuiet told count stored old new)
+    → ((n : ℕ) × Notes told count stored (Admitted n peer) old new × (n < 2 ^ 64)) ⊎ IsQuiet told count stored old new
+admitted_or_not told count stored peer old new (Ok r) noted fits quiet = inl (r.0, noted, fits)
+admitted_or_not told count stored peer old new (Err fault) noted fits quiet = inr quiet
+
+pub if_ok : {X E : Type 0} {P Q : X → Type 0} (result : Result X E) → IfOk result P → ((x : X) → P x → Q x) → IfOk result Q
+if_ok (Ok x) is then_so = then_so x is
+if_ok (Err fault) is then_so = tt
+
+-- nothing was noted
+pub kept_quiet : {told told' : Report} {count count' : ℕ} {stored stored' : Option (List Noted)} {lists lists' : Option (List (List Rule))} {s s' : ServerState} {d d' : Directory} {rules : Option RulesName} {installing installing' : Option Installing}
+    → told' ≡ told → count' ≡ count → stored' ≡ stored → lists' ≡ lists → s' ≡ s → d' ≡ d → installing' ≡ installing → IsKeptBy told count stored lists s d rules installing → IsKeptBy told' count' stored' lists' s' d' rules installing'
+kept_quiet {told} {told'} {count} {count'} {stored} {stored'} {lists} {lists'} {s} {s'} {d} {d'} {rules} {installing} {installing'} t c o l w e i k = record {
+  history = k.history;
+  is_history = history_same t c o w k.history k.is_history;
+  installed = installed_same l e (ap (λ (u : ServerState). u.phase) w) i refl k.installed;
+}
+
+pub is_some-map : {X Y : Type 0} (f : X → Y) (o : Option X) → is_some (option_map f o) ≡ is_some o
+is_some-map f None = refl
+is_some-map f (Some x) = refl
+
+pub same_some : {X : Type 0} (x y : X) → ◌≡◌ {A = Option X} (Some x) (Some y) → x ≡ y
+same_some x y e = cc
+
+pub none_not_some : {X : Type 0} (x : X) → ◌≡◌ {A = Option X} None (Some x) → ⊥
+none_not_some x e = true≢false (sym (ap (λ (o : Option _). is_some o) e))
+
+-- no step was made
+pub unstepped : (o : Option Phase) (over : Bool) → (is_some o || over) ≡ false → (o ≡ None) × (over ≡ false)
+unstepped None over e = (refl, e)
+unstepped (Some phase) over e = absurd (cc)

@@ -1,0 +1,15 @@
+pub mod RoomLemmas
+pub mod Peopled
+pub mod Histories
+pub mod Seating
+pub mod Matching
+pub mod Stepped
+pub mod Reached
+pub mod Installs
+pub mod Outcomes
+pub mod Leaving
+pub mod Admitting
+pub mod Keeping
+pub mod Noting
+pub mod Going
+pub mod Beginning

@@ -1,0 +1,19 @@
+use Rattle.std.proofs.Common.{refl}
+use Rattle.server_yard.specs.Rooms.{room_needed}
+use Rattle.server_yard.proofs.Histories.{has_history_same}
+use Rattle.server_yard.proofs.roster.Roster.forget_list.Goals as goal
+
+pub invariant_of-self : goal.invariant_of-self
+invariant_of-self g c =
+    let old = c.args.self.now in
+    record {
+      history = has_history_same c.forget_list.ensures.told c.forget_list.ensures.count c.forget_list.ensures.stored refl old.history;
+      small = old.small;
+      live = old.live;
+      at_each_address = old.at_each_address;
+      retired = old.retired;
+      limit = old.limit;
+      per_address = old.per_address;
+      seated = old.seated;
+      room = c.forget_list.ensures.room (room_needed old.state.connections) old.room;
+    }

@@ -1,0 +1,20 @@
+use Rattle.std.proofs.Common.{refl}
+use Rattle.server_yard.specs.Rooms.{room_needed}
+use Rattle.server_yard.proofs.Histories.{has_history_same}
+use Rattle.server_yard.proofs.roster.Roster.release.Goals as goal
+
+pub invariant_of-self : goal.invariant_of-self
+invariant_of-self g c =
+    let old = c.args.self.now in
+    let same = c.release.ensures.same in
+    record {
+      history = has_history_same same.same_report same.same_count same.same_notes refl old.history;
+      small = old.small;
+      live = old.live;
+      at_each_address = old.at_each_address;
+      retired = old.retired;
+      limit = old.limit;
+      per_address = old.per_address;
+      seated = old.seated;
+      room = c.release.ensures.room (room_needed old.state.connections) c.requires.room;
+    }

@@ -1,0 +1,35 @@
+use Rattle.std.proofs.Common.{◌++◌, ◌∷◌, [], Some, inr, ap, ◌∙◌}
+use Rattle.std.specs.Prelude.{option_map}
+use Rattle.event_journals.specs.Journals.{without_last}
+use Rattle.server_events.specs.declared.event.Event.TheVariants as event
+use Rattle.server_yard.specs.Rosters.{roll_of}
+use Rattle.server_yard.specs.Stepping.{fault_event}
+use Rattle.server_yard.proofs.Noting.{forgotten, quiet_then_some, some_then_quiet}
+use Rattle.server_yard.proofs.stepping.begin_noted.Goals as goal
+
+pub returns-in_err-keep_list-clause-stops : goal.returns-in_err-keep_list-clause-stops
+returns-in_err-keep_list-clause-stops g c = λ honest w image at left. inr (g.met.D.Dir.only_now c.args.dir.now image honest left)
+
+pub returns-in-Ok-clause-noted : goal.returns-in-Ok-clause-noted
+returns-in-Ok-clause-noted g c =
+    let j = g.J.Journal in
+    quiet_then_some j.told j.count j.stored (Some (event.Stepped c.in-Ok.phase)) (roll_of c.args.roster.now) (roll_of c.keep_list.new.self) (roll_of c.step_noted.new.roster) c.in_ok-keep_list.ensures.quiet c.in-Ok.ensures.noted
+
+pub returns-in-Ok-clause-kept : goal.returns-in-Ok-clause-kept
+returns-in-Ok-clause-kept g c =
+    c.in-Ok.ensures.lists ∙ c.in_ok-keep_list.ensures.kept ∙ ap (λ rules. option_map (λ all. all ++ rules ∷ []) (g.J.Journal.lists c.args.roster.now.journal)) c.list.ensures
+
+pub returns-in-Ok-clause-seats : goal.returns-in-Ok-clause-seats
+returns-in-Ok-clause-seats g c = λ i. c.in-Ok.ensures.seats i ∙ c.in_ok-keep_list.ensures.seats i
+
+pub returns-in-Err-clause-noted : goal.returns-in-Err-clause-noted
+returns-in-Err-clause-noted g c =
+    let j = g.J.Journal in
+    some_then_quiet j.told j.count j.stored (fault_event c.in-Err.fault) (roll_of c.args.roster.now) (roll_of c.step_noted.new.roster) (roll_of c.forget_list.new.self) (quiet_then_some j.told j.count j.stored (fault_event c.in-Err.fault) (roll_of c.args.roster.now) (roll_of c.keep_list.new.self) (roll_of c.step_noted.new.roster) c.in_ok-keep_list.ensures.quiet c.in-Err.ensures.noted) c.forget_list.ensures.quiet
+
+pub returns-in-Err-clause-err : goal.returns-in-Err-clause-err
+returns-in-Err-clause-err g c =
+    c.forget_list.ensures.forgotten ∙ ap (λ o. option_map without_last o) (c.in-Err.ensures.lists ∙ c.in_ok-keep_list.ensures.kept) ∙ forgotten (g.J.Journal.lists c.args.roster.now.journal) c.list.result.now
+
+pub returns-in-Err-clause-seats : goal.returns-in-Err-clause-seats
+returns-in-Err-clause-seats g c = λ i. c.forget_list.ensures.seats i ∙ c.in-Err.ensures.seats i ∙ c.in_ok-keep_list.ensures.seats i

@@ -1,0 +1,212 @@
+use Rattle.std.proofs.Common.{◌∷◌, ◌++◌, [], List, Option, None, Some, inr, refl, sym, ap, subst, ◌∙◌}
+use Rattle.std.specs.Prelude.{Ok, Err, option_map}
+use Rattle.dir_disk.specs.Directory.{Directory}
+use Rattle.rule_lines.specs.Pairs.{Rule}
+use Rattle.server_events.specs.ServerState.{ServerState, phase_after}
+use mathlib.Core.Logic.{∥∥₁_map}
+use Rattle.rules_install.specs.Installing.{Fits, Installing, next_phase}
+use Rattle.rules_install.specs.Installs.{installing}
+use Rattle.rules_install.specs.declared.Phase.{Phase}
+use Rattle.rules_install.specs.declared.Phase.TheVariants.{Fresh}
+use Rattle.rules_install.specs.declared.fault.InstallFault.{InstallFault}
+use Rattle.server_events.specs.declared.event.Event.{Event}
+use Rattle.server_events.specs.declared.event.Event.TheVariants.{Stepped}
+use Rattle.server_yard.specs.Installed.{IsKeptBy}
+use Rattle.server_yard.specs.Kept.{IsGoing, installing_of, rules_of}
+use Rattle.server_yard.specs.Rolls.{Notes}
+use Rattle.server_yard.specs.Rosters.{roll_of}
+use Rattle.server_yard.specs.Standing.{LeadsOn, LeadsSome, YardState}
+use Rattle.server_yard.specs.Stepping.{kept_then}
+use Rattle.server_yard.specs.Yards.{yard_state}
+use Rattle.server_yard.proofs.Beginning.{back_of, disk_event, disk_kept, disk_phase, disk_then, fault_kept, first_is, kept_fault, named_by, named_rules, none_event, not_disk_over, quiet_of}
+use Rattle.server_yard.proofs.Going.{going_at, kept_stepped, not_over, states, steps_to}
+use Rattle.server_yard.proofs.Keeping.{kept_quiet, none_not_some, one_more_of, same_some}
+use Rattle.server_yard.proofs.Stepped.{has_new, it_new, step_leads}
+use Rattle.server_yard.proofs.yard.Yard.install_begin.Goals as goal
+
+pub returns-in_default-clause-stops : goal.returns-in_default-clause-stops
+returns-in_default-clause-stops g c = λ honest files w image at left. inr (g.met.D.Dir.only_now c.args.self.now.dir image honest left)
+
+pub invariant_of-self : goal.invariant_of-self
+invariant_of-self g c =
+    let old = c.args.self.now in
+    let j = g.J.Journal in
+    let state = g.D.Dir.state in
+    let s = installing c.args.install in
+    let may = c.in-Some.ensures.some.0 in
+    let made = c.begin_noted in
+    let t = installing made.new.install in
+    let p = c.in-Ok.field-0 in
+    let goes = c.in-Ok.ensures.goes in
+    let noted = c.in-Ok.ensures.noted in
+    let first = first_is s may.unbegun in
+    let is = goes.0 ∙ first in
+    let reached = goes.1 ∙ ap (λ (q : Phase). Some q) first in
+    let r = named_rules (rules_of old.rules) s.names.cdb may.for_rules in
+    let rules = rules_of old.rules in
+    record {
+      honest = old.honest;
+      phase = reached ∙ sym (ap (λ (u : ServerState). u.phase) noted.happens ∙ ap phase_after is);
+      going = λ x same. subst (λ (u : Installing). IsGoing u rules) (same_some t x same) (going_at s t rules Fresh (λ e. absurd (cc)) c.in-Ok.ensures.same (named_by rules s.names.cdb may.for_rules) (λ none. none_not_some r.0 (sym none ∙ r.1)) goes.2 reached);
+      finds = λ honest x same. subst (λ (u : Installing). Fits u (state made.new.dir)) (same_some t x same) (c.in-Ok.ensures.fits honest);
+      installed = λ met. ∥∥₁_map (old.installed met) (λ k.
+          let honest = old.honest met in
+          subst (λ (q : Phase). IsKeptBy (j.told (roll_of made.new.roster).journal) (j.count (roll_of made.new.roster).journal) (j.stored (roll_of made.new.roster).journal) (j.lists (roll_of made.new.roster).journal) (roll_of made.new.roster).server (state made.new.dir) rules (kept_then t (Ok q))) is
+          (kept_stepped (j.lists (roll_of old.roster).journal) (j.lists (roll_of made.new.roster).journal) (state old.dir) (state made.new.dir) rules (installing_of old.installation) s t (next_phase s) k
+          (has_new k.installed.world (state old.dir) rules s r.0 k.installed.has_directory k.installed.has_rules r.1 r.2 may.unbegun) (λ q h. h.1 ∙ ap (λ (x : Phase). Some x) (sym h.0)) p old.roster.speaker
+          (one_more_of j.told j.count j.stored (Stepped p) (roll_of old.roster) (roll_of made.new.roster) old.roster.small tt noted) goes (c.in-Ok.ensures.leads honest)
+          ((λ fresh. c.in-Ok.ensures.kept ∙ ap (λ (rs : List Rule). option_map (λ (all : List (List Rule)). all ++ rs ∷ []) (j.lists (roll_of old.roster).journal)) (sym c.in-Ok.ensures.same.rules)), λ other. absurd (other is))));
+    }
+
+pub invariant_of-self-then-is_of_disk : goal.invariant_of-self-then-is_of_disk
+invariant_of-self-then-is_of_disk g c =
+    let old = c.args.self.now in
+    let j = g.J.Journal in
+    let state = g.D.Dir.state in
+    let s = installing c.args.install in
+    let may = c.in-Some.ensures.some.0 in
+    let made = c.begin_noted in
+    let t = installing made.new.install in
+    let fault = c.in-Err.fault in
+    let disk = sym c.is_of_disk.ensures ∙ c.if-is_of_disk.true in
+    let r = named_rules (rules_of old.rules) s.names.cdb may.for_rules in
+    let rules = rules_of old.rules in
+    record {
+      honest = old.honest;
+      phase = sym (disk_phase j.told j.count j.stored fault (roll_of old.roster) (roll_of made.new.roster) disk c.in-Err.ensures.noted);
+      going = λ x same. absurd (none_not_some x same);
+      finds = λ honest x same. absurd (none_not_some x same);
+      installed = λ met. ∥∥₁_map (old.installed met) (λ k.
+          let honest = old.honest met in
+          kept_fault j.told j.count j.stored (j.lists (roll_of old.roster).journal) (j.lists (roll_of made.new.roster).journal) (state old.dir) (state made.new.dir) rules (installing_of old.installation) s t fault (roll_of old.roster) (roll_of made.new.roster) k
+          (has_new k.installed.world (state old.dir) rules s r.0 k.installed.has_directory k.installed.has_rules r.1 r.2 may.unbegun) old.roster.small disk c.in-Err.ensures.noted (c.in-Err.ensures.device honest) c.in-Err.ensures.err (c.in-Err.ensures.leads honest));
+    }
+
+pub returns-then-is_of_disk-clause-over : goal.returns-then-is_of_disk-clause-over
+returns-then-is_of_disk-clause-over g c =
+    let disk = sym c.is_of_disk.ensures ∙ c.if-is_of_disk.true in
+    (λ is. absurd (not_disk_over c.in-Err.fault disk is), λ none. absurd (none c.in-Some.ensures.some.0))
+
+pub returns-then-is_of_disk-clause-kept : goal.returns-then-is_of_disk-clause-kept
+returns-then-is_of_disk-clause-kept g c =
+    let disk = sym c.is_of_disk.ensures ∙ c.if-is_of_disk.true in
+    sym (disk_kept c.in-Err.fault _ disk)
+
+pub returns-then-is_of_disk-clause-step : goal.returns-then-is_of_disk-clause-step
+returns-then-is_of_disk-clause-step g c = λ honest.
+    let old = c.args.self.now in
+    let j = g.J.Journal in
+    let state = g.D.Dir.state in
+    let s = installing c.args.install in
+    let may = c.in-Some.ensures.some.0 in
+    let made = c.begin_noted in
+    let t = installing made.new.install in
+    let fault = c.in-Err.fault in
+    let disk = sym c.is_of_disk.ensures ∙ c.if-is_of_disk.true in
+    let r = named_rules (rules_of old.rules) s.names.cdb may.for_rules in
+    let y = yard_state state old in
+    let z : YardState = record { directory = state made.new.dir; rules = rules_of old.rules; server = made.new.roster.state; installing = None } in
+    step_leads y z s t (next_phase s) (Err fault) (it_new y s r.0 r.1 r.2 may.unbegun) c.in-Err.ensures.goes (c.in-Err.ensures.device honest) (c.in-Err.ensures.leads honest)
+    (steps_to j.told j.count j.stored t y z (Err fault) (roll_of old.roster) (roll_of made.new.roster) c.in-Err.ensures.noted refl refl refl (sym (disk_then t fault disk)))
+    (λ none. absurd (disk_event fault disk none))
+
+pub returns-then-is_of_disk-clause-stops : goal.returns-then-is_of_disk-clause-stops
+returns-then-is_of_disk-clause-stops g c = λ honest files w image at left.
+    let old = c.args.self.now in
+    let s = installing c.args.install in
+    let may = c.in-Some.ensures.some.0 in
+    let r = named_rules (rules_of old.rules) s.names.cdb may.for_rules in
+    c.in-Err.ensures.stops honest w image (it_new (yard_state g.D.Dir.state old) s r.0 r.1 r.2 may.unbegun files w at) left
+
+pub returns-then-is_of_disk-clause-back : goal.returns-then-is_of_disk-clause-back
+returns-then-is_of_disk-clause-back g c =
+    let s = installing c.args.install in
+    back_of s (installing c.begin_noted.new.install) (next_phase s) c.in-Err.fault c.in-Err.ensures.goes
+
+pub invariant_of-self-else-is_of_disk : goal.invariant_of-self-else-is_of_disk
+invariant_of-self-else-is_of_disk g c =
+    let old = c.args.self.now in
+    let j = g.J.Journal in
+    let state = g.D.Dir.state in
+    let made = c.begin_noted in
+    let fault = c.in-Err.fault in
+    let other = sym c.is_of_disk.ensures ∙ c.if-is_of_disk.false in
+    let quiet = quiet_of j.told j.count j.stored fault (roll_of old.roster) (roll_of made.new.roster) other c.in-Err.ensures.noted in
+    record {
+      honest = old.honest;
+      phase = old.phase ∙ sym (ap (λ (u : ServerState). u.phase) quiet.stays);
+      going = old.going;
+      finds = λ honest x same. subst (λ (d : Directory). Fits x d) (sym (c.in-Err.ensures.still honest (none_event fault other))) (old.finds honest x same);
+      installed = λ met. ∥∥₁_map (old.installed met) (λ k. kept_quiet quiet.tells quiet.counts quiet.stores c.in-Err.ensures.err quiet.stays (c.in-Err.ensures.still (old.honest met) (none_event fault other)) refl k);
+    }
+
+pub returns-in-Ok-clause-step : goal.returns-in-Ok-clause-step
+returns-in-Ok-clause-step g c = λ honest.
+    let old = c.args.self.now in
+    let j = g.J.Journal in
+    let state = g.D.Dir.state in
+    let s = installing c.args.install in
+    let may = c.in-Some.ensures.some.0 in
+    let made = c.begin_noted in
+    let t = installing made.new.install in
+    let p = c.in-Ok.field-0 in
+    let is = c.in-Ok.ensures.goes.0 ∙ first_is s may.unbegun in
+    let r = named_rules (rules_of old.rules) s.names.cdb may.for_rules in
+    let y = yard_state state old in
+    let z : YardState = record { directory = state made.new.dir; rules = rules_of old.rules; server = made.new.roster.state; installing = Some t } in
+    subst (λ (q : Phase). LeadsOn (Stepped q) y z) is
+    (step_leads y z s t (next_phase s) (Ok p) (it_new y s r.0 r.1 r.2 may.unbegun) c.in-Ok.ensures.goes tt (c.in-Ok.ensures.leads honest)
+    (steps_to j.told j.count j.stored t y z (Ok p) (roll_of old.roster) (roll_of made.new.roster) c.in-Ok.ensures.noted refl refl refl (sym (ap (λ (q : Phase). kept_then t (Ok q)) is)))
+    (λ none. absurd (none_not_some (Stepped p) (sym none))))
+
+pub returns-in-Ok-clause-stops : goal.returns-in-Ok-clause-stops
+returns-in-Ok-clause-stops g c = λ honest files w image at left.
+    let old = c.args.self.now in
+    let s = installing c.args.install in
+    let may = c.in-Some.ensures.some.0 in
+    let r = named_rules (rules_of old.rules) s.names.cdb may.for_rules in
+    c.in-Ok.ensures.stops honest w image (it_new (yard_state g.D.Dir.state old) s r.0 r.1 r.2 may.unbegun files w at) left
+
+pub returns-in-Ok-clause-noted : goal.returns-in-Ok-clause-noted
+returns-in-Ok-clause-noted g c =
+    let old = c.args.self.now in
+    let j = g.J.Journal in
+    let s = installing c.args.install in
+    let is = c.in-Ok.ensures.goes.0 ∙ first_is s c.in-Some.ensures.some.0.unbegun in
+    subst (λ (q : Phase). Notes j.told j.count j.stored (Stepped q) (roll_of old.roster) (roll_of c.begin_noted.new.roster)) is c.in-Ok.ensures.noted
+
+pub returns-else-is_of_disk-clause-over : goal.returns-else-is_of_disk-clause-over
+returns-else-is_of_disk-clause-over g c =
+    let s = installing c.args.install in
+    (λ is. absurd (not_over s (installing c.begin_noted.new.install) (next_phase s) (Err c.in-Err.fault) c.in-Err.ensures.goes (ap (λ (f : InstallFault). Err f) is)), λ none. absurd (none c.in-Some.ensures.some.0))
+
+pub returns-else-is_of_disk-clause-kept : goal.returns-else-is_of_disk-clause-kept
+returns-else-is_of_disk-clause-kept g c =
+    let other = sym c.is_of_disk.ensures ∙ c.if-is_of_disk.false in
+    sym (fault_kept c.in-Err.fault _ other)
+
+pub returns-else-is_of_disk-clause-step : goal.returns-else-is_of_disk-clause-step
+returns-else-is_of_disk-clause-step g c = λ honest.
+    let old = c.args.self.now in
+    let j = g.J.Journal in
+    let state = g.D.Dir.state in
+    let made = c.begin_noted in
+    let fault = c.in-Err.fault in
+    let other = sym c.is_of_disk.ensures ∙ c.if-is_of_disk.false in
+    let quiet = quiet_of j.told j.count j.stored fault (roll_of old.roster) (roll_of made.new.roster) other c.in-Err.ensures.noted in
+    let y = yard_state state old in
+    let z : YardState = record { directory = state made.new.dir; rules = rules_of old.rules; server = made.new.roster.state; installing = installing_of old.installation } in
+    subst (λ (o : Option Event). LeadsSome o y z) (sym (none_event fault other)) (states y z (c.in-Err.ensures.still honest (none_event fault other)) refl quiet.stays refl)
+
+pub returns-else-is_of_disk-clause-stops : goal.returns-else-is_of_disk-clause-stops
+returns-else-is_of_disk-clause-stops g c = λ honest files w image at left.
+    let old = c.args.self.now in
+    let s = installing c.args.install in
+    let may = c.in-Some.ensures.some.0 in
+    let r = named_rules (rules_of old.rules) s.names.cdb may.for_rules in
+    c.in-Err.ensures.stops honest w image (it_new (yard_state g.D.Dir.state old) s r.0 r.1 r.2 may.unbegun files w at) left
+
+pub returns-else-is_of_disk-clause-back : goal.returns-else-is_of_disk-clause-back
+returns-else-is_of_disk-clause-back g c =
+    let s = installing c.args.install in
+    back_of s (installing c.begin_noted.new.install) (next_phase s) c.in-Err.fault c.in-Err.ensures.goes

@@ -1,0 +1,128 @@
+use Rattle.std.proofs.Common.{◌≡◌, ℕ, Bool, Option, None, Some, refl, sym, ap, subst, ◌∙◌, arith, eq-eqb}
+use Rattle.std.specs.Prelude.{IfSome, if◌then◌else◌}
+use mathlib.Core.Logic.{∥∥₁_map}
+use Rattle.rules_install.specs.Installing.{Fits, Installing, next_phase}
+use Rattle.rules_install.specs.Installs.{installing}
+use Rattle.server_yard.specs.Installed.{IsKeptBy}
+use Rattle.server_yard.specs.Kept.{installing_of, is_kept, phase_of, rules_of}
+use Rattle.server_yard.specs.Rolls.{NotesSome}
+use Rattle.server_yard.specs.Rosters.{roll_of}
+use Rattle.server_yard.specs.Standing.{LeadsSome, YardState}
+use Rattle.server_yard.specs.Stepping.{GoesAsStep, event_of_step, kept_after_step}
+use Rattle.server_yard.specs.Yards.{yard_roll, yard_state}
+use Rattle.server_yard.proofs.Going.{going_then, kept_is, kept_numbers, kept_result, later, not_over, phase_then, some_rules, steps_to, still_state}
+use Rattle.server_yard.proofs.Stepped.{has_kept, it_kept, step_leads}
+use Rattle.server_yard.proofs.yard.Yard.install_step.Goals as goal
+
+pub step_noted-result-requires-clause-undone : goal.step_noted-result-requires-clause-undone
+step_noted-result-requires-clause-undone g c =
+    let old = c.args.self.now in
+    (old.going (installing c.in-UnderWay.install) (ap installing_of (sym c.in-UnderWay.ensures.value))).undone
+
+pub step_noted-result-requires-clause-phase : goal.step_noted-result-requires-clause-phase
+step_noted-result-requires-clause-phase g c = λ begun.
+    let old = c.args.self.now in
+    sym old.phase ∙ ap (λ i. phase_of (installing_of i)) (sym c.in-UnderWay.ensures.value)
+
+pub step_noted-result-requires-clause-fits : goal.step_noted-result-requires-clause-fits
+step_noted-result-requires-clause-fits g c = λ honest.
+    let old = c.args.self.now in
+    old.finds honest (installing c.in-UnderWay.install) (ap installing_of (sym c.in-UnderWay.ensures.value))
+
+pub invariant_of-self-in-UnderWay : goal.invariant_of-self-in-UnderWay
+invariant_of-self-in-UnderWay g c =
+    let old = c.args.self.now in
+    let j = g.J.Journal in
+    let state = g.D.Dir.state in
+    let s = installing c.in-UnderWay.install in
+    let inst = ap installing_of (sym c.in-UnderWay.ensures.value) in
+    let going = old.going s inst in
+    let made = c.step_noted-result in
+    let t = installing made.new.install in
+    let result = made.result in
+    let kept = c.after.ensures.installing in
+    let r = some_rules (rules_of old.rules) going.follows in
+    record {
+      honest = old.honest;
+      phase = ap phase_of kept ∙ phase_then j.told j.count j.stored s t (next_phase s) result (roll_of old.roster) (roll_of made.new.roster) made.ensures.noted made.ensures.goes (sym (ap phase_of inst) ∙ old.phase);
+      going = λ x is. going_then s t (next_phase s) result (rules_of old.rules) made.ensures.same going.for_rules going.follows (λ none. going) made.ensures.goes x (sym kept ∙ is);
+      finds = λ honest x is. subst (λ (u : Installing). Fits u (state made.new.dir)) (kept_is t x result (sym kept ∙ is)) (made.ensures.fits honest);
+      installed = λ met. ∥∥₁_map (old.installed met) (λ k.
+          let honest = old.honest met in
+          let mine = subst (λ (o : Option Installing). IsKeptBy (j.told (roll_of old.roster).journal) (j.count (roll_of old.roster).journal) (j.stored (roll_of old.roster).journal) (j.lists (roll_of old.roster).journal) (roll_of old.roster).server (state old.dir) (rules_of old.rules) o) inst k in
+          subst (λ (o : Option Installing). IsKeptBy (j.told (roll_of made.new.roster).journal) (j.count (roll_of made.new.roster).journal) (j.stored (roll_of made.new.roster).journal) (j.lists (roll_of made.new.roster).journal) (roll_of made.new.roster).server (state made.new.dir) (rules_of old.rules) o) (sym kept)
+          (kept_result j.told j.count j.stored (j.lists (roll_of old.roster).journal) (j.lists (roll_of made.new.roster).journal) (state old.dir) (state made.new.dir) (rules_of old.rules) s t (next_phase s) result (roll_of old.roster) (roll_of made.new.roster) mine
+          (has_kept mine.installed.world (state old.dir) (rules_of old.rules) s r.0 mine.installed.has_directory mine.installed.has_rules r.1 (going.for_rules r.0 r.1) mine.installed.has_installing)
+          old.roster.small made.ensures.noted made.ensures.goes (made.ensures.device honest) (made.ensures.leads honest) (made.ensures.still honest) (later s going.begun) made.ensures.lists));
+    }
+
+pub returns-in-UnderWay-clause-over : goal.returns-in-UnderWay-clause-over
+returns-in-UnderWay-clause-over g c =
+    let old = c.args.self.now in
+    let s = installing c.in-UnderWay.install in
+    let made = c.step_noted-result in
+    let here = c.if-number-self.false in
+    let number : old.begun ≡ c.args.number = grind (arith, here) in (
+      λ is. absurd (not_over s (installing made.new.install) (next_phase s) made.result made.ensures.goes is),
+      λ none. absurd (none (ap (λ i. if is_kept i then Some old.begun else None) (sym c.in-UnderWay.ensures.value) ∙ ap (λ (n : ℕ). Some n) number)),
+    )
+
+pub returns-in-UnderWay-clause-noted : goal.returns-in-UnderWay-clause-noted
+returns-in-UnderWay-clause-noted g c =
+    let old = c.args.self.now in
+    let j = g.J.Journal in
+    let made = c.step_noted-result in
+    let here = c.if-number-self.false in
+    let is : old.begun ≡ c.args.number = grind (arith, here) in
+    let number = eq-eqb old.begun c.args.number is in
+    let under = ap (λ (b : Bool). if b then installing_of old.installation else None) number ∙ ap installing_of (sym c.in-UnderWay.ensures.value) in
+    subst (λ (o : Option Installing). NotesSome j.told j.count j.stored (event_of_step o made.result) (yard_roll old) (roll_of made.new.roster)) (sym under) made.ensures.noted
+
+pub returns-in-UnderWay-clause-step : goal.returns-in-UnderWay-clause-step
+returns-in-UnderWay-clause-step g c = λ honest.
+    let old = c.args.self.now in
+    let j = g.J.Journal in
+    let state = g.D.Dir.state in
+    let s = installing c.in-UnderWay.install in
+    let inst = ap installing_of (sym c.in-UnderWay.ensures.value) in
+    let going = old.going s inst in
+    let made = c.step_noted-result in
+    let t = installing made.new.install in
+    let result = made.result in
+    let here = c.if-number-self.false in
+    let is : old.begun ≡ c.args.number = grind (arith, here) in
+    let number = eq-eqb old.begun c.args.number is in
+    let under = ap (λ (b : Bool). if b then installing_of old.installation else None) number ∙ inst in
+    let r = some_rules (rules_of old.rules) going.follows in
+    let y = yard_state state old in
+    let z : YardState = record { directory = state made.new.dir; rules = rules_of old.rules; server = made.new.roster.state; installing = installing_of c.after.result } in
+    subst (λ (o : Option Installing). LeadsSome (event_of_step o result) y z) (sym under)
+    (step_leads y z s t (next_phase s) result (it_kept y s r.0 r.1 (going.for_rules r.0 r.1) inst) made.ensures.goes (made.ensures.device honest) (made.ensures.leads honest)
+    (steps_to j.told j.count j.stored t y z result (roll_of old.roster) (roll_of made.new.roster) made.ensures.noted refl refl refl c.after.ensures.installing)
+    (still_state j.told j.count j.stored s t (next_phase s) y z result (roll_of old.roster) (roll_of made.new.roster) made.ensures.noted made.ensures.goes refl refl refl inst c.after.ensures.installing (made.ensures.still honest)))
+
+pub returns-in-UnderWay-clause-stops : goal.returns-in-UnderWay-clause-stops
+returns-in-UnderWay-clause-stops g c = λ honest files w image at left.
+    let old = c.args.self.now in
+    let s = installing c.in-UnderWay.install in
+    let inst = ap installing_of (sym c.in-UnderWay.ensures.value) in
+    let going = old.going s inst in
+    let r = some_rules (rules_of old.rules) going.follows in
+    c.step_noted-result.ensures.stops honest w image (it_kept (yard_state g.D.Dir.state old) s r.0 r.1 (going.for_rules r.0 r.1) inst files w at) left
+
+pub returns-in-UnderWay-clause-goes : goal.returns-in-UnderWay-clause-goes
+returns-in-UnderWay-clause-goes g c =
+    let old = c.args.self.now in
+    let made = c.step_noted-result in
+    let here = c.if-number-self.false in
+    let is : old.begun ≡ c.args.number = grind (arith, here) in
+    let number = eq-eqb old.begun c.args.number is in
+    let under = ap (λ (b : Bool). if b then installing_of old.installation else None) number ∙ ap installing_of (sym c.in-UnderWay.ensures.value) in
+    subst (λ (o : Option Installing). IfSome o (λ s. GoesAsStep s (installing_of c.after.result) made.result)) (sym under) (record { after_it = installing made.new.install; goes = made.ensures.goes; kept = c.after.ensures.installing })
+
+pub returns-in-UnderWay-clause-kept : goal.returns-in-UnderWay-clause-kept
+returns-in-UnderWay-clause-kept g c =
+    let old = c.args.self.now in
+    let made = c.step_noted-result in
+    ap (λ (b : Bool). if b then Some old.begun else None) c.after.ensures.kept ∙ kept_numbers made.result old.begun
+    ∙ ap (λ o. kept_after_step made.result o) (sym (ap (λ i. if is_kept i then Some old.begun else None) (sym c.in-UnderWay.ensures.value)))

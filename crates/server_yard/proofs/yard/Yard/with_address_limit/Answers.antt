@@ -1,0 +1,27 @@
+use Rattle.std.proofs.Common.{[], refl, sym, ap}
+use Rattle.server_events.specs.ServerState.{ServerState}
+use Rattle.server_yard.specs.Kept.{rules_of}
+use Rattle.server_yard.specs.Rolls.{Roll}
+use Rattle.server_yard.proofs.Histories.{history_same, none_yet}
+use Rattle.server_yard.proofs.Installs.{installed_same, none_installed}
+use Rattle.server_yard.proofs.Keeping.{none_not_some}
+use Rattle.server_yard.proofs.yard.Yard.with_address_limit.Goals as goal
+
+pub invariant_of-result : goal.invariant_of-result
+invariant_of-result g c =
+    let made = c.in_ok-new.ensures.made in
+    let j = g.J.Journal in
+    let server = ap (λ (r : Roll _). r.server) made in
+    let journal = ap (λ (r : Roll _). r.journal) made in
+    let none = c.requires.journal in
+    record {
+      honest = λ met. (c.requires.begins met).0;
+      phase = sym (ap (λ (u : ServerState). u.phase) server);
+      going = λ s is. absurd (none_not_some s is);
+      finds = λ honest s is. absurd (none_not_some s is);
+      installed = λ met. ∣ record {
+        history = [];
+        is_history = history_same (ap j.told journal) (ap j.count journal) (ap j.stored journal) server [] (none_yet _ _ _ c.args.limit c.args.per_address none.tells none.stores);
+        installed = installed_same (ap j.lists journal) refl (ap (λ (u : ServerState). u.phase) server) refl refl (none_installed (j.lists c.args.journal) (g.D.Dir.state c.args.dir) (rules_of c.args.rules) c.args.limit c.args.per_address none.no_rules (c.requires.begins met).1);
+      } ∣₁;
+    }

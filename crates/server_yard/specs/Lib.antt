@@ -1,0 +1,11 @@
+-- The yard: its connections with their places, what its events change, and the steps of the headline's worlds that its calls are.
+pub mod Rooms
+pub mod Rolls
+pub mod Seating
+pub mod Rosters
+pub mod Standing
+pub mod Stepping
+pub mod Installed
+pub mod Passes
+pub mod Kept
+pub mod Yards

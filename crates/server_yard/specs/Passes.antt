@@ -1,0 +1,36 @@
+-- What a pass has.
+use Rattle.std.specs.Prelude.{◌≡◌, ℕ, Bool, List, Option, Some, None, Ok, option_map}
+use Rattle.cdb_read.specs.Reading.{reading}
+use Rattle.cdb_read.specs.Sources.{trust_of}
+use Rattle.rule_lines.specs.Lookups.{Trust, Sound, WhereKnown}
+use Rattle.rule_lookup.specs.Decisions.{decision_from}
+use Rattle.rule_lookup.specs.Peers.{Client}
+use Rattle.rule_lookup.specs.declared.decision.Decision.{Decision}
+use Rattle.rule_lookup.specs.declared.decision.Missing.{Missing}
+use Rattle.server_yard.specs.declared.pass.Pass.{Pass}
+
+-- the serial of its connection
+abbrev pub pass_serial : {L F : Type 0} {p : _} {l : _} {f : _} → Pass L F p l f → ℕ
+pass_serial pass = pass.serial
+
+-- what is decided without a file
+abbrev pub pass_missing : {L F : Type 0} {p : _} {l : _} {f : _} → Pass L F p l f → Missing
+pass_missing pass = pass.missing
+
+-- the file that was found
+abbrev pub pass_file : {L F : Type 0} {p : _} {l : _} {f : _} → Pass L F p l f → Option F
+pass_file pass = pass.file
+
+-- its bytes, by what a file tells of them
+abbrev pub pass_bytes : {L F : Type 0} {p : _} {l : _} {f : _} → (F → List ℕ) → Pass L F p l f → Option (List ℕ)
+pass_bytes bytes pass = option_map bytes (pass_file pass)
+
+-- how far what a file holds is known; without a file it is
+abbrev pub trust_in : Bool → Bool → Option (List ℕ) → Trust
+trust_in honest sound None = Sound
+trust_in honest sound (Some bytes) = trust_of honest sound
+
+-- `decide` decided so for what a pass has and this peer, as far as what the file holds is known
+abbrev pub IsDecidedBy : {L F : Type 0} {p : _} {l : _} {f : _} → Bool → Bool → (F → List ℕ) → Pass L F p l f → Client → Decision → Type 0
+IsDecidedBy honest sound bytes pass peer decision =
+    WhereKnown (trust_in honest sound (pass_bytes bytes pass)) (decision_from (option_map reading (pass_bytes bytes pass)) (pass_missing pass) peer ≡ Ok decision)

@@ -1,0 +1,23 @@
+-- How many events the connections that are alive may still have.
+use Rattle.std.specs.Prelude.{ℕ, ◌+◌, ◌-◌, List, [], ◌∷◌, Option, None, Some}
+use Rattle.server_events.specs.declared.event.Stage.{Stage}
+use Rattle.server_events.specs.declared.event.Stage.TheVariants.{Admitted, Opened, Decided, Started, Retired}
+use Rattle.server_events.specs.declared.state.Connection.{Connection}
+
+-- from its stage on: it is opened, decided, started, and ends or is retired; a retired one has no more
+abbrev pub events_left : Stage → ℕ
+events_left Admitted = 4
+events_left Opened = 3
+events_left (Decided verdict) = 2
+events_left Started = 1
+events_left Retired = 0
+
+-- how many a connection may still have after its next
+abbrev pub spare_events : Option Stage → ℕ
+spare_events None = 0
+spare_events (Some s) = events_left s - 1
+
+-- of all of them
+abbrev pub room_needed : List Connection → ℕ
+room_needed [] = 0
+room_needed (c ∷ cs) = events_left c.stage + room_needed cs

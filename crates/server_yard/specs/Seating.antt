@@ -1,0 +1,66 @@
+-- Connections and the places that they were given.
+use Rattle.std.specs.Prelude.{◌≡◌, ◌<◌, ◌≤◌, ◌+◌, ◌-◌, ◌^◌, ◌==◌, ◌⊎◌, ℕ, Bool, true, false, List, Option, Some, None, length, if◌then◌else◌}
+use Rattle.std.specs.FinMap as map
+use Rattle.child_table.specs.Seats.{Seats, is_used}
+use Rattle.rule_lookup.specs.Peers.{Client}
+use Rattle.server_events.specs.ServerState.{ServerState, count_from}
+use Rattle.server_events.specs.Worlds.{peer_of}
+use Rattle.server_events.specs.declared.event.Event.{Event}
+use Rattle.server_events.specs.declared.event.Event.TheVariants.{Opened, Decided, Started, StartFailed, Ended, Dropped, Stepped, StepFailed}
+use Rattle.server_yard.specs.Rolls.{Roll, serial_at}
+use Rattle.server_yard.specs.Rooms.{room_needed}
+
+-- each seat is as before
+abbrev pub KeepsSeats : (old new : ℕ → Option ℕ) → Type 0
+KeepsSeats old new = (index : ℕ) → new index ≡ old index
+
+-- one seat is given to a serial, and the others are as before
+abbrev pub GivesSeat : (index serial : ℕ) (old new : ℕ → Option ℕ) → Type 0
+GivesSeat index serial old new = (i : ℕ) → new i ≡ (if i == index then Some serial else old i)
+
+-- each seat tells the same connection, or none as before
+abbrev pub KeepsSerials : ServerState → (old new : ℕ → Option ℕ) → Type 0
+KeepsSerials server old new = (index : ℕ) → serial_at (new index) server ≡ serial_at (old index) server
+
+-- each seat is as before, or nobody's now and that of a place that is not out
+abbrev pub LosesOne : Seats → (old new : ℕ → Option ℕ) → Type 0
+LosesOne table old new = (index : ℕ) → (new index ≡ old index) ⊎ ((new index ≡ None) × (is_used table index ≡ false))
+
+-- No seat was given to a serial above the last. The place of a seat whose connection is alive is out, for the address of its peer.
+pub record HasSeats (seat : ℕ → Option ℕ) (table : Seats) (server : ServerState) : Type 0 where
+  pub up_to_last : (index serial : ℕ) → seat index ≡ Some serial → serial ≤ server.last
+  pub for_its_peer : (index serial : ℕ) (peer : Client) → seat index ≡ Some serial → peer_of serial server.connections ≡ Some peer
+      → map.get table.places index ≡ Some peer.ip
+
+-- another one could be let in, but no serial is left
+abbrev pub IsSpent : ServerState → Type 0
+IsSpent server = (length server.connections < server.limit) × (server.last ≡ 2 ^ 64 - 1)
+
+-- another one could be let in, but not from this address
+abbrev pub IsAddressFull : List ℕ → ServerState → Type 0
+IsAddressFull ip server =
+    (length server.connections < server.limit) × (server.last < 2 ^ 64 - 1) × (count_from ip server.connections ≡ server.per_address)
+
+-- room for one event more than the connections need
+abbrev pub HasSpareRoom : {J : Type 0} → (J → ℕ → Bool) → Roll J → Type 0
+HasSpareRoom has_room roll = has_room roll.journal (room_needed roll.server.connections + 1) ≡ true
+
+-- by this event a connection goes on, with its place
+abbrev pub goes_on : Event → Bool
+goes_on (Opened n there) = true
+goes_on (Decided n decision) = true
+goes_on (Started n) = true
+goes_on event = false
+
+-- by this event a connection goes, and its place is free
+abbrev pub leaver : Event → Option ℕ
+leaver (StartFailed n fault) = Some n
+leaver (Ended n status) = Some n
+leaver (Dropped n cause) = Some n
+leaver event = None
+
+-- an event of an installation
+abbrev pub is_installing : Event → Bool
+is_installing (Stepped phase) = true
+is_installing (StepFailed phase) = true
+is_installing event = false

@@ -1,0 +1,104 @@
+-- A yard: what contracts say of it.
+use Rattle.std.specs.Prelude.{◌≡◌, ◌<◌, ◌-◌, ◌^◌, ◌==◌, ℕ, List, Option, None, Some, false, option_map, if◌then◌else◌}
+use Rattle.dir_disk.specs.Directory.{Directory}
+use Rattle.rule_lines.specs.Pairs.{Rule}
+use Rattle.rules_install.specs.Installing.{Installing}
+use Rattle.server_events.specs.ServerState.{ServerState, start}
+use Rattle.server_events.specs.Worlds.{RulesName}
+use Rattle.server_events.specs.declared.event.Stage.{Stage}
+use Rattle.server_yard.specs.Kept.{installing_of, is_kept, rules_of}
+use Rattle.server_yard.specs.Rolls.{Roll, number_at, serial_at, stage_at}
+use Rattle.server_yard.specs.Rosters.{roll_of, seat_of}
+use Rattle.server_yard.specs.Standing.{YardState}
+use Rattle.server_yard.specs.declared.yard.Yard.{Yard}
+
+-- what a yard has of a world, by what its directory tells
+abbrev pub yard_state : {L D J F : Type 0} {p : _} {l : _} {d : _} {j : _} → (D → Directory) → Yard L D J F p l d j → YardState
+yard_state state y = record {
+  directory = state y.dir;
+  rules = rules_of y.rules;
+  server = (roll_of y.roster).server;
+  installing = installing_of y.installation;
+}
+
+-- what its events change
+abbrev pub yard_roll : {L D J F : Type 0} {p : _} {l : _} {d : _} {j : _} → Yard L D J F p l d j → Roll J
+yard_roll y = roll_of y.roster
+
+-- the state that they led to
+abbrev pub yard_server : {L D J F : Type 0} {p : _} {l : _} {d : _} {j : _} → Yard L D J F p l d j → ServerState
+yard_server y = (yard_roll y).server
+
+-- its directory
+abbrev pub yard_directory : {L D J F : Type 0} {p : _} {l : _} {d : _} {j : _} → Yard L D J F p l d j → D
+yard_directory y = y.dir
+
+-- its rules name, with what is done where no file stands there
+abbrev pub yard_rules : {L D J F : Type 0} {p : _} {l : _} {d : _} {j : _} → Yard L D J F p l d j → Option RulesName
+yard_rules y = rules_of y.rules
+
+-- the serial that the place of an index was last given to
+abbrev pub yard_seat : {L D J F : Type 0} {p : _} {l : _} {d : _} {j : _} → Yard L D J F p l d j → ℕ → Option ℕ
+yard_seat y index = seat_of y.roster index
+
+-- the serial of the connection that has this place, where it is alive; that serial, or 0; and the connection's stage
+abbrev pub serial_of : {L D J F : Type 0} {p : _} {l : _} {d : _} {j : _} → Yard L D J F p l d j → ℕ → Option ℕ
+serial_of y place = serial_at (yard_seat y place) (yard_server y)
+
+abbrev pub number_of : {L D J F : Type 0} {p : _} {l : _} {d : _} {j : _} → Yard L D J F p l d j → ℕ → ℕ
+number_of y place = number_at (yard_seat y place)
+
+abbrev pub stage_of_place : {L D J F : Type 0} {p : _} {l : _} {d : _} {j : _} → Yard L D J F p l d j → ℕ → Option Stage
+stage_of_place y place = stage_at (yard_seat y place) (yard_server y)
+
+-- the number of the last installation, and the one that is kept: under way, or done
+abbrev pub last_begun : {L D J F : Type 0} {p : _} {l : _} {d : _} {j : _} → Yard L D J F p l d j → ℕ
+last_begun y = y.begun
+
+abbrev pub kept_number : {L D J F : Type 0} {p : _} {l : _} {d : _} {j : _} → Yard L D J F p l d j → Option ℕ
+kept_number y = if is_kept y.installation then Some y.begun else None
+
+abbrev pub yard_installing : {L D J F : Type 0} {p : _} {l : _} {d : _} {j : _} → Yard L D J F p l d j → Option Installing
+yard_installing y = installing_of y.installation
+
+-- but for what its events change, and where they are noted, a yard is as before
+pub record IsSameBeside {L D J F : Type 0} {p : _} {l : _} {d : _} {j : _} (lists : J → Option (List (List Rule))) (old new : Yard L D J F p l d j) : Type 0 where
+  pub directory : yard_directory new ≡ yard_directory old
+  pub rules : yard_rules new ≡ yard_rules old
+  pub installing : yard_installing new ≡ yard_installing old
+  pub kept : kept_number new ≡ kept_number old
+  pub begun : last_begun new ≡ last_begun old
+  pub lists_same : lists (yard_roll new).journal ≡ lists (yard_roll old).journal
+
+-- the rules name
+abbrev pub name_of : Option RulesName → Option (List ℕ)
+name_of rules = option_map (λ r. r.name) rules
+
+-- an installation may begin: none of its steps was made, it is for the rules name, and a number is left
+pub record MayBegin {L D J F : Type 0} {p : _} {l : _} {d : _} {j : _} (y : Yard L D J F p l d j) (s : Installing) : Type 0 where
+  pub unbegun : s.reached ≡ None
+  pub is_open : s.over ≡ false
+  pub for_rules : name_of (yard_rules y) ≡ Some s.names.cdb
+  pub numbers_left : last_begun y < 2 ^ 64 - 1
+
+-- a yard that was just made of these
+pub record IsMade {L D J F : Type 0} {p : _} {l : _} {d : _} {j : _} (directory : D) (rules : Option RulesName) (limit per_address : ℕ) (journal : J) (y : Yard L D J F p l d j) : Type 0 where
+  pub has_limits : (0 < limit) × (0 < per_address)
+  pub roll : yard_roll y ≡ record { server = start limit per_address; journal = journal; speaker = 0 }
+  pub has_directory : yard_directory y ≡ directory
+  pub has_rules : yard_rules y ≡ rules
+  pub idle : yard_installing y ≡ None
+  pub none_kept : kept_number y ≡ None
+  pub none_begun : last_begun y ≡ 0
+
+-- but for what its events change, and its directory, a yard is as before
+pub record IsSameButDirectory {L D J F : Type 0} {p : _} {l : _} {d : _} {j : _} (lists : J → Option (List (List Rule))) (old new : Yard L D J F p l d j) : Type 0 where
+  pub rules : yard_rules new ≡ yard_rules old
+  pub installing : yard_installing new ≡ yard_installing old
+  pub kept : kept_number new ≡ kept_number old
+  pub begun : last_begun new ≡ last_begun old
+  pub lists_same : lists (yard_roll new).journal ≡ lists (yard_roll old).journal
+
+-- the installation that is under way with this number
+abbrev pub kept_under : {L D J F : Type 0} {p : _} {l : _} {d : _} {j : _} → Yard L D J F p l d j → ℕ → Option Installing
+kept_under y number = if y.begun == number then yard_installing y else None

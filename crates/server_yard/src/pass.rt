@@ -1,0 +1,49 @@
+//! What a connection found when it opened the rules.
+ghost use Rattle.std.specs.Prelude.{◌≡◌, IsTrue, option_copied, option_map};
+ghost use Rattle.server_yard.specs.Installed.{IsWholeFile};
+
+use crate::premises::Premises;
+use cdb_read::CdbFile;
+use dir_disk::RulesFile;
+use rule_lookup::Missing;
+use std::marker::PhantomData;
+
+/// The rules file that a connection opened, or that there was none; it keeps its bytes, whatever becomes of the name. Only `Yard::open` makes
+/// one.
+#[derive(Drop)]
+pub struct Pass<L: Premises, F: RulesFile + Drop> {
+    pub(crate) serial: u64,
+    pub(crate) file: Option<CdbFile<F>>,
+    pub(crate) missing: Missing,
+    pub(crate) yard: PhantomData<L>,
+    /// where its yard's directory is honest and began as it has to, the file is compiled of rules
+    pub ghost whole: { IsTrue L.met → ∥ IsWholeFile (option_map F.bytes file) ∥₁ },
+}
+
+impl<L: Premises, F: RulesFile + Drop> Pass<L, F> {
+    ghost use Rattle.server_yard.specs.Passes.{pass_file, pass_missing, pass_serial};
+
+    /// The file, as a source of decisions.
+    pub fn source(&self) -> Option<&CdbFile<F>>
+        ensures { option_copied result ≡ pass_file self.now }
+    {
+        match &self.file {
+            Some(file) => Some(file),
+            None => None,
+        }
+    }
+
+    /// What is decided where there is no file.
+    pub fn missing(&self) -> Missing
+        ensures { result ≡ pass_missing self.now }
+    {
+        self.missing
+    }
+
+    /// The serial of the connection that opened it.
+    pub fn serial(&self) -> u64
+        ensures { result ≡ pass_serial self.now }
+    {
+        self.serial
+    }
+}

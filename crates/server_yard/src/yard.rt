@@ -1,0 +1,554 @@
+//! The yard.
+ghost use Rattle.std.specs.Prelude.{◌≡◌, ◌≢◌, ◌+◌, ◌<◌, ◌∷◌, ◌↔◌, ℕ, List, [], true, false, Err, Ok, Some, None, IsTrue, IfOk, IfErr, IfSome, OnOk, OnErr, Contains, is_some, length, option_map};
+ghost use Rattle.child_jobs.specs.Runs.{place_of};
+ghost use Rattle.child_table.specs.Seats.{RefusesLimits};
+ghost use Rattle.dir_disk.specs.Moments.{HasCause};
+ghost use Rattle.rules_install.specs.Installs.{installing};
+ghost use Rattle.rules_install.specs.declared.Phase.TheVariants.{Done};
+ghost use Rattle.rules_install.specs.declared.fault.InstallFault.TheVariants.{Over};
+ghost use Rattle.server_events.specs.ServerState.{is_allowed, is_unstarted, may_happen, stage_of};
+ghost use Rattle.server_events.specs.Worlds.{missing_by, peer_of};
+ghost use Rattle.server_events.specs.declared.event.Event.TheVariants.{Admitted, Opened, Decided, Started, StartFailed, Ended, Retired, Dropped};
+ghost use Rattle.server_events.specs.declared.event.Stage.TheVariants as stage;
+ghost use Rattle.server_yard.specs.Installed.{IsKeptBy, IsWholeFile};
+ghost use Rattle.server_yard.specs.Passes.{IsDecidedBy, pass_bytes, pass_file, pass_missing, pass_serial};
+ghost use Rattle.server_yard.specs.Rolls.{IsQuiet, Notes, NotesSome};
+ghost use Rattle.server_yard.specs.Rosters.{roll_of};
+ghost use Rattle.server_yard.specs.Seating.{GivesSeat, IsAddressFull, IsSpent, KeepsSeats, KeepsSerials, goes_on, leaver};
+ghost use Rattle.server_yard.specs.Standing.{BeginsWell, LeadsDecided, LeadsOn, LeadsOpened, LeadsSome, LeavesNothingElse, standing_of};
+ghost use Rattle.server_yard.specs.Stepping.{GoesAsStep, HandsBack, IsRefusedAs, begin_event, event_of_step, kept_after_begin, kept_after_step, is_kept_after, is_of_disk, kept_then, last_begun_after, lists_after_begin};
+ghost use Rattle.server_yard.specs.Kept.{FindsItsFile, FindsItsFile-prop, HasNoEvents, IsKeptInstallation, installing_of, is_kept, phase_of, rules_of};
+ghost use Rattle.server_yard.specs.declared.roster.AdmitFault.TheVariants.{Full, FullForAddress, Spent};
+
+use crate::pass::Pass;
+use crate::premises::Premises;
+use crate::roster::{AdmitFault, Roster};
+use crate::stepping::{begin_noted, step_noted};
+use cdb_read::CdbFile;
+use child_jobs::{Job, Running};
+use child_table::{Place, TableFault};
+use dir_disk::{Dir, DirFault, Name};
+use event_journals::Journal;
+use rule_lookup::{Decision, DropCause, Missing, Peer, StartFault, Status};
+use rules_install::{Install, InstallFault, Phase};
+use server_events::{Event, Stage};
+use std::alloc::{AllocError, Global};
+use std::marker::PhantomData;
+use std::mem;
+use std::sync::ledger::Blank;
+
+/// How far the installation has come that a yard keeps.
+#[derive(Drop)]
+enum Installation {
+    // none was begun, or the last met a fault
+    Idle,
+    UnderWay(Install),
+    AtDone,
+}
+
+/// The connections of a server and the installations beside them, over one directory: each call that is an event is one step of the
+/// headline's world.
+///
+/// A place, a running child or a pass that a call takes has the yard's ledger, as its type says; `serial_of`, `stage` and `is_peer` tell
+/// whether its event may happen.
+#[derive(Drop)]
+pub struct Yard<L: Premises, D: Dir + Drop, J: Journal> {
+    roster: Roster<L, J>,
+    dir: D,
+    rules: Option<(Name, Missing)>,
+    installation: Installation,
+    // the number of the last installation that made its first step
+    begun: u64,
+    // where the premises are met the directory is honest
+    ghost honest: { IsTrue L.met → IsTrue D.honest },
+    // the phase is that of the installation that is kept
+    pub ghost phase: { phase_of (installing_of installation) ≡ (roll_of roster).server.phase },
+    ghost going: { IsKeptInstallation (installing_of installation) (rules_of rules) },
+    ghost finds: { FindsItsFile D.honest (installing_of installation) (D.state dir) } by { FindsItsFile-prop D.honest (installing_of installation) (D.state dir) },
+    // where the premises are met the installations of its history, by themselves, are a history of the headline that left its directory
+    pub ghost installed: { IsTrue L.met → ∥ IsKeptBy (J.told (roll_of roster).journal) (J.count (roll_of roster).journal) (J.stored (roll_of roster).journal)
+        (J.lists (roll_of roster).journal) (roll_of roster).server (D.state dir) (rules_of rules) (installing_of installation) ∥₁ },
+}
+
+impl<L: Premises, D: Dir + Drop, J: Journal> Yard<L, D, J> {
+    ghost use Rattle.server_yard.specs.Yards.{IsMade, IsSameBeside, IsSameButDirectory, MayBegin, kept_number, kept_under, last_begun, name_of, number_of, serial_of, stage_of_place, yard_directory, yard_installing, yard_roll, yard_rules, yard_seat, yard_server, yard_state};
+
+    /// A yard over a directory, with the name of its rules file and what is decided where no file stands there; without a name every connection is
+    /// allowed. No connection is there, and no installation under way. At most `limit` connections are alive at once. `blank` has as many
+    /// parts as the limit says, and the journal has no event.
+    ///
+    /// # Errors
+    /// `ZeroLimit` where the limit is 0.
+    pub fn new(
+        alloc: Global,
+        blank: Blank,
+        dir: D,
+        rules: Option<(Name, Missing)>,
+        limit: u64,
+        journal: J,
+    ) -> Result<Yard<L, D, J>, TableFault>
+        requires name { blank.name ≡ L.name }
+        requires parts { (blank.parts ≡ L.parts) × (blank.parts ≡ limit) }
+        requires journal { HasNoEvents J.told J.count J.stored J.lists journal }
+        requires begins { IsTrue L.met → BeginsWell D.honest (D.state dir) (rules_of rules) }
+        ensures made { IfOk result (IsMade dir (rules_of rules) limit limit journal) }
+        ensures refused { IfErr result (RefusesLimits limit limit) }
+    {
+        Yard::with_address_limit(alloc, blank, dir, rules, limit, limit, journal)
+    }
+
+    /// The same with at most `per_address` connections alive from one address.
+    ///
+    /// # Errors
+    /// `ZeroLimit` where the limit is 0, else `ZeroAddressLimit` where the limit per address is 0.
+    pub fn with_address_limit(
+        alloc: Global,
+        blank: Blank,
+        dir: D,
+        rules: Option<(Name, Missing)>,
+        limit: u64,
+        per_address: u64,
+        journal: J,
+    ) -> Result<Yard<L, D, J>, TableFault>
+        requires name { blank.name ≡ L.name }
+        requires parts { (blank.parts ≡ L.parts) × (blank.parts ≡ limit) }
+        requires journal { HasNoEvents J.told J.count J.stored J.lists journal }
+        requires begins { IsTrue L.met → BeginsWell D.honest (D.state dir) (rules_of rules) }
+        ensures made { IfOk result (IsMade dir (rules_of rules) limit per_address journal) }
+        ensures refused { IfErr result (RefusesLimits limit per_address) }
+    {
+        Ok(Yard {
+            roster: Roster::new(alloc, blank, limit, per_address, journal)?,
+            dir,
+            rules,
+            installation: Installation::Idle,
+            begun: 0,
+        })
+    }
+
+    /// How many connections are alive, retired ones too.
+    pub fn live(&self) -> u64
+        ensures { result ≡ length (yard_server self.now).connections }
+    {
+        self.roster.state().live()
+    }
+
+    /// How many may be alive at once.
+    pub fn limit(&self) -> u64
+        ensures { result ≡ (yard_server self.now).limit }
+    {
+        self.roster.limit()
+    }
+
+    /// How many of them may come from one address.
+    pub fn address_limit(&self) -> u64
+        ensures { result ≡ (yard_server self.now).per_address }
+    {
+        self.roster.address_limit()
+    }
+
+    /// What is decided where no rules file stands: what `open` gives its pass.
+    pub fn missing(&self) -> Missing
+        ensures { result ≡ missing_by (yard_rules self.now) }
+    {
+        match &self.rules {
+            Some((_, missing)) => *missing,
+            None => Missing::Allow,
+        }
+    }
+
+    /// The journal.
+    pub fn journal(&self) -> &J
+        ensures { result.now ≡ (yard_roll self.now).journal }
+    {
+        self.roster.journal()
+    }
+
+    /// Who calls the events that follow: a number from 1, or 0 for nobody, as at first. Nothing else changes.
+    pub fn speaker(&mut self, speaker: u64)
+        ensures speaks { yard_roll self.new ≡ record (yard_roll self.old) { speaker = speaker } }
+        ensures same { IsSameBeside J.lists self.old self.new }
+        ensures seats { KeepsSeats (yard_seat self.old) (yard_seat self.new) }
+    {
+        self.roster.speak(speaker);
+    }
+
+    /// The serial of the connection that has a place, where it is alive.
+    pub fn serial_of(&self, place: &Place<L>) -> Option<u64>
+        ensures { result ≡ serial_of self.now place.now }
+    {
+        self.roster.serial(place.index())
+    }
+
+    /// The stage of a connection that is alive.
+    pub fn stage(&self, serial: u64) -> Option<Stage>
+        ensures { result ≡ stage_of serial (yard_server self.now).connections }
+    {
+        self.roster.state().stage(serial)
+    }
+
+    /// Whether this is the other end of a connection that is alive.
+    pub fn is_peer(&self, serial: u64, peer: &Peer) -> bool
+        ensures { IsTrue result ↔ (peer_of serial (yard_server self.now).connections ≡ Some peer.now) }
+    {
+        match self.roster.state().peer(serial) {
+            Some(own) => is_same(own, peer),
+            None => false,
+        }
+    }
+
+    /// Lets a connection in: it is alive from now on, and has the next serial and a place. All the room that its events will take is
+    /// made now, so that none of them can want for memory.
+    ///
+    /// # Errors
+    /// `Full` where as many connections are alive as may be, else `Spent` where the last serial was given, else `FullForAddress` where as many
+    /// from its address are alive as may be; else `OutOfMemory`. Nothing changed.
+    pub fn admit(&mut self, peer: &Peer) -> Result<(u64, Place<L>), AdmitFault>
+        ensures full { (result ≡ Err Full) ↔ (length (yard_server self.old).connections ≡ (yard_server self.old).limit) }
+        ensures spent { (result ≡ Err Spent) ↔ IsSpent (yard_server self.old) }
+        ensures full_for_address { (result ≡ Err FullForAddress) ↔ IsAddressFull peer.now.ip (yard_server self.old) }
+        ensures noted { IfOk result (λ r. Notes J.told J.count J.stored
+            (Admitted r.0 peer.now) (yard_roll self.old) (yard_roll self.new)) }
+        ensures step { IsTrue D.honest → IfOk result (λ r. LeadsOn
+            (Admitted r.0 peer.now) (yard_state D.state self.old) (yard_state D.state self.new)) }
+        ensures seat { IfOk result (λ r. GivesSeat r.1 r.0 (yard_seat self.old) (yard_seat self.new)) }
+        ensures same { IsSameBeside J.lists self.old self.new }
+        ensures refused { OnErr result (IsQuiet J.told J.count J.stored (yard_roll self.old) (yard_roll self.new)) }
+        ensures same_seats { OnErr result (KeepsSerials (yard_server self.old) (yard_seat self.old) (yard_seat self.new)) }
+    {
+        self.roster.admit(peer)
+    }
+
+    // A connection goes on by an event, and keeps its place.
+    fn advance(&mut self, event: Event)
+        requires kind { goes_on event ≡ true }
+        requires may { may_happen (yard_server self.old) event ≡ true }
+        ensures noted { Notes J.told J.count J.stored event (yard_roll self.old) (yard_roll self.new) }
+        ensures same { IsSameBeside J.lists self.old self.new }
+        ensures seats { KeepsSeats (yard_seat self.old) (yard_seat self.new) }
+    {
+        self.roster.advance(event);
+    }
+
+    // A connection goes by an event, and its place is free.
+    fn leave(&mut self, place: Place<L>, serial: u64, event: Event)
+        requires kind { leaver event ≡ Some serial }
+        requires seat { yard_seat self.old place ≡ Some serial }
+        requires may { may_happen (yard_server self.old) event ≡ true }
+        ensures noted { Notes J.told J.count J.stored event (yard_roll self.old) (yard_roll self.new) }
+        ensures step { IsTrue D.honest
+            → LeadsOn event (yard_state D.state self.old) (yard_state D.state self.new) }
+        ensures same { IsSameBeside J.lists self.old self.new }
+        ensures seats { KeepsSeats (yard_seat self.old) (yard_seat self.new) }
+        ensures gone { stage_of serial (yard_server self.new).connections ≡ None }
+    {
+        self.roster.leave(place, serial, event);
+    }
+
+    // What stands under the rules name, and what is decided where nothing does.
+    fn find(&mut self, alloc: Global) -> Result<(Option<CdbFile<D::File>>, Missing), DirFault>
+        ensures missing { IfOk result (λ r. r.1 ≡ missing_by (yard_rules self.old)) }
+        ensures found { IsTrue D.honest → IfOk result (λ r.
+            option_map D.File.bytes r.0 ≡ standing_of (yard_state D.state self.old)) }
+        ensures whole { IsTrue L.met → IfOk result (λ r. ∥ IsWholeFile (option_map D.File.bytes r.0) ∥₁) }
+        ensures roll { yard_roll self.new ≡ yard_roll self.old }
+        ensures state { IsTrue D.honest → yard_state D.state self.new ≡ yard_state D.state self.old }
+        ensures faults { IfErr result (Contains (DirFault.Device ∷ DirFault.OutOfMemory ∷ [])) }
+        ensures cause { HasCause (D.failed (yard_directory self.old)) (D.failed (yard_directory self.new)) result }
+        ensures without { yard_rules self.old ≡ None → yard_directory self.new ≡ yard_directory self.old }
+        ensures same { IsSameButDirectory J.lists self.old self.new }
+        ensures seats { KeepsSeats (yard_seat self.old) (yard_seat self.new) }
+    {
+        let Some((name, missing)) = &self.rules else {
+            return Ok((None, Missing::Allow));
+        };
+        match self.dir.open(alloc, name)? {
+            Some(file) => Ok((Some(CdbFile::new(file)), *missing)),
+            None => Ok((None, *missing)),
+        }
+    }
+
+    /// Opens the rules for a connection that was let in. The pass has what stands under the rules name in the directory of now, and
+    /// keeps it through all later calls. Without a rules name there is no file, no call of the directory is made, and the connection is
+    /// allowed.
+    ///
+    /// # Errors
+    /// Those of `Dir::open`. A fault is no event: the connection is as before.
+    pub fn open(&mut self, alloc: Global, serial: u64) -> Result<Pass<L, D::File>, DirFault>
+        requires admitted { stage_of serial (yard_server self.old).connections ≡ Some stage.Admitted }
+        ensures its { IfOk result (λ pass. pass_serial pass ≡ serial) }
+        ensures missing { IfOk result (λ pass. pass_missing pass ≡ missing_by (yard_rules self.old)) }
+        ensures found { IsTrue D.honest → IfOk result (λ pass.
+            pass_bytes D.File.bytes pass ≡ standing_of (yard_state D.state self.old)) }
+        ensures noted { IfOk result (λ pass. Notes J.told J.count J.stored
+            (Opened serial (is_some (pass_file pass))) (yard_roll self.old) (yard_roll self.new)) }
+        ensures step { IsTrue D.honest → IfOk result (λ pass. LeadsOpened serial
+            (pass_bytes D.File.bytes pass) (yard_state D.state self.old) (yard_state D.state self.new)) }
+        ensures refused { OnErr result (IsQuiet J.told J.count J.stored (yard_roll self.old) (yard_roll self.new)) }
+        ensures err_state { IsTrue D.honest
+            → OnErr result (yard_state D.state self.new ≡ yard_state D.state self.old) }
+        ensures faults { IfErr result (Contains (DirFault.Device ∷ DirFault.OutOfMemory ∷ [])) }
+        ensures cause { HasCause (D.failed (yard_directory self.old)) (D.failed (yard_directory self.new)) result }
+        ensures without { yard_rules self.old ≡ None → yard_directory self.new ≡ yard_directory self.old }
+        ensures same { IsSameButDirectory J.lists self.old self.new }
+        ensures seats { KeepsSeats (yard_seat self.old) (yard_seat self.new) }
+    {
+        let (file, missing) = self.find(alloc)?;
+        self.advance(Event::Opened {
+            serial,
+            there: file.is_some(),
+        });
+        Ok(Pass {
+            serial,
+            file,
+            missing,
+            yard: PhantomData,
+        })
+    }
+
+    /// A connection is decided as `decide` decided for the pass that it opened. It takes no memory.
+    pub fn decided(&mut self, pass: Pass<L, D::File>, peer: &Peer, decision: Decision)
+        requires opened { stage_of (pass_serial pass) (yard_server self.old).connections ≡ Some stage.Opened }
+        requires missing { pass_missing pass ≡ missing_by (yard_rules self.old) }
+        requires peer { peer_of (pass_serial pass) (yard_server self.old).connections ≡ Some peer.now }
+        requires decides { IsDecidedBy D.File.honest D.File.sound D.File.bytes pass peer.now decision }
+        ensures noted { Notes J.told J.count J.stored
+            (Decided (pass_serial pass) decision) (yard_roll self.old) (yard_roll self.new) }
+        ensures step { IsTrue D.honest → LeadsDecided (pass_serial pass) (pass_bytes D.File.bytes pass) decision
+            (yard_state D.state self.old) (yard_state D.state self.new) }
+        ensures same { IsSameBeside J.lists self.old self.new }
+        ensures seats { KeepsSeats (yard_seat self.old) (yard_seat self.new) }
+    {
+        self.advance(Event::Decided {
+            serial: pass.serial,
+            decision,
+        });
+    }
+
+    /// The child of a connection that was allowed runs, at its place. It takes no memory.
+    pub fn started<C: Job>(&mut self, running: &Running<L, C>)
+        requires allowed { is_allowed (stage_of_place self.old (place_of running.now)) ≡ true }
+        ensures noted { Notes J.told J.count J.stored
+            (Started (number_of self.old (place_of running.now))) (yard_roll self.old) (yard_roll self.new) }
+        ensures step { IsTrue D.honest → LeadsOn (Started (number_of self.old (place_of running.now)))
+            (yard_state D.state self.old) (yard_state D.state self.new) }
+        ensures same { IsSameBeside J.lists self.old self.new }
+        ensures seats { KeepsSeats (yard_seat self.old) (yard_seat self.new) }
+    {
+        let serial = self.roster.number(running.place().index());
+        self.advance(Event::Started { serial });
+    }
+
+    /// The child of a connection that was allowed could not be started: the connection is gone. It takes no memory.
+    pub fn start_failed(&mut self, place: Place<L>, fault: StartFault)
+        requires allowed { is_allowed (stage_of_place self.old place) ≡ true }
+        ensures noted { Notes J.told J.count J.stored
+            (StartFailed (number_of self.old place) fault) (yard_roll self.old) (yard_roll self.new) }
+        ensures step { IsTrue D.honest → LeadsOn (StartFailed (number_of self.old place) fault)
+            (yard_state D.state self.old) (yard_state D.state self.new) }
+        ensures same { IsSameBeside J.lists self.old self.new }
+        ensures seats { KeepsSeats (yard_seat self.old) (yard_seat self.new) }
+        ensures gone { stage_of (number_of self.old place) (yard_server self.new).connections ≡ None }
+    {
+        let serial = self.roster.number(place.index());
+        self.leave(place, serial, Event::StartFailed { serial, fault });
+    }
+
+    /// The child of a connection has ended: the connection is gone. It takes no memory.
+    pub fn ended(&mut self, place: Place<L>, status: Status)
+        requires started { stage_of_place self.old place ≡ Some stage.Started }
+        ensures noted { Notes J.told J.count J.stored
+            (Ended (number_of self.old place) status) (yard_roll self.old) (yard_roll self.new) }
+        ensures step { IsTrue D.honest → LeadsOn (Ended (number_of self.old place) status)
+            (yard_state D.state self.old) (yard_state D.state self.new) }
+        ensures same { IsSameBeside J.lists self.old self.new }
+        ensures seats { KeepsSeats (yard_seat self.old) (yard_seat self.new) }
+        ensures gone { stage_of (number_of self.old place) (yard_server self.new).connections ≡ None }
+    {
+        let serial = self.roster.number(place.index());
+        self.leave(place, serial, Event::Ended { serial, status });
+    }
+
+    /// The child of a connection could not be waited for: it is let go, and its place stays counted for good. It takes no memory.
+    pub fn retired<C: Job + Drop>(&mut self, running: Running<L, C>)
+        requires started { stage_of_place self.old (place_of running) ≡ Some stage.Started }
+        ensures noted { Notes J.told J.count J.stored
+            (Retired (number_of self.old (place_of running))) (yard_roll self.old) (yard_roll self.new) }
+        ensures step { IsTrue D.honest → LeadsOn (Retired (number_of self.old (place_of running)))
+            (yard_state D.state self.old) (yard_state D.state self.new) }
+        ensures same { IsSameBeside J.lists self.old self.new }
+        ensures seats { KeepsSeats (yard_seat self.old) (yard_seat self.new) }
+    {
+        self.roster.retire(running);
+    }
+
+    /// A connection is given up before a child was started: it is gone. It takes no memory.
+    pub fn dropped(&mut self, place: Place<L>, cause: DropCause)
+        requires unstarted { is_unstarted (stage_of_place self.old place) ≡ true }
+        ensures noted { Notes J.told J.count J.stored
+            (Dropped (number_of self.old place) cause) (yard_roll self.old) (yard_roll self.new) }
+        ensures step { IsTrue D.honest → LeadsOn (Dropped (number_of self.old place) cause)
+            (yard_state D.state self.old) (yard_state D.state self.new) }
+        ensures same { IsSameBeside J.lists self.old self.new }
+        ensures seats { KeepsSeats (yard_seat self.old) (yard_seat self.new) }
+        ensures gone { stage_of (number_of self.old place) (yard_server self.new).connections ≡ None }
+    {
+        let serial = self.roster.number(place.index());
+        self.leave(place, serial, Event::Dropped { serial, cause });
+    }
+
+    // Whether an installation is for the rules name.
+    fn is_for_rules(&self, install: &Install) -> bool
+        ensures { IsTrue result ↔ (name_of (yard_rules self.now) ≡ Some (installing install.now).names.cdb) }
+    {
+        match &self.rules {
+            Some((name, _)) => is_same_name(name, install.cdb()),
+            None => false,
+        }
+    }
+
+    // The number of an installation that may begin.
+    fn next_number(&self, install: &Install) -> Option<u64>
+        ensures some { IfSome result (λ number. MayBegin self.now (installing install.now) × (number ≡ last_begun self.now + 1)) }
+        ensures none { result ≡ None → ¬ MayBegin self.now (installing install.now) }
+    {
+        if install.stepped() {
+            return None;
+        }
+        if self.begun == u64::MAX {
+            return None;
+        }
+        if self.is_for_rules(install) {
+            Some(self.begun + 1)
+        } else {
+            None
+        }
+    }
+
+    /// Begins an installation by its first step, and keeps it, in place of any other, until it is done or meets a fault of the
+    /// directory. It answers the installation's number, counted from 1.
+    ///
+    /// # Errors
+    /// The installation is handed back. `Over` where it was stepped before, is not for the rules name, or no number is left: nothing
+    /// changed. `Disk` where the directory's call failed: an event, which ends any installation that was kept. `OutOfMemory`: nothing
+    /// changed.
+    pub fn install_begin(
+        &mut self,
+        alloc: Global,
+        install: Install,
+    ) -> Result<u64, (Install, InstallFault)>
+        ensures over { IsRefusedAs Over result ↔ ¬ MayBegin self.old (installing install) }
+        ensures number { IfOk result (λ number. number ≡ last_begun self.old + 1) }
+        ensures begun { last_begun self.new ≡ last_begun_after result (last_begun self.old) }
+        ensures kept { kept_number self.new ≡ kept_after_begin result (kept_number self.old) }
+        ensures rules { yard_rules self.new ≡ yard_rules self.old }
+        ensures noted { NotesSome J.told J.count J.stored
+            (begin_event result) (yard_roll self.old) (yard_roll self.new) }
+        ensures step { IsTrue D.honest → LeadsSome
+            (begin_event result) (yard_state D.state self.old) (yard_state D.state self.new) }
+        // a stop at any moment since left what the headline's world may leave, or an image of the directory as it is then
+        ensures stops { IsTrue D.honest → LeavesNothingElse D.moment D.left_since (yard_directory self.old)
+            (yard_directory self.new) (yard_state D.state self.old) (yard_state D.state self.new) }
+        ensures lists { J.lists (yard_roll self.new).journal
+            ≡ lists_after_begin result (installing install).rules (J.lists (yard_roll self.old).journal) }
+        ensures back { IfErr result (λ r. HandsBack (installing install) (installing r.0) r.1) }
+        ensures seats { KeepsSeats (yard_seat self.old) (yard_seat self.new) }
+    {
+        let Some(number) = self.next_number(&install) else {
+            return Err((install, InstallFault::Over));
+        };
+        let mut install = install;
+        match begin_noted(alloc, &mut self.roster, &mut self.dir, &mut install) {
+            Ok(_) => {
+                self.installation = Installation::UnderWay(install);
+                self.begun = number;
+                Ok(number)
+            }
+            Err(fault) => {
+                if is_of_disk(fault) {
+                    self.installation = Installation::Idle;
+                    return Err((install, fault));
+                }
+                Err((install, fault))
+            }
+        }
+    }
+
+    /// Makes the next step of the installation with this number, if it is kept, as `Install::step` does. After `Done` it is done, and a
+    /// step of it answers `Done`, does nothing and is no event.
+    ///
+    /// # Errors
+    /// `Over` where no installation with this number is kept; nothing changed. `Disk` with the phase that was to be reached: an
+    /// event, which ends the installation. `OutOfMemory`: nothing changed.
+    pub fn install_step(&mut self, alloc: Global, number: u64) -> Result<Phase, InstallFault>
+        ensures over { (result ≡ Err Over) ↔ (kept_number self.old ≢ Some number) }
+        ensures after_done { kept_number self.old ≡ Some number → yard_installing self.old ≡ None → result ≡ Ok Done }
+        ensures noted { NotesSome J.told J.count J.stored
+            (event_of_step (kept_under self.old number) result) (yard_roll self.old) (yard_roll self.new) }
+        ensures step { IsTrue D.honest → LeadsSome (event_of_step (kept_under self.old number) result)
+            (yard_state D.state self.old) (yard_state D.state self.new) }
+        ensures stops { IsTrue D.honest → LeavesNothingElse D.moment D.left_since (yard_directory self.old)
+            (yard_directory self.new) (yard_state D.state self.old) (yard_state D.state self.new) }
+        // as `Install::step` of the one that is kept
+        ensures goes { IfSome (kept_under self.old number) (λ s. GoesAsStep s (yard_installing self.new) result) }
+        ensures kept { kept_number self.new ≡ kept_after_step result (kept_number self.old) }
+        ensures begun { last_begun self.new ≡ last_begun self.old }
+        ensures rules { yard_rules self.new ≡ yard_rules self.old }
+        ensures lists { J.lists (yard_roll self.new).journal ≡ J.lists (yard_roll self.old).journal }
+        ensures seats { KeepsSeats (yard_seat self.old) (yard_seat self.new) }
+    {
+        if number != self.begun {
+            return Err(InstallFault::Over);
+        }
+        match mem::replace(&mut self.installation, Installation::Idle) {
+            Installation::Idle => Err(InstallFault::Over),
+            Installation::AtDone => {
+                self.installation = Installation::AtDone;
+                Ok(Phase::Done)
+            }
+            Installation::UnderWay(mut install) => {
+                let result = step_noted(alloc, &mut self.roster, &mut self.dir, &mut install);
+                self.installation = Installation::after(install, result);
+                result
+            }
+        }
+    }
+}
+
+impl Installation {
+    // What becomes of an installation that was stepped.
+    fn after(install: Install, answer: Result<Phase, InstallFault>) -> Installation
+        ensures installing { installing_of result ≡ kept_then (installing install) answer }
+        ensures kept { is_kept result ≡ is_kept_after answer }
+    {
+        match answer {
+            Ok(Phase::Done) => Installation::AtDone,
+            Err(InstallFault::Disk(..)) => Installation::Idle,
+            _ => Installation::UnderWay(install),
+        }
+    }
+}
+
+// Whether two peers are the same in all.
+fn is_same(one: &Peer, other: &Peer) -> bool
+    ensures { IsTrue result ↔ (one.now ≡ other.now) }
+{
+    one.ip() == other.ip()
+        && one.port() == other.port()
+        && one.host() == other.host()
+        && one.info() == other.info()
+}
+
+// Whether two names are the same.
+fn is_same_name(one: &Name, other: &Name) -> bool
+    ensures { IsTrue result ↔ (one.now ≡ other.now) }
+{
+    one.as_str() == other.as_str()
+}
+
+// Whether a fault is the directory's, which ends an installation.
+fn is_of_disk(fault: InstallFault) -> bool
+    ensures { result ≡ is_of_disk fault }
+{
+    matches!(fault, InstallFault::Disk(..))
+}
