@@ -1,0 +1,47 @@
+-- The checks of words whose options were read, in their order, and the fault that each finds.
+use Rattle.std.specs.Prelude.{ℕ, Bool, false, not, is_none, List, [], ◌∷◌, Option, Some, None, codes, if◌then◌else◌}
+use Rattle.std.specs.Option.{option_map_or}
+use Rattle.ucspi_words.specs.Numbers.{is_number_between}
+use Rattle.ucspi_words.specs.Options.{value_of}
+use Rattle.ucspi_words.specs.Words.{LetterGiven, Reading}
+use Rattle.server_words.specs.declared.fault.ServerWordsFault.{ServerWordsFault}
+use Rattle.server_words.specs.declared.fault.ServerWordsFault.TheVariants as fault
+use Rattle.server_words.specs.Operands.{operands_in}
+use Rattle.server_words.specs.Options.{letter}
+use Rattle.server_words.specs.Wrappings.{wrapping_in}
+
+-- the fault that a check finds where it fails
+abbrev pub found : Bool → ServerWordsFault → Option ServerWordsFault
+found fails f = if fails then Some f else None
+
+-- an option has a value that is no number from 1 to the greatest
+abbrev pub has_bad_number : List LetterGiven → ℕ → ℕ → Bool
+has_bad_number options letter greatest =
+    option_map_or (λ text. not (is_number_between text 1 greatest)) (value_of options letter) false
+
+abbrev pub number_check : List LetterGiven → ℕ → ℕ → Option ServerWordsFault
+number_check options letter greatest = found (has_bad_number options letter greatest) (fault.BadNumber letter)
+
+-- the words after the options are no host, port and program
+abbrev pub operands_check : List (List ℕ) → Option ServerWordsFault
+operands_check rest = found (is_none (operands_in rest)) fault.Usage
+
+-- the value of `-w` names no wrappers
+abbrev pub wrapping_check : List LetterGiven → Option ServerWordsFault
+wrapping_check options = found (is_none (wrapping_in (value_of options (letter (codes "w"))))) fault.BadWrappers
+
+-- the checks
+abbrev pub checks : Reading → List (Option ServerWordsFault)
+checks read =
+    number_check read.options (letter (codes "c")) 10000
+    ∷ number_check read.options (letter (codes "k")) 4294967295
+    ∷ number_check read.options (letter (codes "m")) 10000
+    ∷ operands_check read.rest
+    ∷ wrapping_check read.options
+    ∷ []
+
+-- the first fault that is found
+abbrev pub first_found : List (Option ServerWordsFault) → Option ServerWordsFault
+first_found [] = None
+first_found (Some f ∷ more) = Some f
+first_found (None ∷ more) = first_found more

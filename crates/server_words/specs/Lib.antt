@@ -1,0 +1,8 @@
+-- What the words of `tcpserver` ask for, and why they are refused.
+pub mod Checks
+pub mod Faults
+pub mod Limits
+pub mod Operands
+pub mod Options
+pub mod Plans
+pub mod Wrappings

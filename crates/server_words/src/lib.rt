@@ -1,0 +1,17 @@
+//! The words of `tcpserver`: options, host, port, program. They are read into plain values, and nothing is opened or looked up.
+#![tactic(auto)]
+
+pub mod fault;
+pub mod laws;
+pub mod level;
+pub mod limits;
+pub mod operands;
+pub mod words;
+pub mod wrapping;
+
+pub use fault::ServerWordsFault;
+pub use level::Level;
+pub use limits::Limits;
+pub use operands::Operands;
+pub use words::{ServerWords, read_server_words};
+pub use wrapping::{StageName, Wrapping};
