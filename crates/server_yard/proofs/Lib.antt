@@ -13,3 +13,4 @@ pub mod Keeping
 pub mod Noting
 pub mod Going
 pub mod Beginning
+pub mod ReadersLemmas

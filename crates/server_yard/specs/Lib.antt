@@ -6,6 +6,7 @@ pub mod Rosters
 pub mod Standing
 pub mod Stepping
 pub mod Installed
+pub mod Readers
 pub mod Passes
 pub mod Kept
 pub mod Yards

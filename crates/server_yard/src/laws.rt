@@ -1,7 +1,9 @@
 //! Laws over the definitions alone.
-ghost use Rattle.std.specs.Prelude.{◌≡◌, List, []};
+ghost use Rattle.std.specs.Prelude.{◌≡◌, List, [], Some, length};
+ghost use Rattle.rule_lines.specs.Pairs.{Rule};
 ghost use Rattle.server_events.specs.Worlds.{KeptFile};
 ghost use Rattle.server_events.specs.declared.event.Event.{Event};
+ghost use Rattle.server_yard.specs.Readers.{IsAbsentOrCompiled, KeptYard, NamesStoredSinceDone, begun_in};
 ghost use Rattle.server_yard.specs.Standing.{IsNew, IsReachedBy, Series, YardState};
 
 /// From a yard that was just made, over a directory that began as it has to, each series of calls is a history of the headline: it leads
@@ -9,4 +11,16 @@ ghost use Rattle.server_yard.specs.Standing.{IsNew, IsReachedBy, Series, YardSta
 pub fn reached()
     ensures { (y z : YardState) (files : List KeptFile) (history : List Event) → IsNew y → Series y [] history z files
         → IsReachedBy history z files }
+{}
+
+/// What a reader finds, in each yard as its type keeps it where the premises were met when it was made. After each prefix of the pending
+/// changes the rules name is absent, or stands for a synced file that is compiled of rules. Over a journal that stores the lists of the
+/// installations, since any of them answered `Done` it stands for one that is compiled of the list of that installation or of a later one;
+/// there is one list for each.
+pub fn readers()
+    ensures always { (k : KeptYard) → IsAbsentOrCompiled k.directory k.rules.name }
+    ensures since_done { (k : KeptYard) (lists : List (List Rule)) → k.lists ≡ Some lists
+        → NamesStoredSinceDone k.kept.history lists k.directory k.rules.name }
+    ensures one_each { (k : KeptYard) (lists : List (List Rule)) → k.lists ≡ Some lists
+        → length lists ≡ begun_in k.kept.history }
 {}

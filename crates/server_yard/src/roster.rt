@@ -1,5 +1,5 @@
 //! The connections of a server with their places, and the journal of all events.
-ghost use Rattle.std.specs.Prelude.{◌≡◌, ◌≢◌, ◌<◌, ◌+◌, ◌-◌, ◌^◌, ◌++◌, ◌∷◌, ◌↔◌, ℕ, List, [], true, false, Err, Some, None, IsTrue, IsSome, IfOk, IfErr, OnOk, OnErr, length, option_map};
+ghost use Rattle.std.specs.Prelude.{◌≡◌, ◌≢◌, ◌<◌, ◌+◌, ◌-◌, ◌^◌, ◌++◌, ◌∷◌, ◌↔◌, ℕ, List, [], true, false, Err, Some, None, IsTrue, IsSome, IfOk, IfErr, IfSome, OnOk, OnErr, length, option_map};
 ghost use Rattle.std.specs.List.{count_by};
 ghost use Rattle.std.specs.BTreeMap.{get};
 ghost use Rattle.std.specs.Ordering.{nat_cmp};
@@ -157,6 +157,17 @@ impl<L: Ledger, J: Journal> Roster<L, J> {
         let serial = *self.seats.get(&index)?;
         self.state.stage(serial)?;
         Some(serial)
+    }
+
+    /// That serial, with the connection's stage.
+    pub(crate) fn stage(&self, index: usize) -> Option<(u64, Stage)>
+        ensures serial { option_map (λ r. r.0) result ≡ serial_at (seat_of self.now index) (roll_of self.now).server }
+        ensures stage { option_map (λ r. r.1) result ≡ stage_at (seat_of self.now index) (roll_of self.now).server }
+        ensures number { IfSome result (λ r. r.0 ≡ number_at (seat_of self.now index)) }
+    {
+        let serial = *self.seats.get(&index)?;
+        let stage = self.state.stage(serial)?;
+        Some((serial, stage))
     }
 
     /// Lets a connection in, unless as many are alive as may be.

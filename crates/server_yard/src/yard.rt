@@ -12,6 +12,7 @@ ghost use Rattle.server_events.specs.declared.event.Event.TheVariants.{Admitted,
 ghost use Rattle.server_events.specs.declared.event.Stage.TheVariants as stage;
 ghost use Rattle.server_yard.specs.Installed.{IsKeptBy, IsWholeFile};
 ghost use Rattle.server_yard.specs.Passes.{IsDecidedBy, pass_bytes, pass_file, pass_missing, pass_serial};
+ghost use Rattle.server_yard.specs.Readers.{ReadersFind};
 ghost use Rattle.server_yard.specs.Rolls.{IsQuiet, Notes, NotesSome};
 ghost use Rattle.server_yard.specs.Rosters.{roll_of};
 ghost use Rattle.server_yard.specs.Seating.{GivesSeat, IsAddressFull, IsSpent, KeepsSeats, KeepsSerials, goes_on, leaver};
@@ -157,12 +158,26 @@ impl<L: Premises, D: Dir + Drop, J: Journal> Yard<L, D, J> {
         }
     }
 
+    /// The directory, to look at.
+    pub fn directory(&self) -> &D
+        ensures { result.now ≡ yard_directory self.now }
+    {
+        &self.dir
+    }
+
     /// The journal.
     pub fn journal(&self) -> &J
         ensures { result.now ≡ (yard_roll self.now).journal }
     {
         self.roster.journal()
     }
+
+    /// A law: what a reader finds, as `laws::readers` has it, of each yard whose premises were met when it was made.
+    pub fn consistent(&self)
+        ensures { IsTrue L.met → IfSome (yard_rules self.now) (λ rules. ∥ ReadersFind
+            (J.told (yard_roll self.now).journal) (J.count (yard_roll self.now).journal) (J.stored (yard_roll self.now).journal)
+            (J.lists (yard_roll self.now).journal) (yard_server self.now) (D.state (yard_directory self.now)) rules ∥₁) }
+    {}
 
     /// Who calls the events that follow: a number from 1, or 0 for nobody, as at first. Nothing else changes.
     pub fn speaker(&mut self, speaker: u64)
@@ -178,6 +193,16 @@ impl<L: Premises, D: Dir + Drop, J: Journal> Yard<L, D, J> {
         ensures { result ≡ serial_of self.now place.now }
     {
         self.roster.serial(place.index())
+    }
+
+    /// The serial and the stage of the connection that has a place, where it is alive: the test for what the calls that take a place
+    /// require.
+    pub fn stage_of(&self, place: &Place<L>) -> Option<(u64, Stage)>
+        ensures serial { option_map (λ r. r.0) result ≡ serial_of self.now place.now }
+        ensures stage { option_map (λ r. r.1) result ≡ stage_of_place self.now place.now }
+        ensures number { IfSome result (λ r. r.0 ≡ number_of self.now place.now) }
+    {
+        self.roster.stage(place.index())
     }
 
     /// The stage of a connection that is alive.
@@ -423,6 +448,13 @@ impl<L: Premises, D: Dir + Drop, J: Journal> Yard<L, D, J> {
         } else {
             None
         }
+    }
+
+    /// Whether the installation with this number is under way: it is kept, and not done.
+    pub fn is_under_way(&self, number: u64) -> bool
+        ensures { result ≡ is_some (kept_under self.now number) }
+    {
+        number == self.begun && matches!(self.installation, Installation::UnderWay(..))
     }
 
     /// Begins an installation by its first step, and keeps it, in place of any other, until it is done or meets a fault of the

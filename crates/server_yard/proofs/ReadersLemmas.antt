@@ -1,0 +1,309 @@
+-- What a reader finds under the rules name of a yard, from what its installations left.
+use Rattle.std.proofs.Common.{◌≡◌, ◌≤◌, ◌<◌, ◌+◌, inl, inr, ℕ, zero, suc, true, false, cond, List, [], ◌∷◌, ◌++◌, length, map, refl, ap, subst, ◌∙◌, arith}
+use Rattle.std.specs.Prelude.{◌⊎◌, Option, None, Some, IfSome, max, is_some, slice_get}
+use Rattle.std.specs.FinMap.{get}
+use Rattle.std.proofs.lemmas.List.{length_push}
+use Rattle.std.proofs.lemmas.List.Sums.{sum_by-cons}
+use mathlib.Core.Logic.{∥∥₁_map}
+use Rattle.dir_disk.specs.Directory.{Directory}
+use Rattle.dir_disk.specs.NameTable.{CanBeLeft, Names}
+use Rattle.event_journals.specs.declared.journal.Noted.{Noted}
+use Rattle.rule_lines.specs.Pairs.{Rule}
+use Rattle.rules_install.specs.Installing.{Installing}
+use Rattle.rules_install.specs.declared.Phase.{Phase}
+use Rattle.rules_install.specs.declared.Phase.TheVariants.{Fresh, Filling, Synced, Named, Done}
+use Rattle.server_events.specs.Headline.{Reaches}
+use Rattle.server_events.specs.ServerState.{ServerState}
+use Rattle.server_events.specs.Steps.{Advances, Legal, Moves, Step, none, more}
+use Rattle.server_events.specs.Table.{Follows, done}
+use Rattle.server_events.specs.Worlds.{Accepted, RulesName, UnderWay, World}
+use Rattle.server_events.specs.declared.event.Event.{Event}
+use Rattle.server_events.specs.declared.event.Event.TheVariants.{Admitted, Opened, Decided, Started, StartFailed, Ended, Retired, Dropped, Stepped, StepFailed, Stop}
+use Rattle.server_events.specs.declared.report.Report.{Report}
+use Rattle.server_events.proofs.StandingTexts.{IsText, StandsAt}
+use Rattle.server_events.proofs.TableLemmas.{may_come_follows, step_is}
+use Rattle.server_events.proofs.WholeText.{Agree, good_reached, good_rules}
+use Rattle.server_yard.specs.Installed.{IsKeptBy, installs_of}
+use Rattle.server_yard.specs.Readers.{IsAbsentOrCompiled, KeptYard, NamesCompiled, NamesStored, NamesStoredSinceDone, ReadersFind, begun_in, is_first}
+use Rattle.server_yard.specs.Seating.{is_installing}
+
+-- ---- how many texts were accepted
+
+-- one for each first step, and nothing is under way where there was none
+record Counted (w : World) (n : ℕ) : Type 0 where
+  texts : length w.accepted ≡ n + 1
+  idle : n ≡ 0 → w.under_way ≡ None
+
+abbrev one_of : Event → ℕ
+one_of event = cond (is_first event) 1 0
+
+-- a step that accepts nothing, and begins nothing
+counted_same : (w v : World) (n : ℕ) → v.accepted ≡ w.accepted → (w.under_way ≡ None → v.under_way ≡ None) → Counted w n → Counted v (n + 0)
+counted_same w v n same idle c =
+    let texts : length v.accepted ≡ length w.accepted = ap (λ (a : Accepted). length a) same in
+    let was = c.texts in
+    record { texts = omega (arith, texts, was); idle = λ none. idle (c.idle (omega (arith, none))) }
+
+counted_advance : (phase : Phase) (w v : World) (n : ℕ) → Advances phase w v → Counted w n → Counted v (n + one_of (Stepped phase))
+counted_advance Fresh w v n a c =
+    let texts : length v.accepted ≡ length w.accepted + 1 = ap (λ (x : World). length x.accepted) a.4 ∙ length_push w.accepted (Some a.0) in
+    let was = c.texts in
+    record { texts = omega (arith, texts, was); idle = λ none. absurd (omega (arith, none)) }
+counted_advance Filling w v n a c = counted_same w v n (ap (λ (x : World). x.accepted) a.2) (λ is. ap (λ (x : World). x.under_way) a.2 ∙ is) c
+counted_advance Synced w v n a c = counted_same w v n (ap (λ (x : World). x.accepted) a.4) (λ is. ap (λ (x : World). x.under_way) a.4 ∙ is) c
+counted_advance Named w v n a c = counted_same w v n (ap (λ (x : World). x.accepted) a.4) (λ is. ap (λ (x : World). x.under_way) a.4 ∙ is) c
+counted_advance Done w v n a c = counted_same w v n (ap (λ (x : World). x.accepted) a.3) (λ is. ap (λ (x : World). x.under_way) a.3) c
+
+counted_moves : (event : Event) (w v : World) (n : ℕ) → Moves event w v → Counted w n → Counted v (n + one_of event)
+counted_moves (Admitted m peer) w v n a c = counted_same w v n (ap (λ (x : World). x.accepted) a) (λ is. ap (λ (x : World). x.under_way) a ∙ is) c
+counted_moves (Opened m there) w v n a c = counted_same w v n (ap (λ (x : World). x.accepted) a.1) (λ is. ap (λ (x : World). x.under_way) a.1 ∙ is) c
+counted_moves (Decided m decision) w v n a c = counted_same w v n (ap (λ (x : World). x.accepted) a.5) (λ is. ap (λ (x : World). x.under_way) a.5 ∙ is) c
+counted_moves (Started m) w v n a c = counted_same w v n (ap (λ (x : World). x.accepted) a) (λ is. ap (λ (x : World). x.under_way) a ∙ is) c
+counted_moves (StartFailed m fault) w v n a c = counted_same w v n (ap (λ (x : World). x.accepted) a) (λ is. ap (λ (x : World). x.under_way) a ∙ is) c
+counted_moves (Ended m status) w v n a c = counted_same w v n (ap (λ (x : World). x.accepted) a) (λ is. ap (λ (x : World). x.under_way) a ∙ is) c
+counted_moves (Retired m) w v n a c = counted_same w v n (ap (λ (x : World). x.accepted) a) (λ is. ap (λ (x : World). x.under_way) a ∙ is) c
+counted_moves (Dropped m cause) w v n a c = counted_same w v n (ap (λ (x : World). x.accepted) a) (λ is. ap (λ (x : World). x.under_way) a ∙ is) c
+counted_moves (Stepped phase) w v n a c = counted_advance phase w v n a c
+counted_moves (StepFailed phase) w v n a c = counted_same w v n (ap (λ (x : World). x.accepted) a.3) (λ is. ap (λ (x : World). x.under_way) a.3) c
+counted_moves Stop w v n a c = counted_same w v n (ap (λ (x : World). x.accepted) a.1) (λ is. ap (λ (x : World). x.under_way) a.1) c
+
+begun-cons : (e : Event) (es : List Event) → begun_in (e ∷ es) ≡ one_of e + begun_in es
+begun-cons e es = sum_by-cons (λ (x : Event). cond (is_first x) 1 0) e es
+
+counted_run : {v w : World} {h : List Event} → (n : ℕ) → Legal v h w → Counted v n → Counted w (n + begun_in h)
+counted_run n (none {w}) c =
+    let same : n ≡ n + begun_in [] = omega arith in
+    subst (λ (k : ℕ). Counted w k) same c
+counted_run n (more {u} {v} {w} {event} {events} step rest) c =
+    let first = begun-cons event events in
+    let same : (n + one_of event) + begun_in events ≡ n + begun_in (event ∷ events) = omega (arith, first) in
+    subst (λ (k : ℕ). Counted w k) same (counted_run (n + one_of event) rest (counted_moves event u v n step.moves c))
+
+counted_reached : (h : List Event) (w : World) → Reaches h w → Counted w (begun_in h)
+counted_reached h w reaches =
+    let texts : length reaches.begin.accepted ≡ 1 = ap (λ (a : Accepted). length a) reaches.starts.accepted in
+    let c = counted_run 0 reaches.legal (record { texts = omega (arith, texts); idle = λ none. reaches.starts.under_way }) in
+    let same : 0 + begun_in h ≡ begun_in h = omega arith in
+    subst (λ (k : ℕ). Counted w k) same c
+
+-- ---- what was acknowledged stays
+
+same_le : (w v : World) → v.acknowledged ≡ w.acknowledged → w.acknowledged ≤ v.acknowledged
+same_le w v same = omega (arith, same)
+
+rises_advance : (phase : Phase) (w v : World) → Advances phase w v → w.acknowledged ≤ v.acknowledged
+rises_advance Fresh w v a = same_le w v (ap (λ (x : World). x.acknowledged) a.4)
+rises_advance Filling w v a = same_le w v (ap (λ (x : World). x.acknowledged) a.2)
+rises_advance Synced w v a = same_le w v (ap (λ (x : World). x.acknowledged) a.4)
+rises_advance Named w v a = same_le w v (ap (λ (x : World). x.acknowledged) a.4)
+rises_advance Done w v a = let is = ap (λ (x : World). x.acknowledged) a.3 in omega (arith, is)
+
+rises_moves : (event : Event) (w v : World) → Moves event w v → w.acknowledged ≤ v.acknowledged
+rises_moves (Admitted m peer) w v a = same_le w v (ap (λ (x : World). x.acknowledged) a)
+rises_moves (Opened m there) w v a = same_le w v (ap (λ (x : World). x.acknowledged) a.1)
+rises_moves (Decided m decision) w v a = same_le w v (ap (λ (x : World). x.acknowledged) a.5)
+rises_moves (Started m) w v a = same_le w v (ap (λ (x : World). x.acknowledged) a)
+rises_moves (StartFailed m fault) w v a = same_le w v (ap (λ (x : World). x.acknowledged) a)
+rises_moves (Ended m status) w v a = same_le w v (ap (λ (x : World). x.acknowledged) a)
+rises_moves (Retired m) w v a = same_le w v (ap (λ (x : World). x.acknowledged) a)
+rises_moves (Dropped m cause) w v a = same_le w v (ap (λ (x : World). x.acknowledged) a)
+rises_moves (Stepped phase) w v a = rises_advance phase w v a
+rises_moves (StepFailed phase) w v a = same_le w v (ap (λ (x : World). x.acknowledged) a.3)
+rises_moves Stop w v a = same_le w v (ap (λ (x : World). x.acknowledged) a.1)
+
+rises_run : {v w : World} {h : List Event} → Legal v h w → v.acknowledged ≤ w.acknowledged
+rises_run (none {w}) = omega arith
+rises_run (more {u} {v} {w} {event} {events} step rest) =
+    let here = rises_moves event u v step.moves in
+    let later = rises_run rest in
+    omega (arith, here, later)
+
+-- ---- the number of one that was done
+
+-- a list of steps, up to one of them and from it on
+record Parts (v w : World) (before : List Event) (e : Event) (later : List Event) : Type 0 where
+  x : World
+  y : World
+  first : Legal v before x
+  step : Step x e y
+  rest : Legal y later w
+
+no_event : (before : List Event) (e : Event) (later : List Event) → ◌≡◌ {A = List Event} [] (before ++ e ∷ later) → ⊥
+no_event [] e later is = cc
+no_event (b ∷ bs) e later is = cc
+
+parts_of : {v w : World} {h : List Event} → Legal v h w → (before : List Event) (e : Event) (later : List Event) → h ≡ before ++ e ∷ later → Parts v w before e later
+parts_of none before e later is = absurd (no_event before e later is)
+parts_of (more {u} {v} {w} {event} {events} step rest) [] e later is =
+    let same : event ≡ e = cc in
+    let others : events ≡ later = cc in
+    record {
+      x = u;
+      y = v;
+      first = none;
+      step = subst (λ (f : Event). Step u f v) same step;
+      rest = subst (λ (es : List Event). Legal v es w) others rest;
+    }
+parts_of (more {u} {v} {w} {event} {events} step rest) (b ∷ bs) e later is =
+    let same : event ≡ b = cc in
+    let others : events ≡ bs ++ e ∷ later = cc in
+    let parts = parts_of rest bs e later others in
+    record {
+      x = parts.x;
+      y = parts.y;
+      first = more (subst (λ (f : Event). Step u f v) same step) parts.first;
+      step = parts.step;
+      rest = parts.rest;
+    }
+
+last_of : (accepted : Accepted) (least : ℕ) (name : List ℕ) (d : Directory) (phase : Option Phase) (u : UnderWay) → Follows phase Done → Agree accepted least name d phase (Some u) → u.number + 1 ≡ length accepted
+last_of accepted least name d phase u done goes = goes.last
+
+rules_there : (o : Option RulesName) → is_some o ≡ true → (r : RulesName) × (o ≡ Some r)
+rules_there None there = absurd (cc)
+rules_there (Some r) there = (r, refl)
+
+-- it has the number of the first steps up to it, which is not 0
+number_done : (h : List Event) (x y : World) → Reaches h x → Step x (Stepped Done) y → (begun_in h ≤ y.acknowledged) × (0 < begun_in h)
+number_done h x y reaches step =
+    let moves = step.moves in
+    let u = moves.0 in
+    let named = rules_there x.rules moves.2 in
+    let holds = good_rules x named.0 named.1 (good_reached h x reaches) in
+    let agree = subst (λ (o : Option UnderWay). Agree x.accepted x.acknowledged named.0.name x.directory x.server.phase o) moves.1 holds.agree in
+    let last = last_of x.accepted x.acknowledged named.0.name x.directory x.server.phase u (may_come_follows x.server.phase Done (step_is step.table).0) agree in
+    let counted = counted_reached h x reaches in
+    let texts = counted.texts in
+    let raised : y.acknowledged ≡ max x.acknowledged u.number = ap (λ (z : World). z.acknowledged) moves.3 in
+    (omega (arith, last, texts, raised), positive (begun_in h) counted)
+  where
+    positive : (n : ℕ) → Counted x n → 0 < n
+    positive zero c = let none_there = c.idle refl in let there = step.moves.1 in absurd (cc)
+    positive (suc n) c = omega arith
+
+done_number : (h : List Event) (w : World) → Reaches h w → (before later : List Event) → h ≡ before ++ Stepped Done ∷ later → (begun_in before ≤ w.acknowledged) × (0 < begun_in before)
+done_number h w reaches before later is =
+    let parts = parts_of reaches.legal before (Stepped Done) later is in
+    let at = number_done before parts.x parts.y (record { begin = reaches.begin; starts = reaches.starts; legal = parts.first }) parts.step in
+    let here = at.0 in
+    let on = rises_run parts.rest in
+    (omega (arith, here, on), at.1)
+
+-- ---- the installations of a history
+
+other_first : (e : Event) → is_installing e ≡ false → one_of e ≡ 0
+other_first (Admitted n peer) other = refl
+other_first (Opened n there) other = refl
+other_first (Decided n decision) other = refl
+other_first (Started n) other = refl
+other_first (StartFailed n fault) other = refl
+other_first (Ended n status) other = refl
+other_first (Retired n) other = refl
+other_first (Dropped n cause) other = refl
+other_first (Stepped phase) other = absurd (cc)
+other_first (StepFailed phase) other = refl
+other_first Stop other = refl
+
+begun-installs : (h : List Event) → begun_in (installs_of h) ≡ begun_in h
+begun-installs [] = refl
+begun-installs (x ∷ xs) =
+    let rest = begun-installs xs in
+    let all = begun-cons x xs in
+    elim (is_installing x) as (λ b. is_installing x ≡ b → begun_in (cond b (x ∷ installs_of xs) (installs_of xs)) ≡ begun_in (x ∷ xs)) [
+      | true ↦ λ one. (let some = begun-cons x (installs_of xs) in omega (arith, rest, all, some))
+      | false ↦ λ other. (let zero_here = other_first x other in omega (arith, rest, all, zero_here))
+    ] refl
+
+installs-done : (before later : List Event) → installs_of (before ++ Stepped Done ∷ later) ≡ installs_of before ++ Stepped Done ∷ installs_of later
+installs-done [] later = refl
+installs-done (x ∷ xs) later =
+    let rest = installs-done xs later in
+    elim (is_installing x) as (λ b. cond b (x ∷ installs_of (xs ++ Stepped Done ∷ later)) (installs_of (xs ++ Stepped Done ∷ later)) ≡ cond b (x ∷ installs_of xs) (installs_of xs) ++ Stepped Done ∷ installs_of later) [
+      | true ↦ ap (λ (es : List Event). x ∷ es) rest
+      | false ↦ rest
+    ]
+
+-- ---- what stands there
+
+length-texts : (lists : List (List Rule)) → length (map (λ (r : List Rule). Some r) lists) ≡ length lists
+length-texts [] = refl
+length-texts (x ∷ xs) = let rest = length-texts xs in omega (arith, rest)
+
+-- a text behind the first is that of a stored list
+stored_text : (lists : List (List Rule)) (place : ℕ) (text : Option (List Rule)) → slice_get (map (λ (r : List Rule). Some r) lists) place ≡ Some text → (rules : List Rule) × (slice_get lists place ≡ Some rules) × (text ≡ Some rules)
+stored_text [] place text is = absurd (cc)
+stored_text (x ∷ xs) zero text is = let same : text ≡ Some x = cc in (x, refl, same)
+stored_text (x ∷ xs) (suc place) text is = stored_text xs place text is
+
+compiled_at : (d : Directory) (names : Names) (name : List ℕ) (rules : List Rule) → StandsAt d.files (Some rules) (get names name) → NamesCompiled d names name rules
+compiled_at d names name rules stands = record { number = stands.0; file = stands.2.file; named = stands.1; synced = stands.2.there; compiled = stands.2.compiled }
+
+absent_or : (d : Directory) (names : Names) (name : List ℕ) (text : Option (List Rule)) → StandsAt d.files text (get names name) → (get names name ≡ None) ⊎ ((rules : List Rule) × NamesCompiled d names name rules)
+absent_or d names name None stands = inl stands
+absent_or d names name (Some rules) stands = inr (rules, compiled_at d names name rules stands)
+
+stored_at : (first : Option (List Rule)) (lists : List (List Rule)) (least : ℕ) (d : Directory) (names : Names) (name : List ℕ) (place : ℕ) (text : Option (List Rule)) → 0 < least → least ≤ place → slice_get (first ∷ map (λ (r : List Rule). Some r) lists) place ≡ Some text → StandsAt d.files text (get names name)
+    → NamesStored lists least d names name
+stored_at first lists least d names name zero text some recent is stands = absurd (omega arith)
+stored_at first lists least d names name (suc place) text some recent is stands =
+    let found = stored_text lists place text is in
+    record {
+      place = place;
+      rules = found.0;
+      stored = found.1;
+      recent = omega arith;
+      there = compiled_at d names name found.0 (subst (λ (t : Option (List Rule)). StandsAt d.files t (get names name)) found.2 stands);
+    }
+
+module _ (k : KeptYard) where
+  text_of : (names : Names) → CanBeLeft k.directory.names names → IsText k.kept.installed.world.accepted k.kept.installed.world.acknowledged k.directory.files (get names k.rules.name)
+  text_of names left =
+      let it = k.kept.installed in
+      let holds = good_rules it.world k.rules it.has_rules (good_reached (installs_of k.kept.history) it.world it.reached) in
+      subst (λ (d : Directory). (ns : Names) → CanBeLeft d.names ns → IsText it.world.accepted it.world.acknowledged d.files (get ns k.rules.name)) it.has_directory holds.lasts names left
+
+  pub always_whole : IsAbsentOrCompiled k.directory k.rules.name
+  always_whole names left =
+      let is = text_of names left in
+      absent_or k.directory names k.rules.name is.text is.stands
+
+  texts_are : (lists : List (List Rule)) → k.lists ≡ Some lists → k.kept.installed.world.accepted ≡ k.kept.installed.first ∷ map (λ (r : List Rule). Some r) lists
+  texts_are lists is =
+      let it = k.kept.installed in
+      subst (λ (o : Option (List (List Rule))). IfSome o (λ all. it.world.accepted ≡ it.first ∷ map Some all)) is it.accepted
+
+  pub since_done : (lists : List (List Rule)) → k.lists ≡ Some lists → NamesStoredSinceDone k.kept.history lists k.directory k.rules.name
+  since_done lists is before later split names left =
+      let it = k.kept.installed in
+      let at = done_number (installs_of k.kept.history) it.world it.reached (installs_of before) (installs_of later) (ap installs_of split ∙ installs-done before later) in
+      let same = begun-installs before in
+      let text = text_of names left in
+      let recent = text.recent in
+      let acknowledged = at.0 in
+      let some = at.1 in
+      let found = subst (λ (a : Accepted). slice_get a text.place ≡ Some text.text) (texts_are lists is) text.accepted_as in
+      stored_at it.first lists (begun_in before) k.directory names k.rules.name text.place text.text (omega (arith, some, same)) (omega (arith, acknowledged, recent, same)) found text.stands
+
+  pub one_each : (lists : List (List Rule)) → k.lists ≡ Some lists → length lists ≡ begun_in k.kept.history
+  one_each lists is =
+      let it = k.kept.installed in
+      let counted = counted_reached (installs_of k.kept.history) it.world it.reached in
+      let texts = counted.texts in
+      let same = begun-installs k.kept.history in
+      let all = ap (λ (a : Accepted). length a) (texts_are lists is) in
+      let lengths = length-texts lists in
+      omega (arith, texts, same, all, lengths)
+
+  pub readers_find : ReadersFind k.told k.count k.stored k.lists k.server k.directory k.rules
+  readers_find = record { history = k.kept.history; is_history = k.kept.is_history; always = always_whole; since_done = by k.lists refl }
+    where
+      by : (o : Option (List (List Rule))) → k.lists ≡ o → IfSome o (λ all. NamesStoredSinceDone k.kept.history all k.directory k.rules.name)
+      by None is = tt
+      by (Some lists) is = since_done lists is
+
+-- the same of a yard whose premises were met, with or without a rules name
+pub find_whole : (told : Report) (count : ℕ) (stored : Option (List Noted)) (lists : Option (List (List Rule))) (server : ServerState) (d : Directory) (installing : Option Installing) (rules : Option RulesName) → ∥ IsKeptBy told count stored lists server d rules installing ∥₁
+    → IfSome rules (λ r. ∥ ReadersFind told count stored lists server d r ∥₁)
+find_whole told count stored lists server d installing None kept = tt
+find_whole told count stored lists server d installing (Some r) kept =
+    ∥∥₁_map kept (λ k. readers_find (record { told = told; count = count; stored = stored; lists = lists; server = server; directory = d; rules = r; installing = installing; kept = k }))

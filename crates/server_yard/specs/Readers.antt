@@ -1,0 +1,74 @@
+-- What a reader finds under the rules name of a yard, whatever part of the pending changes a stop takes.
+use Rattle.std.specs.Prelude.{◌≡◌, ◌≤◌, ◌+◌, ◌⊎◌, ℕ, Bool, true, false, List, ◌∷◌, ◌++◌, Option, None, Some, IfSome, slice_get}
+use Rattle.std.specs.List.{count_by}
+use Rattle.std.specs.FinMap.{get}
+use Rattle.dir_disk.specs.Directory.{Directory}
+use Rattle.dir_disk.specs.NameTable.{CanBeLeft, Names}
+use Rattle.event_journals.specs.declared.journal.Noted.{Noted}
+use Rattle.rule_lines.specs.Pairs.{Rule}
+use Rattle.rules_install.specs.Installing.{Installing}
+use Rattle.rules_install.specs.declared.Phase.TheVariants.{Fresh, Done}
+use Rattle.server_events.specs.ServerState.{ServerState}
+use Rattle.server_events.specs.Worlds.{IsOf, RulesName}
+use Rattle.server_events.specs.declared.event.Event.{Event}
+use Rattle.server_events.specs.declared.event.Event.TheVariants.{Stepped}
+use Rattle.server_events.specs.declared.report.Report.{Report}
+use Rattle.server_yard.specs.Installed.{IsKeptBy}
+use Rattle.server_yard.specs.Rolls.{IsHistory}
+
+-- among these names the name stands for a synced file that is compiled of these rules
+pub record NamesCompiled (d : Directory) (names : Names) (name : List ℕ) (rules : List Rule) : Type 0 where
+  pub number : ℕ
+  pub file : List ℕ
+  pub named : get names name ≡ Some number
+  pub synced : slice_get d.files number ≡ Some (record { bytes = file; synced = true })
+  pub compiled : IsOf rules file
+
+-- after each prefix of the pending changes the name is absent, or stands for such a file
+abbrev pub IsAbsentOrCompiled : Directory → List ℕ → Type 0
+IsAbsentOrCompiled d name =
+    (names : Names) → CanBeLeft d.names names → (get names name ≡ None) ⊎ ((rules : List Rule) × NamesCompiled d names name rules)
+
+-- by a first step an installation begins
+abbrev pub is_first : Event → Bool
+is_first (Stepped Fresh) = true
+is_first event = false
+
+-- how many installations began, which is the number of the last of them
+abbrev pub begun_in : List Event → ℕ
+begun_in history = count_by is_first history
+
+-- the name stands for a synced file that is compiled of a stored list; lists are numbered from 1, and this one is no older than a number
+pub record NamesStored (lists : List (List Rule)) (least : ℕ) (d : Directory) (names : Names) (name : List ℕ) : Type 0 where
+  pub place : ℕ
+  pub rules : List Rule
+  pub stored : slice_get lists place ≡ Some rules
+  pub recent : least ≤ place + 1
+  pub there : NamesCompiled d names name rules
+
+-- Since an installation answered `Done`: after each prefix of the pending changes the name stands for a file of the stored list of that
+-- installation or of a later one.
+abbrev pub NamesStoredSinceDone : List Event → List (List Rule) → Directory → List ℕ → Type 0
+NamesStoredSinceDone history lists d name =
+    (before later : List Event) → history ≡ before ++ Stepped Done ∷ later
+    → (names : Names) → CanBeLeft d.names names → NamesStored lists (begun_in before) d names name
+
+-- a yard that follows rules, as its type keeps it
+pub record KeptYard : Type 0 where
+  pub told : Report
+  pub count : ℕ
+  pub stored : Option (List Noted)
+  pub lists : Option (List (List Rule))
+  pub server : ServerState
+  pub directory : Directory
+  pub rules : RulesName
+  pub installing : Option Installing
+  pub kept : IsKeptBy told count stored lists server directory (Some rules) installing
+
+-- what readers find in it, told from its history
+pub record ReadersFind (told : Report) (count : ℕ) (stored : Option (List Noted)) (lists : Option (List (List Rule))) (server : ServerState)
+    (directory : Directory) (rules : RulesName) : Type 0 where
+  pub history : List Event
+  pub is_history : IsHistory told count stored server history
+  pub always : IsAbsentOrCompiled directory rules.name
+  pub since_done : IfSome lists (λ all. NamesStoredSinceDone history all directory rules.name)
