@@ -9,3 +9,4 @@ mod turns;
 pub use pumping::{PumpEnd, Why, pump, pump_counted};
 pub use steps::Steps;
 pub use tap::{NoTap, Recorder, Tap};
+pub use turns::write_out;

@@ -170,7 +170,7 @@ fn show<T: Tap>(piece: &[u8], way: Way, tap: &mut T)
 ///
 /// # Errors
 /// `ZeroWrite` where the writer took nothing, `WriteFault` where it failed, or was interrupted too often.
-fn write_out<W: Write>(bytes: &[u8], writer: &mut W, given: &mut u64) -> Result<(), Why>
+pub fn write_out<W: Write>(bytes: &[u8], writer: &mut W, given: &mut u64) -> Result<(), Why>
     ensures { Wrote (W.contents writer.old) (W.contents writer.new) bytes.now result given.old given.new }
 {
     let mut rest = bytes;

@@ -5,6 +5,10 @@ pub use Rattle.child_jobs.specs.Runs
 pub use Rattle.event_journals.specs.Counts
 pub use Rattle.event_journals.specs.Full
 pub use Rattle.event_journals.specs.Journals
+pub use Rattle.one_connection.specs.Openings
+pub use Rattle.one_connection.specs.Servings
+pub use Rattle.one_connection.specs.Unstarted
+pub use Rattle.one_connection.specs.YardDesks
 pub use Rattle.server_events.specs.ServerState
 pub use Rattle.server_events.specs.Table
 pub use Rattle.server_events.specs.Live

@@ -1,0 +1,25 @@
+-- Starting.
+use Rattle.std.proofs.Common.{ap, ◌∙◌}
+use Rattle.std.specs.Prelude.{◌≡◌, ℕ}
+use Rattle.child_jobs.specs.Runs.{place_of}
+use Rattle.rule_lines.specs.declared.instr.Verdict.TheVariants.{Allow}
+use Rattle.server_events.specs.ServerState.{after}
+use Rattle.server_events.specs.declared.event.Event.TheVariants.{Started}
+use Rattle.server_events.specs.declared.event.Stage.TheVariants as stage
+use Rattle.server_yard.specs.Rolls.{number_at}
+use Rattle.server_yard.specs.Yards.{yard_server}
+use Rattle.one_connection.proofs.Standings.{peer_then, stage_then}
+use Rattle.one_connection.proofs.desk.YardDesk.started.Goals as goal
+
+pub returns : goal.returns
+returns g c =
+    let before = c.requires.stands in
+    let old = yard_server c.args.self.now in
+    let new = yard_server c.started.new.self in
+    let happens = c.started.ensures.noted.happens ∙ ap (λ (n : ℕ). after old (Started n)) (ap number_at before.seat) in record {
+      started = record {
+        seat = c.started.ensures.seats (place_of c.args.running.now) ∙ before.seat;
+        has_peer = peer_then old new c.args._serial stage.Started c.args._peer.now happens before.has_peer;
+        has_stage = stage_then old new c.args._serial stage.Started (stage.Decided Allow) happens before.has_stage;
+      };
+    }

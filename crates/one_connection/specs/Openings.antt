@@ -1,0 +1,54 @@
+-- What a connection finds when it opens the rules.
+use Rattle.std.specs.Prelude.{◌≡◌, ◌<◌, ◌-◌, ◌^◌, ◌⊎◌, ℕ, Bool, IsTrue, List, Option, Result, Ok, Err, option_map}
+use Rattle.cdb_read.specs.Reading.{reading}
+use Rattle.dir_disk.specs.declared.fault.DirFault.{DirFault}
+use Rattle.dir_disk.specs.declared.fault.DirFault.TheVariants as directory
+use Rattle.rule_lines.specs.Lookups.{Trust, WhereKnown}
+use Rattle.rule_lookup.specs.Decisions.{DecisionFails, decision_from}
+use Rattle.rule_lookup.specs.Peers.{Client}
+use Rattle.rule_lookup.specs.declared.decision.Decision.{Decision}
+use Rattle.rule_lookup.specs.declared.decision.DecideFault.{DecideFault}
+use Rattle.rule_lookup.specs.declared.decision.Missing.{Missing}
+use Rattle.server_yard.specs.Passes.{pass_bytes, pass_missing, trust_in}
+use Rattle.server_yard.specs.declared.pass.Pass.{Pass}
+use Rattle.one_connection.specs.declared.desk.OpenFault.{OpenFault}
+use Rattle.one_connection.specs.declared.desk.OpenFault.TheVariants.{Directory, OutOfTurn, OutOfMemory}
+
+-- the bytes of the rules file, or that there is none, and what is decided then
+pub record Opening : Type 0 where
+  pub bytes : Option (List ℕ)
+  pub missing : Missing
+
+-- what a pass has
+abbrev pub opening_of : {L F : Type 0} {p : _} {l : _} {f : _} → (F → List ℕ) → Pass L F p l f → Opening
+opening_of bytes pass = record { bytes = pass_bytes bytes pass; missing = pass_missing pass }
+
+-- what it decides of a peer: by the first lookup form that the file has
+abbrev pub decides : Opening → Client → Result Decision DecideFault
+decides found peer = decision_from (option_map reading found.bytes) found.missing peer
+
+-- it decides so, as far as what its file holds is known
+abbrev pub Decides : (honest sound : Bool) → Opening → Client → Decision → Type 0
+Decides honest sound found peer decision =
+    WhereKnown (trust_in honest sound found.bytes) (decides found peer ≡ Ok decision)
+
+-- the decision by it fails so
+abbrev pub FailsToDecide : (honest sound : Bool) → Opening → Client → DecideFault → Type 0
+FailsToDecide honest sound found peer fault =
+    DecisionFails (trust_in honest sound found.bytes) (decides found peer) fault
+
+-- a fault of a directory, as that of opening the rules
+abbrev pub open_fault : DirFault → OpenFault
+open_fault directory.OutOfMemory = OutOfMemory
+open_fault directory.Device = Directory
+open_fault directory.NoScratch = Directory
+open_fault directory.NoName = Directory
+
+-- a call of the directory failed only where a failure was counted since, or where no more can be
+abbrev pub CountsFailure : (before now : ℕ) → Type 0
+CountsFailure before now = (before < now) ⊎ (now ≡ 2 ^ 64 - 1)
+
+-- opening answers `Directory` only so, and `OutOfTurn` only where others may call too
+pub record CanFail {T : Type 0} (is_shared : Bool) (before now : ℕ) (answer : Result T OpenFault) : Type 0 where
+  pub counted : answer ≡ Err Directory → CountsFailure before now
+  pub in_turn : answer ≡ Err OutOfTurn → IsTrue is_shared

@@ -1,0 +1,114 @@
+-- How one connection is served.
+use Rattle.std.specs.Prelude.{◌≡◌, ◌≢◌, ◌⊎◌, ◌++◌, ◌∷◌, ⊤, ℕ, Bool, true, false, IsTrue, List, [], Option}
+use Rattle.std.specs.Io.KnownBytes.{Appends}
+use Rattle.child_jobs.specs.Plans.{PlanText}
+use Rattle.child_jobs.specs.Programs.{ProgramText}
+use Rattle.rule_lines.specs.declared.instr.Verdict.{Verdict}
+use Rattle.rule_lines.specs.declared.instr.Verdict.TheVariants.{Allow}
+use Rattle.rule_lines.specs.declared.source.FindFault.TheVariants as find
+use Rattle.rule_lookup.specs.Peers.{Client}
+use Rattle.rule_lookup.specs.declared.decision.Decision.{Decision}
+use Rattle.rule_lookup.specs.declared.decision.DecideFault.{DecideFault}
+use Rattle.rule_lookup.specs.declared.decision.DecideFault.TheVariants.{Find, Code, OutOfMemory}
+use Rattle.rule_lookup.specs.declared.outcome.DropCause.{DropCause}
+use Rattle.rule_lookup.specs.declared.outcome.DropCause.TheVariants as cause
+use Rattle.rule_lookup.specs.declared.outcome.StartFault.{StartFault}
+use Rattle.ucspi_env.specs.Child.{environment_of}
+use Rattle.ucspi_env.specs.Variables.{Variables}
+use Rattle.child_jobs.specs.declared.running.Running.{Running}
+use Rattle.one_connection.specs.Openings.{CountsFailure, Decides, FailsToDecide, Opening}
+use Rattle.one_connection.specs.declared.desk.OpenFault.{OpenFault}
+use Rattle.one_connection.specs.declared.desk.OpenFault.TheVariants as fault
+use Rattle.one_connection.specs.declared.serving.Served.{Served}
+
+-- the decision of a connection by something that it may find when it opens the rules
+pub record IsDecision (finds : Opening → Type 0) (honest sound : Bool) (peer : Client) (decision : Decision) : Type 0 where
+  pub found : Opening
+  pub was_found : finds found
+  pub by_rules : Decides honest sound found peer decision
+
+-- there is such a decision, with this verdict
+pub record IsDecidedAs (finds : Opening → Type 0) (honest sound : Bool) (peer : Client) (verdict : Verdict) : Type 0 where
+  pub decision : Decision
+  pub decided : IsDecision finds honest sound peer decision
+  pub same : verdict ≡ decision.verdict
+
+-- such a decision, with its verdict and the environment that it gives
+pub record IsPrepared (finds : Opening → Type 0) (honest sound : Bool) (peer : Client) (plan : PlanText) (verdict : Verdict) (environment : Variables) : Type 0 where
+  pub decision : Decision
+  pub decided : IsDecision finds honest sound peer decision
+  pub same : verdict ≡ decision.verdict
+  pub given : environment ≡ environment_of plan.inherited plan.local peer decision
+
+-- A child of an allowed connection: its program is the plan's, and its environment is that of the decision.
+pub record IsChild (finds : Opening → Type 0) (honest sound : Bool) (peer : Client) (plan : PlanText) (program : ProgramText) (environment : Variables) : Type 0 where
+  pub allowed : IsPrepared finds honest sound peer plan Allow environment
+  pub planned : program ≡ plan.program
+
+-- the cause of a drop where a decision fails
+abbrev pub cause_of : DecideFault → DropCause
+cause_of (Find find.Short) = cause.Damaged
+cause_of (Find find.Device) = cause.ReadFault
+cause_of (Find find.OutOfMemory) = cause.Memory
+cause_of (Code fault) = cause.Damaged
+cause_of OutOfMemory = cause.Memory
+
+-- the same where the rules could not be opened
+abbrev pub cause_of_open : OpenFault → DropCause
+cause_of_open fault.Directory = cause.Directory
+cause_of_open fault.OutOfTurn = cause.Directory
+cause_of_open fault.OutOfMemory = cause.Memory
+
+-- the decision by something that may be found fails, for this cause
+pub record FailsFor (finds : Opening → Type 0) (honest sound : Bool) (peer : Client) (why : DropCause) : Type 0 where
+  pub found : Opening
+  pub was_found : finds found
+  pub fault : DecideFault
+  pub fails : FailsToDecide honest sound found peer fault
+  pub for_it : cause_of fault ≡ why
+
+-- a connection was dropped for a cause: a banner that there is; a failure of the directory, or a desk that others use; a file that is
+-- damaged or could not be read; want of memory
+abbrev pub Drops : (decides : DropCause → Type 0) → (is_shared : Bool) → (before now : ℕ) → (banner : List ℕ) → DropCause → Type 0
+Drops fails is_shared before now banner cause.Denied = ⊥
+Drops fails is_shared before now banner cause.Banner = banner ≢ []
+Drops fails is_shared before now banner cause.Directory = CountsFailure before now ⊎ IsTrue is_shared
+Drops fails is_shared before now banner cause.ReadFault = fails cause.ReadFault
+Drops fails is_shared before now banner cause.Damaged = fails cause.Damaged
+Drops fails is_shared before now banner cause.Memory = ⊤
+Drops fails is_shared before now banner cause.NoThread = ⊥
+
+-- a writer took the whole banner; or, where it failed, not all of it
+abbrev pub Greets : (old new : Option (List ℕ)) → (banner : List ℕ) → (is_cut : Bool) → Type 0
+Greets old new banner false = Appends old new banner
+Greets old new banner true = (written : List ℕ) × (left : ℕ) × (more : List ℕ) × (banner ≡ written ++ left ∷ more) × Appends old new written
+
+-- the banner could not be written
+abbrev pub is_banner : DropCause → Bool
+is_banner cause.Banner = true
+is_banner _ = false
+
+abbrev pub is_cut_short : {L : _} {J : Type 0} {I O : _} → Served L J I O → Bool
+is_cut_short (Served.Dropped why) = is_banner why
+is_cut_short _ = false
+
+-- what is said of a child that runs; of a denial; of a child that could not be started; of a drop; of all but the first
+abbrev pub IfRunning : {L : _} {J : Type 0} {I O : _} → Served L J I O → (Running L J I O → Type 0) → Type 0
+IfRunning (Served.Running child) P = P child
+IfRunning _ P = ⊤
+
+abbrev pub OnDenied : {L : _} {J : Type 0} {I O : _} → Served L J I O → Type 0 → Type 0
+OnDenied Served.Denied P = P
+OnDenied _ P = ⊤
+
+abbrev pub OnStartFailed : {L : _} {J : Type 0} {I O : _} → Served L J I O → Type 0 → Type 0
+OnStartFailed (Served.StartFailed fault) P = P
+OnStartFailed _ P = ⊤
+
+abbrev pub IfDropped : {L : _} {J : Type 0} {I O : _} → Served L J I O → (DropCause → Type 0) → Type 0
+IfDropped (Served.Dropped why) P = P why
+IfDropped _ P = ⊤
+
+abbrev pub UnlessRunning : {L : _} {J : Type 0} {I O : _} → Served L J I O → Type 0 → Type 0
+UnlessRunning (Served.Running child) P = ⊤
+UnlessRunning _ P = P

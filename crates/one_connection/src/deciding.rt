@@ -1,0 +1,24 @@
+//! The decision of a connection by what it opened.
+ghost use Rattle.std.specs.Prelude.{◌≡◌, IfOk, IfErr};
+ghost use Rattle.one_connection.specs.Openings.{Decides, FailsToDecide, opening_of};
+
+use dir_disk::RulesFile;
+use rule_lookup::{DecideFault, Decision, Peer, decide};
+use server_yard::{Pass, Premises};
+use std::alloc::Global;
+
+/// The decision for a peer by the rules file that its connection opened, or by what is decided without one: as `decide` decides by the bytes
+/// of that file, whatever stands under its name by now.
+///
+/// # Errors
+/// Those of `decide`.
+pub fn decide_by_pass<L: Premises, F: RulesFile + Drop>(
+    alloc: Global,
+    pass: &Pass<L, F>,
+    peer: &Peer,
+) -> Result<Decision, DecideFault>
+    ensures decided { IfOk result (Decides F.honest F.sound (opening_of F.bytes pass.now) peer.now) }
+    ensures refused { IfErr result (FailsToDecide F.honest F.sound (opening_of F.bytes pass.now) peer.now) }
+{
+    decide(alloc, pass.source(), pass.missing(), peer)
+}
