@@ -1,0 +1,13 @@
+-- One more event for a receipt, and one more in the caller's share.
+use Rattle.std.specs.Prelude.{◌≡◌, is_some}
+use Rattle.std.proofs.Common.{rules, arith}
+use Rattle.server_yard.specs.Yards.{yard_roll}
+use Rattle.site_lock.specs.Callers.{caller_number, caller_share}
+use Rattle.site_lock.proofs.Counting.{adds_for, counts_if}
+use Rattle.site_lock.proofs.guarded.Guarded.install_begin.Goals as goal
+
+pub returns-clause-counted : goal.returns-clause-counted
+returns-clause-counted g c = record {
+  same_number = c.add_if.ensures.number;
+  adds = adds_for c.begin_counted-answer.result.1 (caller_number c.args.caller.now) c.events-before.result (caller_share c.args.caller.now) (caller_share c.add_if.new.caller) (search rules) (search rules) (search rules);
+}

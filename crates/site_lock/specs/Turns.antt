@@ -1,0 +1,41 @@
+-- What a turn does to a yard, and whose turn it is.
+use Rattle.std.specs.Prelude.{◌≡◌, ℕ, ⊤, List, Option, Some, Result, Ok, Err, IsSome}
+use Rattle.event_journals.specs.declared.journal.Noted.{Noted}
+use Rattle.rule_lines.specs.Pairs.{Rule}
+use Rattle.rule_lookup.specs.Peers.{Client}
+use Rattle.server_events.specs.ServerState.{stage_of}
+use Rattle.server_events.specs.Worlds.{missing_by, peer_of}
+use Rattle.server_events.specs.declared.event.Event.{Event}
+use Rattle.server_events.specs.declared.event.Stage.TheVariants as stage
+use Rattle.server_events.specs.declared.report.Report.{Report}
+use Rattle.server_yard.specs.Passes.{pass_missing, pass_serial}
+use Rattle.server_yard.specs.Rolls.{Notes, Roll}
+use Rattle.server_yard.specs.Seating.{KeepsSeats}
+use Rattle.server_yard.specs.Yards.{IsSameBeside, yard_roll, yard_rules, yard_seat, yard_server}
+use Rattle.server_yard.specs.declared.pass.Pass.{Pass}
+use Rattle.server_yard.specs.declared.yard.Yard.{Yard}
+
+-- the same, where another speaks
+abbrev pub spoken_by : {J : Type 0} → ℕ → Roll J → Roll J
+spoken_by who roll = record roll { speaker = who }
+
+-- an event that may happen does, and is noted as this caller's
+abbrev pub NotesBy : {J : Type 0} → (J → Report) → (J → ℕ) → (J → Option (List Noted)) → ℕ → Event → (old new : Roll J) → Type 0
+NotesBy told count stored who event old new = Notes told count stored event (spoken_by who old) new
+
+-- but for who speaks a yard is as before
+pub record IsPassedOver {L D J F : Type 0} {p : _} {l : _} {d : _} {j : _} (lists : J → Option (List (List Rule))) (who : ℕ) (old new : Yard L D J F p l d j) : Type 0 where
+  pub roll : yard_roll new ≡ spoken_by who (yard_roll old)
+  pub beside : IsSameBeside lists old new
+  pub seats : KeepsSeats (yard_seat old) (yard_seat new)
+
+-- it is the turn of a pass: its connection opened the rules, this is its peer, and it has the yard's word for a missing file
+pub record MayBeDecided {L D J F G : Type 0} {p : _} {l : _} {d : _} {j : _} {q : _} {m : _} {f : _} (yard : Yard L D J F p l d j) (pass : Pass L G q m f) (peer : Client) : Type 0 where
+  pub is_opened : stage_of (pass_serial pass) (yard_server yard).connections ≡ Some stage.Opened
+  pub missing : pass_missing pass ≡ missing_by (yard_rules yard)
+  pub its_peer : peer_of (pass_serial pass) (yard_server yard).connections ≡ Some peer
+
+-- a call that answers a receipt, or hands back for want of memory, was in its turn
+abbrev pub IsInTurn : {R E : Type 0} → Result (Option R) E → Type 0
+IsInTurn (Ok answer) = IsSome answer
+IsInTurn (Err back) = ⊤

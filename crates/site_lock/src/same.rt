@@ -1,0 +1,113 @@
+//! Whether two events are the same in all. None of this takes memory.
+ghost use Rattle.std.specs.Prelude.{◌≡◌, ◌↔◌, IsTrue};
+
+use rule_lines::{Setting, Settings};
+use rule_lookup::{Decision, Found, Peer};
+use server_events::Event;
+
+/// Whether two events are the same.
+pub(crate) fn is_same_event(one: &Event, other: &Event) -> bool
+    ensures { IsTrue result ↔ (one.now ≡ other.now) }
+{
+    match (one, other) {
+        (Event::Admitted { serial, peer }, Event::Admitted { serial: n, peer: p }) => *serial == *n
+            && is_same_peer(peer, p),
+        (
+            Event::Opened { serial, there },
+            Event::Opened {
+                serial: n,
+                there: t,
+            },
+        ) => *serial == *n && *there == *t,
+        (
+            Event::Decided { serial, decision },
+            Event::Decided {
+                serial: n,
+                decision: d,
+            },
+        ) => *serial == *n && is_same_decision(decision, d),
+        (Event::Started { serial }, Event::Started { serial: n }) => *serial == *n,
+        (
+            Event::StartFailed { serial, fault },
+            Event::StartFailed {
+                serial: n,
+                fault: f,
+            },
+        ) => *serial == *n && *fault == *f,
+        (
+            Event::Ended { serial, status },
+            Event::Ended {
+                serial: n,
+                status: s,
+            },
+        ) => *serial == *n && *status == *s,
+        (Event::Retired { serial }, Event::Retired { serial: n }) => *serial == *n,
+        (
+            Event::Dropped { serial, cause },
+            Event::Dropped {
+                serial: n,
+                cause: c,
+            },
+        ) => *serial == *n && *cause == *c,
+        (Event::Stepped { phase }, Event::Stepped { phase: p }) => *phase == *p,
+        (Event::StepFailed { phase }, Event::StepFailed { phase: p }) => *phase == *p,
+        (Event::Stop, Event::Stop) => true,
+        _ => false,
+    }
+}
+
+// Whether two peers are the same.
+fn is_same_peer(one: &Peer, other: &Peer) -> bool
+    ensures { IsTrue result ↔ (one.now ≡ other.now) }
+{
+    one.ip() == other.ip()
+        && one.port() == other.port()
+        && one.host() == other.host()
+        && one.info() == other.info()
+}
+
+// Whether two decisions are the same.
+fn is_same_decision(one: &Decision, other: &Decision) -> bool
+    ensures { IsTrue result ↔ (one.now ≡ other.now) }
+{
+    one.verdict == other.verdict
+        && is_same_found(&one.found, &other.found)
+        && is_same_settings(&one.settings, &other.settings)
+}
+
+fn is_same_found(one: &Found, other: &Found) -> bool
+    ensures { IsTrue result ↔ (one.now ≡ other.now) }
+{
+    match (one, other) {
+        (Found::Address(a), Found::Address(b)) => a.as_str() == b.as_str(),
+        (Found::Default, Found::Default) => true,
+        (Found::NoFile, Found::NoFile) => true,
+        _ => false,
+    }
+}
+
+fn is_same_settings(one: &Settings, other: &Settings) -> bool
+    ensures { IsTrue result ↔ (one.now ≡ other.now) }
+{
+    is_same_list(one.as_slice(), other.as_slice())
+}
+
+fn is_same_list(one: &[Setting], other: &[Setting]) -> bool
+    ensures { IsTrue result ↔ (one.now ≡ other.now) }
+{
+    if one.len() != other.len() {
+        return false;
+    }
+    for i in 0..one.len() {
+        if !is_same_setting(&one[i], &other[i]) {
+            return false;
+        }
+    }
+    true
+}
+
+fn is_same_setting(one: &Setting, other: &Setting) -> bool
+    ensures { IsTrue result ↔ (one.now ≡ other.now) }
+{
+    one.name() == other.name() && one.value() == other.value()
+}
