@@ -1,0 +1,364 @@
+#!/usr/bin/env python3
+"""How `tcpserver` ends and goes on, and what its programs are given of the system: signals, descriptors, folders; what thousands of connections
+leave behind; and a system that has no descriptors, no threads or no connections to give."""
+import os
+import queue
+import resource
+import signal
+import socket
+import subprocess
+import sys
+import threading
+import time
+
+import refused_memory
+import server_runs
+from server_runs import read_all, reset
+
+ROUND = 1000
+# fails the first calls of accept4 or accept, or one call of pthread_create, the one of this number
+FAULTS = r"""
+#define _GNU_SOURCE
+#include <dlfcn.h>
+#include <errno.h>
+#include <pthread.h>
+#include <stdlib.h>
+#include <sys/socket.h>
+
+static int number_of(const char *name)
+{
+    const char *number = getenv(name);
+    return number ? atoi(number) : 0;
+}
+
+static int fails(void)
+{
+    static int calls;
+    if (__sync_add_and_fetch(&calls, 1) > number_of("FAILED_ACCEPTS"))
+        return 0;
+    errno = EMFILE;
+    return 1;
+}
+
+int accept4(int descriptor, struct sockaddr *address, socklen_t *length, int flags)
+{
+    static int (*next)(int, struct sockaddr *, socklen_t *, int);
+    if (!next)
+        next = (int (*)(int, struct sockaddr *, socklen_t *, int))dlsym(RTLD_NEXT, "accept4");
+    return fails() ? -1 : next(descriptor, address, length, flags);
+}
+
+int accept(int descriptor, struct sockaddr *address, socklen_t *length)
+{
+    static int (*next)(int, struct sockaddr *, socklen_t *);
+    if (!next)
+        next = (int (*)(int, struct sockaddr *, socklen_t *))dlsym(RTLD_NEXT, "accept");
+    return fails() ? -1 : next(descriptor, address, length);
+}
+
+int pthread_create(pthread_t *thread, const pthread_attr_t *kind, void *(*run)(void *), void *of)
+{
+    static int calls;
+    static int (*next)(pthread_t *, const pthread_attr_t *, void *(*)(void *), void *);
+    if (__sync_add_and_fetch(&calls, 1) == number_of("FAILED_THREAD"))
+        return EAGAIN;
+    if (!next)
+        next = (int (*)(pthread_t *, const pthread_attr_t *, void *(*)(void *), void *))dlsym(RTLD_NEXT, "pthread_create");
+    return next(thread, kind, run, of);
+}
+"""
+
+
+def faults(suite, **numbers):
+    """The environment in which these calls fail."""
+    library = suite.path("server_faults.so")
+    if not os.path.exists(library):
+        refused_memory.library(suite.folder, FAULTS, "server_faults")
+    return {"env": dict(os.environ, LD_PRELOAD=library, **{name: str(number) for name, number in numbers.items()})}
+
+
+def terminated(suite):
+    """A signal ends the server at once, whatever runs, and another one can listen at the same port at once."""
+    for number in (signal.SIGTERM, signal.SIGINT, signal.SIGKILL, signal.SIGTERM):
+        with suite.start(["-v"] + server_runs.QUIET, ["sh", "-c", "echo hi; cat"]) as server:
+            port = server.port
+            suite.expect("before signal %d" % number, server.ask(b"a"), b"hi\na")
+            with server.connect() as client:
+                client.recv(3)
+                began = time.monotonic()
+                server.process.send_signal(number)
+                code = server.process.wait(server_runs.WAIT)
+                suite.holds("signal %d ends at once" % number, time.monotonic() - began < 2)
+                suite.holds("the end by signal %d" % number, code == -number or (suite.original and code == 0), code)
+                with suite.start(["-v"] + server_runs.QUIET, ["sh", "-c", "echo again"], port=port) as after:
+                    suite.expect("at the same port after signal %d" % number, (after.port, after.ask()), (port, b"again\n"))
+                if not suite.original:
+                    suite.expect("the client of a server that ended by signal %d" % number, read_all(client), b"")
+
+
+def descriptors_of_programs(suite):
+    """A program has descriptors 0, 1 and 2 alone."""
+    script = "for n in 0 1 2 3 4 5 6 7 8 9 10 11 12 13 14 15 16 20 30; do test -e /proc/$$/fd/$n && echo $n; done"
+    with suite.start(["-v"] + server_runs.QUIET, ["sh", "-c", script]) as server, server.connect() as idle:
+        suite.expect("descriptors", server.ask(), b"0\n1\n2\n")
+        suite.expect("descriptors beside another connection", server.ask(), b"0\n1\n2\n")
+        idle.close()
+    if suite.original:
+        return
+    reading, writing = os.pipe()
+    os.set_inheritable(writing, True)
+    path = suite.install(":allow\n")
+    with suite.start(["-x", path], ["sh", "-c", script], close_fds=False) as server:
+        suite.expect("descriptors that the server was given", server.ask(), b"0\n1\n2\n")
+    os.close(reading)
+    os.close(writing)
+
+
+def signals_of_programs(suite):
+    """A program has every signal at its default, and none blocked; its pipes end it."""
+    with suite.start(server_runs.QUIET, ["cat", "/proc/self/status"]) as server:
+        told = dict(line.split(":", 1) for line in server.ask().decode().splitlines())
+        suite.expect("signals blocked and ignored", [int(told[name], 16) for name in ("SigBlk", "SigIgn")], [0, 0])
+    with suite.start(server_runs.QUIET, ["sh", "-c", "yes | head -n 1"]) as server:
+        suite.expect("a pipe's end in a program", server.ask(), b"y\n")
+
+
+def folders_of_programs(suite):
+    """A program runs in the server's working folder, and a path without a leading slash is looked for there."""
+    folder = suite.path("working")
+    os.mkdir(folder)
+    script = suite.path("working/mine", "#!/bin/sh\necho mine\n")
+    os.chmod(script, 0o755)
+    with suite.start(server_runs.QUIET, ["pwd"], cwd=folder) as server:
+        suite.expect("the working folder", server.ask().decode().strip(), os.path.realpath(folder))
+    with suite.start(server_runs.QUIET, ["./mine"], cwd=folder) as server:
+        suite.expect("a program beside the server", server.ask(), b"mine\n")
+    with suite.start(server_runs.QUIET, ["mine"], cwd="/", env=dict(os.environ, PATH=folder + ":" + os.environ["PATH"])) as server:
+        suite.expect("a program on the path", server.ask(), b"mine\n")
+    words = ["a b", "", "-x", "*", "$HOME", "é"]
+    with suite.start(server_runs.QUIET, ["printf", "<%s>"] + words) as server:
+        suite.expect("the words of a program", server.ask().decode(), "".join("<%s>" % word for word in words))
+
+
+def errors_of_programs(suite):
+    """What a program writes to descriptor 2 is in the server's own."""
+    with suite.start(["-q"] + server_runs.QUIET, ["sh", "-c", "echo mine >&2; echo out"]) as server:
+        suite.expect("the output beside errors", server.ask(), b"out\n")
+        server.wait_line("mine")
+
+
+def rounds(server, number):
+    """So many connections, a few at a time: some denied, some closed for their address, some reset."""
+    left = queue.SimpleQueue()
+    for n in range(number):
+        left.put(n)
+
+    def run():
+        while True:
+            try:
+                n = left.get_nowait()
+            except queue.Empty:
+                return
+            try:
+                client = server.connect("127.0.%d.%d" % (n % 5, n % 3 + 1))
+                if n % 7 == 0:
+                    reset(client)
+                    continue
+                with client:
+                    client.shutdown(socket.SHUT_WR)
+                    read_all(client)
+            except OSError:
+                pass
+
+    threads = [threading.Thread(target=run, daemon=True) for _ in range(16)]
+    for thread in threads:
+        thread.start()
+    for thread in threads:
+        thread.join(server_runs.CHECK_TIME)
+    server.idle()
+
+
+def children_of(number):
+    """The processes whose parent has this number, those that ended and were not waited for among them."""
+    found = 0
+    for name in os.listdir("/proc"):
+        if name.isdigit():
+            try:
+                with open("/proc/%s/stat" % name) as file:
+                    found += file.read().rpartition(")")[2].split()[1] == str(number)
+            except OSError:
+                pass
+    return found
+
+
+def nothing_left(suite):
+    """Six thousand connections leave no descriptor, no thread, no process and no memory behind."""
+    program, table = suite.child()
+    path = suite.install("127.0.1.:deny\n:allow\n")
+    limits = [] if suite.original else ["-m", "4"]
+    with suite.start(["-v", "-c", "10", "-x", path] + limits + server_runs.QUIET, [program, table, "0"]) as server:
+        rounds(server, ROUND)
+        before = server.descriptors(), server.threads(), server.memory()
+        rounds(server, 5 * ROUND)
+        after = server.descriptors(), server.threads(), server.memory()
+        suite.holds("descriptors after 5,000 connections", after[0] <= before[0] + 40, (before, after))
+        suite.holds("threads after 5,000 connections", after[1] <= before[1] + 21, (before, after))
+        suite.holds("memory after 5,000 connections", after[2] <= before[2] + 3072, (before, after))
+        suite.expect("processes after 5,000 connections", children_of(server.process.pid), 0)
+        used = server.processor_time()
+        time.sleep(0.5)
+        suite.holds("an idle server uses no time", server.processor_time() - used < 0.05, server.processor_time() - used)
+        suite.audit("six thousand connections", server, None if suite.original else 4)
+
+
+def few_descriptors(suite):
+    """With few descriptors the server neither ends nor spins, and once connections end it serves on."""
+    for number in range(16, 28):
+
+        def limit(number=number):
+            resource.setrlimit(resource.RLIMIT_NOFILE, (number, number))
+
+        with suite.start(["-v"], ["sh", "-c", "echo hi; read a"], preexec_fn=limit) as server:
+            clients = [server.connect() for _ in range(12)]
+            time.sleep(0.15)
+            used = server.processor_time()
+            time.sleep(0.5)
+            used = server.processor_time() - used
+            suite.holds("time used with %d descriptors" % number, used < 0.2, used)
+            suite.holds("the server runs with %d descriptors" % number, server.process.poll() is None, server.log()[-300:])
+            for client in clients:
+                client.close()
+            wait_for_answer(server, "with %d descriptors" % number)
+            server.idle()
+            suite.audit("%d descriptors" % number, server)
+
+
+def no_descriptors(suite):
+    """Where the server has no descriptor left a client waits, without any time used, until a connection ends."""
+    with suite.start(["-v"], ["sh", "-c", "echo hi; read a"]) as server:
+        clients = [server.connect() for _ in range(4)]
+        suite.expect("four that have their descriptors", [client.recv(3) for client in clients], [b"hi\n"] * 4)
+        number = server.process.pid
+        taken = {int(name) for name in os.listdir("/proc/%d/fd" % number)}
+        free = next(place for place in range(len(taken) + 1) if place not in taken)
+        before = resource.prlimit(number, resource.RLIMIT_NOFILE)
+        resource.prlimit(number, resource.RLIMIT_NOFILE, (free, before[1]))
+        # a server that waits in `accept` may keep a descriptor for the first one
+        first = server.connect()
+        time.sleep(0.3)
+        late = server.connect()
+        late.settimeout(1)
+        used = server.processor_time()
+        try:
+            suite.holds("a client without a descriptor waits", False, late.recv(3))
+        except TimeoutError:
+            suite.holds("a client without a descriptor waits", True)
+        used = server.processor_time() - used
+        suite.holds("no time is used while there is no descriptor", used < 0.1, used)
+        late.settimeout(server_runs.WAIT)
+        for client in clients[:3]:
+            client.close()
+        # it is taken once a connection ends, though there may be too few descriptors for its program
+        got = late.recv(3)
+        suite.holds("a client that waited for a descriptor", got in (b"hi\n", b""), got)
+        late.close()
+        first.close()
+        resource.prlimit(number, resource.RLIMIT_NOFILE, before)
+        wait_for_answer(server, "after the lack")
+        clients[3].sendall(b"\n")
+        suite.expect("the one that ran all the time", read_all(clients[3]), b"")
+        clients[3].close()
+        server.idle()
+        suite.audit("no descriptors", server)
+
+
+def wait_for_answer(server, when):
+    """Waits until a client is served."""
+    try:
+        server_runs.wait_until("an answer", lambda: answers(server))
+    except server_runs.Amiss:
+        raise server_runs.Amiss("no answer %s; ended %s, log %r" % (when, server.process.poll(), server.log()[-500:]))
+
+
+def answers(server):
+    """Whether a client is served now."""
+    try:
+        return server.ask(b"\n") == b"hi\n"
+    except OSError:
+        return False
+
+
+def failed_accepts(suite):
+    """A hundred faults of accepting in succession end the server, fewer do not; one success counts them anew."""
+    for number, code in ((1, 0), (99, 0), (100, 111)):
+        with suite.start(["-q", "-k", "1"], ["echo", "hi"], **faults(suite, FAILED_ACCEPTS=number)) as server:
+            if code == 0:
+                suite.expect("the client after %d faults of accepting" % number, server.ask(), b"hi\n")
+            wanted = ["accept fault"] if code else []
+            suite.expect("the end after %d faults of accepting" % number, (server.end(), server.lines()), (code, wanted))
+
+
+def failed_threads(suite):
+    """A connection that gets no thread is dropped, a program whose input gets none is ended; the server goes on."""
+    causes = set()
+    for number in range(1, 7):
+        with suite.start(["-v", "-k", "4"], ["sh", "-c", "echo hi; cat"], **faults(suite, FAILED_THREAD=number)) as server:
+            got = [server.ask() for _ in range(4)]
+            suite.holds("clients with thread %d refused" % number, got.count(b"hi\n") >= 3 and set(got) <= {b"hi\n", b""}, got)
+            suite.expect("the end with thread %d refused" % number, server.end(), 0)
+            told = [line.split(" ", 2)[2] for line in server.lines() if line.startswith(("drop ", "start "))]
+            suite.holds("the line of thread %d" % number, told in ([], ["no thread"], ["no pipe ends"]), told)
+            causes.update(told)
+            suite.audit("thread %d refused" % number, server)
+    suite.expect("what refused threads do", causes, {"no thread", "no pipe ends"})
+
+
+def missing_descriptors(suite):
+    """A server that was started without a standard descriptor: no client gets what is not its own."""
+    for closed in ("<&-", "2>&-", "<&- 2>&-"):
+        with socket.socket() as free:
+            free.bind(("127.0.0.1", 0))
+            port = free.getsockname()[1]
+        words = suite.command + ["-v"] + server_runs.QUIET + ["127.0.0.1", str(port), "sh", "-c", "echo hi; cat"]
+        process = subprocess.Popen(["sh", "-c", 'exec "$0" "$@" ' + closed] + words, stdout=subprocess.DEVNULL, stderr=subprocess.DEVNULL)
+        suite.running.append(process)
+        server_runs.wait_until("a server without a descriptor", lambda: listens(port))
+        for _ in range(3):
+            with socket.create_connection(("127.0.0.1", port), server_runs.WAIT) as client:
+                client.sendall(b"a\n")
+                client.shutdown(socket.SHUT_WR)
+                suite.expect("a client of a server started with " + closed, read_all(client), b"hi\na\n")
+        process.terminate()
+        process.wait(server_runs.WAIT)
+
+
+def listens(port):
+    """Whether something listens at this port."""
+    with open("/proc/net/tcp") as file:
+        return any(line.split()[1].endswith(":%04X" % port) and line.split()[3] == "0A" for line in file)
+
+
+def lost_log(suite):
+    """Where nobody reads the log any more the server goes on."""
+    reading, writing = os.pipe()
+    words = suite.command + ["-1", "-v", "-k", "3"] + ["127.0.0.1", "0", "echo", "hi"]
+    process = subprocess.Popen(words, stdin=subprocess.DEVNULL, stdout=subprocess.PIPE, stderr=writing)
+    suite.running.append(process)
+    os.close(writing)
+    port = int(process.stdout.readline())
+    os.close(reading)
+    got = []
+    for _ in range(3):
+        with socket.create_connection(("127.0.0.1", port), server_runs.WAIT) as client:
+            got.append(read_all(client))
+    suite.expect("a lost log", (got, process.wait(server_runs.WAIT)), ([b"hi\n"] * 3, 0))
+
+
+CHECKS = [
+    terminated, descriptors_of_programs, signals_of_programs, folders_of_programs, errors_of_programs, nothing_left, few_descriptors, no_descriptors,
+    failed_accepts, failed_threads, missing_descriptors, lost_log,
+]
+COMMON = [terminated, descriptors_of_programs, signals_of_programs, folders_of_programs, errors_of_programs, nothing_left]
+
+if __name__ == "__main__":
+    sys.exit(server_runs.main(sys.modules["__main__"]))
