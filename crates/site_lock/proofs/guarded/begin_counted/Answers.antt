@@ -1,7 +1,7 @@
 -- By the receipt, and by what was noted.
-use Rattle.server_yard.specs.Stepping.{begin_event, event_of_step}
-use Rattle.server_yard.specs.Yards.{kept_under, yard_roll}
-use Rattle.site_lock.proofs.Installing.{begin_names, counts_for, receipt_for, step_names}
+use Rattle.server_yard.specs.Stepping.{begin_event}
+use Rattle.server_yard.specs.Yards.{yard_roll}
+use Rattle.site_lock.proofs.Installing.{begin_names, counts_for, receipt_for}
 use Rattle.site_lock.proofs.guarded.begin_counted.Goals as goal
 
 pub returns-clause-counts : goal.returns-clause-counts

@@ -1,5 +1,4 @@
 -- Without a receipt the yard is as before.
-use Rattle.std.specs.Prelude.{◌≡◌, Option}
 use Rattle.std.proofs.Common.{sym, ap, ◌∙◌}
 use Rattle.server_yard.specs.Rolls.{Roll}
 use Rattle.site_lock.proofs.Installing.{from_none}

@@ -1,9 +1,7 @@
 -- One more event for a receipt, and one more in the caller's share.
-use Rattle.std.specs.Prelude.{◌≡◌, is_some}
-use Rattle.std.proofs.Common.{rules, arith}
-use Rattle.server_yard.specs.Yards.{yard_roll}
+use Rattle.std.proofs.Common.{rules}
 use Rattle.site_lock.specs.Callers.{caller_number, caller_share}
-use Rattle.site_lock.proofs.Counting.{adds_for, counts_if}
+use Rattle.site_lock.proofs.Counting.{adds_for}
 use Rattle.site_lock.proofs.guarded.Guarded.install_begin.Goals as goal
 
 pub returns-clause-counted : goal.returns-clause-counted
