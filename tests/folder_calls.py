@@ -12,6 +12,8 @@ import tempfile
 REPLACEMENT = "fresh tmp append abc append def patch 1 XY sync rename tmp rules settle open rules open tmp failures"
 ANSWERS = ["done", "3", "3", "done", "done", "done", "done", '6 bytes, "aXYdef"', "none", "0"]
 DEVICE = "device fault"
+# a file that is made and not moved
+UNNAMED = "fresh tmp append abc append def patch 1 XY sync open rules failures"
 
 
 def limit_files():
@@ -113,21 +115,89 @@ def system_calls(probe, folder, words):
 
 def trace_cases(probe, folder):
     """The order of the system calls, and how many a long file takes."""
-    wanted = ["openat folder folder", "unlink tmp", "openat tmp tmp", "write tmp", "pwrite64 tmp", "fsync tmp", "close tmp", "rename tmp rules", "fsync folder", "close folder"]
+    wanted = ["openat folder folder", "unlink tmp", "openat tmp tmp", "pwrite64 tmp", "pwrite64 tmp", "fsync tmp", "close tmp", "rename tmp rules", "fsync folder", "close folder"]
     words = "fresh tmp append abc append def patch 1 XY sync rename tmp rules settle"
     yield "the system calls of a replacement", system_calls(probe, folder, words), wanted
     calls = system_calls(probe, folder, "fresh tmp zeros 655360 sync")
-    yield "a write for each 65,536 bytes", [calls.count("write tmp")], [10]
+    yield "a write for each 65,536 bytes", [calls.count("pwrite64 tmp")], [10]
+
+
+def opened_flags(probe, folder):
+    """The flags and the permissions with which a scratch file is made."""
+    trace = os.path.join(folder, "..", "trace")
+    subprocess.run(["strace", "-o", trace, "-e", "trace=openat", probe.program, folder, "fresh", "tmp"], stdout=subprocess.DEVNULL, timeout=60, check=True)
+    with open(trace) as lines:
+        return [re.findall(r"O_WRONLY\|O_CREAT\|O_EXCL|0[0-7]+", line) for line in lines if "/tmp\"" in line]
+
+
+def injected(probe, folder, call, how, words, on=()):
+    """What is answered where a system call has a mishap; `on` names the file whose calls alone count."""
+    inject = [*on, "-e", "trace=" + call, "-e", "inject=%s:%s" % (call, how)]
+    command = ["strace", "-qq", "-o", os.devnull] + inject + [probe.program, folder] + words.split()
+    return subprocess.run(command, stdout=subprocess.PIPE, timeout=60, check=True).stdout.decode().split("\n")[:-1]
+
+
+def injected_cases(probe, folder):
+    """System calls that are interrupted once, or fail at call k, for each k."""
+    yield "how a scratch file is made", opened_flags(probe, folder), [["O_WRONLY|O_CREAT|O_EXCL", "0644"]]
+    for call in ("unlink", "rename", "pwrite64", "fsync", "statx"):
+        yield call + " interrupted", injected(probe, folder, call, "error=EINTR:when=1", REPLACEMENT), ANSWERS
+    on = ["-P", os.path.join(folder, "rules")]
+    yield "a read interrupted", injected(probe, folder, "pread64", "error=EINTR:when=1", "open rules failures", on), ['6 bytes, "aXYdef"', "0"]
+    for fault in ("EIO", "ENOSPC"):
+        for call, times in (("unlink", 1), ("pwrite64", 2), ("fsync", 2), ("rename", 1)):
+            for k in range(1, times + 1):
+                words = UNNAMED if call == "pwrite64" else REPLACEMENT
+                answers = injected(probe, folder, call, "error=%s:when=%d" % (fault, k), words)
+                yield "%s at %s %d" % (fault, call, k), [answers.count(DEVICE), '6 bytes, "aXYdef"' in answers, answers[-1]], [1, True, "1"]
+
+
+def scratch_cases(probe, folder):
+    """Bytes that are kept back are no part of what may be read, and go to their own file."""
+    wanted = ["done", "3", DEVICE, "done", '3 bytes, "abc"', "1", "done", '1 bytes, "x"']
+    yield "kept back bytes", probe.answers(folder, "fresh first append abc open first fresh second open first append x sync open second"), wanted
+    piece = "x" * 70_000
+    wanted = ["done", "3", "65533", "65536", "done", '131072 bytes, "abc%s"' % piece[:13]]
+    yield "pieces over what may be kept back", probe.answers(folder, "fresh first append abc append %s append %s sync open first" % (piece, piece)), wanted
+    old = os.umask(0)
+    yield "no mask", probe.answers(folder, "fresh third sync"), ["done", "done"]
+    os.umask(old)
+    yield "permissions without a mask", [os.stat(os.path.join(folder, "third")).st_mode & 0o777], [0o644]
+
+
+def full_cases(probe, folder):
+    """A file system that takes no more: what stood there stays, one failure is counted, and there is no scratch file any more."""
+    small = os.path.join(folder, "small")
+    os.mkdir(small)
+    mount = ["mount", "-t", "tmpfs", "-o", "size=64k", "tmpfs", small]
+    if os.geteuid() != 0 or not shutil.which("mount") or subprocess.run(mount, stderr=subprocess.DEVNULL, timeout=60).returncode != 0:
+        print("skipped: a file system that is full, since none can be mounted here")
+        os.rmdir(small)
+        return
+    try:
+        yield "a small file system", probe.answers(small, REPLACEMENT), ANSWERS
+        words = "fresh t zeros 200000 append x sync failures open rules"
+        wanted = ["done", DEVICE, "no scratch file", "no scratch file", "1", '6 bytes, "aXYdef"']
+        yield "a full file system", probe.answers(small, words), wanted
+        wanted = ["done", "in 16", DEVICE, "no scratch file", "1", '6 bytes, "aXYdef"']
+        yield "a full file system, met at the end", probe.answers(small, "fresh t zeros 65536 sync sync failures open rules"), wanted
+        yield "one that has room again", probe.answers(small, REPLACEMENT.replace("fresh tmp", "fresh t fresh tmp", 1)), ["done"] + ANSWERS
+        yield "what it holds", sorted(os.listdir(small)), ["rules", "t"]
+    finally:
+        subprocess.run(["umount", small], timeout=60, check=True)
+        os.rmdir(small)
 
 
 def install_cases(bench, folder):
-    """An installation of many rules writes no more often than once for each 65,536 bytes."""
+    """An installation of many rules writes once for each 65,536 bytes of its file, and then its header of 2,048 bytes in front."""
     trace = os.path.join(folder, "..", "writes")
-    subprocess.run(["strace", "-y", "-o", trace, "-e", "trace=write", bench, "install", "100000"], cwd=folder, stdout=subprocess.DEVNULL, timeout=60, check=True)
+    subprocess.run(["strace", "-y", "-o", trace, "-e", "trace=pwrite64", bench, "install", "100000"], cwd=folder, stdout=subprocess.DEVNULL, timeout=60, check=True)
     with open(trace) as lines:
-        writes = sum("/tmp>" in line for line in lines)
-    pieces = -(-os.path.getsize(os.path.join(folder, "rules")) // 65536)
-    yield "the writes of an installation", [writes], [pieces]
+        writes = [re.search(r", (\d+), (\d+)\) += (\d+)$", line).groups() for line in lines if "/tmp>" in line]
+    size = os.path.getsize(os.path.join(folder, "rules"))
+    pieces = [(min(65536, size - place), place) for place in range(0, size, 65536)]
+    wanted = [(str(length), str(place), str(length)) for length, place in pieces + [(2048, 0)]]
+    yield "the writes of an installation", writes, wanted
 
 
 def check(program, bench, failures):
@@ -137,9 +207,11 @@ def check(program, bench, failures):
         probe = Probe(program, place)
         folder = os.path.join(place, "folder")
         os.mkdir(folder)
-        groups = [(cases, probe), (refused_cases, probe)]
+        groups = [(cases, probe), (refused_cases, probe), (scratch_cases, probe), (full_cases, probe)]
         if shutil.which("strace"):
-            groups += [(trace_cases, probe), (install_cases, bench)]
+            groups += [(trace_cases, probe), (injected_cases, probe), (install_cases, bench)]
+        else:
+            print("skipped: the system calls of a directory, since there is no strace")
         for group, subject in groups:
             for name, answered, wanted in group(subject, folder):
                 tests += 1

@@ -1,29 +1,18 @@
-//! Files and directories as the tools see them, on a disk or in memory.
+//! Folders of a disk, and so of the system. What a directory is stands in `dir_calls`, whose names are passed on.
 #![tactic(auto)]
 
-mod choice;
-mod crash;
-pub mod dir;
-mod entries;
-pub mod fault;
-mod folder;
-pub mod fuse_dir;
-mod held;
-pub mod mem_dir;
-pub mod name;
+pub mod disk;
 pub mod os_dir;
 pub mod os_file;
-pub mod replace;
-pub mod rules_file;
-mod stored;
+mod patient;
+mod scratch;
+pub mod system_disk;
 
-pub use choice::Choice;
-pub use dir::Dir;
-pub use fault::DirFault;
-pub use fuse_dir::FuseDir;
-pub use mem_dir::MemDir;
-pub use name::{Name, NameFault};
-pub use os_dir::{FolderFault, OsDir};
+pub use dir_calls::{
+    Choice, DeviceFault, Dir, DirFault, FuseDir, MemDir, MemFile, Name, NameFault, RulesFile,
+    replace_file,
+};
+pub use disk::{Disk, DiskFile, Look};
+pub use os_dir::{DiskDir, FolderFault, OsDir};
 pub use os_file::OsFile;
-pub use replace::replace_file;
-pub use rules_file::{DeviceFault, MemFile, RulesFile};
+pub use system_disk::{SystemDisk, SystemFile, SystemPath};

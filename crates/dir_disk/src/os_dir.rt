@@ -1,21 +1,26 @@
-//! Folders of the system.
-ghost use Rattle.std.specs.Prelude.{◌≡◌, ◌<◌, [], ◌∷◌, ⊤, false, Contains, IsOk, IfErr, IfOk, OnOk, OnErr, length, vec_len, vec_capacity};
-ghost use Rattle.dir_disk.specs.Moments.{HasCause};
-ghost use Rattle.dir_disk.specs.NoDirectory.{no_directory, not_honest};
+//! Folders of a disk, and so of the system.
+ghost use Rattle.std.specs.Prelude.{◌≡◌, ◌≢◌, false, None, Option, Some, IsTrue, IfErr, IfOk, IsErr, OnOk, OnErr, Ok, List, ℕ};
+ghost use Rattle.std.specs.Option.{option_map, ForSome};
+ghost use Rattle.dir_calls.specs.Directory.{content, number_of};
+ghost use Rattle.dir_calls.specs.Lasting.{LastsAmong};
+ghost use Rattle.dir_calls.specs.Replacing.{Stays};
+ghost use Rattle.dir_disk.specs.OsDir.{Holds, Holds_honest-prop, SparesOthers, kept_back};
+ghost use Rattle.dir_calls.specs.Moments.{CountsFault};
+ghost use Rattle.dir_disk.specs.OsFile.{os_bytes};
+ghost use Rattle.dir_disk.specs.KeptImages.{kept_image, disk_image};
+ghost use Rattle.std.proofs.Common.{subst, sym};
 
-use crate::os_file::{OsFile, TRIES};
-use crate::{Dir, DirFault, Name};
+use crate::disk::Disk;
+use crate::os_file::OsFile;
+use crate::patient::{TRIES, is_file, rename, sync_folder, unlink};
+use crate::scratch::{BUFFER, give_up, make_room, overwrite, renew, sync_kept};
+use crate::system_disk::SystemDisk;
+use dir_calls::{Dir, DirFault, Name};
 use std::alloc::{AllocError, Global};
-use std::fs::{File, Files, OpenFile, OpenOptions};
-use std::io::{self, ErrorKind, Write};
-use std::os::unix::fs::{FileExt, OpenOptionsExt};
+use std::fs::{File, Files};
+use std::io::{self, ErrorKind};
+use std::os::unix::fs::FileExt;
 use thiserror::Error;
-
-/// How many bytes are kept back until they are written: a write takes so many, but for the last one.
-const BUFFER: usize = 65_536;
-
-/// Files are made with these permissions, less those that the process masks: all may read them, as the ones of `tcprules`.
-const MODE: u32 = 0o644;
 
 /// Why a folder can't be used.
 #[derive(Clone, Copy, PartialEq, Eq, Debug, Error)]
@@ -37,125 +42,128 @@ impl From<AllocError> for FolderFault {
     }
 }
 
-/// A folder of the system. `fresh` removes the name and creates a file that must be new; `append` keeps bytes back until there are
-/// 65,536 or the file is patched or synced, so a fault of the device may come at a later call; `sync` writes the rest, has the
-/// system sync the file (fsync) and closes it; `settle` syncs the folder.
+/// A folder of a disk, which is a directory. It is honest where its disk is.
 ///
-/// The folder itself is opened once, before the first change of a name: where it can't be opened for reading nothing has changed,
-/// and what `settle` syncs is the folder whose names were changed.
+/// `fresh` removes the name and creates a file that must be new; `append` keeps bytes back until there are 65,536 or the file is
+/// patched, synced or let go, so a fault of the device may come at a later call; `sync` writes the rest, then has the system sync the
+/// file (fsync) and closes it; `settle` syncs the folder. The scratch file itself can't be opened: that is a device fault.
 ///
-/// After a device fault of `append`, `patch` or `sync` there is no scratch file: what was kept back or written may be lost, and the
-/// system tells of a failed write once alone, so a later `sync` must not succeed.
+/// The folder is opened once, before the first change of a name: where it can't be opened for reading nothing has changed, and what
+/// `settle` syncs is the folder whose names were changed.
+///
+/// After a device fault of `fresh`, `append`, `patch` or `sync` there is no scratch file: what was kept back or written may be lost, and
+/// the system tells of a failed write once alone, so a later `sync` must not succeed.
 #[derive(Drop)]
-pub struct OsDir<R: Files + Drop>
-where
-    R::File: FileExt,
-{
-    files: R,
-    folder: String,
+pub struct DiskDir<D: Disk + Drop> {
+    disk: D,
     // the folder itself, once it is opened
-    handle: Option<R::File>,
-    scratch: Option<R::File>,
-    // what is still to be written at the end of the scratch file
+    folder: Option<D::Folder>,
+    scratch: Option<D::Handle>,
+    // how many bytes the scratch file has
+    written: u64,
+    // what is still to be written at its end
     pending: Vec<u8>,
     failures: u64,
+    // room for the paths of a call, so that it takes no memory
+    path: D::Path,
+    onto: D::Path,
+    ghost holds: { IsTrue D.honest → Holds D.number (D.state disk) scratch written } by { Holds_honest-prop D.honest D.number (D.state disk) scratch written },
 }
 
-impl<R: Files + Drop> OsDir<R>
+/// A folder of the system.
+pub type OsDir<R> = DiskDir<SystemDisk<R>>;
+
+impl<D: Disk + Drop> DiskDir<D> {
+    ghost use Rattle.dir_disk.specs.OsParts.{os_disk, os_failed, os_left_since, os_moment, os_state};
+
+    /// The folder of a disk. None of its files may be open to be written.
+    ///
+    /// # Errors
+    /// Want of memory.
+    pub fn over(alloc: Global, disk: D) -> Result<Self, AllocError>
+        requires { IsTrue D.honest → (D.state disk).scratch ≡ None }
+        ensures { IfOk result (λ dir. os_disk dir ≡ disk) }
+    {
+        let path = disk.room(alloc)?;
+        let onto = disk.room(alloc)?;
+        Ok(DiskDir {
+            disk,
+            folder: None,
+            scratch: None,
+            written: 0,
+            pending: Vec::new(alloc),
+            failures: 0,
+            path,
+            onto,
+        })
+    }
+
+    /// The disk.
+    pub fn disk(&self) -> &D
+        ensures { result.now ≡ os_disk self.now }
+    {
+        &self.disk
+    }
+
+    /// Takes a name away, if it stands, as an unfinished file's. The scratch file is given up: there is none afterwards. Every other
+    /// name stands for the file that it stood for, synced files keep their bytes, and so it is where the machine stops meanwhile. Where the
+    /// name is taken away, that is a pending change.
+    ///
+    /// # Errors
+    /// `Device`, and then the name may stand still; of all the rest the same is true.
+    pub fn remove(&mut self, name: &Name) -> Result<(), DirFault>
+        ensures removed { IsTrue D.honest → OnOk result (number_of (os_state D.state self.new) name.now ≡ None) }
+        ensures others { IsTrue D.honest
+            → SparesOthers name.now (os_state D.state self.old) (os_state D.state self.new) }
+        // what lasts under another name lasts there, and stands there whenever the machine stops since the call began
+        ensures stays { IsTrue D.honest → (other : List ℕ) (contents : List (Option (List ℕ))) → name.now ≢ other
+            → LastsAmong (os_state D.state self.old) other contents → Stays (os_state D.state) (os_moment D.moment)
+            (os_left_since D.left_since) other contents self.old self.new }
+        ensures faults { IfErr result (λ fault. fault ≡ DirFault.Device) }
+        ensures counted { CountsFault (os_failed self.old) (os_failed self.new) result }
+    {
+        let scratch = self.scratch.take();
+        give_up(&mut self.disk, scratch);
+        self.pending.clear();
+        self.disk.put_path(&mut self.path, name);
+        let folder = opened(&self.disk, self.folder.take(), &mut self.failures)?;
+        let outcome = unlink(&mut self.disk, &folder, &self.path);
+        self.folder = Some(folder);
+        told(&mut self.failures, outcome)
+    }
+}
+
+impl<R: Files + Drop> DiskDir<SystemDisk<R>>
 where
     R::File: FileExt,
 {
-    /// The folder at a path, such as `/etc/tcprules` or `.`. An empty path is none. It is looked at, and not opened yet.
+    /// The folder of the system at a path, such as `/etc/tcprules` or `.`. An empty path is none. It is looked at, and not opened yet.
     ///
     /// # Errors
     /// `NoFolder` where nothing stands there, or no folder; `Device` where the system does not say what stands there, as where it may
     /// not be looked at; `OutOfMemory`.
     pub fn new(alloc: Global, files: R, folder: &str) -> Result<Self, FolderFault> {
-        match files.metadata(folder) {
-            Ok(found) if found.is_dir() => {}
-            Ok(_) => return Err(FolderFault::NoFolder),
-            Err(error) if is_absent(error.kind()) => return Err(FolderFault::NoFolder),
-            Err(_) => return Err(FolderFault::Device),
-        }
-        Ok(OsDir {
-            files,
-            folder: String::from_str(alloc, folder)?,
-            handle: None,
-            scratch: None,
-            pending: Vec::new(alloc),
-            failures: 0,
-        })
-    }
-
-    // The path of a name in the folder.
-    fn path(&self, alloc: Global, name: &Name) -> Result<String, AllocError> {
-        format!(in alloc; "{}/{}", self.folder.as_str(), name.as_str())
-    }
-
-    // Opens the folder itself, if it is not open yet.
-    fn open_folder(&mut self) -> Result<(), DirFault>
-        ensures faults { IfErr result (λ fault. fault ≡ DirFault.Device) }
-        ensures cause { HasCause (self.old).failures (self.new).failures result }
-    {
-        if self.handle.is_some() {
-            return Ok(());
-        }
-        let outcome = OpenOptions::new()
-            .read(true)
-            .open(&self.files, self.folder.as_str());
-        let handle = self.told(outcome)?;
-        self.handle = Some(handle);
-        Ok(())
-    }
-
-    // What the system answered, where its faults are the device's.
-    fn told<T>(&mut self, answer: io::Result<T>) -> Result<T, DirFault>
-        ensures passed { OnOk result (IsOk answer) }
-        ensures told { IfErr result (λ fault. fault ≡ DirFault.Device) }
-        ensures cause { HasCause (self.old).failures (self.new).failures result }
-        ensures same { OnOk result (self.new ≡ self.old) }
-    {
-        match answer {
-            Ok(value) => Ok(value),
-            Err(_) => {
-                self.failures = self.failures.saturating_add(1);
-                Err(DirFault::Device)
+        for _ in 0..TRIES {
+            match files.metadata(folder) {
+                Ok(found) if found.is_dir() => {
+                    let disk = SystemDisk::new(files, String::from_str(alloc, folder)?);
+                    return Ok(DiskDir::over(alloc, disk)?);
+                }
+                Ok(_) => return Err(FolderFault::NoFolder),
+                Err(error) => match error.kind() {
+                    ErrorKind::NotFound | ErrorKind::NotADirectory => {
+                        return Err(FolderFault::NoFolder);
+                    }
+                    ErrorKind::Interrupted => {}
+                    _ => return Err(FolderFault::Device),
+                },
             }
         }
-    }
-
-    // The same of what a write answered. Where it failed there is no scratch file any more.
-    fn told_of_scratch(&mut self, answer: io::Result<()>) -> Result<(), DirFault>
-        ensures passed { OnOk result (IsOk answer) }
-        ensures told { IfErr result (λ fault. fault ≡ DirFault.Device) }
-        ensures cause { HasCause (self.old).failures (self.new).failures result }
-        ensures same { OnOk result (self.new ≡ self.old) }
-    {
-        let outcome = self.told(answer);
-        if outcome.is_err() {
-            self.scratch = None;
-        }
-        outcome
-    }
-
-    // Writes the bytes that are kept back, where there are as many as may be.
-    fn make_room(&mut self) -> Result<(), DirFault>
-        ensures room { OnOk result (length (self.new).pending.items < 65536) }
-        ensures faults { IfErr result (Contains (DirFault.NoScratch ∷ DirFault.Device ∷ [])) }
-        ensures cause { HasCause (self.old).failures (self.new).failures result }
-    {
-        let Some(file) = &mut self.scratch else {
-            return Err(DirFault::NoScratch);
-        };
-        if self.pending.len() < BUFFER {
-            return Ok(());
-        }
-        let outcome = flush(file, &mut self.pending);
-        self.told_of_scratch(outcome)
+        Err(FolderFault::Device)
     }
 }
 
-impl<R: Files<File = File> + Drop> OsDir<R> {
+impl<R: Files<File = File> + Drop> DiskDir<SystemDisk<R>> {
     /// Waits until no other process holds the folder, and holds it until this value is dropped (`flock` on the folder itself): of
     /// programs that all take it only one at a time changes names there. It tells nothing of programs that don't take it, nor of
     /// another machine over a network file system.
@@ -165,12 +173,10 @@ impl<R: Files<File = File> + Drop> OsDir<R> {
     pub fn lock(&mut self) -> Result<(), DirFault>
         ensures faults { IfErr result (λ fault. fault ≡ DirFault.Device) }
     {
-        self.open_folder()?;
-        let outcome = match &self.handle {
-            Some(folder) => locked(folder),
-            None => Ok(()),
-        };
-        self.told(outcome)
+        let folder = opened(&self.disk, self.folder.take(), &mut self.failures)?;
+        let outcome = locked(&folder);
+        self.folder = Some(folder);
+        told(&mut self.failures, outcome)
     }
 }
 
@@ -185,150 +191,186 @@ fn locked(file: &File) -> io::Result<()> {
     Err(io::Error::from(ErrorKind::Interrupted))
 }
 
-// Whether a fault of looking at a path says that nothing stands there.
-fn is_absent(kind: ErrorKind) -> bool {
-    matches!(kind, ErrorKind::NotFound | ErrorKind::NotADirectory)
-}
-
-// Makes a new file, in the place of what stood there.
-fn create<R: Files>(files: &R, path: &str) -> io::Result<R::File> {
-    match files.remove_file(path) {
-        Err(error) if error.kind() != ErrorKind::NotFound => return Err(error),
-        _ => {}
-    }
-    OpenOptions::new()
-        .write(true)
-        .create_new(true)
-        .mode(MODE)
-        .open(files, path)
-}
-
-// Opens a file to read it. What is no file, such as a folder or a named pipe, is not opened.
-fn open<R: Files>(files: &R, path: &str) -> io::Result<Option<OsFile<R::File>>>
-where
-    R::File: FileExt,
+// What the disk answered, where its faults are the device's, which are counted.
+fn told<T>(failures: &mut u64, answer: io::Result<T>) -> Result<T, DirFault>
+    ensures passed { IfOk result (λ value. answer ≡ Ok value) }
+    ensures failed { OnErr result (IsErr answer) }
+    ensures fault { IfErr result (λ fault. fault ≡ DirFault.Device) }
+    ensures counted { CountsFault failures.old failures.new result }
 {
-    match files.metadata(path) {
-        Ok(found) if !found.is_file() => return Err(io::Error::from(ErrorKind::IsADirectory)),
+    match answer {
+        Ok(value) => Ok(value),
+        Err(_) => {
+            *failures = failures.saturating_add(1);
+            Err(DirFault::Device)
+        }
+    }
+}
+
+// The folder itself, which is opened if it is not open yet.
+fn opened<D: Disk>(
+    disk: &D,
+    folder: Option<D::Folder>,
+    failures: &mut u64,
+) -> Result<D::Folder, DirFault>
+    ensures fault { IfErr result (λ fault. fault ≡ DirFault.Device) }
+    ensures counted { CountsFault failures.old failures.new result }
+{
+    match folder {
+        Some(folder) => Ok(folder),
+        None => told(failures, disk.open_folder()),
+    }
+}
+
+// Whether an opened file is the scratch file.
+fn is_scratch<D: Disk>(disk: &D, file: &D::Handle, scratch: &Option<D::Handle>) -> io::Result<bool>
+    requires { IsTrue D.honest → (D.state disk.now).scratch ≡ option_map D.number scratch.now }
+    ensures { IsTrue D.honest → IfOk result (λ same. same ≡ false
+        → (D.state disk.now).scratch ≢ Some (D.number file.now)) }
+{
+    let Some(scratch) = scratch else {
+        return Ok(false);
+    };
+    let found = disk.look(file)?;
+    let written = disk.look(scratch)?;
+    Ok(found.device == written.device && found.inode == written.inode)
+}
+
+// Opens a file to read it. What is no file, such as a folder or a named pipe, is not opened, nor is the scratch file. Its kind is looked at
+// once more after it was opened, with its length, since another thing may stand there by then.
+fn open_file<D: Disk>(
+    disk: &D,
+    path: &D::Path,
+    scratch: &Option<D::Handle>,
+) -> io::Result<Option<OsFile<D::File>>>
+    requires { IsTrue D.honest → (D.state disk.now).scratch ≡ option_map D.number scratch.now }
+    ensures { IsTrue D.honest → IfOk result (λ found. (pending : List ℕ)
+        → option_map (os_bytes D.File.bytes) found
+        ≡ content (kept_back pending (D.state disk.now)) (D.named path.now)) }
+{
+    match is_file(disk, path) {
+        Ok(true) => {}
+        Ok(false) => return Err(io::Error::from(ErrorKind::IsADirectory)),
         Err(error) if error.kind() == ErrorKind::NotFound => return Ok(None),
         Err(error) => return Err(error),
-        Ok(_) => {}
     }
-    match OpenOptions::new().read(true).open(files, path) {
-        Ok(file) => {
-            let len = file.metadata()?.len();
-            Ok(Some(OsFile::new(file, len)))
-        }
-        Err(error) if error.kind() == ErrorKind::NotFound => Ok(None),
-        Err(error) => Err(error),
+    let file = match disk.open(path) {
+        Ok(file) => file,
+        Err(error) if error.kind() == ErrorKind::NotFound => return Ok(None),
+        Err(error) => return Err(error),
+    };
+    let found = disk.look(&file)?;
+    if !found.is_file {
+        return Err(io::Error::from(ErrorKind::IsADirectory));
     }
+    if is_scratch(disk, &file, scratch)? {
+        return Err(io::Error::from(ErrorKind::ResourceBusy));
+    }
+    Ok(Some(OsFile::new(disk.reading(file), found.len)))
 }
 
-// Writes the bytes that are kept back at the end of a file.
-fn flush<F: Write>(file: &mut F, pending: &mut Vec<u8>) -> io::Result<()>
-    ensures { OnOk result (pending.new.items ≡ []) }
-{
-    file.write_all(pending.as_slice())?;
-    pending.clear();
-    Ok(())
-}
+impl<D: Disk + Drop> Dir for DiskDir<D> {
+    type File = OsFile<D::File>;
 
-// The same, and then these bytes at their place.
-fn overwrite<F: FileExt + Write>(
-    file: &mut F,
-    pending: &mut Vec<u8>,
-    place: u64,
-    bytes: &[u8],
-) -> io::Result<()> {
-    flush(file, pending)?;
-    file.write_all_at(bytes, place)
-}
+    ghost state = { λ dir. kept_back dir.pending.items (D.state dir.disk) };
 
-// Writes the bytes that are kept back, and has the system make the file lasting.
-fn sync_file<F: OpenFile + Write>(file: &mut F, pending: &mut Vec<u8>) -> io::Result<()> {
-    flush(file, pending)?;
-    file.sync_all()
-}
+    ghost honest = { D.honest };
 
-impl<R: Files + Drop> Dir for OsDir<R>
-where
-    R::File: FileExt,
-{
-    type File = OsFile<R::File>;
+    ghost moment = { λ dir. D.moment dir.disk };
 
-    ghost state = { λ _. no_directory };
-
-    ghost honest = { false };
-
-    ghost moment = { λ _. 0 };
-
-    ghost left_since = { λ _ _ _. ⊤ };
+    ghost left_since = { λ dir. D.left_since dir.disk };
 
     ghost failed = { λ dir. dir.failures };
 
-    ghost counts_now = { λ _ _ _ honest. not_honest honest };
+    ghost counts_now = { λ dir earlier image honest le now. D.counts_now dir.disk earlier image honest le (disk_image D.number (D.state dir.disk) dir.scratch dir.written dir.pending.items image (dir.holds honest) now) };
 
-    ghost only_now = { λ _ _ honest. not_honest honest };
+    ghost only_now = { λ dir image honest left. kept_image D.number (D.state dir.disk) dir.scratch dir.written dir.pending.items image (dir.holds honest) (D.only_now dir.disk image honest left) };
 
-    ghost honest_files = { λ honest. honest };
+    ghost honest_files = { λ honest. subst (λ known. IsTrue known) (sym D.honest_files) honest };
 
     fn fresh(&mut self, alloc: Global, name: &Name) -> Result<(), DirFault> {
-        let path = self.path(alloc, name)?;
         self.pending.try_reserve(BUFFER)?;
-        self.open_folder()?;
-        let outcome = create(&self.files, path.as_str());
-        let file = self.told(outcome)?;
-        self.pending.clear();
+        self.disk.put_path(&mut self.path, name);
+        let folder = opened(&self.disk, self.folder.take(), &mut self.failures)?;
+        let scratch = self.scratch.take();
+        let (written, pending) = (self.written, &mut self.pending);
+        let outcome = renew(
+            &mut self.disk,
+            &folder,
+            &self.path,
+            scratch,
+            written,
+            pending,
+        );
+        self.folder = Some(folder);
+        let file = told(&mut self.failures, outcome)?;
         self.scratch = Some(file);
+        self.written = 0;
         Ok(())
     }
 
     fn append(&mut self, alloc: Global, piece: &[u8]) -> Result<usize, DirFault> {
-        self.make_room()?;
+        let Some(file) = self.scratch.take() else {
+            return Err(DirFault::NoScratch);
+        };
+        let outcome = make_room(&mut self.disk, file, self.written, &mut self.pending);
+        let (file, written) = told(&mut self.failures, outcome)?;
+        self.scratch = Some(file);
+        self.written = written;
         let count = piece.len().min(BUFFER - self.pending.len());
         self.pending.extend_from_slice(&piece[..count])?;
         Ok(count)
     }
 
     fn patch(&mut self, alloc: Global, place: u64, bytes: &[u8]) -> Result<(), DirFault> {
-        let Some(file) = &mut self.scratch else {
+        let Some(file) = self.scratch.take() else {
             return Err(DirFault::NoScratch);
         };
-        let outcome = overwrite(file, &mut self.pending, place, bytes);
-        self.told_of_scratch(outcome)
+        let outcome = overwrite(
+            &mut self.disk,
+            file,
+            self.written,
+            &mut self.pending,
+            place,
+            bytes,
+        );
+        let (file, written) = told(&mut self.failures, outcome)?;
+        self.scratch = Some(file);
+        self.written = written;
+        Ok(())
     }
 
     fn sync(&mut self, alloc: Global) -> Result<(), DirFault> {
-        let Some(mut file) = self.scratch.take() else {
+        let Some(file) = self.scratch.take() else {
             return Err(DirFault::NoScratch);
         };
-        let outcome = sync_file(&mut file, &mut self.pending);
-        self.told(outcome)
+        let outcome = sync_kept(&mut self.disk, file, self.written, &mut self.pending);
+        told(&mut self.failures, outcome)
     }
 
     fn rename(&mut self, alloc: Global, from: &Name, to: &Name) -> Result<(), DirFault> {
-        let old = self.path(alloc, from)?;
-        let new = self.path(alloc, to)?;
-        self.open_folder()?;
-        match self.files.rename(old.as_str(), new.as_str()) {
+        self.disk.put_path(&mut self.path, from);
+        self.disk.put_path(&mut self.onto, to);
+        let folder = opened(&self.disk, self.folder.take(), &mut self.failures)?;
+        let outcome = rename(&mut self.disk, &folder, &self.path, &self.onto);
+        self.folder = Some(folder);
+        match outcome {
             Err(error) if error.kind() == ErrorKind::NotFound => Err(DirFault::NoName),
-            outcome => self.told(outcome),
+            outcome => told(&mut self.failures, outcome),
         }
     }
 
     fn settle(&mut self) -> Result<(), DirFault> {
-        self.open_folder()?;
-        let outcome = match &self.handle {
-            Some(folder) => folder.sync_all(),
-            None => Ok(()),
-        };
-        self.told(outcome)
+        let folder = opened(&self.disk, self.folder.take(), &mut self.failures)?;
+        let outcome = sync_folder(&mut self.disk, &folder);
+        self.folder = Some(folder);
+        told(&mut self.failures, outcome)
     }
 
-    fn open(&mut self, alloc: Global, name: &Name) -> Result<Option<OsFile<R::File>>, DirFault> {
-        let path = self.path(alloc, name)?;
-        let outcome = open(&self.files, path.as_str());
-        self.told(outcome)
+    fn open(&mut self, alloc: Global, name: &Name) -> Result<Option<OsFile<D::File>>, DirFault> {
+        self.disk.put_path(&mut self.path, name);
+        let outcome = open_file(&self.disk, &self.path, &self.scratch);
+        told(&mut self.failures, outcome)
     }
 
     fn failures(&self) -> u64 {

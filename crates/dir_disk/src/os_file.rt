@@ -1,36 +1,41 @@
-//! Opened files of the system.
-ghost use Rattle.std.specs.Prelude.{[], false};
+//! Opened files of a disk.
+ghost use Rattle.std.specs.Prelude.{◌≡◌, length, IsTrue};
 
-use crate::{DeviceFault, RulesFile};
+use crate::disk::DiskFile;
+use crate::patient::TRIES;
+use dir_calls::{DeviceFault, RulesFile};
 use std::io::ErrorKind;
-use std::os::unix::fs::FileExt;
 
-/// How often a read, or waiting for a lock, is tried again that a signal interrupts.
-pub(crate) const TRIES: u32 = 1_000;
-
-/// An opened file of the system. It is closed where it is dropped.
+/// An opened file of a disk. It is closed where it is dropped. It is honest where its disk's files are.
 #[derive(Drop)]
-pub struct OsFile<F: FileExt + Drop> {
+pub struct OsFile<F: DiskFile + Drop> {
     file: F,
     len: u64,
+    ghost length: { IsTrue F.honest → len ≡ length (F.bytes file) },
 }
 
-impl<F: FileExt + Drop> OsFile<F> {
-    /// An open file that had so many bytes when it was opened.
-    pub(crate) fn new(file: F, len: u64) -> OsFile<F> {
+impl<F: DiskFile + Drop> OsFile<F> {
+    ghost use Rattle.dir_disk.specs.OsFile.{os_bytes};
+
+    /// An open file that has so many bytes.
+    pub(crate) fn new(file: F, len: u64) -> OsFile<F>
+        requires { IsTrue F.honest → len ≡ length (F.bytes file) }
+        ensures { os_bytes F.bytes result ≡ F.bytes file }
+    {
         OsFile { file, len }
     }
 }
 
-/// Nothing is known of a file of the system: that its reads give what was written, or fail, is the premise of all that stands on it.
-impl<F: FileExt + Drop> RulesFile for OsFile<F> {
-    ghost bytes = { λ _. [] };
+impl<F: DiskFile + Drop> RulesFile for OsFile<F> {
+    ghost use Rattle.std.specs.Prelude.{false};
 
-    ghost honest = { false };
+    ghost bytes = { λ opened. F.bytes opened.file };
+
+    ghost honest = { F.honest };
 
     ghost sound = { false };
 
-    ghost sound_is_honest = { λ sound. sound };
+    ghost sound_is_honest = { λ sound. absurd (cc) };
 
     fn len(&self) -> u64 {
         self.len
@@ -38,7 +43,7 @@ impl<F: FileExt + Drop> RulesFile for OsFile<F> {
 
     fn read_at(&self, place: u64, buf: &mut [u8]) -> Result<usize, DeviceFault> {
         for _ in 0..TRIES {
-            match self.file.read_at(buf, place) {
+            match self.file.read_at(place, buf) {
                 Ok(count) => return Ok(count),
                 Err(error) if error.kind() == ErrorKind::Interrupted => {}
                 Err(_) => return Err(DeviceFault),

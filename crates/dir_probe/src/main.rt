@@ -3,7 +3,8 @@
 //! nothing.
 #![tactic(auto)]
 
-use dir_disk::{Dir, DirFault, Name, OsDir, RulesFile};
+use dir_calls::{Dir, DirFault, Name, RulesFile};
+use dir_disk::OsDir;
 use std::alloc::Global;
 use std::env::Args;
 use std::fs::Files;

@@ -1,6 +1,6 @@
 //! Directories in memory, stops, and directories of which one call fails.
 use crate::shown::{has, is};
-use dir_disk::{Choice, Dir, DirFault, FuseDir, MemDir, MemFile, Name, RulesFile, replace_file};
+use dir_calls::{Choice, Dir, DirFault, FuseDir, MemDir, MemFile, Name, RulesFile, replace_file};
 use std::alloc::{AllocError, Global};
 use std::test::Fail;
 
@@ -19,9 +19,9 @@ fn leaves(
 }
 
 /// Makes a file with these bytes under a name, and overwrites the first one.
-fn make_patched(
+fn make_patched<D: Dir>(
     alloc: Global,
-    dir: &mut MemDir,
+    dir: &mut D,
     name: &Name,
     bytes: &[u8],
     first: u8,
@@ -196,6 +196,34 @@ fn a_call_that_fails(rt: HostRuntime) -> Result<(), Fail> {
         let expected = u64::from((1..=6).contains(&call));
         assert_eq!(rt; failed, expected, "call {call}");
         assert_eq!(rt; dir.failures(), expected, "call {call}");
+    }
+    Ok(())
+}
+
+#[test]
+fn a_patch_that_fails(rt: HostRuntime) -> Result<(), Fail> {
+    let alloc = rt.alloc();
+    let names = [
+        Name::new(alloc, b"a")?,
+        Name::new(alloc, b"b")?,
+        Name::new(alloc, b"c")?,
+    ];
+    // each file takes three calls, of which the third is `patch`
+    for failing in 0..4usize {
+        let call = (failing as u64).saturating_mul(3);
+        let mut dir = FuseDir::new(MemDir::new(alloc), call);
+        for (place, name) in names.iter().enumerate() {
+            let answer = make_patched(alloc, &mut dir, name, b"abc", b'X');
+            let fails = place.saturating_add(1) == failing;
+            let wanted = if fails { Err(DirFault::Device) } else { Ok(()) };
+            assert!(rt; answer == wanted, "file {place}, call {call}");
+        }
+        assert_eq!(rt; dir.failures(), u64::from(failing > 0));
+        for (place, name) in names.iter().enumerate() {
+            let fails = place.saturating_add(1) == failing;
+            let wanted: &[u8] = if fails { b"abc" } else { b"Xbc" };
+            assert!(rt; has(alloc, &mut dir, name, Some(wanted)));
+        }
     }
     Ok(())
 }

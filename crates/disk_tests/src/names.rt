@@ -1,5 +1,5 @@
 //! Names, and files in memory.
-use dir_disk::{DeviceFault, DirFault, MemFile, Name, NameFault, RulesFile};
+use dir_calls::{DeviceFault, DirFault, MemFile, Name, NameFault, RulesFile};
 use std::test::Fail;
 
 #[test]

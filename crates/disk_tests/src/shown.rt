@@ -1,5 +1,5 @@
 //! What a file shows, and what stands under a name.
-use dir_disk::{Dir, Name, RulesFile};
+use dir_calls::{Dir, Name, RulesFile};
 use std::alloc::Global;
 
 /// Whether a file has these bytes, at most 16.

@@ -1,11 +1,11 @@
 -- A step of an installation leads from each world in which it is under way to one in which it is so too.
 use Rattle.std.proofs.Common.{◌≡◌, ◌≢◌, inl, inr, ⊎_elim, Bool, true, false, List, [], ◌∷◌, ◌++◌, length, ℕ, refl, sym, ◌∙◌, ap, subst}
 use Rattle.std.specs.Prelude.{Option, None, Some, is_some, max, Result, Ok, Err}
-use Rattle.dir_disk.specs.Calls.{Call, makes, appends, patches, syncs, renames, settles, after}
-use Rattle.dir_disk.specs.Directory.{Directory, FileState, scratch_of}
-use Rattle.dir_disk.specs.Outcomes.{Fails}
-use Rattle.dir_disk.specs.declared.fault.DirFault.{DirFault}
-use Rattle.dir_disk.specs.declared.fault.DirFault.TheVariants.{NoScratch, NoName, Device, OutOfMemory as NoMemory}
+use Rattle.dir_calls.specs.Calls.{Call, makes, appends, patches, syncs, renames, settles, after}
+use Rattle.dir_calls.specs.Directory.{Directory, FileState, scratch_of}
+use Rattle.dir_calls.specs.Outcomes.{Fails}
+use Rattle.dir_calls.specs.declared.fault.DirFault.{DirFault}
+use Rattle.dir_calls.specs.declared.fault.DirFault.TheVariants.{NoScratch, NoName, Device, OutOfMemory as NoMemory}
 use Rattle.rule_lookup.specs.declared.decision.Missing.{Missing}
 use Rattle.rules_install.specs.Filled.{filled_file, whole_file}
 use Rattle.rules_install.specs.Installing.{Installing, FitsPhase, next_of, next_phase}

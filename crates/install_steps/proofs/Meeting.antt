@@ -1,8 +1,8 @@
 -- The next step of an installation is one that its world may take.
 use Rattle.std.proofs.Common.{◌≡◌, ◌≢◌, Bool, true, false, List, ℕ, refl, sym, ◌∙◌, ap, subst}
 use Rattle.std.specs.Prelude.{Option, None, Some}
-use Rattle.dir_disk.specs.Calls.{Call}
-use Rattle.dir_disk.specs.Directory.{Directory}
+use Rattle.dir_calls.specs.Calls.{Call}
+use Rattle.dir_calls.specs.Directory.{Directory}
 use Rattle.rule_lookup.specs.declared.decision.Missing.{Missing}
 use Rattle.rules_install.specs.Installing.{Installing, IsUnfilled, next_of, next_phase}
 use Rattle.rules_install.specs.Steps.{IsCallOf}

@@ -1,10 +1,10 @@
 -- What a stop since a step of an installation began leaves of a world in which it is under way.
 use Rattle.std.proofs.Common.{◌≡◌, ◌⊎◌, inl, inr, ⊎_elim, ◌≤◌, ℕ, refl, sym, subst, arith}
 use Rattle.std.specs.Prelude.{Option, Some}
-use Rattle.dir_disk.specs.Calls.{Call}
-use Rattle.dir_disk.specs.Directory.{Directory}
-use Rattle.dir_disk.specs.Images.{IsImage}
-use Rattle.dir_disk.specs.Outcomes.{LeftBy, Passes}
+use Rattle.dir_calls.specs.Calls.{Call}
+use Rattle.dir_calls.specs.Directory.{Directory}
+use Rattle.dir_calls.specs.Images.{IsImage}
+use Rattle.dir_calls.specs.Outcomes.{LeftBy, Passes}
 use Rattle.rules_install.specs.Installing.{Installing, next_phase}
 use Rattle.rules_install.specs.Steps.{IsCallOf, StepStops}
 use Rattle.server_events.specs.Steps.{MayBeAt, MayLeave}

@@ -1,8 +1,8 @@
 -- Installations that are under way in a world, and what their steps do there.
 use Rattle.std.specs.Prelude.{◌≡◌, ◌≢◌, ◌⊎◌, ⊤, ℕ, false, Option, None, Some, Result, Ok, Err}
-use Rattle.dir_disk.specs.Directory.{Directory}
-use Rattle.dir_disk.specs.Images.{IsImage}
-use Rattle.dir_disk.specs.declared.fault.DirFault.TheVariants.{Device}
+use Rattle.dir_calls.specs.Directory.{Directory}
+use Rattle.dir_calls.specs.Images.{IsImage}
+use Rattle.dir_calls.specs.declared.fault.DirFault.TheVariants.{Device}
 use Rattle.rule_lookup.specs.declared.decision.Missing.{Missing}
 use Rattle.rules_install.specs.Installing.{Installing, IsConsistent, Fits, next_phase}
 use Rattle.rules_install.specs.NamePair.{NamePair}

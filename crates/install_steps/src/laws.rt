@@ -1,8 +1,8 @@
 //! Laws over the definitions alone.
 ghost use Rattle.std.specs.Prelude.{◌≡◌, ◌≢◌, ℕ, List, Some, Result, false};
-ghost use Rattle.dir_disk.specs.Calls.{Call};
-ghost use Rattle.dir_disk.specs.Directory.{Directory};
-ghost use Rattle.dir_disk.specs.Outcomes.{Passes};
+ghost use Rattle.dir_calls.specs.Calls.{Call};
+ghost use Rattle.dir_calls.specs.Directory.{Directory};
+ghost use Rattle.dir_calls.specs.Outcomes.{Passes};
 ghost use Rattle.install_steps.specs.UnderWay.{IsUnderWay, LeadsOn, MakesStep, MayStepFrom, rules_named};
 ghost use Rattle.rule_lines.specs.Pairs.{Rule};
 ghost use Rattle.rule_lookup.specs.declared.decision.Missing.{Missing};

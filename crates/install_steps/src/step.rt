@@ -6,7 +6,7 @@ ghost use Rattle.rules_install.specs.Steps.{IsOfDevice, IsSame};
 ghost use Rattle.rules_install.specs.Installs.{installing, IsOpen, IsUndone, StepChanges, StepGoes};
 
 use crate::laws::leads_on;
-use dir_disk::Dir;
+use dir_calls::Dir;
 use rules_install::{Install, InstallFault, Phase};
 use std::alloc::Global;
 

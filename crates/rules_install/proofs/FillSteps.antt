@@ -2,16 +2,17 @@
 use Rattle.std.proofs.Common.{◌≡◌, ◌⊎◌, inl, inr, ⊎_elim, ◌+◌, ◌<◌, ◌≤◌, Bool, true, false, IsTrue, ℕ, zero, suc, List, [], ◌∷◌, ◌++◌, length, take, drop, refl, sym, ◌∙◌, ap, subst, arith}
 use Rattle.std.proofs.lemmas.Option.{same_Some}
 use Rattle.std.specs.Prelude.{slice_get, Option, None, Some, Result, Ok, Err, OnOk, is_ok, option_and_then}
-use Rattle.dir_disk.specs.declared.fault.DirFault.{DirFault}
-use Rattle.dir_disk.specs.declared.fault.DirFault.TheVariants.{NoScratch, NoName, Device, OutOfMemory as NoMemory}
-use Rattle.dir_disk.specs.Directory.{Directory, FileState, number_of, scratch_of}
-use Rattle.dir_disk.specs.Images.{IsImage}
-use Rattle.dir_disk.specs.Calls.{Call, appends, patches, after, longer, patched, with_file, with_scratch}
-use Rattle.dir_disk.specs.Outcomes.{Does, LeftBy}
-use Rattle.dir_disk.specs.Lasting.{LastsAmong, HasAmong}
-use Rattle.dir_disk.specs.Moments.{Elapses, LeavesOnly, HasCause}
-use Rattle.dir_disk.proofs.Lasting.{CallKeeps, image_has, left_has, does_lasts}
-use Rattle.dir_disk.proofs.Moments.{one_call, started}
+use Rattle.dir_calls.specs.declared.fault.DirFault.{DirFault}
+use Rattle.dir_calls.specs.declared.fault.DirFault.TheVariants.{NoScratch, NoName, Device, OutOfMemory as NoMemory}
+use Rattle.dir_calls.specs.Directory.{Directory, FileState, number_of, scratch_of}
+use Rattle.dir_calls.specs.Images.{IsImage}
+use Rattle.dir_calls.specs.Calls.{Call, appends, patches, after, longer, patched, with_file, with_scratch}
+use Rattle.dir_calls.specs.Outcomes.{Does, LeftBy}
+use Rattle.dir_calls.specs.Lasting.{LastsAmong, HasAmong}
+use Rattle.dir_calls.specs.Moments.{Elapses, LeavesOnly, CountsFault}
+use Rattle.dir_calls.proofs.Counting.{counts_later, counts_device}
+use Rattle.dir_calls.proofs.Lasting.{CallKeeps, image_has, left_has, does_lasts}
+use Rattle.dir_calls.proofs.Moments.{one_call, started}
 use Rattle.cdb_write.specs.Image.{finished_length, header_bytes, pointers_of}
 use Rattle.cdb_read.specs.Compiled.{stored}
 use Rattle.rules_install.specs.declared.Phase.{Phase}
@@ -203,12 +204,12 @@ module _ {D : Type 0} {T : Type 0} (honest : Bool) (state : D → Directory) (mo
           (λ image is. image_has (state old) image s.names.cdb olds before is)
           time (λ image left. left_has whole (state old) (state new) image s.names.cdb olds (keeps olds before) (lasts olds before) left)
 
-  step_blames : (outcome : Result T DirFault) → HasCause (failed old) (failed new) outcome → BlamesDevice (failed old) (failed new) (answer_of Filling outcome)
-  step_blames (Ok x) cause = tt
-  step_blames (Err NoMemory) cause = tt
-  step_blames (Err NoScratch) cause = tt
-  step_blames (Err NoName) cause = tt
-  step_blames (Err Device) cause = cause.failed refl
+  step_blames : (outcome : Result T DirFault) → CountsFault (failed old) (failed new) outcome → BlamesDevice (failed old) (failed new) (answer_of Filling outcome)
+  step_blames (Ok x) counted = tt
+  step_blames (Err NoMemory) counted = tt
+  step_blames (Err NoScratch) counted = tt
+  step_blames (Err NoName) counted = tt
+  step_blames (Err Device) counted = counts_device (failed old) (failed new) counted
 
   -- all that is promised of it
   pub filling_steps : (outcome : Result T DirFault) (s' : Installing) (result : Result Phase InstallFault)
@@ -222,10 +223,10 @@ module _ {D : Type 0} {T : Type 0} (honest : Bool) (state : D → Directory) (mo
       → (IsTrue honest → Does done whole (state old) (state new) outcome)
       → ((olds : List (Option (List ℕ))) → LastsAmong (state old) s.names.cdb olds → CallKeeps whole (state old) s.names.cdb olds)
       → ((x : T) (olds : List (Option (List ℕ))) → LastsAmong (state old) s.names.cdb olds → CallKeeps (done x) (state old) s.names.cdb olds)
-      → HasCause (failed old) (failed new) outcome
+      → CountsFault (failed old) (failed new) outcome
       → (IsTrue honest → (fault : DirFault) → outcome ≡ Err fault → IsSure fault)
       → StepsTo honest state moment left_since failed Filling s s' old new result
-  filling_steps outcome s' result s'_is result_is further call calls fits has only time does keeps part cause sure =
+  filling_steps outcome s' result s'_is result_is further call calls fits has only time does keeps part counted sure =
       subst (λ r. StepsTo honest state moment left_since failed Filling s s' old new r) (sym result_is)
       (subst (λ t. StepsTo honest state moment left_since failed Filling s t old new (answer_of Filling outcome)) (sym s'_is) (record {
         same = step_same outcome further;
@@ -237,8 +238,8 @@ module _ {D : Type 0} {T : Type 0} (honest : Bool) (state : D → Directory) (mo
         stops = λ h. record { call = whole; is_call = call; time = time h };
         settling = λ is. absurd (cc);
         device = λ h. of_device Filling outcome (sure h);
-        failures = cause.later;
-        blames = step_blames outcome cause;
+        failures = counts_later (failed old) (failed new) outcome counted;
+        blames = step_blames outcome counted;
       }))
 
 -- ---- what is noted of a call

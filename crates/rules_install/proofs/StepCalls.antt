@@ -1,17 +1,18 @@
 -- A step is one call of the directory, of which note is taken.
 use Rattle.std.proofs.Common.{◌≡◌, ◌≢◌, Bool, false, ℕ, List, refl, sym, subst}
 use Rattle.std.specs.Prelude.{IsTrue, Option, Some, Result, Ok, Err}
-use Rattle.dir_disk.specs.declared.fault.DirFault.{DirFault}
-use Rattle.dir_disk.specs.declared.fault.DirFault.TheVariants.{NoScratch, NoName, Device, OutOfMemory as NoMemory}
-use Rattle.dir_disk.specs.Directory.{Directory}
-use Rattle.dir_disk.specs.Images.{IsImage}
-use Rattle.dir_disk.specs.Calls.{Call, after}
-use Rattle.dir_disk.specs.Outcomes.{Does, LeftBy}
-use Rattle.dir_disk.specs.Lasting.{LastsAmong}
-use Rattle.dir_disk.specs.Moments.{Elapses, HasCause}
-use Rattle.dir_disk.specs.Replacing.{Stays}
-use Rattle.dir_disk.proofs.Lasting.{CallKeeps}
-use Rattle.dir_disk.proofs.Replacing.{stays_call}
+use Rattle.dir_calls.specs.declared.fault.DirFault.{DirFault}
+use Rattle.dir_calls.specs.declared.fault.DirFault.TheVariants.{NoScratch, NoName, Device, OutOfMemory as NoMemory}
+use Rattle.dir_calls.specs.Directory.{Directory}
+use Rattle.dir_calls.specs.Images.{IsImage}
+use Rattle.dir_calls.specs.Calls.{Call, after}
+use Rattle.dir_calls.specs.Outcomes.{Does, LeftBy}
+use Rattle.dir_calls.specs.Lasting.{LastsAmong}
+use Rattle.dir_calls.specs.Moments.{Elapses, CountsFault}
+use Rattle.dir_calls.specs.Replacing.{Stays}
+use Rattle.dir_calls.proofs.Counting.{counts_later, counts_device}
+use Rattle.dir_calls.proofs.Lasting.{CallKeeps}
+use Rattle.dir_calls.proofs.Replacing.{stays_call}
 use Rattle.rules_install.proofs.StepFaults.{IsSure, of_device, no_memory}
 use Rattle.rules_install.specs.declared.Phase.{Phase}
 use Rattle.rules_install.specs.declared.Phase.TheVariants.{Done}
@@ -26,7 +27,7 @@ pub record OneCall {D : Type 0} (honest : Bool) (state : D → Directory) (momen
   pub only : IsTrue honest → (image : Directory) → left_since old (moment old) image → IsImage (state old) image
   pub does : IsTrue honest → Does (λ _. call) call (state old) (state new) outcome
   pub time : IsTrue honest → Elapses (moment old) (moment new) (left_since old) (left_since new) (LeftBy call (state old) (state new))
-  pub cause : HasCause (failed old) (failed new) outcome
+  pub counted : CountsFault (failed old) (failed new) outcome
   pub sure : IsTrue honest → (fault : DirFault) → outcome ≡ Err fault → IsSure fault
 
 -- ---- by what the call answered
@@ -52,12 +53,12 @@ call_changes next s call d e (Err NoScratch) is_call does = does
 call_changes next s call d e (Err NoName) is_call does = does
 call_changes next s call d e (Err Device) is_call does = (call, is_call, does)
 
-call_blames : (next : Phase) (before now : ℕ) (outcome : Result (Unit {0}) DirFault) → HasCause before now outcome → BlamesDevice before now (answer_of next outcome)
-call_blames next before now (Ok x) cause = tt
-call_blames next before now (Err NoMemory) cause = tt
-call_blames next before now (Err NoScratch) cause = tt
-call_blames next before now (Err NoName) cause = tt
-call_blames next before now (Err Device) cause = cause.failed refl
+call_blames : (next : Phase) (before now : ℕ) (outcome : Result (Unit {0}) DirFault) → CountsFault before now outcome → BlamesDevice before now (answer_of next outcome)
+call_blames next before now (Ok x) counted = tt
+call_blames next before now (Err NoMemory) counted = tt
+call_blames next before now (Err NoScratch) counted = tt
+call_blames next before now (Err NoName) counted = tt
+call_blames next before now (Err Device) counted = counts_device before now counted
 
 -- where the call fails, nothing has changed or the installation is over
 noted_kept : (next : Phase) (s : Installing) (outcome : Result (Unit {0}) DirFault) → HasFilled s (noted next s outcome)
@@ -105,6 +106,6 @@ module _ {D : Type 0} (honest : Bool) (state : D → Directory) (moment : D → 
         stops = λ h. record { call = call; is_call = is_call; time = one.time h };
         settling = no_memory next outcome memory;
         device = λ h. of_device next outcome (one.sure h);
-        failures = one.cause.later;
-        blames = call_blames next (failed old) (failed new) outcome one.cause;
+        failures = counts_later (failed old) (failed new) outcome one.counted;
+        blames = call_blames next (failed old) (failed new) outcome one.counted;
       }))

@@ -1,11 +1,11 @@
 -- What a step promises, by the phase that it was made for.
 use Rattle.std.proofs.Common.{◌≡◌, ◌≢◌, ◌⊎◌, inr, ⊎_elim, ◌<◌, ◌≤◌, arith, Bool, true, false, ℕ, List, [], ◌∷◌, refl, sym, ◌∙◌, ap, subst}
 use Rattle.std.specs.Prelude.{IsTrue, Option, Some, Result, Ok, Err, OnOk}
-use Rattle.dir_disk.specs.Directory.{Directory}
-use Rattle.dir_disk.specs.Images.{IsImage}
-use Rattle.dir_disk.specs.Lasting.{IsAmong, LastsAmong, HasAmong}
-use Rattle.dir_disk.proofs.Lasting.{image_has, lasts_more}
-use Rattle.dir_disk.proofs.Moments.{started}
+use Rattle.dir_calls.specs.Directory.{Directory}
+use Rattle.dir_calls.specs.Images.{IsImage}
+use Rattle.dir_calls.specs.Lasting.{IsAmong, LastsAmong, HasAmong}
+use Rattle.dir_calls.proofs.Lasting.{image_has, lasts_more}
+use Rattle.dir_calls.proofs.Moments.{started}
 use Rattle.rules_install.specs.declared.Phase.{Phase}
 use Rattle.rules_install.specs.declared.Phase.TheVariants.{Fresh, Filling, Synced, Named, Done}
 use Rattle.rules_install.specs.declared.fault.InstallFault.{InstallFault}

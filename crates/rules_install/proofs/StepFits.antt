@@ -2,12 +2,12 @@
 use Rattle.std.proofs.Common.{◌≡◌, ◌≢◌, ◌⊎◌, inl, inr, ⊎_elim, Bool, true, false, ℕ, zero, suc, List, [], ◌∷◌, ◌++◌, length, take, refl, sym, ◌∙◌, ap, subst}
 use Rattle.std.specs.Prelude.{slice_get, Option, None, Some, option_and_then, if◌then◌else◌}
 use Rattle.std.specs.FinMap.{get, remove}
-use Rattle.dir_disk.specs.NameTable.{Names, puts, moves, current, push, CanBeLeft}
-use Rattle.dir_disk.specs.Directory.{Directory, FileState, names_of, number_of, scratch_of, file_at}
-use Rattle.dir_disk.specs.Calls.{makes, syncs, renames, settles, after, lasting, with_file, with_scratch, with_names, closed, without, moved}
-use Rattle.dir_disk.specs.Lasting.{StandsFor, LastsAmong}
-use Rattle.dir_disk.proofs.NamesOf.{get-insert_same, same_name-other}
-use Rattle.dir_disk.proofs.NameTables.{current-push, left_settled}
+use Rattle.dir_calls.specs.NameTable.{Names, puts, moves, current, push, CanBeLeft}
+use Rattle.dir_calls.specs.Directory.{Directory, FileState, names_of, number_of, scratch_of, file_at}
+use Rattle.dir_calls.specs.Calls.{makes, syncs, renames, settles, after, lasting, with_file, with_scratch, with_names, closed, without, moved}
+use Rattle.dir_calls.specs.Lasting.{StandsFor, LastsAmong}
+use Rattle.dir_calls.proofs.NamesOf.{get-insert_same, same_name-other}
+use Rattle.dir_calls.proofs.NameTables.{current-push, left_settled}
 use Rattle.rule_lines.specs.Pairs.{Rule}
 use Rattle.rules_install.specs.declared.Phase.{Phase}
 use Rattle.rules_install.specs.declared.Phase.TheVariants.{Fresh, Filling, Synced, Named, Done}

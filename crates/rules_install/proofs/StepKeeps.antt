@@ -1,10 +1,10 @@
 -- What stands under the name of the rules file in the call of each step.
 use Rattle.std.proofs.Common.{◌≡◌, true, List, ℕ, ◌∷◌}
 use Rattle.std.specs.Prelude.{Option, Some}
-use Rattle.dir_disk.specs.Directory.{Directory, file_at}
-use Rattle.dir_disk.specs.Calls.{renames}
-use Rattle.dir_disk.specs.Lasting.{LastsAmong}
-use Rattle.dir_disk.proofs.Lasting.{CallKeeps, renames_keeps}
+use Rattle.dir_calls.specs.Directory.{Directory, file_at}
+use Rattle.dir_calls.specs.Calls.{renames}
+use Rattle.dir_calls.specs.Lasting.{LastsAmong}
+use Rattle.dir_calls.proofs.Lasting.{CallKeeps, renames_keeps}
 use Rattle.rules_install.proofs.StepFits.{numbered}
 
 -- the whole file is moved there

@@ -4,20 +4,20 @@ use Rattle.std.proofs.lemmas.List.{take-append-drop}
 use Rattle.std.proofs.lemmas.List.Sums.{fold-append}
 use Rattle.std.specs.Prelude.{Option, None, Some, option_and_then, option_map, slice_get, Result, Ok, Err, IfErr, OnOk}
 use Rattle.std.specs.FinMap.{get}
-use Rattle.dir_disk.specs.Calls.{Call, settles}
-use Rattle.dir_disk.specs.Directory.{Directory, FileState, content, file_at, number_of}
-use Rattle.dir_disk.specs.NameTable.{NameTable, Names, SettlesSome, after_change, after_changes, current}
-use Rattle.dir_disk.specs.Outcomes.{Fails}
-use Rattle.dir_disk.specs.Images.{IsImage}
-use Rattle.dir_disk.specs.Lasting.{IsAmong, LastsAmong, HasAmong, StandsFor}
-use Rattle.dir_disk.specs.Moments.{LeavesOnly}
-use Rattle.dir_disk.specs.Replacing.{Stays}
-use Rattle.dir_disk.specs.declared.fault.DirFault.{DirFault}
-use Rattle.dir_disk.specs.declared.fault.DirFault.TheVariants.{NoScratch, NoName, Device, OutOfMemory as NoMemory}
-use Rattle.dir_disk.proofs.Lasting.{image_has, lasts_more}
-use Rattle.dir_disk.proofs.Moments.{started}
-use Rattle.dir_disk.proofs.NameTables.{left_current}
-use Rattle.dir_disk.proofs.Replacing.{stays_then, stays_more}
+use Rattle.dir_calls.specs.Calls.{Call, settles}
+use Rattle.dir_calls.specs.Directory.{Directory, FileState, content, file_at, number_of}
+use Rattle.dir_calls.specs.NameTable.{NameTable, Names, SettlesSome, after_change, after_changes, current}
+use Rattle.dir_calls.specs.Outcomes.{Fails}
+use Rattle.dir_calls.specs.Images.{IsImage}
+use Rattle.dir_calls.specs.Lasting.{IsAmong, LastsAmong, HasAmong, StandsFor}
+use Rattle.dir_calls.specs.Moments.{LeavesOnly}
+use Rattle.dir_calls.specs.Replacing.{Stays}
+use Rattle.dir_calls.specs.declared.fault.DirFault.{DirFault}
+use Rattle.dir_calls.specs.declared.fault.DirFault.TheVariants.{NoScratch, NoName, Device, OutOfMemory as NoMemory}
+use Rattle.dir_calls.proofs.Lasting.{image_has, lasts_more}
+use Rattle.dir_calls.proofs.Moments.{started}
+use Rattle.dir_calls.proofs.NameTables.{left_current}
+use Rattle.dir_calls.proofs.Replacing.{stays_then, stays_more}
 use Rattle.rule_lines.specs.declared.limits.Limits.{Limits}
 use Rattle.rules_install.specs.NamePair.{NamePair}
 use Rattle.rules_install.specs.Filled.{whole_file, fillings_left}

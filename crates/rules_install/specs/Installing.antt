@@ -1,9 +1,9 @@
 -- An installation under way, and the directory as its steps leave it.
 use Rattle.std.specs.Prelude.{◌≡◌, ◌≢◌, ◌<◌, ⊤, ℕ, Bool, true, false, List, [], ◌∷◌, slice_get, Option, None, Some, option_and_then}
 use Rattle.std.specs.FinMap.{get}
-use Rattle.dir_disk.specs.NameTable.{Names, CanBeLeft}
-use Rattle.dir_disk.specs.Directory.{Directory, FileState, number_of, scratch_of, file_at}
-use Rattle.dir_disk.specs.Lasting.{LastsAmong}
+use Rattle.dir_calls.specs.NameTable.{Names, CanBeLeft}
+use Rattle.dir_calls.specs.Directory.{Directory, FileState, number_of, scratch_of, file_at}
+use Rattle.dir_calls.specs.Lasting.{LastsAmong}
 use Rattle.rule_lines.specs.Pairs.{Rule}
 use Rattle.rule_lines.specs.Rows.{AreRules}
 use Rattle.rules_install.specs.NamePair.{NamePair}

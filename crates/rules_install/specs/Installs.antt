@@ -1,6 +1,6 @@
 -- What an installation is.
 use Rattle.std.specs.Prelude.{◌≡◌, ◌≢◌, ℕ, Bool, true, false, length, Some, Result}
-use Rattle.dir_disk.specs.Directory.{Directory}
+use Rattle.dir_calls.specs.Directory.{Directory}
 use Rattle.rules_install.specs.Filled.{blank_file}
 use Rattle.rules_install.specs.Installing.{Installing, next_phase}
 use Rattle.rules_install.specs.Steps.{Changes, Goes, StepKeeps, StepStops, StepsTo}

@@ -1,12 +1,12 @@
 -- What a step of an installation does, by its answer.
 use Rattle.std.specs.Prelude.{◌≡◌, ◌≢◌, ◌⊎◌, ◌<◌, ◌≤◌, ◌^◌, ◌-◌, ⊤, ℕ, Bool, IsTrue, true, false, List, ◌∷◌, Option, Some, Result, Ok, Err, IfErr}
-use Rattle.dir_disk.specs.Directory.{Directory}
-use Rattle.dir_disk.specs.Calls.{Call, makes, appends, patches, syncs, renames, settles, after}
-use Rattle.dir_disk.specs.Outcomes.{Fails, LeftBy}
-use Rattle.dir_disk.specs.Lasting.{LastsAmong, HasAmong}
-use Rattle.dir_disk.specs.Moments.{Elapses, LeavesOnly}
-use Rattle.dir_disk.specs.declared.fault.DirFault.{DirFault}
-use Rattle.dir_disk.specs.declared.fault.DirFault.TheVariants.{Device, OutOfMemory as NoMemory}
+use Rattle.dir_calls.specs.Directory.{Directory}
+use Rattle.dir_calls.specs.Calls.{Call, makes, appends, patches, syncs, renames, settles, after}
+use Rattle.dir_calls.specs.Outcomes.{Fails, LeftBy}
+use Rattle.dir_calls.specs.Lasting.{LastsAmong, HasAmong}
+use Rattle.dir_calls.specs.Moments.{Elapses, LeavesOnly}
+use Rattle.dir_calls.specs.declared.fault.DirFault.{DirFault}
+use Rattle.dir_calls.specs.declared.fault.DirFault.TheVariants.{Device, OutOfMemory as NoMemory}
 use Rattle.rules_install.specs.Filled.{whole_file}
 use Rattle.rules_install.specs.Installing.{Installing, Fits}
 use Rattle.rules_install.specs.declared.Phase.{Phase}

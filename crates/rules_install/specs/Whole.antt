@@ -1,9 +1,9 @@
 -- What a whole installation answers.
 use Rattle.std.specs.Prelude.{◌≡◌, ◌≢◌, ◌<◌, ◌≤◌, ⊤, ℕ, true, false, List, ◌∷◌, Option, None, Some, Result, Ok, Err}
-use Rattle.dir_disk.specs.Directory.{Directory, file_at}
-use Rattle.dir_disk.specs.Lasting.{HasAmong, LastsAmong}
-use Rattle.dir_disk.specs.Moments.{LeavesOnly}
-use Rattle.dir_disk.specs.declared.fault.DirFault.TheVariants.{Device}
+use Rattle.dir_calls.specs.Directory.{Directory, file_at}
+use Rattle.dir_calls.specs.Lasting.{HasAmong, LastsAmong}
+use Rattle.dir_calls.specs.Moments.{LeavesOnly}
+use Rattle.dir_calls.specs.declared.fault.DirFault.TheVariants.{Device}
 use Rattle.cdb_write.specs.Image.{finished_length}
 use Rattle.cdb_write.specs.Making.{limit_of}
 use Rattle.cdb_read.specs.Compiled.{stored}

@@ -12,7 +12,7 @@ ghost use Rattle.rules_install.specs.declared.fault.InstallFault.TheVariants.{Ov
 
 use crate::pieces::{Piece, Pieces};
 use crate::{InstallFault, Names, Phase};
-use dir_disk::{Dir, DirFault, Name};
+use dir_calls::{Dir, DirFault, Name};
 use rule_lines::{Limits, RuleList};
 use std::alloc::{AllocError, Global};
 

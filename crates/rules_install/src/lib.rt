@@ -51,6 +51,3 @@ impl fmt::Display for Phase {
         f.write_str(self.as_str())
     }
 }
-
-#[cfg(test)]
-mod tests;

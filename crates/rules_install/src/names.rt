@@ -1,7 +1,7 @@
 //! The names of an installation.
 ghost use Rattle.std.specs.Prelude.{◌≡◌, ◌≢◌, ◌↔◌, IfOk};
 
-use dir_disk::Name;
+use dir_calls::Name;
 use std::marker::Model;
 use thiserror::Error;
 

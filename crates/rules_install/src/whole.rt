@@ -1,6 +1,6 @@
 //! A whole installation.
 ghost use Rattle.std.specs.Prelude.{◌≡◌, IsTrue, false, OnOk, IfOk, IfErr};
-ghost use Rattle.dir_disk.specs.Directory.{content};
+ghost use Rattle.dir_calls.specs.Directory.{content};
 ghost use Rattle.cdb_read.specs.Compiled.{Compiled};
 ghost use Rattle.rule_lines.specs.Pairs.{pairs_of};
 ghost use Rattle.rules_install.specs.Filled.{IsWritten, whole_file};
@@ -11,7 +11,7 @@ ghost use Rattle.rules_install.specs.Whole.{Begins, DecidesAs, Ends, EndsRun, Is
 
 use crate::laws::decides;
 use crate::{Install, InstallFault, Names, Phase};
-use dir_disk::Dir;
+use dir_calls::Dir;
 use rule_lines::{Limits, parse};
 use std::alloc::Global;
 

@@ -1,7 +1,7 @@
 //! The tools for rules: `tcprules` installs them, and `tcprulescheck` tells which of them decides.
 #![tactic(auto)]
 
-mod path;
+pub mod path;
 pub mod tcprules;
 pub mod tcprulescheck;
 

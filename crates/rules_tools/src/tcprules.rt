@@ -1,13 +1,17 @@
 //! `tcprules`: compiles a rule text from standard input, and installs it.
-ghost use Rattle.std.specs.Prelude.{◌≡◌, ◌⊎◌, ◌<◌, ◌^◌, ◌-◌, ◌+◌, None, IsSome, IfOk, IfErr, IfSome, OnOk, take};
-ghost use Rattle.dir_disk.specs.Names.{name_fault};
+ghost use Rattle.std.specs.Prelude.{◌≡◌, ◌≢◌, ◌⊎◌, ◌<◌, ◌^◌, ◌-◌, ◌+◌, List, ℕ, IsTrue, None, Option, IsSome, IfOk, IfErr, IfSome, OnOk, take};
+ghost use Rattle.dir_calls.specs.Lasting.{LastsAmong};
+ghost use Rattle.dir_calls.specs.Names.{name_fault};
+ghost use Rattle.dir_calls.specs.Replacing.{Stays};
+ghost use Rattle.dir_disk.specs.OsParts.{os_left_since, os_moment, os_state};
 ghost use Rattle.rules_install.specs.ParseFaults.{of_parse};
 ghost use Rattle.rules_tools.specs.Paths.{PlacesOf};
 ghost use Rattle.rules_tools.specs.Rules.{told_fault};
 ghost use Rattle.rules_tools.specs.declared.tcprules.TcprulesFault.TheVariants.{OutOfMemory};
 
 use crate::path::{folder_path, split_path};
-use dir_disk::{FolderFault, Name, NameFault, OsDir};
+use dir_calls::{Name, NameFault};
+use dir_disk::{Disk, DiskDir, FolderFault, OsDir};
 use rule_lines::{Limits, LineFault, LineKind, ParseFault, parse};
 use rules_install::whole::finish;
 use rules_install::{Install, InstallFault, Names, Phase};
@@ -85,7 +89,8 @@ impl From<ParseFault> for TcprulesFault {
 ///
 /// # Errors
 /// In the order of `TcprulesFault`. After those that stand above `Device` there nothing was touched on the disk. After `Device` and `OutOfMemory`
-/// the rules file is the old one, or with the phases `Named` and `Done` possibly the new one; the scratch file may be left.
+/// the rules file is the old one, or with the phases `Named` and `Done` possibly the new one. After a fault of the disk on the way to any
+/// phase the scratch file is taken away, as well as that can be done; after want of memory it may be left.
 ///
 /// From before its first change on it holds the lock of the folder (`OsDir::lock`), and waits for it where another `tcprules` has it.
 pub fn run_tcprules<R: Read, F: Files<File = File> + Drop>(
@@ -111,8 +116,24 @@ pub fn run_tcprules<R: Read, F: Files<File = File> + Drop>(
     if dir.lock().is_err() {
         return Err(TcprulesFault::Device(Phase::Fresh));
     }
-    finish(alloc, &mut dir, &mut install)?;
+    let outcome = finish(alloc, &mut dir, &mut install);
+    if matches!(outcome, Err(InstallFault::Disk(_, _))) {
+        if let Ok((_folder, names)) = read_places(alloc, cdb, tmp) {
+            remove_scratch(&mut dir, &names);
+        }
+    }
+    outcome?;
     Ok(())
+}
+
+/// Takes what stands under the scratch name away, as well as that can be done: a fault of that is told to nobody. What lasts under the name of
+/// the rules file lasts there, and stands there whenever the machine stops meanwhile.
+pub fn remove_scratch<D: Disk + Drop>(dir: &mut DiskDir<D>, names: &Names)
+    ensures stays { IsTrue D.honest → (contents : List (Option (List ℕ)))
+        → LastsAmong (os_state D.state dir.old) names.now.cdb contents → Stays (os_state D.state) (os_moment D.moment)
+        (os_left_since D.left_since) names.now.cdb contents dir.old dir.new }
+{
+    let _removed = dir.remove(names.tmp());
 }
 
 /// The folder of two paths, and the names in it. Names are looked at first, then folders, then whether the names are the same; want of

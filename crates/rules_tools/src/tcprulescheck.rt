@@ -1,14 +1,15 @@
 //! `tcprulescheck`: which rule of a compiled file decides a peer.
 ghost use Rattle.std.specs.Prelude.{◌≡◌, IsTrue, IfOk, IfErr, OnOk};
 ghost use Rattle.std.specs.Io.KnownBytes.{Appends};
-ghost use Rattle.dir_disk.specs.Directory.{content};
+ghost use Rattle.dir_calls.specs.Directory.{content};
 ghost use Rattle.rules_tools.specs.Checks.{Blames, DecidesBy, FailsBy};
 ghost use Rattle.rules_tools.specs.declared.tcprulescheck.CheckFault.TheVariants.{OutOfMemory};
 
 use crate::path::{folder_path, split_path};
 use answer_lines::append_answer;
 use cdb_read::CdbFile;
-use dir_disk::{Dir, DirFault, FolderFault, Name, NameFault, OsDir};
+use dir_calls::{Dir, DirFault, Name, NameFault};
+use dir_disk::{FolderFault, OsDir};
 use rule_lines::FindFault;
 use rule_lookup::{DecideFault, Decision, Found, Missing, Peer, PeerFault, decide, parse_address};
 use std::alloc::{AllocError, Global};

@@ -4,7 +4,7 @@ use Rattle.std.specs.Prelude.{Some}
 use denote.Enum.Bare.{differs_true, differs_false}
 use Rattle.cdb_write.specs.Written.{Written}
 use Rattle.cdb_read.specs.Compiled.{stored}
-use Rattle.dir_disk.specs.Lasting.{LastsAmong}
+use Rattle.dir_calls.specs.Lasting.{LastsAmong}
 use Rattle.rules_install.specs.Filled.{whole_file}
 use Rattle.rules_install.specs.Installing.{next_phase}
 use Rattle.rules_install.specs.Installs.{installing}

@@ -4,7 +4,7 @@ use Rattle.std.specs.Option.{ok_or}
 use Rattle.std.specs.Borrow.{Bor}
 use Rattle.std.proofs.lemmas.Bool.{not-true, not-false, or_left, or_right}
 use Rattle.std.proofs.lemmas.Result.{err_from_is_err_and}
-use Rattle.dir_disk.specs.Names.{name_fault}
+use Rattle.dir_calls.specs.Names.{name_fault}
 use Rattle.rules_install.specs.NamePair.{NamePair}
 use Rattle.rules_tools.specs.Paths.{PlacesOf, IsSplit, IsPlaced, paths_fault}
 use Rattle.rules_tools.specs.declared.tcprules.TcprulesFault.{TcprulesFault}

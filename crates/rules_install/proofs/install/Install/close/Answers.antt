@@ -1,8 +1,8 @@
 use Rattle.std.proofs.Common.{[], ◌∷◌, refl, ◌∙◌, ap}
 use Rattle.std.specs.Prelude.{Err, Contains}
-use Rattle.dir_disk.specs.declared.fault.DirFault.TheVariants.{NoScratch, Device, OutOfMemory as NoMemory}
-use Rattle.dir_disk.specs.Calls.{syncs}
-use Rattle.dir_disk.proofs.Lasting.{syncs_keeps}
+use Rattle.dir_calls.specs.declared.fault.DirFault.TheVariants.{NoScratch, Device, OutOfMemory as NoMemory}
+use Rattle.dir_calls.specs.Calls.{syncs}
+use Rattle.dir_calls.proofs.Lasting.{syncs_keeps}
 use Rattle.rules_install.specs.declared.Phase.TheVariants.{Synced}
 use Rattle.rules_install.specs.Installs.{installing}
 use Rattle.rules_install.proofs.StepCalls.{call_steps}
@@ -19,7 +19,7 @@ returns g c =
       only = λ honest image left. g.met.D.Dir.only_now c.args.dir.now image honest left;
       does = c.sync-outcome.ensures.does;
       time = c.sync-outcome.ensures.time;
-      cause = c.sync-outcome.ensures.cause;
+      counted = c.sync-outcome.ensures.counted;
       sure = λ honest fault is. among_three NoScratch fault (of_err c.sync-outcome.result fault (Contains (NoScratch ∷ Device ∷ NoMemory ∷ [])) c.sync-outcome.ensures.faults is)
           (λ none. has_scratch s d c.requires.next (c.requires.fits honest c.requires.is_open) (c.sync-outcome.ensures.no_scratch honest (is ∙ ap Err none)));
     })

@@ -1,10 +1,10 @@
 use Rattle.std.proofs.Common.{arith, ◌≡◌, ◌≢◌, ◌++◌, drop, take, ◌^◌, ◌≤◌, ◌<◌, [], ◌∷◌, inl, List, length, IsTrue, false, ℕ, ◌+◌, ◌-◌, refl, sym, ◌∙◌, ap, subst}
 use Rattle.std.specs.Prelude.{Result, Ok, Err, OnOk, Contains}
-use Rattle.dir_disk.specs.declared.fault.DirFault.TheVariants.{NoScratch, Device, OutOfMemory as NoMemory}
+use Rattle.dir_calls.specs.declared.fault.DirFault.TheVariants.{NoScratch, Device, OutOfMemory as NoMemory}
 use Rattle.std.proofs.lemmas.Result.{err_from_is_err_and, IfOk-at_ok}
 use Rattle.std.proofs.lemmas.List.{take_rest}
-use Rattle.dir_disk.specs.Calls.{appends}
-use Rattle.dir_disk.proofs.Lasting.{appends_keeps}
+use Rattle.dir_calls.specs.Calls.{appends}
+use Rattle.dir_calls.proofs.Lasting.{appends_keeps}
 use Rattle.rules_install.specs.declared.Phase.{Phase}
 use Rattle.rules_install.specs.declared.Phase.TheVariants.{Filling}
 use Rattle.rules_install.specs.declared.fault.InstallFault.{InstallFault}
@@ -114,7 +114,7 @@ append_step g c s' result s'_is result_is =
     (λ image honest left. g.met.D.Dir.only_now c.args.dir.now image honest left)
     c.append.ensures.time c.append.ensures.does
     (λ olds lasts. appends_keeps d s.names.cdb olds lasts piece) (λ count olds lasts. appends_keeps d s.names.cdb olds lasts (take count piece))
-    c.append.ensures.cause
+    c.append.ensures.counted
     (λ honest fault is. among_three NoScratch fault (of_err c.append.result fault (Contains (NoScratch ∷ Device ∷ NoMemory ∷ [])) c.append.ensures.faults is)
     (λ none. has_number d.files d.scratch _ (filling_has s d (next_is g c) (fits honest is_open)).1 (c.append.ensures.no_scratch honest (is ∙ ap Err none)))))
 

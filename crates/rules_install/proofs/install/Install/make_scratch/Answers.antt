@@ -1,8 +1,8 @@
 use Rattle.std.proofs.Common.{[], ◌∷◌, refl, subst}
 use Rattle.std.specs.Prelude.{Contains}
-use Rattle.dir_disk.specs.declared.fault.DirFault.TheVariants.{Device, OutOfMemory as NoMemory}
-use Rattle.dir_disk.specs.Calls.{makes}
-use Rattle.dir_disk.proofs.Lasting.{makes_keeps}
+use Rattle.dir_calls.specs.declared.fault.DirFault.TheVariants.{Device, OutOfMemory as NoMemory}
+use Rattle.dir_calls.specs.Calls.{makes}
+use Rattle.dir_calls.proofs.Lasting.{makes_keeps}
 use Rattle.rules_install.specs.declared.Phase.TheVariants.{Fresh}
 use Rattle.rules_install.specs.Installs.{installing}
 use Rattle.rules_install.proofs.StepCalls.{OneCall, call_steps}
@@ -21,7 +21,7 @@ returns g c =
     let d = g.D.Dir.state c.args.dir.now in
     let blank = c.args.self.now.not_begun (fresh_next s.reached s.patched c.requires.next) in
     let one = subst (λ name. OneCall g.D.Dir.honest g.D.Dir.state g.D.Dir.moment g.D.Dir.left_since g.D.Dir.failed (makes name) c.args.dir.now c.fresh-outcome.new.self c.fresh-outcome.result) c.tmp.ensures.name
-    (record { only = λ honest image left. g.met.D.Dir.only_now c.args.dir.now image honest left; does = c.fresh-outcome.ensures.does; time = c.fresh-outcome.ensures.time; cause = c.fresh-outcome.ensures.cause; sure = λ honest fault is. among_two fault (of_err c.fresh-outcome.result fault (Contains (Device ∷ NoMemory ∷ [])) c.fresh-outcome.ensures.faults is) }) in
+    (record { only = λ honest image left. g.met.D.Dir.only_now c.args.dir.now image honest left; does = c.fresh-outcome.ensures.does; time = c.fresh-outcome.ensures.time; counted = c.fresh-outcome.ensures.counted; sure = λ honest fault is. among_two fault (of_err c.fresh-outcome.result fault (Contains (Device ∷ NoMemory ∷ [])) c.fresh-outcome.ensures.faults is) }) in
     call_steps g.D.Dir.honest g.D.Dir.state g.D.Dir.moment g.D.Dir.left_since g.D.Dir.failed Fresh s (makes s.names.tmp) c.args.dir.now c.fresh-outcome.new.self c.fresh-outcome.result
     one (installing c.note.new.self) c.note.result c.requires.is_open refl (λ is. absurd (cc)) c.requires.fits
     (λ honest. fresh_fits s d blank.0 blank.1)

@@ -1,8 +1,8 @@
 use Rattle.std.proofs.Common.{◌≡◌, [], ◌∷◌, refl, ◌∙◌, ap, subst}
 use Rattle.std.specs.Prelude.{Err, None, Contains}
-use Rattle.dir_disk.specs.declared.fault.DirFault.TheVariants.{NoName, Device, OutOfMemory as NoMemory}
-use Rattle.dir_disk.specs.Directory.{number_of}
-use Rattle.dir_disk.specs.Calls.{Call, renames}
+use Rattle.dir_calls.specs.declared.fault.DirFault.TheVariants.{NoName, Device, OutOfMemory as NoMemory}
+use Rattle.dir_calls.specs.Directory.{number_of}
+use Rattle.dir_calls.specs.Calls.{Call, renames}
 use Rattle.rules_install.specs.declared.Phase.TheVariants.{Named}
 use Rattle.rules_install.specs.Filled.{whole_file}
 use Rattle.rules_install.specs.Installing.{synced_file}
@@ -23,7 +23,7 @@ returns g c =
       only = λ honest image left. g.met.D.Dir.only_now c.args.dir.now image honest left;
       does = c.rename-outcome.ensures.does;
       time = c.rename-outcome.ensures.time;
-      cause = c.rename-outcome.ensures.cause;
+      counted = c.rename-outcome.ensures.counted;
       sure = λ honest fault is. among_three NoName fault (of_err c.rename-outcome.result fault (Contains (NoName ∷ Device ∷ NoMemory ∷ [])) c.rename-outcome.ensures.faults is)
           (λ none. has_name s d c.requires.next (c.requires.fits honest c.requires.is_open) (subst (λ name. number_of d name ≡ None) c.tmp.ensures.name (c.rename-outcome.ensures.no_name honest (is ∙ ap Err none))));
     }) in

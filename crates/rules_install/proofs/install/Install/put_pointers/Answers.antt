@@ -1,9 +1,9 @@
 use Rattle.std.proofs.Common.{arith, ◌≡◌, ◌⊎◌, [], ◌∷◌, inl, inr, true, false, refl, sym, ◌∙◌, ap}
 use Rattle.std.specs.Prelude.{Err, is_ok, Contains}
-use Rattle.dir_disk.specs.declared.fault.DirFault.TheVariants.{NoScratch, Device, OutOfMemory as NoMemory}
+use Rattle.dir_calls.specs.declared.fault.DirFault.TheVariants.{NoScratch, Device, OutOfMemory as NoMemory}
 use Rattle.std.proofs.lemmas.Result.{err_from_is_err_and}
-use Rattle.dir_disk.specs.Calls.{patches}
-use Rattle.dir_disk.proofs.Lasting.{patches_keeps}
+use Rattle.dir_calls.specs.Calls.{patches}
+use Rattle.dir_calls.proofs.Lasting.{patches_keeps}
 use Rattle.rules_install.specs.Installs.{installing}
 use Rattle.rules_install.proofs.FillBytes.{length-blank, pointers_less}
 use Rattle.rules_install.proofs.FillSteps.{advanced, filling_steps, filling_has, filling_more, patch_noted, pointers_fit, pointers_has, still_steps, unpatched, was_begun}
@@ -74,7 +74,7 @@ returns-clause-step g c =
     (λ image honest left. g.met.D.Dir.only_now c.args.dir.now image honest left)
     c.patch-outcome.ensures.time c.patch-outcome.ensures.does
     (λ olds lasts. patches_keeps d s.names.cdb olds lasts 0 header) (λ x olds lasts. patches_keeps d s.names.cdb olds lasts 0 header)
-    c.patch-outcome.ensures.cause
+    c.patch-outcome.ensures.counted
     (λ honest fault is. among_three NoScratch fault (of_err c.patch-outcome.result fault (Contains (NoScratch ∷ Device ∷ NoMemory ∷ [])) c.patch-outcome.ensures.faults is)
     (λ none. has_number d.files d.scratch _ (filling_has s d c.requires.next (c.requires.fits honest c.requires.is_open)).1 (c.patch-outcome.ensures.no_scratch honest (is ∙ ap Err none))))
 

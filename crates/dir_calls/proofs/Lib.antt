@@ -1,0 +1,17 @@
+pub mod Counting
+pub mod EntryLists
+pub mod FuseLemmas
+pub mod History
+pub mod InMemory
+pub mod Lasting
+pub mod Moments
+pub mod NameRules
+pub mod NameTables
+pub mod NamesOf
+pub mod Pairs
+pub mod Passing
+pub mod Replacing
+pub mod Results
+pub mod Scratches
+pub mod Stops
+pub mod WithFiles

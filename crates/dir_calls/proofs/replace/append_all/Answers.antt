@@ -1,0 +1,42 @@
+use Rattle.std.proofs.Common.{◌≡◌, List, [], ℕ, IsTrue, ◌-◌, length, take, drop, length-drop, sym, ◌∙◌, ap, arith}
+use Rattle.std.proofs.lemmas.List.{take_all, nil_from_length}
+use Rattle.std.proofs.lemmas.Bool.Decides.{nat_tests}
+use Rattle.std.specs.Prelude.{Option}
+use Rattle.dir_calls.specs.Calls.{appends, after}
+use Rattle.dir_calls.specs.Lasting.{LastsAmong}
+use Rattle.dir_calls.specs.Replacing.{Stays}
+use Rattle.dir_calls.proofs.Lasting.{appends_keeps}
+use Rattle.dir_calls.proofs.Replacing.{stays_on, append_none, append_rest}
+use Rattle.dir_calls.proofs.replace.append_all.Given.{Over}
+use Rattle.dir_calls.proofs.replace.append_all.Goals as goal
+use Rattle.dir_calls.proofs.replace.append_all.Goals.{After-append}
+
+-- up to an append, whatever it answers
+stays : (g : Over) (c : After-append g) → IsTrue g.D.Dir.honest → (name : List ℕ) (olds : List (Option (List ℕ))) → LastsAmong (g.D.Dir.state c.args.dir.now) name olds
+    → Stays g.D.Dir.state g.D.Dir.moment g.D.Dir.left_since name olds c.args.dir.now c.append.new.self
+stays g c honest name olds lasts =
+    let mid = c.loop-rest.dir in
+    let rest = c.loop-rest.rest.now in
+    let so_far = c.loop-rest.invariant.stays honest name olds lasts in
+    stays_on g.D.Dir.state g.D.Dir.moment g.D.Dir.left_since name olds c.args.dir.now mid c.append.new.self (λ n. appends (take n rest)) (appends rest) c.append.result
+    so_far (λ image left. g.met.D.Dir.only_now mid image honest left) (c.append.ensures.time honest) (c.append.ensures.does honest)
+    (appends_keeps (g.D.Dir.state mid) name olds so_far.lasts rest) (λ n. appends_keeps (g.D.Dir.state mid) name olds so_far.lasts (take n rest))
+
+pub returns-in_err-count-clause-stays : goal.returns-in_err-count-clause-stays
+returns-in_err-count-clause-stays g c = stays g (goal.at.returns-in_err-count-clause-stays g c).After-append
+
+pub loop-rest-preserved : goal.loop-rest-preserved
+loop-rest-preserved g c = record {
+  appended = λ honest.
+      let rest = c.loop-rest.rest.now in
+      let count = c.in_ok-count.count in
+      ap (λ (l : List ℕ). after (appends l) (g.D.Dir.state c.append.new.self)) (take_all (length rest - count) (drop count rest) (omega (arith, length-drop count rest)))
+      ∙ ap (after (appends (drop count rest))) (c.in_ok-count.ensures.does honest) ∙ append_rest count rest (g.D.Dir.state c.loop-rest.dir) ∙ c.loop-rest.invariant.appended honest;
+  stays = stays g (goal.at.loop-rest-preserved g c).After-append;
+  counted = c.in_ok-count.ensures.counted ∙ c.loop-rest.invariant.counted;
+}
+
+pub returns-clause-appended : goal.returns-clause-appended
+returns-clause-appended g c = λ honest.
+    let none : c.loop-rest.rest.now ≡ [] = nil_from_length c.loop-rest.rest.now (grind (arith, nat_tests)) in
+    sym (append_none (g.D.Dir.state c.loop-rest.dir)) ∙ ap (λ (l : List ℕ). after (appends l) (g.D.Dir.state c.loop-rest.dir)) (sym none) ∙ c.loop-rest.invariant.appended honest

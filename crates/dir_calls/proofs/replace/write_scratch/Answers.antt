@@ -1,0 +1,53 @@
+use Rattle.std.proofs.Common.{◌≢◌, List, ℕ, IsTrue, sym, ◌∙◌, ap, subst}
+use Rattle.std.specs.Prelude.{Option}
+use Rattle.dir_calls.specs.Directory.{Directory}
+use Rattle.dir_calls.specs.Calls.{makes, appends, syncs, after}
+use Rattle.dir_calls.specs.Lasting.{LastsAmong}
+use Rattle.dir_calls.specs.Replacing.{Stays, HasSynced}
+use Rattle.dir_calls.proofs.Lasting.{makes_keeps, syncs_keeps}
+use Rattle.dir_calls.proofs.Replacing.{stays_call, stays_then, stays_on, on_ok, written}
+use Rattle.dir_calls.proofs.replace.write_scratch.Given.{Over}
+use Rattle.dir_calls.proofs.replace.write_scratch.Goals as goal
+use Rattle.dir_calls.proofs.replace.write_scratch.Goals.{After-fresh, After-append_all}
+
+-- up to the making
+made : (g : Over) (c : After-fresh g) → IsTrue g.D.Dir.honest → (name : List ℕ) (olds : List (Option (List ℕ))) → c.args.scratch.now ≢ name → LastsAmong (g.D.Dir.state c.args.dir.now) name olds
+    → Stays g.D.Dir.state g.D.Dir.moment g.D.Dir.left_since name olds c.args.dir.now c.fresh.new.self
+made g c honest name olds differ lasts =
+    let old = c.args.dir.now in
+    let scratch = c.args.scratch.now in
+    let keeps = makes_keeps (g.D.Dir.state old) name olds lasts scratch (λ same. differ (sym same)) in
+    stays_call g.D.Dir.state g.D.Dir.moment g.D.Dir.left_since name olds old c.fresh.new.self (λ _. makes scratch) (makes scratch) c.fresh.result
+    (λ image left. g.met.D.Dir.only_now old image honest left) (c.fresh.ensures.time honest) (c.fresh.ensures.does honest) keeps (λ _. keeps)
+
+-- and the filling
+filled : (g : Over) (c : After-append_all g) → IsTrue g.D.Dir.honest → (name : List ℕ) (olds : List (Option (List ℕ)))
+    → Stays g.D.Dir.state g.D.Dir.moment g.D.Dir.left_since name olds c.args.dir.now c.fresh.new.self
+    → Stays g.D.Dir.state g.D.Dir.moment g.D.Dir.left_since name olds c.args.dir.now c.append_all.new.dir
+filled g c honest name olds so_far =
+    stays_then g.D.Dir.state g.D.Dir.moment g.D.Dir.left_since name olds c.args.dir.now c.fresh.new.self c.append_all.new.dir so_far (c.append_all.ensures.stays honest name olds so_far.lasts)
+
+pub returns-in_err-fresh-clause-stays : goal.returns-in_err-fresh-clause-stays
+returns-in_err-fresh-clause-stays g c = made g (goal.at.returns-in_err-fresh-clause-stays g c).After-fresh
+
+pub returns-in_err-append_all-clause-stays : goal.returns-in_err-append_all-clause-stays
+returns-in_err-append_all-clause-stays g c = λ honest name olds differ lasts.
+    let at = goal.at.returns-in_err-append_all-clause-stays g c in
+    filled g at.After-append_all honest name olds (made g at.After-fresh honest name olds differ lasts)
+
+pub returns-clause-written : goal.returns-clause-written
+returns-clause-written g c = λ honest.
+    let scratch = c.args.scratch.now in
+    let bytes = c.args.bytes.now in
+    on_ok (λ d. HasSynced scratch bytes d) syncs (g.D.Dir.state c.append_all.new.dir) (g.D.Dir.state c.sync.new.self) c.sync.result (c.sync.ensures.does honest)
+    (subst (λ (d : Directory). HasSynced scratch bytes (after syncs d)) (sym (c.in_ok-append_all.ensures.appended honest ∙ ap (after (appends bytes)) (c.in_ok-fresh.ensures.does honest)))
+    (written (g.D.Dir.state c.args.dir.now) scratch bytes))
+
+pub returns-clause-stays : goal.returns-clause-stays
+returns-clause-stays g c = λ honest name olds differ lasts.
+    let at = goal.at.returns-clause-stays g c in
+    let mid = c.append_all.new.dir in
+    let so_far = filled g at.After-append_all honest name olds (made g at.After-fresh honest name olds differ lasts) in
+    let keeps = syncs_keeps (g.D.Dir.state mid) name olds so_far.lasts in
+    stays_on g.D.Dir.state g.D.Dir.moment g.D.Dir.left_since name olds c.args.dir.now mid c.sync.new.self (λ _. syncs) syncs c.sync.result
+    so_far (λ image left. g.met.D.Dir.only_now mid image honest left) (c.sync.ensures.time honest) (c.sync.ensures.does honest) keeps (λ _. keeps)

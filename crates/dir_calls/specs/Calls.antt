@@ -1,0 +1,75 @@
+-- The calls that change a directory, and the directory after each.
+use Rattle.std.specs.Prelude.{ℕ, zero, suc, ◌+◌, true, false, List, [], ◌∷◌, ◌++◌, length, take, drop, Option, None, Some, if◌then◌else◌}
+use Rattle.dir_calls.specs.NameTable.{NameTable, takes, puts, moves, same_name, push, all_settled}
+use Rattle.dir_calls.specs.Directory.{Directory, FileState, number_of}
+
+pub data Call : Type 0 where
+  makes : List ℕ → Call
+  appends : List ℕ → Call
+  patches : ℕ → List ℕ → Call
+  syncs : Call
+  renames : List ℕ → List ℕ → Call
+  settles : Call
+
+-- the file with other bytes, if it is not synced
+abbrev pub rewritten : FileState → List ℕ → FileState
+rewritten file bytes = record { bytes = if file.synced then file.bytes else bytes; synced = file.synced }
+
+-- with bytes at its end
+abbrev pub longer : List ℕ → FileState → FileState
+longer piece file = rewritten file (file.bytes ++ piece)
+
+-- with bytes in place of those from a place on
+abbrev pub patched : ℕ → List ℕ → FileState → FileState
+patched place bytes file = rewritten file (take place file.bytes ++ bytes ++ drop (place + length bytes) file.bytes)
+
+abbrev pub lasting : FileState → FileState
+lasting file = record { bytes = file.bytes; synced = true }
+
+-- the files with the one of this number changed
+abbrev pub with_file : (FileState → FileState) → ℕ → List FileState → List FileState
+with_file change number [] = []
+with_file change zero (file ∷ files) = change file ∷ files
+with_file change (suc number) (file ∷ files) = file ∷ with_file change number files
+
+-- the directory with the scratch file changed, if there is one
+abbrev pub with_scratch : (FileState → FileState) → Option ℕ → Directory → Directory
+with_scratch change None d = d
+with_scratch change (Some number) d = record { names = d.names; files = with_file change number d.files; scratch = d.scratch }
+
+abbrev pub with_names : Directory → NameTable → Directory
+with_names d names = record { names = names; files = d.files; scratch = d.scratch }
+
+abbrev pub closed : Directory → Directory
+closed d = record { names = d.names; files = d.files; scratch = None }
+
+-- the names without a name that stands for this number
+abbrev pub taken_from : NameTable → List ℕ → Option ℕ → NameTable
+taken_from names name None = names
+taken_from names name (Some number) = push names (takes name)
+
+-- the directory without a name
+abbrev pub without : Directory → List ℕ → Directory
+without d name = with_names d (taken_from d.names name (number_of d name))
+
+-- the directory with a new empty file under a name, the scratch file
+abbrev pub made : Directory → List ℕ → Directory
+made d name = record {
+  names = push (without d name).names (puts name (length d.files));
+  files = d.files ++ record { bytes = []; synced = false } ∷ [];
+  scratch = Some (length d.files);
+}
+
+-- the directory with a name that stands for this number moved onto another
+abbrev pub moved : Directory → List ℕ → List ℕ → Option ℕ → Directory
+moved d from to None = d
+moved d from to (Some number) = if same_name from to then d else with_names d (push d.names (moves from to number))
+
+-- the directory after a call that did all of its work
+abbrev pub after : Call → Directory → Directory
+after (makes name) d = made d name
+after (appends piece) d = with_scratch (longer piece) d.scratch d
+after (patches place bytes) d = with_scratch (patched place bytes) d.scratch d
+after syncs d = closed (with_scratch lasting d.scratch d)
+after (renames from to) d = moved d from to (number_of d from)
+after settles d = with_names d (all_settled d.names)

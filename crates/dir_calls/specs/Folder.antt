@@ -1,0 +1,18 @@
+-- A directory in memory as a directory.
+use Rattle.std.specs.Prelude.{ℕ, List, [], map, take, drop, None}
+use Rattle.std.specs.FinMap.{empty}
+use Rattle.dir_calls.specs.NameTable.{Names, NameTable, NameChange, after_changes}
+use Rattle.dir_calls.specs.Directory.{Directory}
+use Rattle.dir_calls.specs.Entries.{names_in, change_of}
+use Rattle.dir_calls.specs.Stored.{file_of}
+use Rattle.dir_calls.specs.declared.folder.Folder.{Folder}
+
+-- the names after so many of the changes, and the other changes
+abbrev pub table_of : Names → ℕ → List NameChange → NameTable
+table_of origin settled changes = record { settled = after_changes origin (take settled changes); pending = drop settled changes }
+
+abbrev pub directory_of : Folder → Directory
+directory_of f = record { names = table_of (names_in f.origin.items) f.settled (map change_of f.edits.items); files = map file_of f.files.items; scratch = f.scratch }
+
+abbrev pub empty_directory : Directory
+empty_directory = record { names = record { settled = empty; pending = [] }; files = []; scratch = None }

@@ -1,0 +1,23 @@
+-- What a directory is, what each call does to it, and what a stop at any moment may leave.
+pub mod Calls
+pub mod Directory
+pub mod Entries
+pub mod Files
+pub mod Folder
+pub mod Fuse
+pub mod FuseParts
+pub mod Held
+pub mod Images
+pub mod Lasting
+pub mod MemDir
+pub mod Methods
+pub mod Moments
+pub mod NameTable
+pub mod Names
+pub mod NoDirectory
+pub mod Outcomes
+pub mod Past
+pub mod Replacing
+pub mod Same
+pub mod Stop
+pub mod Stored

@@ -1,0 +1,15 @@
+-- What a run of calls leaves under a name.
+use Rattle.std.specs.Prelude.{◌≡◌, ℕ, true, List, Option, Some}
+use Rattle.dir_calls.specs.Directory.{Directory, file_at}
+use Rattle.dir_calls.specs.Lasting.{LastsAmong, HasAmong}
+use Rattle.dir_calls.specs.Moments.{LeavesOnly}
+
+-- From the old directory to the new one, one of these contents stands under the name: for good at the end, and whenever the machine
+-- stops since the old one's moment.
+pub record Stays {D : Type 0} (state : D → Directory) (moment : D → ℕ) (left_since : D → ℕ → Directory → Type 0) (name : List ℕ) (contents : List (Option (List ℕ))) (old new : D) : Type 0 where
+  pub lasts : LastsAmong (state new) name contents
+  pub any_moment : LeavesOnly moment left_since old new (HasAmong name contents)
+
+-- a synced file with these bytes stands under a name
+abbrev pub HasSynced : List ℕ → List ℕ → Directory → Type 0
+HasSynced name bytes d = file_at d name ≡ Some (record { bytes = bytes; synced = true })

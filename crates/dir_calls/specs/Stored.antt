@@ -1,0 +1,10 @@
+-- A file of a directory in memory.
+use Rattle.std.specs.Prelude.{true, false}
+use Rattle.std.specs.Arc.{arc_value}
+use Rattle.dir_calls.specs.Directory.{FileState}
+use Rattle.dir_calls.specs.declared.stored.Stored.{Stored}
+use Rattle.dir_calls.specs.declared.stored.Stored.TheVariants.{Open, Synced}
+
+abbrev pub file_of : Stored → FileState
+file_of (Open bytes) = record { bytes = bytes.items; synced = false }
+file_of (Synced bytes) = record { bytes = (arc_value bytes).items; synced = true }

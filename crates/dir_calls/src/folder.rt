@@ -1,0 +1,175 @@
+//! What stands in a directory in memory.
+ghost use Rattle.std.specs.Prelude.{◌≡◌, ◌≤◌, ◌<◌, ◌+◌, ◌++◌, [], ◌∷◌, Some, None, length, map, IfOk, OnOk, OnErr, option_to_list, vec_len, vec_capacity};
+ghost use Rattle.std.specs.Option.{ForSome, option_map};
+ghost use Rattle.std.specs.FinMap.{get};
+ghost use Rattle.dir_calls.specs.NameTable.{after_changes, same_name, takes};
+ghost use Rattle.dir_calls.specs.Entries.{names_in, change_of};
+ghost use Rattle.dir_calls.specs.Same.{same_names-prop};
+
+use crate::MemFile;
+use crate::entries::{Entry, NameEdit, number_at, with_name};
+use crate::stored::{Stored, close};
+use std::alloc::{AllocError, Global};
+use std::sync::Arc;
+
+/// A directory in memory. The names are those of `origin` after the edits, of which the first `settled` are settled.
+#[derive(Drop)]
+pub struct Folder {
+    pub origin: Vec<Entry>,
+    pub edits: Vec<NameEdit>,
+    pub settled: usize,
+    pub names: Vec<Entry>,
+    pub files: Vec<Stored>,
+    pub scratch: Option<usize>,
+    ghost standing: { names_in names.items
+        ≡ after_changes (names_in origin.items) (map change_of edits.items) } by { same_names-prop _ _ },
+    ghost settled_fits: { settled ≤ length edits.items },
+    ghost in_range: { ForSome scratch (λ number. number < length files.items) },
+}
+
+// Puts an edit at the end, after another if there is one.
+fn keep_both(edits: &mut Vec<NameEdit>, first: Option<NameEdit>, last: NameEdit)
+    requires { vec_len edits.old + 2 ≤ vec_capacity edits.old }
+    ensures { map change_of edits.new.items
+        ≡ map change_of edits.old.items ++ (option_to_list (option_map change_of first) ++ change_of last ∷ []) }
+{
+    if let Some(first) = first {
+        edits.push_reserved(first);
+    }
+    edits.push_reserved(last);
+}
+
+impl Folder {
+    ghost use Rattle.dir_calls.specs.Calls.{makes, appends, patches, renames, settles, syncs, after};
+    ghost use Rattle.dir_calls.specs.Folder.{directory_of, empty_directory};
+    ghost use Rattle.dir_calls.specs.Directory.{number_of, scratch_of, content};
+    ghost use Rattle.dir_calls.specs.Methods.{IsInside};
+
+    /// An empty directory.
+    pub fn new(alloc: Global) -> Self
+        ensures { directory_of result ≡ empty_directory }
+    {
+        Folder {
+            origin: Vec::new(alloc),
+            edits: Vec::new(alloc),
+            settled: 0,
+            names: Vec::new(alloc),
+            files: Vec::new(alloc),
+            scratch: None,
+        }
+    }
+
+    /// The number of the file that a name stands for.
+    pub fn number(&self, name: &[u8]) -> Option<usize>
+        ensures { result ≡ number_of (directory_of self.now) name.now }
+    {
+        number_at(&self.names, name)
+    }
+
+    /// Takes away what stands under a name, and makes a new empty file there, the scratch file.
+    pub fn make(&mut self, alloc: Global, name: &[u8]) -> Result<(), AllocError>
+        ensures ok { OnOk result (directory_of self.new ≡ after (makes name.now) (directory_of self.old)) }
+        ensures err { OnErr result (directory_of self.new ≡ directory_of self.old) }
+    {
+        let number = self.files.len();
+        let names = with_name(alloc, &self.names, name, name, number)?;
+        let put = NameEdit::Put(name.to_vec(alloc)?, number);
+        let taken = self.taking(alloc, name)?;
+        self.edits.try_reserve(2)?;
+        self.files.try_reserve(1)?;
+        keep_both(&mut self.edits, taken, put);
+        self.files.push_reserved(Stored::Open(Vec::new(alloc)));
+        self.names = names;
+        self.scratch = Some(number);
+        Ok(())
+    }
+
+    // The change that takes a name away, if it stands.
+    fn taking(&self, alloc: Global, name: &[u8]) -> Result<Option<NameEdit>, AllocError>
+        ensures { IfOk result (λ taken. option_map change_of taken
+            ≡ option_map (λ _. takes name.now) (number_of (directory_of self.now) name.now)) }
+    {
+        match self.number(name) {
+            Some(_) => Ok(Some(NameEdit::Taken(name.to_vec(alloc)?))),
+            None => Ok(None),
+        }
+    }
+
+    /// The file that stands under a name, if any.
+    pub fn open(&self, alloc: Global, name: &[u8]) -> Result<Option<MemFile>, AllocError>
+        ensures { IfOk result (λ found. found ≡ content (directory_of self.now) name.now) }
+    {
+        let Some(number) = self.number(name) else {
+            return Ok(None);
+        };
+        match self.files.get(number) {
+            Some(Stored::Open(bytes)) => Ok(Some(MemFile::new(bytes.to_vec(alloc)?))),
+            Some(Stored::Synced(bytes)) => Ok(Some(MemFile::shared(Arc::try_clone(bytes)?))),
+            None => Ok(None),
+        }
+    }
+
+    /// Puts bytes at the end of the scratch file.
+    pub fn append(&mut self, number: usize, piece: &[u8]) -> Result<(), AllocError>
+        requires { self.old.scratch ≡ Some number }
+        ensures ok { OnOk result (directory_of self.new ≡ after (appends piece.now) (directory_of self.old)) }
+        ensures err { OnErr result (directory_of self.new ≡ directory_of self.old) }
+    {
+        if let Stored::Open(bytes) = &mut self.files[number] {
+            bytes.extend_from_slice(piece)?;
+        }
+        Ok(())
+    }
+
+    /// Overwrites bytes of the scratch file from a place on.
+    pub fn patch(&mut self, number: usize, place: usize, bytes: &[u8])
+        requires scratch { self.old.scratch ≡ Some number }
+        requires inside { IsInside place bytes.now (scratch_of (directory_of self.old)) }
+        ensures { directory_of self.new ≡ after (patches place bytes.now) (directory_of self.old) }
+    {
+        if let Stored::Open(old) = &mut self.files[number] {
+            old[place..place + bytes.len()].copy_from_slice(bytes);
+        }
+    }
+
+    /// Makes the scratch file lasting, and closes it.
+    pub fn sync(&mut self, alloc: Global, number: usize) -> Result<(), AllocError>
+        requires { self.old.scratch ≡ Some number }
+        ensures ok { OnOk result (directory_of self.new ≡ after syncs (directory_of self.old)) }
+        ensures err { OnErr result (directory_of self.new ≡ directory_of self.old) }
+    {
+        let file = &mut self.files[number];
+        close(alloc, file)?;
+        self.scratch = None;
+        Ok(())
+    }
+
+    /// Makes all changes of names lasting.
+    pub fn settle(&mut self)
+        ensures { directory_of self.new ≡ after settles (directory_of self.old) }
+    {
+        self.settled = self.edits.len();
+    }
+
+    /// Moves a name that stands for this number onto another.
+    pub fn rename(
+        &mut self,
+        alloc: Global,
+        from: &[u8],
+        to: &[u8],
+        number: usize,
+    ) -> Result<(), AllocError>
+        requires { number_of (directory_of self.old) from.now ≡ Some number }
+        ensures ok { OnOk result (directory_of self.new ≡ after (renames from.now to.now) (directory_of self.old)) }
+        ensures err { OnErr result (directory_of self.new ≡ directory_of self.old) }
+    {
+        if from == to {
+            return Ok(());
+        }
+        let names = with_name(alloc, &self.names, from, to, number)?;
+        let edit = NameEdit::Moved(from.to_vec(alloc)?, to.to_vec(alloc)?, number);
+        self.edits.push(edit)?;
+        self.names = names;
+        Ok(())
+    }
+}

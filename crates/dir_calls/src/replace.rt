@@ -1,0 +1,71 @@
+//! A file put whole in the place of another.
+ghost use Rattle.std.specs.Prelude.{◌≡◌, ◌≢◌, List, [], ◌∷◌, ℕ, IsTrue, Option, Some, OnOk};
+ghost use Rattle.dir_calls.specs.Calls.{appends, after};
+ghost use Rattle.dir_calls.specs.Lasting.{LastsAmong, HasAmong};
+ghost use Rattle.dir_calls.specs.Moments.{LeavesOnly, CountsFault};
+ghost use Rattle.dir_calls.specs.Replacing.{Stays, HasSynced};
+
+use crate::{Dir, DirFault, Name};
+use std::alloc::Global;
+
+// Puts all of these bytes at the end of the scratch file.
+fn append_all<D: Dir>(alloc: Global, dir: &mut D, bytes: &[u8]) -> Result<(), DirFault>
+    ensures appended { IsTrue D.honest → OnOk result (
+        D.state dir.new ≡ after (appends bytes.now) (D.state dir.old)) }
+    // no name is touched
+    ensures stays { IsTrue D.honest → (name : List ℕ) (olds : List (Option (List ℕ)))
+        → LastsAmong (D.state dir.old) name olds → Stays D.state D.moment D.left_since name olds dir.old dir.new }
+    ensures counted { CountsFault (D.failed dir.old) (D.failed dir.new) result }
+{
+    let mut rest = bytes;
+    while !rest.is_empty() {
+        let count = dir.append(alloc, rest)?;
+        rest = &rest[count..];
+    }
+    Ok(())
+}
+
+// Makes a lasting file with these bytes under the name `scratch`.
+fn write_scratch<D: Dir>(
+    alloc: Global,
+    dir: &mut D,
+    scratch: &Name,
+    bytes: &[u8],
+) -> Result<(), DirFault>
+    ensures written { IsTrue D.honest → OnOk result (HasSynced scratch.now bytes.now (D.state dir.new)) }
+    // no other name is touched
+    ensures stays { IsTrue D.honest → (name : List ℕ) (olds : List (Option (List ℕ))) → scratch.now ≢ name
+        → LastsAmong (D.state dir.old) name olds → Stays D.state D.moment D.left_since name olds dir.old dir.new }
+    ensures counted { CountsFault (D.failed dir.old) (D.failed dir.new) result }
+{
+    dir.fresh(alloc, scratch)?;
+    append_all(alloc, dir, bytes)?;
+    dir.sync(alloc)
+}
+
+/// Puts a file with these bytes in the place of the one under `name`, whole: it is made under the name `scratch`, filled, made
+/// lasting, moved onto `name`, and that is settled. Whenever the machine stops, the old file stands under `name` or the new one.
+///
+/// After a fault the old file stands under `name`, or possibly the new one, and `scratch` may name an unfinished file.
+pub fn replace_file<D: Dir>(
+    alloc: Global,
+    dir: &mut D,
+    scratch: &Name,
+    name: &Name,
+    bytes: &[u8],
+) -> Result<(), DirFault>
+    requires differ { scratch.now ≢ name.now }
+    // whenever the machine stops since the call began, what stood there stands under the name, or the new file, whole
+    ensures any_moment { IsTrue D.honest → (olds : List (Option (List ℕ))) → LastsAmong (D.state dir.old) name.now olds
+        → LeavesOnly D.moment D.left_since dir.old dir.new (HasAmong name.now (Some bytes.now ∷ olds)) }
+    // and so it is afterwards, also after a fault
+    ensures lasts { IsTrue D.honest → (olds : List (Option (List ℕ))) → LastsAmong (D.state dir.old) name.now olds
+        → LastsAmong (D.state dir.new) name.now (Some bytes.now ∷ olds) }
+    // at the end the new file stands there for good
+    ensures done { IsTrue D.honest → OnOk result (LastsAmong (D.state dir.new) name.now (Some bytes.now ∷ [])) }
+    ensures counted { CountsFault (D.failed dir.old) (D.failed dir.new) result }
+{
+    write_scratch(alloc, dir, scratch, bytes)?;
+    dir.rename(alloc, scratch, name)?;
+    dir.settle()
+}

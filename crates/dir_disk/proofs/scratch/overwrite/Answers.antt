@@ -1,0 +1,34 @@
+use Rattle.std.proofs.Common.{◌≤◌, ◌+◌, length, sym, ◌∙◌, subst, ap, [], arith}
+use Rattle.dir_calls.specs.Directory.{Directory}
+use Rattle.dir_disk.specs.OsDir.{IsWritable, kept_back}
+use Rattle.dir_disk.proofs.Steps.{step_after, step_before}
+use Rattle.dir_disk.proofs.KeptWrites.{kept_patched, writable_inside, is_closed, written_image}
+use Rattle.dir_disk.proofs.scratch.overwrite.Goals as goal
+
+pub returns-in-Ok-clause-done : goal.returns-in-Ok-clause-done
+returns-in-Ok-clause-done g c = λ honest.
+    ap (kept_back []) (c.in-Ok.ensures.done honest)
+    ∙ kept_patched (g.D.Disk.state c.args.disk.now) (g.D.Disk.state c.write_kept.new.disk) (g.D.Disk.number c.in_ok-file.file) c.in_ok-file.written c.args.place c.args.pending.now.items c.args.bytes.now
+    (c.in_ok-file.ensures.writable honest) (c.in_ok-file.ensures.kept honest)
+
+pub returns-in-Ok-clause-writable : goal.returns-in-Ok-clause-writable
+returns-in-Ok-clause-writable g c = λ honest.
+    let inside : c.args.place + length c.args.bytes.now ≤ c.in_ok-file.written = omega (arith, c.requires.inside honest, c.in_ok-file.ensures.end honest) in
+    subst (λ (x : Directory). IsWritable x (g.D.Disk.number c.in_ok-file.file) c.in_ok-file.written) (sym (c.in-Ok.ensures.done honest))
+    (writable_inside (g.D.Disk.state c.write_kept.new.disk) (g.D.Disk.number c.in_ok-file.file) c.in_ok-file.written c.args.place c.args.bytes.now (c.in_ok-file.ensures.writable honest) inside)
+
+pub returns-in-Ok-clause-time : goal.returns-in-Ok-clause-time
+returns-in-Ok-clause-time g c = λ honest.
+    step_after g.D.Disk.state g.D.Disk.moment g.D.Disk.left_since c.args.disk.now c.write_kept.new.disk c.write_all.new.disk (c.in_ok-file.ensures.time honest)
+    (written_image (g.D.Disk.state c.args.disk.now) (g.D.Disk.state c.write_kept.new.disk) (g.D.Disk.number c.args.file) (g.D.Disk.number c.in_ok-file.file) c.args.written c.in_ok-file.written c.args.pending.now.items (c.requires.writable honest)
+    (c.in_ok-file.ensures.writable honest) (c.in_ok-file.ensures.kept honest))
+    (c.write_all.ensures.time honest)
+
+pub returns-in-Err-clause-time : goal.returns-in-Err-clause-time
+returns-in-Err-clause-time g c = λ honest.
+    step_before g.D.Disk.state g.D.Disk.moment g.D.Disk.left_since c.args.disk.now c.write_all.new.disk c.close.new.self
+    (step_after g.D.Disk.state g.D.Disk.moment g.D.Disk.left_since c.args.disk.now c.write_kept.new.disk c.write_all.new.disk (c.in_ok-file.ensures.time honest)
+    (written_image (g.D.Disk.state c.args.disk.now) (g.D.Disk.state c.write_kept.new.disk) (g.D.Disk.number c.args.file) (g.D.Disk.number c.in_ok-file.file) c.args.written c.in_ok-file.written c.args.pending.now.items (c.requires.writable honest)
+    (c.in_ok-file.ensures.writable honest) (c.in_ok-file.ensures.kept honest))
+    (c.write_all.ensures.time honest))
+    (c.close.ensures.time honest) (λ image is. is_closed (g.D.Disk.state c.write_all.new.disk) (g.D.Disk.state c.close.new.self) image (c.close.ensures.done honest) is)

@@ -1,0 +1,56 @@
+-- What the calls of a disk do. Its state is a directory: the names, the files with all that was written to them and whether that was synced since, and the
+-- file that may be written: the last one that was made.
+use Rattle.std.specs.Prelude.{◌≡◌, ◌⊎◌, ◌≤◌, ◌+◌, ℕ, false, List, [], ◌∷◌, ◌++◌, length, take, drop, Some}
+use Rattle.std.specs.Option.{ForSome}
+use Rattle.dir_calls.specs.NameTable.{SettlesSome, puts, push}
+use Rattle.dir_calls.specs.Directory.{Directory, FileState, KeepsSynced, scratch_of}
+use Rattle.dir_calls.specs.Images.{IsImage}
+use Rattle.dir_calls.specs.Calls.{lasting, with_scratch}
+use Rattle.dir_calls.specs.Moments.{Elapses}
+
+-- the file with bytes in place of those from a place on, or at its end: what is written is not synced
+abbrev pub rewritten_at : ℕ → List ℕ → FileState → FileState
+rewritten_at place piece file = record { bytes = take place file.bytes ++ (piece ++ drop (place + length piece) file.bytes); synced = false }
+
+-- after a write of the file that may be written
+abbrev pub after_write : ℕ → List ℕ → Directory → Directory
+after_write place piece d = with_scratch (rewritten_at place piece) d.scratch d
+
+-- after a sync of it
+abbrev pub after_sync : Directory → Directory
+after_sync d = with_scratch lasting d.scratch d
+
+-- with a new empty file under a name, the one that may be written
+abbrev pub created : Directory → List ℕ → Directory
+created d name = record {
+  names = push d.names (puts name (length d.files));
+  files = d.files ++ record { bytes = []; synced = false } ∷ [];
+  scratch = Some (length d.files);
+}
+
+-- a write or a sync has failed: the names and the synced files are as before, and of other files nothing is known
+pub record Spoils (old new : Directory) : Type 0 where
+  pub names : new.names ≡ old.names
+  pub files : KeepsSynced old.files new.files
+  pub scratch : new.scratch ≡ old.scratch
+
+-- a sync of the folder has failed: the first of the pending changes are settled, some or all or none
+pub record SettlesPart (old new : Directory) : Type 0 where
+  pub names : SettlesSome old.names new.names
+  pub files : new.files ≡ old.files
+  pub scratch : new.scratch ≡ old.scratch
+
+-- a call has done all of its work, or none
+abbrev pub AllOrNone : Directory → Directory → Directory → Type 0
+AllOrNone old done new = (new ≡ old) ⊎ (new ≡ done)
+
+-- the file of this number is the one that may be written, and the place is inside it or at its end
+pub record MayWrite (d : Directory) (number place : ℕ) : Type 0 where
+  pub last : d.scratch ≡ Some number
+  pub inside : ForSome (scratch_of d) (λ file. place ≤ length file.bytes)
+
+-- time goes on by one call of a disk: a stop since an earlier moment may have left what it may have left before, or what a stop
+-- before the call or after it leaves, and nothing else
+abbrev pub StepElapses : {D : Type 0} → (state : D → Directory) → (moment : D → ℕ) → (left_since : D → ℕ → Directory → Type 0) → (old new : D) → Type 0
+StepElapses state moment left_since old new =
+    Elapses (moment old) (moment new) (left_since old) (left_since new) (λ image. IsImage (state old) image ⊎ IsImage (state new) image)

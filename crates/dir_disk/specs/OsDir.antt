@@ -1,0 +1,40 @@
+-- A directory over a disk, which keeps bytes back.
+use Rattle.std.specs.Prelude.{◌≡◌, ◌≢◌, ℕ, Bool, IsTrue, false, List, length, slice_get, Option, None, Some}
+use Rattle.std.specs.Option.{option_map, ForSome}
+use Rattle.std.proofs.Props.{props}
+use Rattle.dir_calls.specs.Directory.{Directory, FileState, KeepsSynced, number_of}
+use Rattle.dir_calls.specs.Calls.{longer, with_scratch}
+
+-- the directory of a disk, with the bytes that are kept back at the end of the file that may be written
+abbrev pub kept_back : List ℕ → Directory → Directory
+kept_back pending d = with_scratch (longer pending) d.scratch d
+
+abbrev pub shape : FileState → ℕ × Bool
+shape file = (length file.bytes, file.synced)
+
+-- the file of this number may be written, has so many bytes, and is not synced
+abbrev pub IsWritable : Directory → ℕ → ℕ → Type 0
+IsWritable d number count = (d.scratch ≡ Some number) × (option_map shape (slice_get d.files number) ≡ Some (count, false))
+
+-- the file that may be written is the one that is held, if one is, and it has so many bytes
+abbrev pub Holds : {H : Type 0} → (number : H → ℕ) → Directory → Option H → ℕ → Type 0
+Holds number d scratch written = (d.scratch ≡ option_map number scratch) × ForSome scratch (λ file. IsWritable d (number file) written)
+
+pub Holds-prop : {H : Type 0} (number : H → ℕ) (d : Directory) (scratch : Option H) (written : ℕ) → IsProp (Holds number d scratch written)
+Holds-prop number d None written = hlevel props
+Holds-prop number d (Some file) written = hlevel props
+
+pub Holds_honest-prop : {H : Type 0} (honest : Bool) (number : H → ℕ) (d : Directory) (scratch : Option H) (written : ℕ) → IsProp (IsTrue honest → Holds number d scratch written)
+Holds_honest-prop honest number d scratch written = hlevel (props, Holds-prop)
+
+-- a file that was to be written is given up: the names and the synced files are as before, and no file may be written
+pub record GivesUp (old new : Directory) : Type 0 where
+  pub names : new.names ≡ old.names
+  pub files : KeepsSynced old.files new.files
+  pub scratch : new.scratch ≡ None
+
+-- a name may be taken away: each other one stands for the file that it stood for, the synced files are as before, and no file may be written
+pub record SparesOthers (name : List ℕ) (old new : Directory) : Type 0 where
+  pub numbers : (other : List ℕ) → name ≢ other → number_of new other ≡ number_of old other
+  pub files : KeepsSynced old.files new.files
+  pub scratch : new.scratch ≡ None

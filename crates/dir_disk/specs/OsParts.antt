@@ -1,0 +1,28 @@
+-- What a directory over a disk is made of.
+use Rattle.std.specs.Prelude.{ℕ, List}
+use Rattle.dir_calls.specs.Directory.{Directory}
+use Rattle.dir_disk.specs.OsDir.{kept_back}
+use Rattle.dir_disk.specs.declared.os_dir.DiskDir.{DiskDir}
+
+-- its disk
+abbrev pub os_disk : {D F H P Q : Type 0} {d : _} {f : _} → DiskDir D F H P Q d f → D
+os_disk dir = dir.disk
+
+-- the bytes that are kept back
+abbrev pub os_pending : {D F H P Q : Type 0} {d : _} {f : _} → DiskDir D F H P Q d f → List ℕ
+os_pending dir = dir.pending.items
+
+-- what stands in it: what stands on the disk, with the bytes that are kept back
+abbrev pub os_state : {D F H P Q : Type 0} {d : _} {f : _} → (D → Directory) → DiskDir D F H P Q d f → Directory
+os_state state dir = kept_back (os_pending dir) (state (os_disk dir))
+
+-- its moment, and what a stop since a moment may have left, are those of the disk
+abbrev pub os_moment : {D F H P Q : Type 0} {d : _} {f : _} → (D → ℕ) → DiskDir D F H P Q d f → ℕ
+os_moment moment dir = moment (os_disk dir)
+
+abbrev pub os_left_since : {D F H P Q : Type 0} {d : _} {f : _} → (D → ℕ → Directory → Type 0) → DiskDir D F H P Q d f → ℕ → Directory → Type 0
+os_left_since left_since dir = left_since (os_disk dir)
+
+-- how often its device has failed
+abbrev pub os_failed : {D F H P Q : Type 0} {d : _} {f : _} → DiskDir D F H P Q d f → ℕ
+os_failed dir = dir.failures

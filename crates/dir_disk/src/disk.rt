@@ -1,0 +1,247 @@
+//! What a file system gives, call by call.
+ghost use Rattle.std.specs.Prelude.{◌≡◌, ◌≢◌, ◌≤◌, ◌<◌, ◌+◌, ◌^◌, List, ℕ, Bool, true, IsTrue, None, Some, IsSome, length, take, slice_get, IfOk, IfErr, OnOk, OnErr};
+ghost use Rattle.std.specs.Option.{option_map, ForSome};
+ghost use Rattle.std.specs.IoError.{error_kind};
+ghost use Rattle.dir_calls.specs.Directory.{Directory, number_of};
+ghost use Rattle.dir_calls.specs.Images.{IsImage};
+ghost use Rattle.dir_calls.specs.Files.{Gives};
+ghost use Rattle.dir_calls.specs.Calls.{renames, settles, after, closed, without};
+ghost use Rattle.dir_disk.specs.DiskSteps.{AllOrNone, MayWrite, SettlesPart, Spoils, StepElapses, after_sync, after_write, created};
+
+use dir_calls::Name;
+use std::alloc::{AllocError, Global};
+use std::io::{self, ErrorKind};
+
+/// What an opened file is.
+#[derive(Clone, Copy)]
+pub struct Look {
+    /// Whether it is a file, and no folder, pipe or device.
+    pub is_file: bool,
+    /// How many bytes it has.
+    pub len: u64,
+    /// The number of its device.
+    pub device: u64,
+    /// Its number on the device: two files of one device have two numbers.
+    pub inode: u64,
+}
+
+/// A file that was opened to be read, and that nobody writes.
+pub trait DiskFile {
+    /// Its bytes.
+    ghost bytes: { Self → List ℕ };
+
+    /// Whether its reads are known to give these bytes.
+    ghost honest: { Bool };
+
+    /// Reads bytes from a place on into the front of `buf`, and answers how many. Fewer than there are may be read.
+    ///
+    /// # Errors
+    /// Those of the system. Where a signal interrupted the read nothing was read.
+    fn read_at(&self, place: u64, buf: &mut [u8]) -> io::Result<usize>
+        ensures room { IfOk result (λ n. n ≤ length buf.old) }
+        ensures same_length { length buf.new ≡ length buf.old }
+        ensures gives { IsTrue honest → IfOk result (λ n. Gives (bytes self.now) place n buf.old buf.new) }
+        ensures interrupted { IsTrue honest → IfErr result (λ e. error_kind e ≡ ErrorKind.Interrupted
+            → buf.new ≡ buf.old) };
+}
+
+/// A folder of a file system, call by call: what POSIX and Linux promise of each, where only this process changes the names. A call that a
+/// signal interrupts has done nothing.
+pub trait Disk {
+    /// The path of a name in the folder.
+    type Path: Drop;
+
+    /// The folder itself, opened.
+    type Folder: Drop;
+
+    /// An opened file.
+    type Handle: Drop;
+
+    /// A file that is read.
+    type File: DiskFile + Drop;
+
+    /// What stands in the folder.
+    ghost state: { Self → Directory };
+
+    /// Whether its calls are known to do what is said of them, and stops to leave images of it.
+    ghost honest: { Bool };
+
+    /// The moment, as a number that never falls.
+    ghost moment: { Self → ℕ };
+
+    /// What a stop at some moment from this one on may have left.
+    ghost left_since: { Self → ℕ → Directory → Type 0 };
+
+    /// The name of a path.
+    ghost named: { Self.Path → List ℕ };
+
+    /// The number of the file that a handle is of.
+    ghost number: { Self.Handle → ℕ };
+
+    /// Whether it is a file, and no folder, pipe or device.
+    ghost regular: { Self.Handle → Bool };
+
+    /// The numbers of a file's device and of the file there.
+    ghost identity: { ℕ → ℕ × ℕ };
+
+    /// Room for the path of any name.
+    ///
+    /// # Errors
+    /// Want of memory.
+    fn room(&self, alloc: Global) -> Result<Self::Path, AllocError>;
+
+    /// Puts the path of a name into the room for one. It takes no memory.
+    fn put_path(&self, path: &mut Self::Path, name: &Name)
+        ensures { IsTrue honest → named path.new ≡ name.now };
+
+    /// Opens the folder itself.
+    ///
+    /// # Errors
+    /// Those of the system.
+    fn open_folder(&self) -> io::Result<Self::Folder>;
+
+    /// Makes all changes of names so far lasting (fsync of the folder).
+    ///
+    /// # Errors
+    /// Those of the system. The first of the changes may be lasting then, some or all or none.
+    fn sync_folder(&mut self, folder: &Self::Folder) -> io::Result<()>
+        ensures done { IsTrue honest → OnOk result (state self.new ≡ after settles (state self.old)) }
+        ensures interrupted { IsTrue honest → IfErr result (λ e. error_kind e ≡ ErrorKind.Interrupted
+            → state self.new ≡ state self.old) }
+        ensures failed { IsTrue honest → OnErr result (SettlesPart (state self.old) (state self.new)) }
+        ensures time { IsTrue honest → StepElapses state moment left_since self.old self.new };
+
+    /// Takes a name away (unlink).
+    ///
+    /// # Errors
+    /// `NotFound` where there is no such name; others of the system, and then the name may be taken away.
+    fn unlink(&mut self, folder: &Self::Folder, path: &Self::Path) -> io::Result<()>
+        ensures done { IsTrue honest → OnOk result (state self.new ≡ without (state self.old) (named path.now)) }
+        ensures absent { IsTrue honest → IfErr result (λ e. error_kind e ≡ ErrorKind.NotFound
+            → (number_of (state self.old) (named path.now) ≡ None) × (state self.new ≡ state self.old)) }
+        ensures interrupted { IsTrue honest → IfErr result (λ e. error_kind e ≡ ErrorKind.Interrupted
+            → state self.new ≡ state self.old) }
+        ensures failed { IsTrue honest → OnErr result
+            (AllOrNone (state self.old) (without (state self.old) (named path.now)) (state self.new)) }
+        ensures time { IsTrue honest → StepElapses state moment left_since self.old self.new };
+
+    /// Makes a new empty file under a name that must be free (open with `O_CREAT` and `O_EXCL`), to be written, with these permissions
+    /// less those that the process masks.
+    ///
+    /// # Errors
+    /// Those of the system, and then the file may be made.
+    fn create(
+        &mut self,
+        folder: &Self::Folder,
+        path: &Self::Path,
+        mode: u32,
+    ) -> io::Result<Self::Handle>
+        ensures free { IsTrue honest → OnOk result (number_of (state self.old) (named path.now) ≡ None) }
+        ensures done { IsTrue honest → OnOk result (state self.new ≡ created (state self.old) (named path.now)) }
+        ensures handle { IsTrue honest → IfOk result (λ file. (state self.new).scratch ≡ Some (number file)) }
+        ensures failed { IsTrue honest → OnErr result
+            (AllOrNone (state self.old) (closed (created (state self.old) (named path.now))) (state self.new)) }
+        ensures time { IsTrue honest → StepElapses state moment left_since self.old self.new };
+
+    /// Writes bytes from a place on, and answers how many: perhaps not all (pwrite).
+    ///
+    /// # Errors
+    /// Those of the system. Where it was no interruption, the file may hold any bytes, and what is synced later is not known to last.
+    fn write_at(&mut self, file: &Self::Handle, place: u64, bytes: &[u8]) -> io::Result<usize>
+        requires may { IsTrue honest → MayWrite (state self.old) (number file.now) place }
+        ensures count { IfOk result (λ n. n ≤ length bytes.now) }
+        ensures fits { IsTrue honest → IfOk result (λ n. place + n < 2 ^ 63) }
+        ensures done { IsTrue honest → IfOk result (λ n.
+            state self.new ≡ after_write place (take n bytes.now) (state self.old)) }
+        ensures interrupted { IsTrue honest → IfErr result (λ e. error_kind e ≡ ErrorKind.Interrupted
+            → state self.new ≡ state self.old) }
+        ensures failed { IsTrue honest → OnErr result (Spoils (state self.old) (state self.new)) }
+        ensures time { IsTrue honest → StepElapses state moment left_since self.old self.new };
+
+    /// Makes all that was written to the file lasting (fsync).
+    ///
+    /// # Errors
+    /// Those of the system. Where it was no interruption, the file may hold any bytes, and what is synced later is not known to last.
+    fn sync(&mut self, file: &Self::Handle) -> io::Result<()>
+        requires may { IsTrue honest → (state self.old).scratch ≡ Some (number file.now) }
+        ensures done { IsTrue honest → OnOk result (state self.new ≡ after_sync (state self.old)) }
+        ensures interrupted { IsTrue honest → IfErr result (λ e. error_kind e ≡ ErrorKind.Interrupted
+            → state self.new ≡ state self.old) }
+        ensures failed { IsTrue honest → OnErr result (Spoils (state self.old) (state self.new)) }
+        ensures time { IsTrue honest → StepElapses state moment left_since self.old self.new };
+
+    /// Closes the file that was made last: nobody writes it any more (close).
+    fn close(&mut self, file: Self::Handle)
+        requires may { IsTrue honest → (state self.old).scratch ≡ Some (number file) }
+        ensures done { IsTrue honest → state self.new ≡ closed (state self.old) }
+        ensures time { IsTrue honest → StepElapses state moment left_since self.old self.new };
+
+    /// Moves one name onto another as one step (rename).
+    ///
+    /// # Errors
+    /// `NotFound` where there is no such name; others of the system, and then the name may be moved.
+    fn rename(
+        &mut self,
+        folder: &Self::Folder,
+        from: &Self::Path,
+        to: &Self::Path,
+    ) -> io::Result<()>
+        ensures found { IsTrue honest → OnOk result (IsSome (number_of (state self.old) (named from.now))) }
+        ensures done { IsTrue honest → OnOk result
+            (state self.new ≡ after (renames (named from.now) (named to.now)) (state self.old)) }
+        ensures absent { IsTrue honest → IfErr result (λ e. error_kind e ≡ ErrorKind.NotFound
+            → (number_of (state self.old) (named from.now) ≡ None) × (state self.new ≡ state self.old)) }
+        ensures interrupted { IsTrue honest → IfErr result (λ e. error_kind e ≡ ErrorKind.Interrupted
+            → state self.new ≡ state self.old) }
+        ensures failed { IsTrue honest → OnErr result (AllOrNone (state self.old)
+            (after (renames (named from.now) (named to.now)) (state self.old)) (state self.new)) }
+        ensures time { IsTrue honest → StepElapses state moment left_since self.old self.new };
+
+    /// Whether what stands under a name is a file, and no folder, pipe or device (stat). It is not opened.
+    ///
+    /// # Errors
+    /// `NotFound` where there is no such name; others of the system.
+    fn is_file(&self, path: &Self::Path) -> io::Result<bool>
+        ensures absent { IsTrue honest → IfErr result (λ e. error_kind e ≡ ErrorKind.NotFound
+            → number_of (state self.now) (named path.now) ≡ None) };
+
+    /// Opens what stands under a name to read it (open).
+    ///
+    /// # Errors
+    /// `NotFound` where there is no such name; others of the system.
+    fn open(&self, path: &Self::Path) -> io::Result<Self::Handle>
+        ensures opened { IsTrue honest → IfOk result (λ file.
+            number_of (state self.now) (named path.now) ≡ Some (number file)) }
+        ensures absent { IsTrue honest → IfErr result (λ e. error_kind e ≡ ErrorKind.NotFound
+            → number_of (state self.now) (named path.now) ≡ None) };
+
+    /// What an opened file is (fstat).
+    ///
+    /// # Errors
+    /// Those of the system.
+    fn look(&self, file: &Self::Handle) -> io::Result<Look>
+        ensures kind { IsTrue honest → IfOk result (λ look. look.is_file ≡ regular file.now) }
+        ensures length { IsTrue honest → IfOk result (λ look.
+            ForSome (slice_get (state self.now).files (number file.now))
+            (λ stands. look.len ≡ length stands.bytes)) }
+        ensures identity { IsTrue honest → IfOk result (λ look.
+            (look.device, look.inode) ≡ identity (number file.now)) };
+
+    /// The file of a handle, to be read. It must be a file that nobody writes any more.
+    fn reading(&self, file: Self::Handle) -> Self::File
+        requires regular { IsTrue honest → regular file ≡ true }
+        requires unwritten { IsTrue honest → (state self.now).scratch ≢ Some (number file) }
+        ensures { IsTrue honest → option_map (λ stands. stands.bytes) (slice_get (state self.now).files (number file))
+            ≡ Some (Self.File.bytes result) };
+
+    /// A stop now is one of those since any earlier moment.
+    ghost counts_now: { (disk : Self) (earlier : ℕ) (image : Directory) → IsTrue honest → earlier ≤ moment disk
+        → IsImage (state disk) image → left_since disk earlier image };
+
+    /// Since the moment of now there is no other stop.
+    ghost only_now: { (disk : Self) (image : Directory) → IsTrue honest
+        → left_since disk (moment disk) image → IsImage (state disk) image };
+
+    /// Its files are honest where it is.
+    ghost honest_files: { Self.File.honest ≡ honest };
+}

@@ -1,0 +1,140 @@
+//! Calls of a disk, tried again where a signal interrupts them.
+ghost use Rattle.std.specs.Prelude.{◌≡◌, ◌≤◌, ◌<◌, ◌+◌, ◌^◌, false, IsTrue, None, Some, IsSome, length, IfErr, IfOk, OnOk, OnErr};
+ghost use Rattle.std.specs.Option.{ForSome};
+ghost use Rattle.std.specs.IoError.{error_kind};
+ghost use Rattle.dir_calls.specs.Directory.{number_of, scratch_of};
+ghost use Rattle.dir_calls.specs.Calls.{renames, settles, after, without};
+ghost use Rattle.dir_disk.specs.DiskSteps.{AllOrNone, MayWrite, SettlesPart, Spoils, StepElapses, after_sync, after_write};
+
+use crate::disk::Disk;
+use std::io::{self, ErrorKind};
+
+/// How often a call is tried again that a signal interrupts.
+pub(crate) const TRIES: u32 = 1_000;
+
+// The fault of a call that was interrupted each time.
+fn interrupted() -> io::Error
+    ensures { error_kind result ≡ ErrorKind.Interrupted }
+{
+    io::Error::from(ErrorKind::Interrupted)
+}
+
+/// Takes a name away, if it stands.
+pub(crate) fn unlink<D: Disk>(disk: &mut D, folder: &D::Folder, path: &D::Path) -> io::Result<()>
+    ensures done { IsTrue D.honest → OnOk result (D.state disk.new ≡ without (D.state disk.old) (D.named path.now)) }
+    ensures failed { IsTrue D.honest → OnErr result
+        (AllOrNone (D.state disk.old) (without (D.state disk.old) (D.named path.now)) (D.state disk.new)) }
+    ensures time { IsTrue D.honest → StepElapses D.state D.moment D.left_since disk.old disk.new }
+{
+    for _ in 0..TRIES {
+        match disk.unlink(folder, path) {
+            Err(error) if error.kind() == ErrorKind::Interrupted => {}
+            Err(error) if error.kind() == ErrorKind::NotFound => return Ok(()),
+            outcome => return outcome,
+        }
+    }
+    Err(interrupted())
+}
+
+/// Moves one name onto another.
+pub(crate) fn rename<D: Disk>(
+    disk: &mut D,
+    folder: &D::Folder,
+    from: &D::Path,
+    to: &D::Path,
+) -> io::Result<()>
+    ensures found { IsTrue D.honest → OnOk result (IsSome (number_of (D.state disk.old) (D.named from.now))) }
+    ensures done { IsTrue D.honest → OnOk result
+        (D.state disk.new ≡ after (renames (D.named from.now) (D.named to.now)) (D.state disk.old)) }
+    ensures absent { IsTrue D.honest → IfErr result (λ e. error_kind e ≡ ErrorKind.NotFound
+        → (number_of (D.state disk.old) (D.named from.now) ≡ None) × (D.state disk.new ≡ D.state disk.old)) }
+    ensures failed { IsTrue D.honest → OnErr result (AllOrNone (D.state disk.old)
+        (after (renames (D.named from.now) (D.named to.now)) (D.state disk.old)) (D.state disk.new)) }
+    ensures time { IsTrue D.honest → StepElapses D.state D.moment D.left_since disk.old disk.new }
+{
+    for _ in 0..TRIES {
+        match disk.rename(folder, from, to) {
+            Err(error) if error.kind() == ErrorKind::Interrupted => {}
+            outcome => return outcome,
+        }
+    }
+    Err(interrupted())
+}
+
+/// Makes all changes of names lasting.
+pub(crate) fn sync_folder<D: Disk>(disk: &mut D, folder: &D::Folder) -> io::Result<()>
+    ensures done { IsTrue D.honest → OnOk result (D.state disk.new ≡ after settles (D.state disk.old)) }
+    ensures failed { IsTrue D.honest → OnErr result (SettlesPart (D.state disk.old) (D.state disk.new)) }
+    ensures time { IsTrue D.honest → StepElapses D.state D.moment D.left_since disk.old disk.new }
+{
+    for _ in 0..TRIES {
+        match disk.sync_folder(folder) {
+            Err(error) if error.kind() == ErrorKind::Interrupted => {}
+            outcome => return outcome,
+        }
+    }
+    Err(interrupted())
+}
+
+/// Makes all that was written to the file that was made last lasting.
+pub(crate) fn sync<D: Disk>(disk: &mut D, file: &D::Handle) -> io::Result<()>
+    requires may { IsTrue D.honest → (D.state disk.old).scratch ≡ Some (D.number file.now) }
+    ensures done { IsTrue D.honest → OnOk result (D.state disk.new ≡ after_sync (D.state disk.old)) }
+    ensures failed { IsTrue D.honest → OnErr result (Spoils (D.state disk.old) (D.state disk.new)) }
+    ensures time { IsTrue D.honest → StepElapses D.state D.moment D.left_since disk.old disk.new }
+{
+    for _ in 0..TRIES {
+        match disk.sync(file) {
+            Err(error) if error.kind() == ErrorKind::Interrupted => {}
+            outcome => return outcome,
+        }
+    }
+    Err(interrupted())
+}
+
+/// Writes all of these bytes from a place on.
+pub(crate) fn write_all<D: Disk>(
+    disk: &mut D,
+    file: &D::Handle,
+    place: u64,
+    bytes: &[u8],
+) -> io::Result<()>
+    requires may { IsTrue D.honest → MayWrite (D.state disk.old) (D.number file.now) place }
+    requires unsynced { IsTrue D.honest → ForSome (scratch_of (D.state disk.old)) (λ stands. stands.synced ≡ false) }
+    ensures done { IsTrue D.honest → OnOk result (D.state disk.new ≡ after_write place bytes.now (D.state disk.old)) }
+    ensures fits { IsTrue D.honest → OnOk result (place + length bytes.now < 2 ^ 64) }
+    ensures failed { IsTrue D.honest → OnErr result (Spoils (D.state disk.old) (D.state disk.new)) }
+    ensures time { IsTrue D.honest → StepElapses D.state D.moment D.left_since disk.old disk.new }
+{
+    let mut at = place;
+    let mut rest = bytes;
+    for _ in 0..u64::MAX {
+        if rest.is_empty() {
+            return Ok(());
+        }
+        match disk.write_at(file, at, rest) {
+            Ok(0) => return Err(io::Error::from(ErrorKind::WriteZero)),
+            Ok(count) => {
+                rest = &rest[count..];
+                at = at.saturating_add(count as u64);
+            }
+            Err(error) if error.kind() == ErrorKind::Interrupted => {}
+            Err(error) => return Err(error),
+        }
+    }
+    Err(interrupted())
+}
+
+/// Whether what stands under a name is a file.
+pub(crate) fn is_file<D: Disk>(disk: &D, path: &D::Path) -> io::Result<bool>
+    ensures absent { IsTrue D.honest → IfErr result (λ e. error_kind e ≡ ErrorKind.NotFound
+        → number_of (D.state disk.now) (D.named path.now) ≡ None) }
+{
+    for _ in 0..TRIES {
+        match disk.is_file(path) {
+            Err(error) if error.kind() == ErrorKind::Interrupted => {}
+            outcome => return outcome,
+        }
+    }
+    Err(interrupted())
+}

@@ -1,0 +1,203 @@
+//! The scratch file of a disk, of whose bytes the last are kept back.
+ghost use Rattle.std.specs.Prelude.{◌≡◌, ◌≤◌, ◌<◌, ◌+◌, [], None, Some, IsTrue, length, IfOk, OnOk, OnErr, vec_len};
+ghost use Rattle.std.specs.Option.{option_map};
+ghost use Rattle.dir_calls.specs.Calls.{makes, patches, syncs, after, closed};
+ghost use Rattle.dir_calls.specs.Methods.{CallElapses, CallIncludes};
+ghost use Rattle.dir_calls.specs.Outcomes.{Fails, LeftBy};
+ghost use Rattle.dir_calls.specs.Moments.{Elapses, Includes};
+ghost use Rattle.dir_disk.specs.DiskSteps.{Spoils, StepElapses};
+ghost use Rattle.dir_disk.specs.OsDir.{GivesUp, Holds, IsWritable, kept_back};
+
+use crate::disk::Disk;
+use crate::patient::{sync, unlink, write_all};
+use std::io;
+
+/// How many bytes are kept back until they are written: a write takes so many, but for the last one.
+pub(crate) const BUFFER: usize = 65_536;
+
+/// Files are made with these permissions, less those that the process masks: all may read them, as the ones of `tcprules`.
+const MODE: u32 = 0o644;
+
+/// Writes the bytes that are kept back at the end of the scratch file, which has so many, and answers the file with how many it has then.
+/// Where that fails the file is closed.
+pub(crate) fn write_kept<D: Disk>(
+    disk: &mut D,
+    file: D::Handle,
+    written: u64,
+    pending: &mut Vec<u8>,
+) -> io::Result<(D::Handle, u64)>
+    requires writable { IsTrue D.honest → IsWritable (D.state disk.old) (D.number file) written }
+    ensures kept { IsTrue D.honest → OnOk result
+        (kept_back [] (D.state disk.new) ≡ kept_back pending.old.items (D.state disk.old)) }
+    ensures empty { OnOk result (pending.new.items ≡ []) }
+    ensures writable { IsTrue D.honest → IfOk result (λ now. IsWritable (D.state disk.new) (D.number now.0) now.1) }
+    ensures end { IsTrue D.honest → IfOk result (λ now. now.1 ≡ written + length pending.old.items) }
+    ensures spares { IsTrue D.honest → OnOk result (Spoils (D.state disk.old) (D.state disk.new)) }
+    ensures failed { IsTrue D.honest → OnErr result (GivesUp (D.state disk.old) (D.state disk.new)) }
+    ensures time { IsTrue D.honest → StepElapses D.state D.moment D.left_since disk.old disk.new }
+{
+    match write_all(disk, &file, written, pending.as_slice()) {
+        Ok(()) => {
+            let end = written.saturating_add(pending.len() as u64);
+            pending.clear();
+            Ok((file, end))
+        }
+        Err(error) => {
+            disk.close(file);
+            Err(error)
+        }
+    }
+}
+
+/// Writes the bytes that are kept back where there are as many as may be, and answers the file with how many it has then. Where that fails
+/// the file is closed.
+pub(crate) fn make_room<D: Disk>(
+    disk: &mut D,
+    file: D::Handle,
+    written: u64,
+    pending: &mut Vec<u8>,
+) -> io::Result<(D::Handle, u64)>
+    requires writable { IsTrue D.honest → IsWritable (D.state disk.old) (D.number file) written }
+    ensures kept { IsTrue D.honest → OnOk result
+        (kept_back pending.new.items (D.state disk.new) ≡ kept_back pending.old.items (D.state disk.old)) }
+    ensures room { OnOk result (vec_len pending.new < 65536) }
+    ensures writable { IsTrue D.honest → IfOk result (λ now. IsWritable (D.state disk.new) (D.number now.0) now.1) }
+    ensures failed { IsTrue D.honest → OnErr result (GivesUp (D.state disk.old) (D.state disk.new)) }
+    ensures time { IsTrue D.honest → StepElapses D.state D.moment D.left_since disk.old disk.new }
+{
+    if pending.len() < BUFFER {
+        return Ok((file, written));
+    }
+    write_kept(disk, file, written, pending)
+}
+
+/// Writes the bytes that are kept back, and then overwrites bytes inside the file.
+pub(crate) fn overwrite<D: Disk>(
+    disk: &mut D,
+    file: D::Handle,
+    written: u64,
+    pending: &mut Vec<u8>,
+    place: u64,
+    bytes: &[u8],
+) -> io::Result<(D::Handle, u64)>
+    requires writable { IsTrue D.honest → IsWritable (D.state disk.old) (D.number file) written }
+    requires inside { IsTrue D.honest → place + length bytes.now ≤ written + length pending.old.items }
+    ensures done { IsTrue D.honest → OnOk result (kept_back [] (D.state disk.new)
+        ≡ after (patches place bytes.now) (kept_back pending.old.items (D.state disk.old))) }
+    ensures empty { OnOk result (pending.new.items ≡ []) }
+    ensures writable { IsTrue D.honest → IfOk result (λ now. IsWritable (D.state disk.new) (D.number now.0) now.1) }
+    ensures failed { IsTrue D.honest → OnErr result (GivesUp (D.state disk.old) (D.state disk.new)) }
+    ensures time { IsTrue D.honest → StepElapses D.state D.moment D.left_since disk.old disk.new }
+{
+    let (file, written) = write_kept(disk, file, written, pending)?;
+    match write_all(disk, &file, place, bytes) {
+        Ok(()) => Ok((file, written)),
+        Err(error) => {
+            disk.close(file);
+            Err(error)
+        }
+    }
+}
+
+/// Writes the bytes that are kept back, then has the file made lasting, and closes it.
+pub(crate) fn sync_kept<D: Disk>(
+    disk: &mut D,
+    file: D::Handle,
+    written: u64,
+    pending: &mut Vec<u8>,
+) -> io::Result<()>
+    requires writable { IsTrue D.honest → IsWritable (D.state disk.old) (D.number file) written }
+    ensures done { IsTrue D.honest → OnOk result
+        (D.state disk.new ≡ after syncs (kept_back pending.old.items (D.state disk.old))) }
+    ensures closed { IsTrue D.honest → (D.state disk.new).scratch ≡ None }
+    ensures failed { IsTrue D.honest → OnErr result (GivesUp (D.state disk.old) (D.state disk.new)) }
+    ensures time { IsTrue D.honest → StepElapses D.state D.moment D.left_since disk.old disk.new }
+{
+    let (file, _written) = write_kept(disk, file, written, pending)?;
+    let outcome = sync(disk, &file);
+    disk.close(file);
+    outcome
+}
+
+/// Writes the bytes that are kept back, and closes the file, which stays unsynced.
+pub(crate) fn let_go<D: Disk>(
+    disk: &mut D,
+    scratch: Option<D::Handle>,
+    written: u64,
+    pending: &mut Vec<u8>,
+) -> io::Result<()>
+    requires holds { IsTrue D.honest → Holds D.number (D.state disk.old) scratch written }
+    ensures done { IsTrue D.honest → OnOk result
+        (D.state disk.new ≡ closed (kept_back pending.old.items (D.state disk.old))) }
+    ensures empty { OnOk result (pending.new.items ≡ []) }
+    ensures failed { IsTrue D.honest → OnErr result (GivesUp (D.state disk.old) (D.state disk.new)) }
+    ensures time { IsTrue D.honest → StepElapses D.state D.moment D.left_since disk.old disk.new }
+{
+    let Some(file) = scratch else {
+        pending.clear();
+        return Ok(());
+    };
+    let (file, _written) = write_kept(disk, file, written, pending)?;
+    disk.close(file);
+    Ok(())
+}
+
+/// Closes the scratch file, if there is one. What is kept back of its bytes is not written.
+pub(crate) fn give_up<D: Disk>(disk: &mut D, scratch: Option<D::Handle>)
+    requires { IsTrue D.honest → (D.state disk.old).scratch ≡ option_map D.number scratch }
+    ensures done { IsTrue D.honest → D.state disk.new ≡ closed (D.state disk.old) }
+    ensures time { IsTrue D.honest → StepElapses D.state D.moment D.left_since disk.old disk.new }
+{
+    if let Some(file) = scratch {
+        disk.close(file);
+    }
+}
+
+/// Makes a new file, in the place of what stood there.
+pub(crate) fn make_file<D: Disk>(
+    disk: &mut D,
+    folder: &D::Folder,
+    path: &D::Path,
+) -> io::Result<D::Handle>
+    requires { IsTrue D.honest → (D.state disk.old).scratch ≡ None }
+    ensures done { IsTrue D.honest → OnOk result
+        (D.state disk.new ≡ after (makes (D.named path.now)) (D.state disk.old)) }
+    ensures writable { IsTrue D.honest → IfOk result (λ file. IsWritable (D.state disk.new) (D.number file) 0) }
+    ensures failed { IsTrue D.honest → OnErr result
+        (Fails (makes (D.named path.now)) (D.state disk.old) (D.state disk.new)) }
+    ensures closed { IsTrue D.honest → OnErr result ((D.state disk.new).scratch ≡ None) }
+    ensures time { IsTrue D.honest
+        → CallElapses D.state D.moment D.left_since (makes (D.named path.now)) disk.old disk.new }
+    ensures within { IsTrue D.honest → OnOk result
+        (CallIncludes D.state D.moment D.left_since (makes (D.named path.now)) disk.old disk.new) }
+{
+    unlink(disk, folder, path)?;
+    disk.create(folder, path, MODE)
+}
+
+/// Lets the scratch file go, and makes a new one.
+pub(crate) fn renew<D: Disk>(
+    disk: &mut D,
+    folder: &D::Folder,
+    path: &D::Path,
+    scratch: Option<D::Handle>,
+    written: u64,
+    pending: &mut Vec<u8>,
+) -> io::Result<D::Handle>
+    requires holds { IsTrue D.honest → Holds D.number (D.state disk.old) scratch written }
+    ensures done { IsTrue D.honest → OnOk result (D.state disk.new
+        ≡ after (makes (D.named path.now)) (kept_back pending.old.items (D.state disk.old))) }
+    ensures empty { OnOk result (pending.new.items ≡ []) }
+    ensures writable { IsTrue D.honest → IfOk result (λ file. IsWritable (D.state disk.new) (D.number file) 0) }
+    ensures failed { IsTrue D.honest → OnErr result
+        (Fails (makes (D.named path.now)) (kept_back pending.old.items (D.state disk.old)) (D.state disk.new)) }
+    ensures closed { IsTrue D.honest → OnErr result ((D.state disk.new).scratch ≡ None) }
+    ensures time { IsTrue D.honest → Elapses (D.moment disk.old) (D.moment disk.new)
+        (D.left_since disk.old) (D.left_since disk.new)
+        (LeftBy (makes (D.named path.now)) (kept_back pending.old.items (D.state disk.old)) (D.state disk.new)) }
+    ensures within { IsTrue D.honest → OnOk result (Includes (D.moment disk.old) (D.left_since disk.new)
+        (LeftBy (makes (D.named path.now)) (kept_back pending.old.items (D.state disk.old)) (D.state disk.new))) }
+{
+    let_go(disk, scratch, written, pending)?;
+    make_file(disk, folder, path)
+}

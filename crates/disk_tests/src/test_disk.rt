@@ -1,0 +1,322 @@
+//! A disk in memory, of which one call fails, is short or interrupted, or from which on the machine stands still.
+ghost use Rattle.std.specs.Prelude.{◌≡◌, [], ⊤, true, false, refl, IfOk};
+ghost use Rattle.dir_calls.specs.NoDirectory.{no_directory, not_honest};
+
+use dir_calls::Name;
+use dir_disk::{Disk, DiskFile, Look};
+use std::alloc::{AllocError, Global};
+use std::cell::Cell;
+use std::io::{self, ErrorKind};
+
+/// What befalls a call.
+#[derive(Clone, Copy, PartialEq, Eq, Debug)]
+pub enum Mishap {
+    /// It fails and does nothing.
+    Fails,
+    /// It does its work, and a fault is answered.
+    FailsAfter,
+    /// A signal interrupts it.
+    Interrupted,
+    /// A write takes one byte, and so does a read.
+    Short,
+    /// The machine stands still from this call on.
+    Stop,
+}
+
+/// A file, and whether all that was written to it was synced.
+#[derive(Drop)]
+struct Held {
+    bytes: Vec<u8>,
+    synced: bool,
+}
+
+/// A disk in memory.
+#[derive(Drop)]
+pub struct TestDisk {
+    alloc: Global,
+    names: Vec<(String, usize)>,
+    settled: Vec<(String, usize)>,
+    files: Vec<Held>,
+    calls: Cell<u64>,
+    at: u64,
+    mishap: Mishap,
+}
+
+/// An opened file: its number, and its bytes then.
+#[derive(Drop)]
+pub struct TestHandle {
+    number: usize,
+    bytes: Vec<u8>,
+}
+
+/// A file that is read.
+#[derive(Drop)]
+pub struct TestFile {
+    bytes: Vec<u8>,
+}
+
+fn fault(kind: ErrorKind) -> io::Error {
+    io::Error::from(kind)
+}
+
+// The names once more.
+fn copied(alloc: Global, names: &[(String, usize)]) -> Result<Vec<(String, usize)>, AllocError> {
+    let mut copy = Vec::new(alloc);
+    for (name, number) in names {
+        copy.push((String::from_str(alloc, name.as_str())?, *number))?;
+    }
+    Ok(copy)
+}
+
+impl TestDisk {
+    /// An empty disk, whose call number `at` has a mishap, counted from 1.
+    pub fn new(alloc: Global, at: u64, mishap: Mishap) -> Self {
+        TestDisk {
+            alloc,
+            names: Vec::new(alloc),
+            settled: Vec::new(alloc),
+            files: Vec::new(alloc),
+            calls: Cell::new(0),
+            at,
+            mishap,
+        }
+    }
+
+    /// How many calls there were.
+    pub fn calls(&self) -> u64 {
+        self.calls.get()
+    }
+
+    /// What a stop leaves: the names as they stood, or those that were settled. Files that are not synced are empty.
+    pub fn after_stop(&self, alloc: Global, kept: bool) -> Result<TestDisk, AllocError> {
+        let mut left = TestDisk::new(alloc, 0, Mishap::Fails);
+        left.names = copied(alloc, if kept { &self.names } else { &self.settled })?;
+        left.settled = copied(alloc, &left.names)?;
+        for file in &self.files {
+            let bytes = if file.synced {
+                file.bytes.as_slice()
+            } else {
+                b""
+            };
+            left.files.push(Held {
+                bytes: bytes.to_vec(alloc)?,
+                synced: true,
+            })?;
+        }
+        Ok(left)
+    }
+
+    // Counts a call, and answers whether it has the mishap. One that is to fail at once, fails.
+    fn met(&self) -> io::Result<bool> {
+        let call = self.calls.get().saturating_add(1);
+        self.calls.set(call);
+        if self.mishap == Mishap::Stop && self.at > 0 && call >= self.at {
+            return Err(fault(ErrorKind::Other));
+        }
+        if call != self.at {
+            return Ok(false);
+        }
+        match self.mishap {
+            Mishap::Fails => Err(fault(ErrorKind::Other)),
+            Mishap::Interrupted => Err(fault(ErrorKind::Interrupted)),
+            _ => Ok(true),
+        }
+    }
+
+    // What is answered once the work is done.
+    fn answered<T: Drop>(&self, met: bool, value: T) -> io::Result<T>
+        ensures { IfOk result (λ given. given ≡ value) }
+    {
+        if met && self.mishap == Mishap::FailsAfter {
+            return Err(fault(ErrorKind::Other));
+        }
+        Ok(value)
+    }
+
+    fn place_of(&self, name: &str) -> Option<usize> {
+        self.names.iter().position(|entry| entry.0.as_str() == name)
+    }
+
+    fn number_of(&self, name: &str) -> io::Result<usize> {
+        match self.place_of(name).and_then(|place| self.names.get(place)) {
+            Some(entry) => Ok(entry.1),
+            None => Err(fault(ErrorKind::NotFound)),
+        }
+    }
+}
+
+impl DiskFile for TestFile {
+    ghost bytes = { λ _. [] };
+
+    ghost honest = { false };
+
+    fn read_at(&self, place: u64, buf: &mut [u8]) -> io::Result<usize> {
+        let Some(rest) = self.bytes.get(place as usize..) else {
+            return Ok(0);
+        };
+        let count = rest.len().min(buf.len());
+        buf[..count].copy_from_slice(&rest[..count]);
+        Ok(count)
+    }
+}
+
+impl Disk for TestDisk {
+    type Path = String;
+
+    type Folder = ();
+
+    type Handle = TestHandle;
+
+    type File = TestFile;
+
+    ghost state = { λ _. no_directory };
+
+    ghost honest = { false };
+
+    ghost moment = { λ _. 0 };
+
+    ghost left_since = { λ _ _ _. ⊤ };
+
+    ghost named = { λ _. [] };
+
+    ghost number = { λ _. 0 };
+
+    ghost regular = { λ _. true };
+
+    ghost identity = { λ _. (0, 0) };
+
+    ghost counts_now = { λ _ _ _ honest. not_honest honest };
+
+    ghost only_now = { λ _ _ honest. not_honest honest };
+
+    ghost honest_files = { refl };
+
+    fn room(&self, alloc: Global) -> Result<String, AllocError> {
+        Ok(String::with_capacity(alloc, 256)?)
+    }
+
+    fn put_path(&self, path: &mut String, name: &Name) {
+        path.clear();
+        let _put = path.push_str(name.as_str());
+    }
+
+    fn open_folder(&self) -> io::Result<()> {
+        let met = self.met()?;
+        self.answered(met, ())
+    }
+
+    fn sync_folder(&mut self, _folder: &()) -> io::Result<()> {
+        let met = self.met()?;
+        self.settled = copied(self.alloc, &self.names)?;
+        self.answered(met, ())
+    }
+
+    fn unlink(&mut self, _folder: &(), path: &String) -> io::Result<()> {
+        let met = self.met()?;
+        let Some(place) = self.place_of(path.as_str()) else {
+            return Err(fault(ErrorKind::NotFound));
+        };
+        if place < self.names.len() {
+            self.names.remove(place);
+        }
+        self.answered(met, ())
+    }
+
+    fn create(&mut self, _folder: &(), path: &String, _mode: u32) -> io::Result<TestHandle> {
+        let met = self.met()?;
+        if self.place_of(path.as_str()).is_some() {
+            return Err(fault(ErrorKind::AlreadyExists));
+        }
+        let number = self.files.len();
+        let name = String::from_str(self.alloc, path.as_str())?;
+        self.files.push(Held {
+            bytes: Vec::new(self.alloc),
+            synced: false,
+        })?;
+        self.names.push((name, number))?;
+        let bytes = Vec::new(self.alloc);
+        self.answered(met, TestHandle { number, bytes })
+    }
+
+    fn write_at(&mut self, file: &TestHandle, place: u64, bytes: &[u8]) -> io::Result<usize> {
+        let met = self.met()?;
+        let short = met && self.mishap == Mishap::Short;
+        let count = if short {
+            bytes.len().min(1)
+        } else {
+            bytes.len()
+        };
+        let Some(held) = self.files.get_mut(file.number) else {
+            return Err(fault(ErrorKind::Other));
+        };
+        held.synced = false;
+        let end = held.bytes.len().min(place as usize);
+        let mut written = held.bytes[..end].to_vec(self.alloc)?;
+        written.extend_from_slice(&bytes[..count])?;
+        if written.len() < held.bytes.len() {
+            let rest = written.len();
+            written.extend_from_slice(&held.bytes[rest..])?;
+        }
+        held.bytes = written;
+        self.answered(met, count)
+    }
+
+    fn sync(&mut self, file: &TestHandle) -> io::Result<()> {
+        let met = self.met()?;
+        let Some(held) = self.files.get_mut(file.number) else {
+            return Err(fault(ErrorKind::Other));
+        };
+        held.synced = true;
+        self.answered(met, ())
+    }
+
+    fn close(&mut self, file: TestHandle) {
+        drop(file);
+    }
+
+    fn rename(&mut self, _folder: &(), from: &String, to: &String) -> io::Result<()> {
+        let met = self.met()?;
+        let number = self.number_of(from.as_str())?;
+        let name = String::from_str(self.alloc, to.as_str())?;
+        for gone in [from, to] {
+            if let Some(place) = self.place_of(gone.as_str()) {
+                if place < self.names.len() {
+                    self.names.remove(place);
+                }
+            }
+        }
+        self.names.push((name, number))?;
+        self.answered(met, ())
+    }
+
+    fn is_file(&self, path: &String) -> io::Result<bool> {
+        let met = self.met()?;
+        self.number_of(path.as_str())?;
+        self.answered(met, true)
+    }
+
+    fn open(&self, path: &String) -> io::Result<TestHandle> {
+        let met = self.met()?;
+        let number = self.number_of(path.as_str())?;
+        let Some(held) = self.files.get(number) else {
+            return Err(fault(ErrorKind::Other));
+        };
+        let bytes = held.bytes.to_vec(self.alloc)?;
+        self.answered(met, TestHandle { number, bytes })
+    }
+
+    fn look(&self, file: &TestHandle) -> io::Result<Look> {
+        let met = self.met()?;
+        let look = Look {
+            is_file: true,
+            len: file.bytes.len() as u64,
+            device: 0,
+            inode: file.number as u64,
+        };
+        self.answered(met, look)
+    }
+
+    fn reading(&self, file: TestHandle) -> TestFile {
+        TestFile { bytes: file.bytes }
+    }
+}
