@@ -4,6 +4,3 @@
 pub mod append;
 
 pub use append::{push_number, push_text, take_back, whole_or_none};
-
-#[cfg(test)]
-mod tests;

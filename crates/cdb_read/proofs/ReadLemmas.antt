@@ -3,7 +3,7 @@ use Rattle.std.proofs.Common.{◌≡◌, ℕ, ◌+◌, ◌≤◌, List, ◌++◌
 use Rattle.std.proofs.Math.Seq.{take-add, take-append-add}
 use Rattle.std.proofs.lemmas.List.{take_at, take-append-le, length-take-le, drop-drop}
 use borrow.Rule.Slice.PartMut.{put_mid, post_of}
-use Rattle.dir_disk.specs.Files.{Gives}
+use Rattle.dir_calls.specs.Files.{Gives}
 
 -- the first n bytes of what a read that gave n bytes left in its buffer
 take-given : (file old new : List ℕ) (place n : ℕ) → Gives file place n old new → take n new ≡ take n (drop place file)

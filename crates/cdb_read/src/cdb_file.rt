@@ -9,7 +9,7 @@ ghost use Rattle.rule_lines.specs.Lookups.Trust.{Sound};
 use byteorder::{ByteOrder, LittleEndian};
 use cdb_write::hash;
 use cdb_write::layout::HEADER_LENGTH;
-use dir_disk::RulesFile;
+use dir_calls::RulesFile;
 use rule_lines::{FindFault, PairSource};
 use std::alloc::Global;
 use std::marker::Model;

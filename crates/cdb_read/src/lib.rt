@@ -5,6 +5,3 @@ pub mod cdb_file;
 pub mod laws;
 
 pub use cdb_file::CdbFile;
-
-#[cfg(test)]
-mod tests;

@@ -15,6 +15,3 @@ pub use key_hash::hash;
 pub use maker::{AddFault, Maker};
 pub use piece::{header, record_piece, table_piece};
 pub use tables::Tables;
-
-#[cfg(test)]
-mod tests;

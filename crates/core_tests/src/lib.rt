@@ -1,11 +1,14 @@
-//! Tests of journals and of running jobs.
+//! Tests of lists of events, of journals and of running jobs.
 //!
-//! They stand apart from the crate `server_core` that they test, so that it is proved once for itself and not once more for its tests.
+//! They stand apart from the crates `server_events`, `event_journals` and `child_jobs` that they test, so that each of these is proved once
+//! for itself and not once more for its tests.
 #![tactic(auto)]
 
 use server_core::{Event, Journal};
 use std::alloc::AllocError;
 
+#[cfg(test)]
+mod events;
 #[cfg(test)]
 mod journals;
 #[cfg(test)]

@@ -9,6 +9,3 @@ pub use lines::{
     drop_address_line, drop_line, end_line, pid_from, retired_line, start_fault_line, status,
     verdict_line,
 };
-
-#[cfg(test)]
-mod tests;

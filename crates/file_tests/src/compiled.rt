@@ -1,7 +1,7 @@
 //! Worked files, and a file that a plain reader looks through.
 ghost use Rattle.std.specs.Prelude.{◌^◌, ◌<◌, IfSome};
 
-use crate::{AddFault, Maker, hash, header, record_piece, table_piece};
+use cdb_write::{AddFault, Maker, hash, header, record_piece, table_piece};
 use std::alloc::{AllocError, Global};
 use std::test::Fail;
 

@@ -1,6 +1,6 @@
 //! Texts that are appended.
 
-use crate::append::{push_number, push_text, whole_or_none};
+use byte_text::{push_number, push_text, whole_or_none};
 use std::alloc::AllocError;
 use std::test::Fail;
 

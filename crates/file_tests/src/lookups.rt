@@ -1,8 +1,8 @@
 //! Worked files, with the answers that they have.
 ghost use Rattle.std.specs.Prelude.{[], false};
 
-use crate::CdbFile;
-use dir_disk::{DeviceFault, MemFile, RulesFile};
+use cdb_read::CdbFile;
+use dir_calls::{DeviceFault, MemFile, RulesFile};
 use rule_lines::{FindFault, PairSource};
 use std::alloc::{AllocError, Global};
 use std::cell::Cell;

@@ -1,11 +1,11 @@
 //! The lines as they are printed, and what stays where there is no line.
 
-use crate::lines::{
+use rule_lines::Verdict;
+use rule_lookup::{DropCause, Peer, StartFault, Status};
+use status_lines::{
     drop_address_line, drop_line, end_line, pid_from, retired_line, start_fault_line, status,
     verdict_line,
 };
-use rule_lines::Verdict;
-use rule_lookup::{DropCause, Peer, StartFault, Status};
 use std::alloc::{AllocError, Global};
 use std::test::Fail;
 use ucspi_env::Local;
