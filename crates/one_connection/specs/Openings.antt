@@ -1,8 +1,8 @@
 -- What a connection finds when it opens the rules.
 use Rattle.std.specs.Prelude.{◌≡◌, ◌<◌, ◌-◌, ◌^◌, ◌⊎◌, ℕ, Bool, IsTrue, List, Option, Result, Ok, Err, option_map}
 use Rattle.cdb_read.specs.Reading.{reading}
-use Rattle.dir_disk.specs.declared.fault.DirFault.{DirFault}
-use Rattle.dir_disk.specs.declared.fault.DirFault.TheVariants as directory
+use Rattle.dir_calls.specs.declared.fault.DirFault.{DirFault}
+use Rattle.dir_calls.specs.declared.fault.DirFault.TheVariants as directory
 use Rattle.rule_lines.specs.Lookups.{Trust, WhereKnown}
 use Rattle.rule_lookup.specs.Decisions.{DecisionFails, decision_from}
 use Rattle.rule_lookup.specs.Peers.{Client}

@@ -1,6 +1,6 @@
 -- A yard as the desk of a connection.
 use Rattle.std.specs.Prelude.{◌≡◌, ℕ, Bool, IsTrue, Some, None}
-use Rattle.dir_disk.specs.Directory.{Directory}
+use Rattle.dir_calls.specs.Directory.{Directory}
 use Rattle.rule_lookup.specs.Peers.{Client}
 use Rattle.server_events.specs.ServerState.{stage_of}
 use Rattle.server_events.specs.Worlds.{missing_by, peer_of}

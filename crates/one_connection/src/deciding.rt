@@ -2,7 +2,7 @@
 ghost use Rattle.std.specs.Prelude.{◌≡◌, IfOk, IfErr};
 ghost use Rattle.one_connection.specs.Openings.{Decides, FailsToDecide, opening_of};
 
-use dir_disk::RulesFile;
+use dir_calls::RulesFile;
 use rule_lookup::{DecideFault, Decision, Peer, decide};
 use server_yard::{Pass, Premises};
 use std::alloc::Global;

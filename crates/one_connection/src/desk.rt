@@ -14,7 +14,7 @@ ghost use Rattle.one_connection.specs.YardDesks.{StandsAt};
 use crate::deciding::decide_by_pass;
 use child_jobs::{Job, Running};
 use child_table::Place;
-use dir_disk::{Dir, DirFault};
+use dir_calls::{Dir, DirFault};
 use event_journals::Journal;
 use rule_lookup::{DecideFault, Decision, DropCause, Peer, StartFault};
 use server_events::Stage;

@@ -2,7 +2,7 @@
 use answer_lines::append_answer;
 use cdb_read::CdbFile;
 use cdb_write::{AddFault, Maker};
-use dir_disk::MemFile;
+use dir_calls::MemFile;
 use rule_lines::{Limits, ListPairs, PairSource, RuleList, parse};
 use rule_lookup::{Missing, Peer, decide};
 use std::alloc::Global;

@@ -3,7 +3,7 @@ use Rattle.std.proofs.Common.{◌≡◌, List, [], ◌∷◌, ◌++◌, ℕ, Opt
 use Rattle.std.proofs.lemmas.List.{length-append}
 use Rattle.std.proofs.lemmas.Option.{none-some, same_Some}
 use Rattle.std.proofs.lemmas.Result.{IfOk-weaker}
-use Rattle.dir_disk.specs.Directory.{Directory}
+use Rattle.dir_calls.specs.Directory.{Directory}
 use Rattle.rule_lines.specs.declared.limits.Limits.{Limits}
 use Rattle.rule_lines.specs.Faults.{IsAccepted}
 use Rattle.rule_lines.specs.Pairs.{pairs_of}

@@ -5,12 +5,12 @@ use Rattle.std.specs.FinMap.{get-empty}
 use Rattle.std.specs.Ordering.{nat_cmp}
 use Rattle.std.specs.Str.{chars, is_utf8}
 use lib.Utf8.{encode}
-use Rattle.dir_disk.specs.declared.choice.Choice.{Choice}
-use Rattle.dir_disk.specs.declared.choice.Choice.TheVariants.{Kept, Empty, Junk}
-use Rattle.dir_disk.specs.Folder.{empty_directory}
-use Rattle.dir_disk.specs.NameTable.{after_changes}
-use Rattle.dir_disk.specs.Names.{name_fault}
-use Rattle.dir_disk.specs.Stop.{chosen_changes}
+use Rattle.dir_calls.specs.declared.choice.Choice.{Choice}
+use Rattle.dir_calls.specs.declared.choice.Choice.TheVariants.{Kept, Empty, Junk}
+use Rattle.dir_calls.specs.Folder.{empty_directory}
+use Rattle.dir_calls.specs.NameTable.{after_changes}
+use Rattle.dir_calls.specs.Names.{name_fault}
+use Rattle.dir_calls.specs.Stop.{chosen_changes}
 use Rattle.script_tool.specs.Kept.{HasTexts, Shows, sim_names}
 use Rattle.script_tool.specs.Texts.{left_by, no_texts}
 

@@ -4,8 +4,8 @@ use Rattle.std.specs.Prelude.{Option, None, Some, Result, Ok, Err}
 use Rattle.cdb_write.specs.IsCdb.{IsCdb}
 use Rattle.cdb_write.specs.Written.{Written}
 use Rattle.cdb_read.specs.Compiled.{stored}
-use Rattle.dir_disk.specs.Directory.{Directory}
-use Rattle.dir_disk.specs.declared.fault.DirFault.TheVariants.{NoScratch, NoName, Device, OutOfMemory as NoMemory}
+use Rattle.dir_calls.specs.Directory.{Directory}
+use Rattle.dir_calls.specs.declared.fault.DirFault.TheVariants.{NoScratch, NoName, Device, OutOfMemory as NoMemory}
 use Rattle.rules_install.specs.Filled.{fillings_left, whole_file}
 use Rattle.rules_install.specs.Installing.{Installing, Fits, next_of, next_phase}
 use Rattle.rules_install.specs.Installs.{installing}

@@ -9,7 +9,7 @@ use Rattle.std.specs.Map.{lookup, update}
 use Rattle.std.specs.Option.{IsSomeAnd, MatchOption, option_and_then, option_map}
 use Rattle.std.specs.Ordering.{nat_cmp}
 use Rattle.std.specs.String.{string_bytes}
-use Rattle.dir_disk.specs.Directory.{Directory, FileState, content, names_of}
+use Rattle.dir_calls.specs.Directory.{Directory, FileState, content, names_of}
 use Rattle.script_tool.specs.Kept.{IsFileOf, Reads, Shows, sim_names}
 use Rattle.script_tool.specs.Sim.{with_reader}
 

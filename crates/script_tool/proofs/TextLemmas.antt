@@ -6,15 +6,15 @@ use Rattle.std.specs.FinMap.{get, remove}
 use Rattle.std.proofs.lemmas.List.{length-append, take_all, take-append-le}
 use Rattle.std.proofs.lemmas.List.Sums.{fold-append}
 use Rattle.std.proofs.lemmas.Option.{slice_get-map}
-use Rattle.dir_disk.specs.declared.choice.Choice.{Choice}
-use Rattle.dir_disk.specs.declared.choice.Choice.TheVariants.{Kept, Empty, Junk}
-use Rattle.dir_disk.specs.NameTable.{Names, NameTable, NameChange, takes, puts, moves, after_change as names_after, after_changes, current, push}
-use Rattle.dir_disk.specs.Directory.{Directory, FileState, KeepsSynced, names_of, number_of, file_at}
-use Rattle.dir_disk.specs.Calls.{Call, makes, appends, patches, syncs, renames, settles, after, lasting, longer, patched, taken_from, with_scratch, with_names, moved}
-use Rattle.dir_disk.specs.Stop.{chosen_bytes, chosen_changes, stopped_file, stopped as after_stop}
-use Rattle.dir_disk.proofs.Lasting.{after_keeps}
-use Rattle.dir_disk.proofs.NamesOf.{get-remove_other, get-insert_same, get-insert_other, same_name-other}
-use Rattle.dir_disk.proofs.NameTables.{current-push}
+use Rattle.dir_calls.specs.declared.choice.Choice.{Choice}
+use Rattle.dir_calls.specs.declared.choice.Choice.TheVariants.{Kept, Empty, Junk}
+use Rattle.dir_calls.specs.NameTable.{Names, NameTable, NameChange, takes, puts, moves, after_change as names_after, after_changes, current, push}
+use Rattle.dir_calls.specs.Directory.{Directory, FileState, KeepsSynced, names_of, number_of, file_at}
+use Rattle.dir_calls.specs.Calls.{Call, makes, appends, patches, syncs, renames, settles, after, lasting, longer, patched, taken_from, with_scratch, with_names, moved}
+use Rattle.dir_calls.specs.Stop.{chosen_bytes, chosen_changes, stopped_file, stopped as after_stop}
+use Rattle.dir_calls.proofs.Lasting.{after_keeps}
+use Rattle.dir_calls.proofs.NamesOf.{get-remove_other, get-insert_same, get-insert_other, same_name-other}
+use Rattle.dir_calls.proofs.NameTables.{current-push}
 use Rattle.rules_install.specs.Filled.{whole_file}
 use Rattle.rules_install.specs.Installing.{Installing, synced_file}
 use Rattle.rules_install.specs.Steps.{IsCallOf}

@@ -2,11 +2,11 @@
 use Rattle.std.specs.Prelude.{◌≡◌, ℕ, ◌+◌, ◌-◌, ◌<◌, true, false, List, Option, Some, None, codes}
 use Rattle.std.specs.FinMap.{get}
 use Rattle.std.specs.BTreeMap.{get_by_text}
-use Rattle.dir_disk.specs.declared.choice.Choice.{Choice}
-use Rattle.dir_disk.specs.Directory.{Directory, FileState, names_of}
-use Rattle.dir_disk.specs.MemDir.{mem_state}
-use Rattle.dir_disk.specs.NameTable.{Names, after_changes}
-use Rattle.dir_disk.specs.Stop.{chosen_changes}
+use Rattle.dir_calls.specs.declared.choice.Choice.{Choice}
+use Rattle.dir_calls.specs.Directory.{Directory, FileState, names_of}
+use Rattle.dir_calls.specs.MemDir.{mem_state}
+use Rattle.dir_calls.specs.NameTable.{Names, after_changes}
+use Rattle.dir_calls.specs.Stop.{chosen_changes}
 use Rattle.cdb_read.specs.Compiled.{Compiled}
 use Rattle.rule_lines.specs.Faults.{IsAccepted}
 use Rattle.rule_lines.specs.Pairs.{pairs_of}

@@ -1,8 +1,8 @@
 -- The text that stands under the name of the rules file, what stops leave of it, and what the phases of an installation do to both.
 use Rattle.std.specs.Prelude.{ℕ, ◌+◌, ◌-◌, ◌&&◌, nat_lt, List, [], ◌∷◌, ◌++◌, length, take, filter, Option, Some, None, if◌then◌else◌}
 use Rattle.std.specs.List.{fold}
-use Rattle.dir_disk.specs.declared.choice.Choice.{Choice}
-use Rattle.dir_disk.specs.declared.choice.Choice.TheVariants.{Kept, Empty, Junk}
+use Rattle.dir_calls.specs.declared.choice.Choice.{Choice}
+use Rattle.dir_calls.specs.declared.choice.Choice.TheVariants.{Kept, Empty, Junk}
 use Rattle.rules_install.specs.declared.Phase.{Phase}
 use Rattle.rules_install.specs.declared.Phase.TheVariants.{Fresh, Filling, Synced, Named, Done}
 

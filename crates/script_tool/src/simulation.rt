@@ -1,7 +1,7 @@
 //! What a script of `rulesim` leads to, command by command.
 ghost use Rattle.std.specs.Prelude.{◌≡◌, ◌≢◌, ◌++◌, ◌<◌, None, Some, OnOk, IfOk, List, [], ℕ};
-ghost use Rattle.dir_disk.specs.MemDir.{mem_state};
-ghost use Rattle.dir_disk.specs.Names.{name_fault};
+ghost use Rattle.dir_calls.specs.MemDir.{mem_state};
+ghost use Rattle.dir_calls.specs.Names.{name_fault};
 ghost use Rattle.rule_lines.specs.Pairs.{pairs_of};
 ghost use Rattle.rule_lookup.specs.Decisions.{decision_of};
 ghost use Rattle.rules_install.specs.Installing.{begun};
@@ -18,7 +18,7 @@ ghost use Rattle.script_tool.specs.Texts.{Texts, at_phase, place_of};
 use crate::replies::{append_fault, append_illegal, append_reached, append_report};
 use answer_lines::append_answer;
 use cdb_read::CdbFile;
-use dir_disk::{Choice, Dir, DirFault, MemDir, MemFile, Name, NameFault};
+use dir_calls::{Choice, Dir, DirFault, MemDir, MemFile, Name, NameFault};
 use rule_lines::Limits;
 use rule_lookup::{DecideFault, Decision, Missing, Peer, decide};
 use rules_install::laws::decides;

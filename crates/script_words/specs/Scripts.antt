@@ -3,8 +3,8 @@ use Rattle.std.specs.Prelude.{ℕ, Bool, true, false, not, ◌&&◌, ◌==◌, n
 use Rattle.std.specs.Char.{to_ascii_lowercase}
 use Rattle.std.specs.List.{starts_with, slice_split}
 use Rattle.std.specs.Str.{is_utf8}
-use Rattle.dir_disk.specs.declared.choice.Choice.{Choice}
-use Rattle.dir_disk.specs.declared.choice.Choice.TheVariants.{Kept, Empty, Junk}
+use Rattle.dir_calls.specs.declared.choice.Choice.{Choice}
+use Rattle.dir_calls.specs.declared.choice.Choice.TheVariants.{Kept, Empty, Junk}
 use Rattle.rule_lookup.specs.Addresses.{ipv4_in}
 use Rattle.rule_lookup.specs.Peers.{Client, is_peer_name}
 use Rattle.rules_install.specs.declared.Phase.{Phase}

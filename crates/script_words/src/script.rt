@@ -8,7 +8,7 @@ ghost use Rattle.script_words.specs.Scripts.{command_of, command_in, command_nam
 ghost use Rattle.script_words.specs.declared.script.LineEnd.TheVariants.{OutOfMemory};
 
 use crate::event_words::{limit_in, only_phase, read_event};
-use dir_disk::Choice;
+use dir_calls::Choice;
 use rule_lookup::{Peer, PeerFault, parse_address};
 use rules_install::Phase;
 use server_events::Event;

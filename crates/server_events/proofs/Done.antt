@@ -4,7 +4,7 @@ use Rattle.std.specs.Prelude.{slice_get, Option, Some, max}
 use Rattle.rule_lines.specs.Pairs.{Rule}
 use Rattle.rules_install.specs.declared.Phase.{Phase}
 use Rattle.rules_install.specs.declared.Phase.TheVariants.{Done}
-use Rattle.dir_disk.specs.Directory.{Directory, content}
+use Rattle.dir_calls.specs.Directory.{Directory, content}
 use Rattle.server_events.specs.Headline.{Reaches}
 use Rattle.server_events.specs.declared.event.Event.{Event}
 use Rattle.server_events.specs.declared.event.Event.TheVariants.{Stepped}

@@ -7,17 +7,17 @@ use Rattle.cdb_read.specs.Compiled.{stored}
 use Rattle.cdb_read.specs.Reading.{reading}
 use Rattle.cdb_read.proofs.AnyKey.{reading_is}
 use Rattle.cdb_read.proofs.StoredRules.{first_value-stored}
-use Rattle.dir_disk.specs.NameTable.{Names, moves, push}
-use Rattle.dir_disk.specs.Directory.{Directory, FileState, content, names_of, number_of}
-use Rattle.dir_disk.specs.Calls.{makes, appends, syncs, renames, settles, after, moved, with_names}
-use Rattle.dir_disk.specs.Images.{IsImage}
-use Rattle.dir_disk.specs.Lasting.{StandsFor}
-use Rattle.dir_disk.specs.Replacing.{HasSynced}
-use Rattle.dir_disk.proofs.Lasting.{image_has, settled_lasts}
-use Rattle.dir_disk.proofs.NamesOf.{get-insert_same, same_name-other}
-use Rattle.dir_disk.proofs.NameTables.{current-push}
-use Rattle.dir_disk.proofs.Replacing.{written}
-use Rattle.dir_disk.proofs.Scratches.{appended_is}
+use Rattle.dir_calls.specs.NameTable.{Names, moves, push}
+use Rattle.dir_calls.specs.Directory.{Directory, FileState, content, names_of, number_of}
+use Rattle.dir_calls.specs.Calls.{makes, appends, syncs, renames, settles, after, moved, with_names}
+use Rattle.dir_calls.specs.Images.{IsImage}
+use Rattle.dir_calls.specs.Lasting.{StandsFor}
+use Rattle.dir_calls.specs.Replacing.{HasSynced}
+use Rattle.dir_calls.proofs.Lasting.{image_has, settled_lasts}
+use Rattle.dir_calls.proofs.NamesOf.{get-insert_same, same_name-other}
+use Rattle.dir_calls.proofs.NameTables.{current-push}
+use Rattle.dir_calls.proofs.Replacing.{written}
+use Rattle.dir_calls.proofs.Scratches.{appended_is}
 use Rattle.rule_lines.specs.Pairs.{Rule}
 use Rattle.rule_lookup.specs.Decisions.{decision_by, decision_in}
 use Rattle.rule_lookup.specs.Peers.{Client}

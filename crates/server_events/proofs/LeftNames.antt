@@ -2,14 +2,14 @@
 use Rattle.std.proofs.Common.{◌≡◌, ◌≢◌, ◌⊎◌, inl, inr, ⊎_elim, Bool, true, false, ℕ, List, length, refl, sym, ◌∙◌, ap, subst}
 use Rattle.std.specs.Prelude.{Option, None, Some, if◌then◌else◌}
 use Rattle.std.specs.FinMap.{get, remove}
-use Rattle.dir_disk.specs.NameTable.{Names, NameTable, NameChange, takes, puts, moves, CanBeLeft, same_name, after_change, current, push}
-use Rattle.dir_disk.specs.Directory.{Directory, FileState, KeepsSynced, names_of, number_of}
-use Rattle.dir_disk.specs.Calls.{Call, makes, appends, patches, syncs, renames, settles, after, longer, patched, lasting, with_scratch, with_names, taken_from, without, moved}
-use Rattle.dir_disk.specs.Outcomes.{Passes, LeavesNames, Fails}
-use Rattle.dir_disk.proofs.Lasting.{after_keeps}
-use Rattle.dir_disk.proofs.NamesOf.{get-remove_other, get-insert_same, get-insert_other}
-use Rattle.dir_disk.proofs.NameTables.{left_current, left_push, left_settled, left_some}
-use Rattle.dir_disk.proofs.Passing.{passes_start}
+use Rattle.dir_calls.specs.NameTable.{Names, NameTable, NameChange, takes, puts, moves, CanBeLeft, same_name, after_change, current, push}
+use Rattle.dir_calls.specs.Directory.{Directory, FileState, KeepsSynced, names_of, number_of}
+use Rattle.dir_calls.specs.Calls.{Call, makes, appends, patches, syncs, renames, settles, after, longer, patched, lasting, with_scratch, with_names, taken_from, without, moved}
+use Rattle.dir_calls.specs.Outcomes.{Passes, LeavesNames, Fails}
+use Rattle.dir_calls.proofs.Lasting.{after_keeps}
+use Rattle.dir_calls.proofs.NamesOf.{get-remove_other, get-insert_same, get-insert_other}
+use Rattle.dir_calls.proofs.NameTables.{left_current, left_push, left_settled, left_some}
+use Rattle.dir_calls.proofs.Passing.{passes_start}
 
 -- whatever names a stop leaves of a table, the number under a name has a property
 abbrev pub EachLeft : NameTable → List ℕ → (Option ℕ → Type 0) → Type 0

@@ -9,15 +9,15 @@ use Rattle.cdb_read.specs.Compiled.{stored}
 use Rattle.cdb_read.specs.Reading.{reading}
 use Rattle.cdb_write.specs.Image.{finished_length, image_of}
 use Rattle.cdb_write.proofs.Joined.{written}
-use Rattle.dir_disk.specs.declared.choice.Choice.TheVariants.{Empty}
-use Rattle.dir_disk.specs.NameTable.{Names, moves, push}
-use Rattle.dir_disk.specs.Directory.{Directory, FileState, KeepsSynced, content, file_at, number_of}
-use Rattle.dir_disk.specs.Calls.{Call, makes, appends, syncs, renames, settles, after, longer, lasting, moved, taken_from, with_names, with_scratch}
-use Rattle.dir_disk.specs.Outcomes.{Fails}
-use Rattle.dir_disk.specs.Stop.{stopped, stopped_file}
-use Rattle.dir_disk.proofs.Lasting.{after_keeps}
-use Rattle.dir_disk.proofs.NamesOf.{get-insert_same}
-use Rattle.dir_disk.proofs.Stops.{stopped_is}
+use Rattle.dir_calls.specs.declared.choice.Choice.TheVariants.{Empty}
+use Rattle.dir_calls.specs.NameTable.{Names, moves, push}
+use Rattle.dir_calls.specs.Directory.{Directory, FileState, KeepsSynced, content, file_at, number_of}
+use Rattle.dir_calls.specs.Calls.{Call, makes, appends, syncs, renames, settles, after, longer, lasting, moved, taken_from, with_names, with_scratch}
+use Rattle.dir_calls.specs.Outcomes.{Fails}
+use Rattle.dir_calls.specs.Stop.{stopped, stopped_file}
+use Rattle.dir_calls.proofs.Lasting.{after_keeps}
+use Rattle.dir_calls.proofs.NamesOf.{get-insert_same}
+use Rattle.dir_calls.proofs.Stops.{stopped_is}
 use Rattle.rule_lines.specs.Pairs.{Rule}
 use Rattle.rule_lines.specs.Rows.{AreRules}
 use Rattle.rule_lines.specs.declared.instr.Verdict.{Verdict}

@@ -4,12 +4,12 @@ use Rattle.std.specs.Prelude.{slice_get, Option, None, Some, option_and_then}
 use Rattle.std.specs.Option.{option_map}
 use Rattle.std.specs.FinMap.{get}
 use Rattle.rule_lines.specs.Pairs.{Rule}
-use Rattle.dir_disk.specs.NameTable.{Names, NameTable, CanBeLeft, current, all_settled}
-use Rattle.dir_disk.specs.Directory.{Directory, FileState, KeepsSynced, content, names_of, number_of}
-use Rattle.dir_disk.specs.Images.{IsImage}
-use Rattle.dir_disk.specs.Calls.{Call}
-use Rattle.dir_disk.specs.Outcomes.{Passes, Fails}
-use Rattle.dir_disk.proofs.NameTables.{left_settled}
+use Rattle.dir_calls.specs.NameTable.{Names, NameTable, CanBeLeft, current, all_settled}
+use Rattle.dir_calls.specs.Directory.{Directory, FileState, KeepsSynced, content, names_of, number_of}
+use Rattle.dir_calls.specs.Images.{IsImage}
+use Rattle.dir_calls.specs.Calls.{Call}
+use Rattle.dir_calls.specs.Outcomes.{Passes, Fails}
+use Rattle.dir_calls.proofs.NameTables.{left_settled}
 use Rattle.server_events.specs.Worlds.{Accepted, IsAccepted, IsOf, StandsFor, World}
 use Rattle.server_events.proofs.LeftNames.{EachLeft, PutsOnly, left_failed, left_now, left_within, within_keeps}
 

@@ -9,11 +9,11 @@ use Rattle.cdb_read.specs.Compiled.{stored}
 use Rattle.cdb_read.specs.Reading.{reading}
 use Rattle.cdb_write.specs.Image.{finished_length, image_of}
 use Rattle.cdb_write.proofs.Joined.{written}
-use Rattle.dir_disk.specs.declared.choice.Choice.TheVariants.{Kept as AllKept}
-use Rattle.dir_disk.specs.Directory.{Directory, content}
-use Rattle.dir_disk.specs.Calls.{settles, after}
-use Rattle.dir_disk.specs.Stop.{stopped}
-use Rattle.dir_disk.proofs.Stops.{stopped_is}
+use Rattle.dir_calls.specs.declared.choice.Choice.TheVariants.{Kept as AllKept}
+use Rattle.dir_calls.specs.Directory.{Directory, content}
+use Rattle.dir_calls.specs.Calls.{settles, after}
+use Rattle.dir_calls.specs.Stop.{stopped}
+use Rattle.dir_calls.proofs.Stops.{stopped_is}
 use Rattle.rule_lines.specs.Pairs.{Rule}
 use Rattle.rule_lines.specs.Rows.{AreRules}
 use Rattle.rule_lines.specs.declared.instr.Verdict.{Verdict}

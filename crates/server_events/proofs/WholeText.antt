@@ -6,13 +6,13 @@ use Rattle.std.proofs.lemmas.List.{length_push}
 use Rattle.rule_lines.specs.Pairs.{Rule}
 use Rattle.rules_install.specs.declared.Phase.{Phase}
 use Rattle.rules_install.specs.declared.Phase.TheVariants.{Fresh, Filling, Synced, Named, Done}
-use Rattle.dir_disk.specs.NameTable.{Names, NameTable, puts, moves, current, push}
-use Rattle.dir_disk.specs.Directory.{Directory, FileState, content, names_of, number_of}
-use Rattle.dir_disk.specs.Calls.{Call, makes, syncs, renames, settles, after, longer, patched, lasting, with_file, with_scratch, with_names, without, moved}
-use Rattle.dir_disk.specs.Outcomes.{Fails}
-use Rattle.dir_disk.proofs.NamesOf.{get-insert_same, same_name-other}
-use Rattle.dir_disk.proofs.NameTables.{current-push}
-use Rattle.dir_disk.proofs.Passing.{passes_end}
+use Rattle.dir_calls.specs.NameTable.{Names, NameTable, puts, moves, current, push}
+use Rattle.dir_calls.specs.Directory.{Directory, FileState, content, names_of, number_of}
+use Rattle.dir_calls.specs.Calls.{Call, makes, syncs, renames, settles, after, longer, patched, lasting, with_file, with_scratch, with_names, without, moved}
+use Rattle.dir_calls.specs.Outcomes.{Fails}
+use Rattle.dir_calls.proofs.NamesOf.{get-insert_same, same_name-other}
+use Rattle.dir_calls.proofs.NameTables.{current-push}
+use Rattle.dir_calls.proofs.Passing.{passes_end}
 use Rattle.server_events.specs.declared.event.Event.{Event}
 use Rattle.server_events.specs.declared.event.Event.TheVariants.{Admitted, Opened, Decided, Started, StartFailed, Ended, Retired, Dropped, Stepped, StepFailed, Stop}
 use Rattle.server_events.specs.ServerState.{ServerState, phase_after}

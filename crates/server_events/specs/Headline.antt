@@ -1,6 +1,6 @@
 -- What the headline says.
 use Rattle.std.specs.Prelude.{◌≡◌, ◌++◌, ◌∷◌, ℕ, Bool, List, Option, Some, None}
-use Rattle.dir_disk.specs.Directory.{Directory, content, number_of}
+use Rattle.dir_calls.specs.Directory.{Directory, content, number_of}
 use Rattle.rule_lines.specs.Pairs.{Rule}
 use Rattle.rule_lookup.specs.Decisions.{decision_in, without_file}
 use Rattle.rule_lookup.specs.Peers.{Client}

@@ -1,9 +1,9 @@
 -- What each event does to the world.
 use Rattle.std.specs.Prelude.{◌≡◌, ◌≢◌, ◌⊎◌, ℕ, max, true, is_some, List, [], ◌∷◌, ◌++◌, length, Option, Some, None, option_map, Ok}
-use Rattle.dir_disk.specs.Directory.{Directory, FileState, scratch_of}
-use Rattle.dir_disk.specs.Calls.{Call, makes, appends, patches, syncs, renames, settles, after}
-use Rattle.dir_disk.specs.Outcomes.{Passes, Fails}
-use Rattle.dir_disk.specs.Images.{IsImage}
+use Rattle.dir_calls.specs.Directory.{Directory, FileState, scratch_of}
+use Rattle.dir_calls.specs.Calls.{Call, makes, appends, patches, syncs, renames, settles, after}
+use Rattle.dir_calls.specs.Outcomes.{Passes, Fails}
+use Rattle.dir_calls.specs.Images.{IsImage}
 use Rattle.cdb_read.specs.Reading.{reading}
 use Rattle.rule_lines.specs.Pairs.{Rule}
 use Rattle.rule_lines.specs.Rows.{AreRules}

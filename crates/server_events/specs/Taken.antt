@@ -1,9 +1,9 @@
 -- Steps that a world takes, and steps that no world takes.
 use Rattle.std.specs.Prelude.{◌≡◌, ◌≢◌, ◌<◌, ⊤, ℕ, Bool, true, List, [], ◌∷◌, ◌++◌, length, Option, Some, IfSome, is_some, Result, Ok, option_map}
-use Rattle.dir_disk.specs.Directory.{Directory, scratch_of}
-use Rattle.dir_disk.specs.Calls.{Call}
-use Rattle.dir_disk.specs.Images.{IsImage}
-use Rattle.dir_disk.specs.Outcomes.{Passes, Fails}
+use Rattle.dir_calls.specs.Directory.{Directory, scratch_of}
+use Rattle.dir_calls.specs.Calls.{Call}
+use Rattle.dir_calls.specs.Images.{IsImage}
+use Rattle.dir_calls.specs.Outcomes.{Passes, Fails}
 use Rattle.cdb_read.specs.Reading.{reading}
 use Rattle.rule_lines.specs.Pairs.{Rule}
 use Rattle.rule_lookup.specs.Decisions.{decision_from}

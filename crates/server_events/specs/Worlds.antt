@@ -1,6 +1,6 @@
 -- The world of a server and of the installations beside it: a directory, the rules that were accepted, and the connections.
 use Rattle.std.specs.Prelude.{◌≡◌, ◌==◌, ◌≤◌, ℕ, true, List, [], ◌∷◌, slice_get, Option, Some, None, option_and_then, if◌then◌else◌}
-use Rattle.dir_disk.specs.Directory.{Directory, content, file_at, number_of}
+use Rattle.dir_calls.specs.Directory.{Directory, content, file_at, number_of}
 use Rattle.cdb_read.specs.Compiled.{stored}
 use Rattle.cdb_write.specs.IsCdb.{IsCdb}
 use Rattle.rule_lines.specs.Pairs.{Rule}

@@ -1,8 +1,8 @@
 //! Laws over the definitions alone.
 ghost use Rattle.std.specs.Prelude.{◌≡◌, ◌≢◌, ◌↔◌, ℕ, ◌+◌, ◌≤◌, ◌<◌, Bool, List, length, true, None, Some, IsSomeAnd};
 ghost use Rattle.std.specs.List.Sorted.{IsStrictlyIncreasing};
-ghost use Rattle.dir_disk.specs.Directory.{Directory};
-ghost use Rattle.dir_disk.specs.Images.{IsImage};
+ghost use Rattle.dir_calls.specs.Directory.{Directory};
+ghost use Rattle.dir_calls.specs.Images.{IsImage};
 ghost use Rattle.rule_lookup.specs.Peers.{Client};
 ghost use Rattle.rule_lookup.specs.declared.decision.Decision.{Decision};
 ghost use Rattle.rules_install.specs.declared.Phase.{Phase};

@@ -10,6 +10,3 @@ pub mod state;
 pub use event::{Event, Stage};
 pub use report::{ReplayFault, Report, replay};
 pub use state::{Connection, State};
-
-#[cfg(test)]
-mod tests;

@@ -1,8 +1,8 @@
 -- The first step of an installation, in a yard.
 use Rattle.std.proofs.Common.{◌≡◌, ◌<◌, ◌^◌, ℕ, List, true, false, Option, None, Some, refl, sym, ap, ◌∙◌}
 use Rattle.std.specs.Prelude.{Err}
-use Rattle.dir_disk.specs.Directory.{Directory}
-use Rattle.dir_disk.specs.declared.fault.DirFault.TheVariants.{NoScratch, NoName, Device, OutOfMemory as NoMemory}
+use Rattle.dir_calls.specs.Directory.{Directory}
+use Rattle.dir_calls.specs.declared.fault.DirFault.TheVariants.{NoScratch, NoName, Device, OutOfMemory as NoMemory}
 use Rattle.event_journals.specs.declared.journal.Noted.{Noted}
 use Rattle.install_steps.specs.UnderWay as way
 use Rattle.install_steps.specs.UnderWay.{IsUnderWay}

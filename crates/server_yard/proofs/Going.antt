@@ -1,8 +1,8 @@
 -- The installation that a yard keeps, after a step of it.
 use Rattle.std.proofs.Common.{◌≡◌, ◌≢◌, ℕ, List, [], ◌∷◌, ◌++◌, map, Bool, true, false, Option, None, Some, refl, sym, ap, subst, ◌∙◌}
 use Rattle.std.specs.Prelude.{◌<◌, ◌^◌, IfSome, Result, Ok, Err, option_map, if◌then◌else◌}
-use Rattle.dir_disk.specs.Directory.{Directory}
-use Rattle.dir_disk.specs.declared.fault.DirFault.TheVariants.{NoScratch, NoName, Device, OutOfMemory as NoMemory}
+use Rattle.dir_calls.specs.Directory.{Directory}
+use Rattle.dir_calls.specs.declared.fault.DirFault.TheVariants.{NoScratch, NoName, Device, OutOfMemory as NoMemory}
 use Rattle.event_journals.specs.declared.journal.Noted.{Noted}
 use Rattle.install_steps.specs.UnderWay as way
 use Rattle.install_steps.specs.UnderWay.{IsUnderWay}

@@ -1,7 +1,7 @@
 -- What the installations of a yard left, after one event more.
 use Rattle.std.proofs.Common.{◌≡◌, ℕ, List, [], ◌∷◌, ◌++◌, map, Bool, true, false, cond, Option, None, Some, refl, sym, ap, subst, ◌∙◌}
 use Rattle.std.specs.Prelude.{IfSome, option_map}
-use Rattle.dir_disk.specs.Directory.{Directory}
+use Rattle.dir_calls.specs.Directory.{Directory}
 use Rattle.rule_lines.specs.Pairs.{Rule}
 use Rattle.rules_install.specs.Installing.{Installing}
 use Rattle.rules_install.specs.declared.Phase.{Phase}

@@ -3,7 +3,7 @@ use Rattle.std.proofs.Common.{◌≡◌, ◌<◌, ◌^◌, ℕ, List, [], ◌∷
 use Rattle.std.specs.Prelude.{◌⊎◌, ◌||◌, IfOk, IsTrue, OnErr, Result, Ok, Err, is_some, option_map}
 use Rattle.std.proofs.lemmas.Bool.{true≢false}
 use Rattle.rules_install.specs.declared.Phase.{Phase}
-use Rattle.dir_disk.specs.Directory.{Directory, content}
+use Rattle.dir_calls.specs.Directory.{Directory, content}
 use Rattle.event_journals.specs.Journals.{FitsSerial}
 use Rattle.event_journals.specs.declared.journal.Noted.{Noted}
 use Rattle.rule_lines.specs.Pairs.{Rule}

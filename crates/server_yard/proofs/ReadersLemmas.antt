@@ -5,8 +5,8 @@ use Rattle.std.specs.FinMap.{get}
 use Rattle.std.proofs.lemmas.List.{length_push}
 use Rattle.std.proofs.lemmas.List.Sums.{sum_by-cons}
 use mathlib.Core.Logic.{∥∥₁_map}
-use Rattle.dir_disk.specs.Directory.{Directory}
-use Rattle.dir_disk.specs.NameTable.{CanBeLeft, Names}
+use Rattle.dir_calls.specs.Directory.{Directory}
+use Rattle.dir_calls.specs.NameTable.{CanBeLeft, Names}
 use Rattle.event_journals.specs.declared.journal.Noted.{Noted}
 use Rattle.rule_lines.specs.Pairs.{Rule}
 use Rattle.rules_install.specs.Installing.{Installing}

@@ -1,8 +1,8 @@
 -- A step of the installation that a yard keeps is one of each world that is the yard's.
 use Rattle.std.proofs.Common.{◌≡◌, ◌≢◌, ℕ, List, [], ◌∷◌, ◌++◌, length, false, Option, None, Some, refl, sym, ap, subst, ◌∙◌}
 use Rattle.std.specs.Prelude.{Ok, Err, Result}
-use Rattle.dir_disk.specs.Directory.{Directory}
-use Rattle.dir_disk.specs.declared.fault.DirFault.TheVariants.{NoScratch, NoName, Device, OutOfMemory as NoMemory}
+use Rattle.dir_calls.specs.Directory.{Directory}
+use Rattle.dir_calls.specs.declared.fault.DirFault.TheVariants.{NoScratch, NoName, Device, OutOfMemory as NoMemory}
 use Rattle.install_steps.specs.UnderWay.{Arrives, HasReached, IsAsFar, IsUnderWay, rules_named}
 use Rattle.install_steps.specs.UnderWay as way
 use Rattle.rule_lines.specs.Pairs.{Rule}

@@ -1,7 +1,7 @@
 -- What the installations of a yard left in its directory.
 use Rattle.std.specs.Prelude.{◌≡◌, ◌∷◌, ◌⊎◌, ⊤, ℕ, List, Option, None, Some, IfSome, map}
 use Rattle.std.specs.List.{filter}
-use Rattle.dir_disk.specs.Directory.{Directory, content, number_of}
+use Rattle.dir_calls.specs.Directory.{Directory, content, number_of}
 use Rattle.rule_lines.specs.Pairs.{Rule}
 use Rattle.rules_install.specs.Installing.{Installing}
 use Rattle.rules_install.specs.declared.Phase.{Phase}

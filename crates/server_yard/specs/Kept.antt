@@ -1,7 +1,7 @@
 -- The installation that a yard keeps.
 use Rattle.std.specs.Prelude.{◌≡◌, ◌≢◌, ℕ, Bool, IsTrue, List, [], Option, IfSome, None, Some, true, false, option_map}
 use Rattle.std.proofs.Props.{props}
-use Rattle.dir_disk.specs.Directory.{Directory}
+use Rattle.dir_calls.specs.Directory.{Directory}
 use Rattle.event_journals.specs.Journals.{TellsOf}
 use Rattle.event_journals.specs.declared.journal.Noted.{Noted}
 use Rattle.rule_lines.specs.Pairs.{Rule}

@@ -2,8 +2,8 @@
 use Rattle.std.specs.Prelude.{◌≡◌, ◌≤◌, ◌+◌, ◌⊎◌, ℕ, Bool, true, false, List, ◌∷◌, ◌++◌, Option, None, Some, IfSome, slice_get}
 use Rattle.std.specs.List.{count_by}
 use Rattle.std.specs.FinMap.{get}
-use Rattle.dir_disk.specs.Directory.{Directory}
-use Rattle.dir_disk.specs.NameTable.{CanBeLeft, Names}
+use Rattle.dir_calls.specs.Directory.{Directory}
+use Rattle.dir_calls.specs.NameTable.{CanBeLeft, Names}
 use Rattle.event_journals.specs.declared.journal.Noted.{Noted}
 use Rattle.rule_lines.specs.Pairs.{Rule}
 use Rattle.rules_install.specs.Installing.{Installing}

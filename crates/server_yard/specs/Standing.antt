@@ -1,7 +1,7 @@
 -- A yard as worlds see it, and the steps that its calls are.
 use Rattle.std.specs.Prelude.{◌≡◌, ◌++◌, ◌∷◌, ◌⊎◌, ℕ, Bool, IsTrue, List, [], Option, None, Some, option_and_then, is_some}
-use Rattle.dir_disk.specs.Directory.{Directory, content}
-use Rattle.dir_disk.specs.Images.{IsImage}
+use Rattle.dir_calls.specs.Directory.{Directory, content}
+use Rattle.dir_calls.specs.Images.{IsImage}
 use Rattle.install_steps.specs.UnderWay.{IsAsFar}
 use Rattle.rules_install.specs.Installing.{Installing}
 use Rattle.rule_lines.specs.Pairs.{Rule}

@@ -1,6 +1,6 @@
 -- A yard: what contracts say of it.
 use Rattle.std.specs.Prelude.{◌≡◌, ◌<◌, ◌-◌, ◌^◌, ◌==◌, ℕ, List, Option, None, Some, false, option_map, if◌then◌else◌}
-use Rattle.dir_disk.specs.Directory.{Directory}
+use Rattle.dir_calls.specs.Directory.{Directory}
 use Rattle.rule_lines.specs.Pairs.{Rule}
 use Rattle.rules_install.specs.Installing.{Installing}
 use Rattle.server_events.specs.ServerState.{ServerState, start}

@@ -4,7 +4,7 @@ ghost use Rattle.server_yard.specs.Installed.{IsWholeFile};
 
 use crate::premises::Premises;
 use cdb_read::CdbFile;
-use dir_disk::RulesFile;
+use dir_calls::RulesFile;
 use rule_lookup::Missing;
 use std::marker::PhantomData;
 

@@ -10,7 +10,7 @@ ghost use Rattle.server_yard.specs.Seating.{HasSpareRoom, KeepsSeats};
 ghost use Rattle.server_yard.specs.Stepping.{MayFail, fault_event, step_event};
 
 use crate::roster::Roster;
-use dir_disk::Dir;
+use dir_calls::Dir;
 use event_journals::Journal;
 use install_steps::make_step;
 use rules_install::{Install, InstallFault, Phase};

@@ -2,7 +2,7 @@
 ghost use Rattle.std.specs.Prelude.{◌≡◌, ◌≢◌, ◌+◌, ◌<◌, ◌∷◌, ◌↔◌, ℕ, List, [], true, false, Err, Ok, Some, None, IsTrue, IfOk, IfErr, IfSome, OnOk, OnErr, Contains, is_some, length, option_map};
 ghost use Rattle.child_jobs.specs.Runs.{place_of};
 ghost use Rattle.child_table.specs.Seats.{RefusesLimits};
-ghost use Rattle.dir_disk.specs.Moments.{HasCause};
+ghost use Rattle.dir_calls.specs.Moments.{CountsFault};
 ghost use Rattle.rules_install.specs.Installs.{installing};
 ghost use Rattle.rules_install.specs.declared.Phase.TheVariants.{Done};
 ghost use Rattle.rules_install.specs.declared.fault.InstallFault.TheVariants.{Over};
@@ -28,7 +28,7 @@ use crate::stepping::{begin_noted, step_noted};
 use cdb_read::CdbFile;
 use child_jobs::{Job, Running};
 use child_table::{Place, TableFault};
-use dir_disk::{Dir, DirFault, Name};
+use dir_calls::{Dir, DirFault, Name};
 use event_journals::Journal;
 use rule_lookup::{Decision, DropCause, Missing, Peer, StartFault, Status};
 use rules_install::{Install, InstallFault, Phase};
@@ -279,7 +279,7 @@ impl<L: Premises, D: Dir + Drop, J: Journal> Yard<L, D, J> {
         ensures roll { yard_roll self.new ≡ yard_roll self.old }
         ensures state { IsTrue D.honest → yard_state D.state self.new ≡ yard_state D.state self.old }
         ensures faults { IfErr result (Contains (DirFault.Device ∷ DirFault.OutOfMemory ∷ [])) }
-        ensures cause { HasCause (D.failed (yard_directory self.old)) (D.failed (yard_directory self.new)) result }
+        ensures counted { CountsFault (D.failed (yard_directory self.old)) (D.failed (yard_directory self.new)) result }
         ensures without { yard_rules self.old ≡ None → yard_directory self.new ≡ yard_directory self.old }
         ensures same { IsSameButDirectory J.lists self.old self.new }
         ensures seats { KeepsSeats (yard_seat self.old) (yard_seat self.new) }
@@ -313,7 +313,7 @@ impl<L: Premises, D: Dir + Drop, J: Journal> Yard<L, D, J> {
         ensures err_state { IsTrue D.honest
             → OnErr result (yard_state D.state self.new ≡ yard_state D.state self.old) }
         ensures faults { IfErr result (Contains (DirFault.Device ∷ DirFault.OutOfMemory ∷ [])) }
-        ensures cause { HasCause (D.failed (yard_directory self.old)) (D.failed (yard_directory self.new)) result }
+        ensures counted { CountsFault (D.failed (yard_directory self.old)) (D.failed (yard_directory self.new)) result }
         ensures without { yard_rules self.old ≡ None → yard_directory self.new ≡ yard_directory self.old }
         ensures same { IsSameButDirectory J.lists self.old self.new }
         ensures seats { KeepsSeats (yard_seat self.old) (yard_seat self.new) }

@@ -2,7 +2,7 @@
 use Rattle.std.proofs.Common.{◌≡◌, ◌<◌, ◌-◌, ◌^◌, ◌==◌, ℕ, List, refl, sym, ap, subst, ◌∙◌}
 use Rattle.std.specs.Prelude.{None, Option, Result, Some, SomeIff, if◌then◌else◌, is_some, option_map}
 use Rattle.std.proofs.lemmas.Option.{none-some, same_Some}
-use Rattle.dir_disk.specs.Directory.{Directory}
+use Rattle.dir_calls.specs.Directory.{Directory}
 use Rattle.event_journals.specs.Journals.{one_more}
 use Rattle.event_journals.specs.declared.journal.Noted.{Noted}
 use Rattle.rule_lines.specs.Pairs.{Rule}

@@ -6,7 +6,7 @@ ghost use Rattle.site_lock.specs.Audits.{AreRight, AreRightBefore, IsAbove, IsFi
 
 use crate::receipt::Receipt;
 use crate::same::is_same_event;
-use dir_disk::Dir;
+use dir_calls::Dir;
 use event_journals::Full;
 use server_yard::{Premises, Yard};
 use thiserror::Error;

@@ -14,7 +14,7 @@ use crate::receipt::Receipt;
 use crate::turns::OpenFault;
 use child_jobs::{Job, Running};
 use child_table::Place;
-use dir_disk::Dir;
+use dir_calls::Dir;
 use event_journals::Journal;
 use rule_lookup::{Decision, DropCause, Peer, StartFault, Status};
 use rules_install::{Install, InstallFault, Phase};

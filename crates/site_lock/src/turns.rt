@@ -24,7 +24,7 @@ ghost use Rattle.site_lock.specs.declared.turns.OpenFault.TheVariants as open_fa
 use crate::receipt::Receipt;
 use child_jobs::{Job, Running};
 use child_table::Place;
-use dir_disk::{Dir, DirFault};
+use dir_calls::{Dir, DirFault};
 use event_journals::Journal;
 use rule_lines::Verdict;
 use rule_lookup::{Decision, DropCause, Peer, StartFault, Status};

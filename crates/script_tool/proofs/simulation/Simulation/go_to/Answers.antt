@@ -1,6 +1,6 @@
 use Rattle.std.proofs.Common.{◌++◌, Option, ap, ◌∙◌}
 use Rattle.std.proofs.lemmas.Result.{on_ok_weaker}
-use Rattle.dir_disk.specs.MemDir.{mem_state}
+use Rattle.dir_calls.specs.MemDir.{mem_state}
 use Rattle.rules_install.specs.declared.Phase.{Phase}
 use Rattle.script_tool.specs.Replies.{reached_line}
 use Rattle.script_tool.proofs.GoLemmas.{GoesTo, GoesTo-none, GoesTo-some}

@@ -1,5 +1,5 @@
 use Rattle.std.proofs.Common.{refl, sym, subst}
-use Rattle.dir_disk.specs.Directory.{Directory}
+use Rattle.dir_calls.specs.Directory.{Directory}
 use Rattle.script_tool.specs.Kept.{HasTexts}
 use Rattle.script_tool.specs.Texts.{no_texts}
 use Rattle.script_tool.proofs.KeptLemmas.{cdb_is_name, HasTexts-empty}

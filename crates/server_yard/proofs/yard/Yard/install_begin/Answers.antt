@@ -1,6 +1,6 @@
 use Rattle.std.proofs.Common.{◌∷◌, ◌++◌, [], List, Option, None, Some, inr, refl, sym, ap, subst, ◌∙◌}
 use Rattle.std.specs.Prelude.{Ok, Err, option_map}
-use Rattle.dir_disk.specs.Directory.{Directory}
+use Rattle.dir_calls.specs.Directory.{Directory}
 use Rattle.rule_lines.specs.Pairs.{Rule}
 use Rattle.server_events.specs.ServerState.{ServerState, phase_after}
 use mathlib.Core.Logic.{∥∥₁_map}

@@ -1,0 +1,99 @@
+//! What the cases are made of: a launcher that counts, a writer that takes only so much, and damaged rules.
+use dir_calls::{Dir, MemDir, Name, RulesFile};
+use rule_lookup::StartFault;
+use server_core::{Launcher, Program};
+use std::alloc::Global;
+use std::io;
+use std::io::Write;
+use std::sync::atomic::{AtomicU64, Ordering};
+use ucspi_env::Environment;
+use yard_steps::{EndedJob, EndedJobs, rules_name, stuck, with_rules};
+
+/// How many bytes the file of `:deny` is cut to: one less than it has.
+const CUT: usize = 2_073;
+
+/// How much memory a start takes.
+const ROOM: usize = 64;
+
+/// Starts jobs, which takes memory, and counts how often it was asked to.
+#[derive(Drop)]
+pub struct Counted {
+    pub jobs: EndedJobs,
+    pub starts: AtomicU64,
+}
+
+impl Launcher for Counted {
+    type Job = EndedJob;
+
+    fn start(
+        &self,
+        alloc: Global,
+        program: &Program,
+        environment: &Environment,
+    ) -> Result<EndedJob, StartFault> {
+        self.starts.fetch_add(1, Ordering::SeqCst);
+        let Ok(_room) = Vec::<u8>::with_capacity(alloc, ROOM) else {
+            return Err(StartFault::OutOfMemory);
+        };
+        self.jobs.start(alloc, program, environment)
+    }
+}
+
+/// A writer that takes so many bytes, and then fails.
+#[derive(Drop)]
+pub struct Narrow {
+    pub room: usize,
+    pub taken: usize,
+}
+
+impl Write for Narrow {
+    fn write(&mut self, buf: &[u8]) -> io::Result<usize> {
+        let count = buf.len().min(self.room);
+        if count == 0 {
+            return Err(stuck());
+        }
+        self.room -= count;
+        self.taken = self.taken.saturating_add(count);
+        Ok(count)
+    }
+
+    fn flush(&mut self) -> io::Result<()> {
+        Ok(())
+    }
+}
+
+/// The front of the file that is compiled of `:deny`.
+fn cut_file(alloc: Global) -> io::Result<Vec<u8>> {
+    let mut whole = with_rules(alloc, b":deny\n")?;
+    let Ok(Some(file)) = whole.open(alloc, &rules_name(alloc)?) else {
+        return Err(stuck());
+    };
+    let mut bytes = vec![in alloc; 0u8; CUT]?;
+    match file.read_at(0, &mut bytes) {
+        Ok(CUT) => Ok(bytes),
+        _ => Err(stuck()),
+    }
+}
+
+/// A directory in memory whose rules file is cut.
+pub fn with_cut_rules(alloc: Global) -> io::Result<MemDir> {
+    let bytes = cut_file(alloc)?;
+    let mut dir = MemDir::new(alloc);
+    match put(alloc, &mut dir, &rules_name(alloc)?, &bytes) {
+        Ok(()) => Ok(dir),
+        Err(_) => Err(stuck()),
+    }
+}
+
+/// Makes a file of these bytes under a name.
+fn put<D: Dir>(
+    alloc: Global,
+    dir: &mut D,
+    name: &Name,
+    bytes: &[u8],
+) -> Result<(), dir_calls::DirFault> {
+    dir.fresh(alloc, name)?;
+    dir.append(alloc, bytes)?;
+    dir.sync(alloc)?;
+    dir.settle()
+}

@@ -1,0 +1,14 @@
+use Rattle.std.specs.Prelude.{false}
+use Rattle.site_tests.proofs.two_callers.two_callers_with_receipts.Given as goal
+
+abbrev pub ghosts-two-L-Ledger : goal.ghosts-two-L-Ledger
+ghosts-two-L-Ledger g a = record { name = a.places.name; parts = a.places.parts }
+
+abbrev pub ghosts-two-L-Premises : goal.ghosts-two-L-Premises
+ghosts-two-L-Premises g a = record { met = false }
+
+abbrev pub ghosts-two-N-Ledger : goal.ghosts-two-N-Ledger
+ghosts-two-N-Ledger g a = record { name = a.parts.name; parts = a.parts.parts }
+
+abbrev pub ghosts-two-N-Callers : goal.ghosts-two-N-Callers
+ghosts-two-N-Callers g a = record { all = 2; before = 0 }

@@ -1,0 +1,99 @@
+//! Two callers that install rules and open them, and then decide by what they opened.
+ghost use Rattle.std.specs.Prelude.{◌≡◌, false};
+
+use crate::calls::{decided, install, installation, let_in, open, peer_for, rules_name};
+use crate::sites::{close, new_site};
+use dir_calls::{MemDir, MemFile};
+use event_journals::Full;
+use rule_lines::Verdict;
+use rule_lookup::{Decision, Missing, Peer};
+use server_yard::{Pass, Premises};
+use site_lock::{Caller, Callers, Receipt, Site};
+use std::alloc::Global;
+use std::marker::Brand;
+use std::process::Abort;
+use std::sync::Wait;
+use std::sync::ledger::Blank;
+
+/// What a caller has of its connection.
+#[derive(Drop)]
+struct Opened<L: Premises> {
+    peer: Peer,
+    pass: Pass<L, MemFile>,
+}
+
+// Installs a text, lets a connection in and opens the rules for it.
+fn install_and_open<L: Premises, N: Callers, R: Abort + Wait>(
+    rt: &R,
+    alloc: Global,
+    site: &Site<L, N, MemDir, Full>,
+    caller: &mut Caller<N>,
+    text: &[u8],
+    receipts: &mut Vec<Receipt>,
+) -> Opened<L> {
+    let is_done = install(
+        rt,
+        alloc,
+        site,
+        caller,
+        installation(rt, alloc, text),
+        receipts,
+    );
+    assert!(rt; is_done);
+    let peer = peer_for(rt, alloc, caller);
+    let (serial, place) = let_in(rt, site, caller, &peer, receipts);
+    place.strand();
+    let pass = open(rt, alloc, site, caller, serial, receipts);
+    Opened { peer, pass }
+}
+
+fn is_allowed_with_t(decision: &Decision) -> bool {
+    match decision.settings.as_slice() {
+        [setting] => decision.verdict == Verdict::Allow
+            && setting.name() == "T"
+            && setting.value() == "1",
+        _ => false,
+    }
+}
+
+// Each caller decides by what it opened, though the second has installed since.
+fn decide_both<L: Premises, N: Callers, R: Abort + Wait>(
+    rt: &R,
+    alloc: Global,
+    site: &Site<L, N, MemDir, Full>,
+    one: &mut Caller<N>,
+    two: &mut Caller<N>,
+    receipts: &mut Vec<Receipt>,
+) {
+    let first = install_and_open(rt, alloc, site, one, b":allow,T=\"1\"\n", receipts);
+    let second = install_and_open(rt, alloc, site, two, b":deny\n", receipts);
+    let first = decided(rt, alloc, site, one, first.pass, &first.peer, receipts);
+    let second = decided(rt, alloc, site, two, second.pass, &second.peer, receipts);
+    assert!(rt; is_allowed_with_t(&first));
+    assert_eq!(rt; second.verdict, Verdict::Deny);
+}
+
+fn two<L: Premises, N: Callers, R: Abort + Wait + AllocGlobal>(rt: &R, places: Blank, parts: Blank)
+    requires places { (places.name ≡ L.name) × (places.parts ≡ L.parts) × (places.parts ≡ 2) }
+    requires met { L.met ≡ false }
+    requires parts { (parts.name ≡ N.name) × (parts.parts ≡ N.parts) × (parts.parts ≡ 2) }
+    requires callers { (N.all ≡ 2) × (N.before ≡ 0) }
+{
+    let alloc = rt.alloc();
+    let rules = Some((rules_name(rt, alloc), Missing::Drop));
+    let (site, mut callers) = new_site::<L, N, R>(rt, alloc, places, parts, rules, 2, 2);
+    let mut two = callers.pop().expect(rt, "there are two callers");
+    let mut one = callers.pop().expect(rt, "there are two callers");
+    let mut receipts = Vec::new(alloc);
+    decide_both(rt, alloc, &site, &mut one, &mut two, &mut receipts);
+    callers.push(one).expect(rt, "memory");
+    callers.push(two).expect(rt, "memory");
+    let _yard = close(rt, site, callers, &receipts);
+    // eight steps of each installation, and three calls for each connection
+    assert_eq!(rt; receipts.len(), 22);
+}
+
+#[test]
+fn each_decides_by_the_rules_that_it_opened(rt: HostRuntime) {
+    two::<Brand, Brand, _>(&rt, Blank::new(2), Blank::new(2));
+}

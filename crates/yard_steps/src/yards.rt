@@ -1,0 +1,31 @@
+//! Yards over directories of which nothing is known beforehand.
+ghost use Rattle.std.specs.Prelude.{◌≡◌, false};
+ghost use Rattle.server_yard.specs.Kept.{HasNoEvents};
+
+use crate::rules::{rules_name, stuck};
+use dir_calls::Dir;
+use rule_lookup::Missing;
+use server_core::{Journal, Premises, Yard};
+use std::alloc::Global;
+use std::io;
+use std::sync::ledger::Blank;
+
+/// A yard with a rules name, over a journal without events. Where no rules file stands connections are denied.
+pub fn yard_over<L: Premises, D: Dir + Drop, J: Journal>(
+    alloc: Global,
+    blank: Blank,
+    dir: D,
+    limit: u64,
+    journal: J,
+) -> io::Result<Yard<L, D, J>>
+    requires name { blank.name ≡ L.name }
+    requires parts { (blank.parts ≡ L.parts) × (blank.parts ≡ limit) }
+    requires unmet { L.met ≡ false }
+    requires journal { HasNoEvents J.told J.count J.stored J.lists journal }
+{
+    let rules = Some((rules_name(alloc)?, Missing::Drop));
+    match Yard::new(alloc, blank, dir, rules, limit, journal) {
+        Ok(yard) => Ok(yard),
+        Err(_) => Err(stuck()),
+    }
+}
