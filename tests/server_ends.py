@@ -114,11 +114,16 @@ def descriptors_of_programs(suite):
     os.close(writing)
 
 
+# signals 32 and 33, which the C library keeps for its own threads; one that starts programs by posix_spawn leaves them ignored
+OF_THE_LIBRARY = 1 << 31 | 1 << 32
+
+
 def signals_of_programs(suite):
-    """A program has every signal at its default, and none blocked; its pipes end it."""
+    """A program has every signal at its default, but for the C library's own, and none blocked; its pipes end it."""
     with suite.start(server_runs.QUIET, ["cat", "/proc/self/status"]) as server:
         told = dict(line.split(":", 1) for line in server.ask().decode().splitlines())
-        suite.expect("signals blocked and ignored", [int(told[name], 16) for name in ("SigBlk", "SigIgn")], [0, 0])
+        blocked, ignored = (int(told[name], 16) & ~OF_THE_LIBRARY for name in ("SigBlk", "SigIgn"))
+        suite.expect("signals blocked and ignored", (blocked, ignored), (0, 0))
     with suite.start(server_runs.QUIET, ["sh", "-c", "yes | head -n 1"]) as server:
         suite.expect("a pipe's end in a program", server.ask(), b"y\n")
 

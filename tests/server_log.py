@@ -207,6 +207,12 @@ def burst_client(server, source, order):
         pass
 
 
+def taken(server):
+    """How many connections the log says were let in or closed for their address."""
+    log = server.log()
+    return log.count(b"\ntcpserver: pid ") + log.count(b" address full\n")
+
+
 def bursts(suite):
     """Connections that come all at once, each with an end of its own: the log is legal, and ends with nothing alive."""
     path = suite.install("127.0.1.:deny\n127.0.2.:allow\n")
@@ -225,9 +231,9 @@ def bursts(suite):
                 os.kill(server.process.pid, signal.SIGCONT)
                 for thread in threads:
                     thread.join(server_runs.WAIT)
-                if round_ == 0:
-                    server.idle()
-            server.idle()
+                # one that reset its connection has not waited for the server
+                server_runs.wait_until("each client of a burst", lambda: taken(server) >= 60 * (round_ + 1))
+                server.idle()
             events = suite.audit("a burst under %r" % options, server, per)
             suite.expect("those of a burst under %r" % options, events.admitted + events.full, 120)
             if per is None:

@@ -2,8 +2,8 @@
 """Runs `tcpserver` with one request for memory refused: the first, then the second, until runs meet no refusal.
 
 Each run serves two connections, one that the rules allow and one that they deny. A refusal may end the server with `out of memory` and exit
-code 111, or change what happens to one connection: it is closed and not counted, dropped, not started, or its streams end early. It never
-gets more than it should, no other connection changes, and the server ends as it does with ample memory.
+code 111, or change what happens to one connection: it is closed and not counted, dropped, not started, or its streams end early, either
+way. It never gets more than it should, no other connection changes, and the server ends as it does with ample memory.
 """
 import os
 import re
@@ -31,12 +31,14 @@ MORE = [
 class Refusals:
     """Runs of one command, each with its own request refused."""
 
-    def __init__(self, suite, name, options, program, answer, recorded=False):
+    def __init__(self, suite, name, options, program, answer, early=None, recorded=False):
         self.suite = suite
         self.name = name
         self.options = options
         self.program = program
         self.answers = {ALLOWED: answer, DENIED: BANNER.encode()}
+        # what the program says where its input ended before it got any
+        self.early = answer if early is None else early
         self.forms = [re.compile(form) for form in MORE + ([r"\d+ [<>] .*"] if recorded else [])]
         text = refused_memory.SOURCE.replace("++requests", "__sync_add_and_fetch(&requests, 1)")
         self.preload = refused_memory.library(suite.folder, text, "refuse")
@@ -73,10 +75,13 @@ class Refusals:
         if got is None:
             return code == 111 and lines in (b"ucspi: out of memory\n", b"tcpserver: out of memory\n")
         changed = sum(answer != self.answers[source] for source, answer in got)
-        fronts = all(self.answers[source].startswith(answer) for source, answer in got)
+        fronts = all(self.answers[source].startswith(answer) or self.is_early(source, answer) for source, answer in got)
         known = all(any(form.fullmatch(line) for form in self.forms) for line in lines)
         ended = code == 0 or (code == 111 and lines[-1] == "out of memory")
         return changed <= 1 and fronts and known and ended
+
+    def is_early(self, source, answer):
+        return source == ALLOWED and self.early.startswith(answer)
 
     def run_all(self):
         runs = without = 0
@@ -101,9 +106,10 @@ def rules_names_and_wrappers(suite):
     """All that a connection may have: names, rules with settings, a banner, wrappers, a recorder."""
     options = ["-v", "-k", "2", "-c", "2", "-m", "2", "-N", suite.path("table", TABLE), "-p", "-x", suite.install(RULES), "-B", BANNER, "-l", "me"]
     program = ["sh", "-c", 'read a; echo "$a$A$B$TCPREMOTEHOST"']
-    answer = BANNER.encode() + b"a\ronetwo wordsmail.example\r\n"
+    early = b"onetwo wordsmail.example\r\n"
     wrapped = options + ["-w", "recordio,fixcrio"]
-    Refusals(suite, "names, rules and wrappers", wrapped, program, answer, True).run_all()
+    answer = BANNER.encode() + b"a\r" + early
+    Refusals(suite, "names, rules and wrappers", wrapped, program, answer, BANNER.encode() + early, True).run_all()
 
 
 def starts_that_fail(suite):

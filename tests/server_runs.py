@@ -63,9 +63,9 @@ def reset(connection):
 
 
 class Server:
-    """A server that runs, with its log in a file. It listens on a port that it chose itself."""
+    """A server that runs, with its log in a file. It listens on a port that it chose itself; one that `may_end` may have none, as it ended."""
 
-    def __init__(self, suite, options, program, host="127.0.0.1", port="0", **how):
+    def __init__(self, suite, options, program, host="127.0.0.1", port="0", may_end=False, **how):
         self.suite = suite
         self.host = "127.0.0.1" if host == "0" else host
         self.path = suite.last_log = tempfile.mktemp(prefix="log-", dir=suite.folder)
@@ -74,11 +74,13 @@ class Server:
         with open(self.path, "wb") as log:
             self.process = subprocess.Popen(words, stdin=subprocess.DEVNULL, stdout=subprocess.PIPE, stderr=log, **how)
         suite.running.append(self.process)
-        self.port = self.read_port()
+        self.port = self.read_port(may_end)
 
-    def read_port(self):
+    def read_port(self, may_end):
         ready, _, _ = select.select([self.process.stdout], [], [], WAIT)
         line = self.process.stdout.readline() if ready else b""
+        if ready and may_end and not line.endswith(b"\n"):
+            return None
         if not re.fullmatch(rb"\d+\n", line):
             raise Amiss("no port but %r, and the log %r" % (line, self.log()))
         return int(line)

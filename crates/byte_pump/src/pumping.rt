@@ -15,8 +15,11 @@ use std::marker::Brand;
 use std::sync::ledger::{Blank, Ledger};
 use wrapper_chain::{Chain, LineStage};
 
-/// How many bytes one read asks for at most.
-const BUFFER: usize = 64 * 1024;
+/// How many bytes the first reads ask for at most: a stream on which little goes by takes little memory.
+const FIRST: usize = 4 * 1024;
+
+/// How many bytes a read asks for at most, once one got as many as it asked for.
+const MOST: usize = 64 * 1024;
 
 /// Why a pump ended.
 #[derive(Clone, Copy, PartialEq, Eq, Debug)]
@@ -105,7 +108,7 @@ pub fn pump_counted<R: Read, W: Write, S: LineStage, T: Tap, L: Ledger>(
             why: Why::Failed,
         };
     }
-    let Ok(mut buffer) = vec![in alloc; 0u8; BUFFER] else {
+    let Ok(mut buffer) = vec![in alloc; 0u8; FIRST] else {
         return PumpEnd {
             taken: 0,
             given: 0,
@@ -141,11 +144,11 @@ fn run<R: Read, W: Write, S: LineStage, T: Tap, L: Ledger>(
     chain: &mut Chain<S>,
     tap: &mut T,
     turns: u64,
-    buffer: &mut [u8],
+    buffer: &mut Vec<u8>,
     work: &mut Work,
     steps: &mut Steps<L>,
 ) -> Why
-    requires room { 0 < length buffer.old }
+    requires room { 0 < length buffer.old.items }
     requires goes_on { has_failed chain.old ≡ false }
     ensures turned { Turned (R.remaining reader.old) (R.remaining reader.new)
         (W.contents writer.old) (W.contents writer.new)
@@ -159,11 +162,22 @@ fn run<R: Read, W: Write, S: LineStage, T: Tap, L: Ledger>(
     ensures wholes { through S.whole (stages_of chain.new) ≡ through S.whole (stages_of chain.old) }
 {
     for _turn in 0..turns {
+        let before = work.taken;
         if let Err(why) = turn(reader, writer, chain, tap, buffer, work, steps) {
             return why;
         }
+        widen(buffer, work.taken.saturating_sub(before));
     }
     Why::TurnsOver
+}
+
+/// Makes room for longer reads where one got so many bytes that the buffer was full. Where there is no memory it stays as it is.
+fn widen(buffer: &mut Vec<u8>, got: u64)
+    ensures { 0 < length buffer.old.items → 0 < length buffer.new.items }
+{
+    if buffer.len() < MOST && buffer.len() as u64 <= got {
+        let _ = buffer.resize(MOST, 0);
+    }
 }
 
 /// `pump` with a ledger that counts its reads.

@@ -8,6 +8,14 @@ use std::env::FillError;
 use std::rt::Env;
 use ucspi_env::Environment;
 
+/// The path by which the program was called, as the bytes that it is: word 0 of the command line, empty where there is none.
+pub fn program_path<E: Env>(alloc: Global, env: &E) -> Result<Vec<u8>, AllocError> {
+    match told(alloc, env, Entry::Word(0))? {
+        Some(path) => Ok(path),
+        None => Ok(Vec::new(alloc)),
+    }
+}
+
 /// The words of the command line after the program's name, each as the bytes that it is.
 pub fn command_words<E: Env>(alloc: Global, env: &E) -> Result<Vec<Vec<u8>>, AllocError> {
     let mut words = Vec::new(alloc);

@@ -10,6 +10,3 @@ pub use child::build;
 pub use environment::Environment;
 pub use hosts::{HostFault, HostTable};
 pub use local::Local;
-
-#[cfg(test)]
-mod tests;

@@ -3,13 +3,19 @@ ghost use Rattle.std.specs.Prelude.{◌≡◌};
 ghost use Rattle.std.specs.List.{list_all};
 ghost use Rattle.std.specs.Str.{is_utf8};
 ghost use Rattle.stream_tools.specs.Programs.{texts_of};
-ghost use Rattle.ucspi_tools.specs.Choices.{alone, choice_of, run_of, tcprules_by, tcprulescheck_by, tool_in, wanted, with_program};
+ghost use Rattle.ucspi_tools.specs.Choices.{CallsFor, IsLastPart, alone, choice_by_word, run_of, tcprules_by, tcprulescheck_by, tcpserver_by, tool_in, wanted, with_program};
 
 use crate::tool::Tool;
+use memchr::memrchr;
 
 /// What words ask for.
 #[derive(Clone, Copy, PartialEq, Eq, Debug)]
 pub enum Choice<'a> {
+    /// A run of `tcpserver`.
+    Tcpserver {
+        /// Its words, each UTF-8.
+        words: &'a [Vec<u8>],
+    },
     /// A run of `rulesim`.
     Rulesim,
     /// A run of `tcprules` with the paths of the rules file and of the scratch file.
@@ -50,6 +56,7 @@ impl Choice<'_> {
         ensures { result ≡ tool_in (wanted self.now) }
     {
         match self {
+            Choice::Tcpserver { .. } => Some(Tool::Tcpserver),
             Choice::Rulesim => Some(Tool::Rulesim),
             Choice::Tcprules { .. } => Some(Tool::Tcprules),
             Choice::Tcprulescheck { .. } => Some(Tool::Tcprulescheck),
@@ -63,9 +70,30 @@ impl Choice<'_> {
     }
 }
 
-/// What words, after the program's name, ask for.
-pub fn choose(words: &[Vec<u8>]) -> Choice<'_>
-    ensures { wanted result ≡ choice_of (texts_of words.now) }
+/// What a command line asks for: the path by which the program was called, and the words after it. Where the last part of that path is a
+/// tool's name, that is the tool, and all words are its own; else the first word names the tool.
+pub fn choose<'a>(path: &[u8], words: &'a [Vec<u8>]) -> Choice<'a>
+    ensures { CallsFor path.now (texts_of words.now) (wanted result) }
+{
+    match Tool::named(last_part(path)) {
+        Some(tool) => choose_tool(tool, words),
+        None => choose_by_word(words),
+    }
+}
+
+/// What stands after the last slash of a path: all of it where there is none.
+fn last_part(path: &[u8]) -> &[u8]
+    ensures { IsLastPart path.now result.now }
+{
+    match memrchr(b'/', path) {
+        Some(slash) => &path[slash + 1..],
+        None => path,
+    }
+}
+
+/// What words ask for of which the first names the tool.
+fn choose_by_word(words: &[Vec<u8>]) -> Choice<'_>
+    ensures { wanted result ≡ choice_by_word (texts_of words.now) }
 {
     let Some((tool, words)) = words.split_first() else {
         return Choice::Rulesim;
@@ -81,6 +109,7 @@ fn choose_tool(tool: Tool, words: &[Vec<u8>]) -> Choice<'_>
     ensures { wanted result ≡ run_of tool (texts_of words.now) }
 {
     match tool {
+        Tool::Tcpserver => choose_texts(words),
         Tool::Rulesim => choose_alone(Choice::Rulesim, tool, words),
         Tool::Addcr => choose_alone(Choice::Addcr, tool, words),
         Tool::Delcr => choose_alone(Choice::Delcr, tool, words),
@@ -99,6 +128,17 @@ fn choose_alone<'a>(run: Choice<'a>, tool: Tool, words: &[Vec<u8>]) -> Choice<'a
         run
     } else {
         Choice::UsageOf(tool)
+    }
+}
+
+/// The run of `tcpserver`, whose words have to be text.
+fn choose_texts(words: &[Vec<u8>]) -> Choice<'_>
+    ensures { wanted result ≡ tcpserver_by (texts_of words.now) }
+{
+    if are_texts(words) {
+        Choice::Tcpserver { words }
+    } else {
+        Choice::UsageOf(Tool::Tcpserver)
     }
 }
 

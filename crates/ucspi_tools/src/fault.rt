@@ -1,10 +1,11 @@
 //! Why a run of a tool fails, and the code with which the program exits then.
 ghost use Rattle.std.specs.Prelude.{◌≡◌};
-ghost use Rattle.ucspi_tools.specs.Exits.{check_exit, end_code, exit_of, rules_exit, script_exit, status_exit};
+ghost use Rattle.ucspi_tools.specs.Exits.{check_exit, end_code, exit_of, rules_exit, script_exit, server_exit, status_exit};
 
 use rule_lookup::Status;
 use rules_tools::{CheckFault, TcprulesFault};
 use script_tool::SimFault;
+use server_tool::ServerFault;
 use stream_tools::{BetweenFault, FilterFault};
 use thiserror::Error;
 
@@ -20,6 +21,9 @@ pub enum ToolFault {
     /// The words are not those that this line tells.
     #[error("usage: {0}")]
     Usage(&'static str),
+    /// The server could not be started, or it ended by itself.
+    #[error("{0}")]
+    Server(#[from] ServerFault),
     /// A script was not run to its end.
     #[error("{0}")]
     Script(#[from] SimFault),
@@ -47,11 +51,22 @@ impl ToolFault {
     {
         match self {
             ToolFault::Usage(_) => BAD_INPUT,
+            ToolFault::Server(fault) => server_code(fault),
             ToolFault::Script(fault) => script_code(fault),
             ToolFault::Rules(fault) => rules_code(fault),
             ToolFault::Check(fault) => check_code(fault),
             ToolFault::Filter(_) | ToolFault::Between(_) | ToolFault::OutOfMemory => SYSTEM_FAULT,
         }
+    }
+}
+
+fn server_code(fault: ServerFault) -> u8
+    ensures { result ≡ server_exit fault }
+{
+    match fault {
+        ServerFault::Words(fault) => fault.exit_code(),
+        ServerFault::BadHosts(_) => BAD_INPUT,
+        _ => SYSTEM_FAULT,
     }
 }
 

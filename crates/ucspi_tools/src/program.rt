@@ -3,17 +3,18 @@ use crate::choice::{Choice, choose};
 use crate::fault::{ToolFault, end, status_code};
 use rules_tools::{run_tcprules, run_tcprulescheck};
 use script_tool::run_script;
+use server_tool::run_tcpserver;
 use std::fs::{File, Files};
 use std::io;
 use std::io::Write;
-use std::net::Net;
+use std::net::{Net, TcpStream};
 use std::os::fd::AsRawFd;
 use std::process::{OpenProcess, Processes};
 use std::rt::Env;
 use std::sync::Wait;
 use std::thread::Threads;
 use std::time::Clock;
-use stream_tools::started::command_words;
+use stream_tools::started::{command_words, program_path};
 use stream_tools::{run_addcr, run_delcr, run_fixcrio, run_recordio};
 
 /// The program's name.
@@ -27,15 +28,20 @@ const USAGE: &str = "ucspi TOOL ...";
 pub fn run_program<R, E>(rt: &R, errors: E) -> u8
 where
     R: Env + Input + Print + Eprint + AllocGlobal,
-    R: Files<File = File> + Processes + Threads + Wait + Sync + Clock + Net,
+    R: Files<File = File> + Processes + Threads + Wait + Sync + Clock + Net<Stream = TcpStream>,
     R::Reader: Send,
     E: Write + Send + Drop,
+    R::Dir: Send + Sync,
+    R::Started: Send,
     <R::Started as OpenProcess>::Stdin: Send + AsRawFd,
+    <R::Started as OpenProcess>::Stdout: Send,
+    <R::Started as OpenProcess>::Stderr: Send,
 {
-    let Ok(words) = command_words(rt.alloc(), rt) else {
+    let alloc = rt.alloc();
+    let (Ok(path), Ok(words)) = (program_path(alloc, rt), command_words(alloc, rt)) else {
         return end(rt, PROGRAM, Err(ToolFault::OutOfMemory));
     };
-    let choice = choose(words.as_slice());
+    let choice = choose(path.as_slice(), words.as_slice());
     let name = choice.tool().map_or(PROGRAM, |tool| tool.name());
     end(rt, name, run(rt, errors, choice))
 }
@@ -44,12 +50,17 @@ where
 fn run<R, E>(rt: &R, errors: E, choice: Choice<'_>) -> Result<u8, ToolFault>
 where
     R: Env + Input + Print + AllocGlobal,
-    R: Files<File = File> + Processes + Threads + Wait + Sync + Clock + Net,
+    R: Files<File = File> + Processes + Threads + Wait + Sync + Clock + Net<Stream = TcpStream>,
     R::Reader: Send,
     E: Write + Send + Drop,
+    R::Dir: Send + Sync,
+    R::Started: Send,
     <R::Started as OpenProcess>::Stdin: Send + AsRawFd,
+    <R::Started as OpenProcess>::Stdout: Send,
+    <R::Started as OpenProcess>::Stderr: Send,
 {
     match choice {
+        Choice::Tcpserver { words } => run_tcpserver(rt, errors, words)?,
         Choice::Rulesim => run_script(rt)?,
         Choice::Tcprules { cdb, tmp } => run_tcprules(rt.alloc(), &mut rt.reader(), rt, cdb, tmp)?,
         Choice::Tcprulescheck { cdb } => run_tcprulescheck(rt, rt, &mut io::writer(rt), cdb)?,

@@ -32,7 +32,13 @@ fn words_of_the_program(rt: HostRuntime) -> Result<(), Fail> {
                 list.push(Vec::from_slice(rt.alloc(), word.as_bytes())?)?;
             }
         }
-        assert_eq!(rt; choose(list.as_slice()), choice, "at {words}");
+        for path in ["ucspi", "", "/usr/local/bin/ucspi", "tcprules/", "/addcr/x"] {
+            assert_eq!(rt;
+                choose(path.as_bytes(), list.as_slice()),
+                choice,
+                "at {words}"
+            );
+        }
     }
     Ok(())
 }
@@ -44,7 +50,7 @@ fn words_of_programs(rt: HostRuntime) -> Result<(), Fail> {
     for word in ["fixcrio", "sh", "-c", "exit 3"] {
         list.push(Vec::from_slice(alloc, word.as_bytes())?)?;
     }
-    match choose(list.as_slice()) {
+    match choose(b"ucspi", list.as_slice()) {
         Choice::Fixcrio { words } => {
             let program = program_of(alloc, words)?;
             assert_eq!(rt; program.path(), "sh");
@@ -53,6 +59,34 @@ fn words_of_programs(rt: HostRuntime) -> Result<(), Fail> {
         other => panic!(rt; "{other:?}"),
     }
     list.push(Vec::from_slice(alloc, b"\xff")?)?;
-    assert_eq!(rt; choose(list.as_slice()), Choice::UsageOf(Tool::Fixcrio));
+    assert_eq!(rt;
+        choose(b"ucspi", list.as_slice()),
+        Choice::UsageOf(Tool::Fixcrio)
+    );
+    Ok(())
+}
+
+#[test]
+fn names_by_which_the_program_is_called(rt: HostRuntime) -> Result<(), Fail> {
+    let mut list = Vec::new(rt.alloc());
+    for word in ["a", "b"] {
+        list.push(Vec::from_slice(rt.alloc(), word.as_bytes())?)?;
+    }
+    let words = list.as_slice();
+    let installs = Choice::Tcprules { cdb: "a", tmp: "b" };
+    for path in [
+        "tcprules",
+        "./tcprules",
+        "/usr/bin/tcprules",
+        "ucspi/tcprules",
+    ] {
+        assert_eq!(rt; choose(path.as_bytes(), words), installs, "at {path}");
+    }
+    assert_eq!(rt;
+        choose(b"/bin/tcpserver", words),
+        Choice::Tcpserver { words }
+    );
+    assert_eq!(rt; choose(b"addcr", words), Choice::UsageOf(Tool::Addcr));
+    assert_eq!(rt; choose(b"tcprules.old", words), Choice::Usage);
     Ok(())
 }

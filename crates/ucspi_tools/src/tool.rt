@@ -5,6 +5,8 @@ ghost use Rattle.ucspi_tools.specs.Choices.{name_of, tool_of, usage_text};
 /// A tool.
 #[derive(Clone, Copy, PartialEq, Eq, Debug)]
 pub enum Tool {
+    /// Serves TCP connections by a program.
+    Tcpserver,
     /// Runs scripts.
     Rulesim,
     /// Installs rules.
@@ -26,7 +28,9 @@ impl Tool {
     pub fn named(name: &[u8]) -> Option<Tool>
         ensures { result ≡ tool_of name.now }
     {
-        if Tool::Rulesim.has_name(name) {
+        if Tool::Tcpserver.has_name(name) {
+            Some(Tool::Tcpserver)
+        } else if Tool::Rulesim.has_name(name) {
             Some(Tool::Rulesim)
         } else if Tool::Tcprules.has_name(name) {
             Some(Tool::Tcprules)
@@ -57,6 +61,7 @@ impl Tool {
         ensures { result.now ≡ name_of self }
     {
         match self {
+            Tool::Tcpserver => "tcpserver",
             Tool::Rulesim => "rulesim",
             Tool::Tcprules => "tcprules",
             Tool::Tcprulescheck => "tcprulescheck",
@@ -72,6 +77,7 @@ impl Tool {
         ensures { result.now ≡ usage_text self }
     {
         match self {
+            Tool::Tcpserver => "tcpserver [options] host port prog [args]",
             Tool::Rulesim => "rulesim",
             Tool::Tcprules => "tcprules cdb tmp",
             Tool::Tcprulescheck => "tcprulescheck cdb",

@@ -13,6 +13,3 @@ pub use letter::{Meaning, TCPSERVER_LETTERS};
 pub use number::number_in;
 pub use options::{Given, Options};
 pub use words::read_words;
-
-#[cfg(test)]
-mod tests;

@@ -1,4 +1,4 @@
-use Rattle.std.proofs.Common.{refl, sym, ◌∙◌, subst, arith}
+use Rattle.std.proofs.Common.{◌<◌, ◌++◌, refl, sym, ap, ◌∙◌, subst, arith, length, drop, length-append, length-take}
 use Rattle.std.proofs.KnownBytes.{Keeps-refl}
 use Rattle.wrapper_chain.specs.Chains.{has_failed}
 use Rattle.byte_pump.specs.Turns.{IsOfTurn, StaysOpen}
@@ -11,6 +11,7 @@ pub loop-turn-init : goal.loop-turn-init
 loop-turn-init g c = record {
   turned = turned_nothing g.T.Tap.sees g.T.Tap.ends _ _ _ _ _ _ 0 TurnsOver _ _ (Keeps-refl _) (λ later. refl) refl refl;
   steps = omega arith;
+  room = c.requires.room;
   goes_on = c.requires.goes_on;
   wholes = refl;
   same = refl;
@@ -23,6 +24,15 @@ loop-turn-preserved g c =
     record {
       turned = turned_more g.T.Tap.sees g.T.Tap.ends c.args.tap.now c.loop-turn.tap c.turn.new.tap TurnsOver so_far.same so_far.turned told.turned;
       steps = omega arith;
+      room = c.widen.ensures (omega (
+        arith,
+        so_far.room,
+        ap length c.deref_mut.ensures.value,
+        c.deref_mut.ensures.len,
+        c.turn.auto.buffer,
+        length-take c.loop-turn.buffer.len (c.turn.new.buffer ++ drop (length c.turn.new.buffer) c.loop-turn.buffer.items),
+        length-append c.turn.new.buffer (drop (length c.turn.new.buffer) c.loop-turn.buffer.items),
+      ));
       goes_on = told.stays_open ∙ so_far.goes_on;
       wholes = told.wholes ∙ so_far.wholes;
       same = told.same ∙ so_far.same;
@@ -55,4 +65,4 @@ returns g c =
     }
 
 pub turn-requires : goal.turn-requires
-turn-requires g c = record { room = omega arith; goes_on = c.loop-turn.invariant.goes_on }
+turn-requires g c = record { room = subst (λ items. 0 < length items) (sym c.deref_mut.ensures.value) c.loop-turn.invariant.room; goes_on = c.loop-turn.invariant.goes_on }

@@ -1,0 +1,2 @@
+-- Proofs for the log.
+pub mod LogLemmas

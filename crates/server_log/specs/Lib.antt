@@ -1,0 +1,3 @@
+-- The log of a server.
+pub mod Events
+pub mod Logs

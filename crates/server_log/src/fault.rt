@@ -1,0 +1,13 @@
+//! Why lines are not in a log.
+use thiserror::Error;
+
+/// Why lines of an event are not in the log.
+#[derive(Clone, Copy, PartialEq, Eq, Debug, Error)]
+pub enum LogFault {
+    /// There was no memory for some of them. The others were written.
+    #[error("out of memory")]
+    OutOfMemory,
+    /// The writer did not take all that there was to write.
+    #[error("write fault")]
+    WriteFault,
+}

@@ -1,0 +1,9 @@
+//! The log of `tcpserver`: which lines each event has at which level, and what is written of them.
+#![tactic(auto)]
+
+pub mod fault;
+mod lines;
+pub mod log;
+
+pub use fault::LogFault;
+pub use log::Log;

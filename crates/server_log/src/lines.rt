@@ -1,0 +1,127 @@
+//! The lines of events, each where the level has it. After an `Err` there was no memory for the line, and nothing was added.
+ghost use Rattle.server_log.specs.Events.{error, progress};
+ghost use Rattle.server_log.specs.Logs.{Adds};
+ghost use Rattle.status_lines.specs.Texts.{drop_text, end_text, full_text, pid_line, retired_text, start_text, status_line, verdict_text};
+
+use rule_lines::Verdict;
+use rule_lookup::{DropCause, Peer, StartFault, Status};
+use server_words::Level;
+use status_lines::{
+    drop_address_line, drop_line, end_line, pid_from, retired_line, start_fault_line, status,
+    verdict_line,
+};
+use std::alloc::AllocError;
+use ucspi_env::Local;
+
+/// Adds the line of how many are alive.
+pub(crate) fn add_status(
+    level: Level,
+    limit: u64,
+    live: u64,
+    out: &mut Vec<u8>,
+) -> Result<(), AllocError>
+    ensures { Adds (progress level (status_line live limit)) out.old.items out.new.items result }
+{
+    match level {
+        Level::All => status(live, limit, out),
+        Level::Errors | Level::Quiet => Ok(()),
+    }
+}
+
+/// Adds the line of a connection that was let in.
+pub(crate) fn add_pid(
+    level: Level,
+    serial: u64,
+    ip: [u8; 4],
+    out: &mut Vec<u8>,
+) -> Result<(), AllocError>
+    ensures { Adds (progress level (pid_line serial ip)) out.old.items out.new.items result }
+{
+    match level {
+        Level::All => pid_from(serial, ip, out),
+        Level::Errors | Level::Quiet => Ok(()),
+    }
+}
+
+/// Adds the line of a decision.
+pub(crate) fn add_verdict(
+    level: Level,
+    verdict: Verdict,
+    serial: u64,
+    local: &Local,
+    peer: &Peer,
+    out: &mut Vec<u8>,
+) -> Result<(), AllocError>
+    ensures { Adds (progress level (verdict_text verdict serial local.now peer.now))
+        out.old.items out.new.items result }
+{
+    match level {
+        Level::All => verdict_line(verdict, serial, local, peer, out),
+        Level::Errors | Level::Quiet => Ok(()),
+    }
+}
+
+/// Adds the line of a child that ended.
+pub(crate) fn add_end(
+    level: Level,
+    serial: u64,
+    ended: Status,
+    out: &mut Vec<u8>,
+) -> Result<(), AllocError>
+    ensures { Adds (progress level (end_text serial ended)) out.old.items out.new.items result }
+{
+    match level {
+        Level::All => end_line(serial, ended, out),
+        Level::Errors | Level::Quiet => Ok(()),
+    }
+}
+
+/// Adds the line of a child that was not started, or gave no pipe ends.
+pub(crate) fn add_start(
+    level: Level,
+    serial: u64,
+    fault: Option<StartFault>,
+    out: &mut Vec<u8>,
+) -> Result<(), AllocError>
+    ensures { Adds (error level (start_text serial fault)) out.old.items out.new.items result }
+{
+    match level {
+        Level::All | Level::Errors => start_fault_line(serial, fault, out),
+        Level::Quiet => Ok(()),
+    }
+}
+
+/// Adds the line of a child that could not be waited for.
+pub(crate) fn add_retired(level: Level, serial: u64, out: &mut Vec<u8>) -> Result<(), AllocError>
+    ensures { Adds (error level (retired_text serial)) out.old.items out.new.items result }
+{
+    match level {
+        Level::All | Level::Errors => retired_line(serial, out),
+        Level::Quiet => Ok(()),
+    }
+}
+
+/// Adds the line of a connection that was given up.
+pub(crate) fn add_drop(
+    level: Level,
+    serial: u64,
+    cause: DropCause,
+    out: &mut Vec<u8>,
+) -> Result<(), AllocError>
+    ensures { Adds (error level (drop_text serial cause)) out.old.items out.new.items result }
+{
+    match level {
+        Level::All | Level::Errors => drop_line(serial, cause, out),
+        Level::Quiet => Ok(()),
+    }
+}
+
+/// Adds the line of an address of which as many connections are alive as may be.
+pub(crate) fn add_full(level: Level, ip: [u8; 4], out: &mut Vec<u8>) -> Result<(), AllocError>
+    ensures { Adds (error level (full_text ip)) out.old.items out.new.items result }
+{
+    match level {
+        Level::All | Level::Errors => drop_address_line(ip, out),
+        Level::Quiet => Ok(()),
+    }
+}

@@ -1,0 +1,2 @@
+-- The line wrappers of a server.
+pub mod Wrappers

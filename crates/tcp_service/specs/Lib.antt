@@ -1,0 +1,2 @@
+-- What the ends of a connection are named.
+pub mod Names

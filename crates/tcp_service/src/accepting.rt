@@ -1,0 +1,59 @@
+//! Where connections come from.
+use std::io::{Read, Write};
+use thiserror::Error;
+use ucspi_env::Local;
+
+/// Why no connection was given.
+#[derive(Clone, Copy, PartialEq, Eq, Debug, Error)]
+pub enum AcceptFault {
+    /// There was no descriptor or no memory for it, which the end of another connection may mend.
+    #[error("too many open files")]
+    NoRoom,
+    /// One came, and was closed: there was no memory for what holds it.
+    #[error("out of memory")]
+    OutOfMemory,
+    /// Anything else.
+    #[error("accept fault")]
+    Other,
+}
+
+/// What ends a connection both ways.
+pub trait Shut {
+    /// Ends it both ways: whoever reads from it or writes to it comes to an end. What the system answers is not told.
+    fn shut(&self);
+}
+
+/// A connection that was made. Once all three of its parts are let go it is closed.
+#[derive(Drop)]
+pub struct Accepted<R, W, X> {
+    /// What the client sends.
+    pub reader: R,
+    /// What is sent to the client.
+    pub writer: W,
+    /// What ends it both ways.
+    pub shut: X,
+    /// The client's IPv4 address.
+    pub ip: [u8; 4],
+    /// The client's port.
+    pub port: u16,
+    /// The server's end, without a name.
+    pub local: Local,
+}
+
+/// Where connections come from.
+pub trait Acceptor {
+    /// What a client sends.
+    type Reader: Read + Send + Drop;
+
+    /// What is sent to a client.
+    type Writer: Write + Send + Drop;
+
+    /// What ends a connection both ways.
+    type Shut: Shut + Send + Drop;
+
+    /// Waits for the next connection.
+    ///
+    /// # Errors
+    /// No connection is given; it may be asked again.
+    fn accept(&mut self) -> Result<Accepted<Self::Reader, Self::Writer, Self::Shut>, AcceptFault>;
+}

@@ -1,0 +1,160 @@
+//! The thread of one connection.
+use crate::accepting::Shut;
+use crate::attending::Line;
+use crate::logged::LoggedDesk;
+use crate::service::Worker;
+use child_jobs::{Job, Launcher, Plan};
+use child_table::Place;
+use dir_calls::Dir;
+use event_journals::Journal;
+use one_connection::{Desk, Served, serve_one};
+use rule_lookup::{DropCause, Peer};
+use server_log::Log;
+use server_yard::Premises;
+use site_desk::SiteDesk;
+use site_lock::{Callers, Site};
+use std::alloc::Global;
+use std::io::{Read, Write};
+use std::sync::ledger::Ledger;
+use std::sync::{Mutex, Wait};
+use std::thread::Threads;
+use wrapper_chain::LineStage;
+
+/// The place of a connection whose thread has not taken it yet. One that is let go stays counted for good.
+pub(crate) struct Reserved<L: Ledger> {
+    pub place: Option<Place<L>>,
+}
+
+impl<L: Ledger> Drop for Reserved<L> {
+    fn drop(self) {
+        let Reserved { place } = self;
+        if let Some(place) = place {
+            place.strand();
+        }
+    }
+}
+
+/// A connection that was let in, until its thread takes it.
+#[derive(Drop)]
+pub(crate) struct Work<L: Ledger, I, O, X> {
+    pub reserved: Reserved<L>,
+    pub peer: Peer,
+    pub plan: Plan,
+    pub line: Line<I, O, X>,
+}
+
+/// What the threads of all connections share.
+#[derive(Drop)]
+pub(crate) struct Server<'a, L: Premises, N: Callers, D: Dir + Drop, J: Journal, S, R, W> {
+    pub rt: &'a R,
+    pub alloc: Global,
+    pub site: &'a Site<L, N, D, J>,
+    pub launcher: &'a S,
+    pub log: &'a Mutex<Log<W>>,
+    pub recording: bool,
+}
+
+impl<'a, L: Premises, N: Callers, D: Dir + Drop, J: Journal, S, R, W> Server<
+    'a,
+    L,
+    N,
+    D,
+    J,
+    S,
+    R,
+    W,
+> {
+    /// The same once more, for another thread.
+    pub fn again(&self) -> Server<'a, L, N, D, J, S, R, W> {
+        Server {
+            rt: self.rt,
+            alloc: self.alloc,
+            site: self.site,
+            launcher: self.launcher,
+            log: self.log,
+            recording: self.recording,
+        }
+    }
+}
+
+impl<L, N, D, J, S, R, W> Server<'_, L, N, D, J, S, R, W>
+where
+    L: Premises,
+    N: Callers,
+    D: Dir + Drop,
+    J: Journal,
+    S: Launcher,
+    R: Threads + Wait + Sync,
+    W: Write + Send,
+{
+    /// Serves the connection that a seat has, by a worker, to its end.
+    pub fn serve<I, O, X, G>(&self, seat: &Mutex<Option<Work<L, I, O, X>>>, worker: &Worker<N, G>)
+    where
+        I: Read + Send + Drop,
+        O: Write + Drop,
+        X: Shut + Drop,
+        G: LineStage + Send + Drop,
+        S::Job: Drop,
+        <S::Job as Job>::Input: Send + Drop,
+        <S::Job as Job>::Output: Drop,
+    {
+        let Some(work) = seat.lock(self.rt).take() else {
+            return;
+        };
+        let Work {
+            mut reserved,
+            peer,
+            plan,
+            mut line,
+        } = work;
+        let Some(place) = reserved.place.take() else {
+            return;
+        };
+        worker.renew(self.rt);
+        let mut caller = worker.caller.lock(self.rt);
+        let mut desk = LoggedDesk {
+            rt: self.rt,
+            site: SiteDesk::new(self.rt, self.site, &mut caller),
+            log: self.log,
+            local: plan.local(),
+        };
+        let served = serve_one(
+            self.alloc,
+            &mut desk,
+            place,
+            line.serial,
+            &peer,
+            &plan,
+            self.launcher,
+            &mut line.writer,
+        );
+        match served {
+            Served::Running(running) => self.attend(&mut desk, running, line, worker),
+            Served::Denied | Served::StartFailed(_) | Served::Dropped(_) => line.shut.shut(),
+        }
+    }
+
+    /// Gives up a connection whose thread could not be had.
+    pub fn give_up<I, O, X, G>(&self, seat: &Mutex<Option<Work<L, I, O, X>>>, worker: &Worker<N, G>)
+    where
+        I: Drop,
+        O: Drop,
+        X: Shut + Drop,
+    {
+        let Some(mut work) = seat.lock(self.rt).take() else {
+            return;
+        };
+        let Some(place) = work.reserved.place.take() else {
+            return;
+        };
+        let mut caller = worker.caller.lock(self.rt);
+        let mut desk = LoggedDesk {
+            rt: self.rt,
+            site: SiteDesk::new(self.rt, self.site, &mut caller),
+            log: self.log,
+            local: work.plan.local(),
+        };
+        desk.dropped(place, work.line.serial, &work.peer, DropCause::NoThread);
+        work.line.shut.shut();
+    }
+}
