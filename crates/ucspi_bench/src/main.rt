@@ -3,9 +3,12 @@
 
 mod journals;
 mod places;
+mod site_calls;
+mod yards;
 
 use cdb_write::{AddFault, Maker};
-use dir_disk::{Name, OsDir};
+use dir_calls::Name;
+use dir_disk::OsDir;
 use journals::time_journals;
 use places::{TURNS, time_places};
 use rule_lines::{Limits, ParseFault, RuleList, parse};
@@ -13,16 +16,20 @@ use rule_lookup::{DropCause, Peer, PeerFault};
 use rules_install::whole::install;
 use rules_install::{InstallFault, Names};
 use server_core::{Event, replay};
+use site_calls::time_site;
 use std::alloc::{AllocError, Global};
 use std::fs::Files;
 use std::marker::Brand;
 use std::os::unix::fs::FileExt;
 use std::process::ExitCode;
 use std::rt::Clock;
+use std::sync::Wait;
 use std::sync::ledger::Blank;
+use std::thread::Threads;
 use std::time::Instant;
 use std::{env, io};
 use ucspi_env::HostTable;
+use yards::time_yard;
 
 /// How many calls of `RuleList::get` are timed.
 const CALLS: usize = 1_000_000;
@@ -247,8 +254,24 @@ fn time_places_out<R: Print + Clock>(rt: &R, alloc: Global, size: usize) -> io::
     time_places::<R, Brand>(rt, alloc, Blank::new(limit), limit)
 }
 
+/// How many lines the rules of a yard have.
+const RULES: usize = 100_000;
+
+/// Prints how long a yard takes for a connection where so many are alive.
+fn time_yard_with<R: Print + Clock>(rt: &R, alloc: Global, size: usize) -> io::Result<()> {
+    let text = addresses(alloc, RULES)?;
+    let limit = (size as u64).saturating_add(1);
+    let bytes = text.as_str().as_bytes();
+    time_yard::<R, Brand>(rt, alloc, Blank::new(limit), limit, bytes)
+}
+
 /// Runs a benchmark of this size.
-fn run<R: Print + Clock + Files>(rt: &R, alloc: Global, name: &str, size: usize) -> io::Result<()>
+fn run<R: Print + Clock + Files + Threads + Wait + Sync>(
+    rt: &R,
+    alloc: Global,
+    name: &str,
+    size: usize,
+) -> io::Result<()>
 where
     R::File: FileExt,
 {
@@ -260,6 +283,8 @@ where
         "maker" => time_maker(rt, alloc, size),
         "places" => time_places_out(rt, alloc, size),
         "replay" => time_replay(rt, alloc, size),
+        "yard" => time_yard_with(rt, alloc, size),
+        "site" => time_site(rt, alloc, size as u64),
         _ => Err(io::Error::from(io::ErrorKind::InvalidInput)),
     }
 }

@@ -1,0 +1,99 @@
+//! How long a yard takes for a connection.
+ghost use Rattle.std.specs.Prelude.{◌≡◌, false};
+
+use dir_calls::MemDir;
+use rule_lines::Verdict;
+use rule_lookup::{Peer, Status};
+use server_core::{Counts, Premises, Running, Yard};
+use std::alloc::Global;
+use std::io;
+use std::rt::Clock;
+use std::sync::ledger::Blank;
+use std::time::Instant;
+use yard_steps::{
+    EndedJob, EndedJobs, decide_for, finish_for, open_for, start_for, stuck, with_rules, yard_over,
+};
+
+/// How many connections are timed, one after the other.
+const TURNS: u64 = 1_000;
+
+/// How many addresses the rules name.
+const ADDRESSES: u64 = 100_000;
+
+/// Prints how many microseconds a connection takes from its admission to its end, decided by the rules of a text, while one fewer than the
+/// limit are alive beside it.
+pub fn time_yard<R: Print + Clock, L: Premises>(
+    rt: &R,
+    alloc: Global,
+    blank: Blank,
+    limit: u64,
+    text: &[u8],
+) -> io::Result<()>
+    requires name { blank.name ≡ L.name }
+    requires parts { (blank.parts ≡ L.parts) × (blank.parts ≡ limit) }
+    requires unmet { L.met ≡ false }
+{
+    let dir = with_rules(alloc, text)?;
+    let mut yard = yard_over::<L, MemDir, Counts>(alloc, blank, dir, limit, Counts::new())?;
+    for number in 1..limit {
+        begin(alloc, &mut yard, number)?.strand();
+    }
+    let began = Instant::now(rt)?;
+    for number in 0..TURNS {
+        let running = begin(alloc, &mut yard, number)?;
+        finish_for(&mut yard, running);
+    }
+    let nanoseconds = began.elapsed(rt)?.as_nanos() / u128::from(TURNS);
+    println!(rt;
+        "{}.{} microseconds, {} alive",
+        nanoseconds / 1000,
+        nanoseconds % 1000 / 100,
+        yard.live()
+    )
+}
+
+/// A peer with one of the addresses that the rules name.
+fn peer_of(alloc: Global, number: u64) -> io::Result<Peer> {
+    let n = number.wrapping_mul(7919) % ADDRESSES;
+    let ip = [
+        10,
+        (n / 65536) as u8,
+        (n / 256 % 256) as u8,
+        (n % 256) as u8,
+    ];
+    match Peer::new(alloc, ip, 4_000, None, None) {
+        Ok(peer) => Ok(peer),
+        Err(_) => Err(stuck()),
+    }
+}
+
+/// Lets a connection in, decides it, and starts its child.
+fn begin<L: Premises>(
+    alloc: Global,
+    yard: &mut Yard<L, MemDir, Counts>,
+    number: u64,
+) -> io::Result<Running<L, EndedJob>> {
+    let peer = peer_of(alloc, number)?;
+    let Ok((serial, place)) = yard.admit(&peer) else {
+        return Err(stuck());
+    };
+    if !is_allowed(alloc, yard, serial, &peer) {
+        place.strand();
+        return Err(stuck());
+    }
+    let jobs = EndedJobs::Ending(Status::Code(0));
+    start_for(alloc, yard, place, jobs).ok_or(stuck())
+}
+
+/// Opens the rules for a connection, and decides it: whether it is allowed.
+fn is_allowed<L: Premises>(
+    alloc: Global,
+    yard: &mut Yard<L, MemDir, Counts>,
+    serial: u64,
+    peer: &Peer,
+) -> bool {
+    match open_for(alloc, yard, serial) {
+        Ok(Ok(pass)) => matches!(decide_for(alloc, yard, pass, peer), Ok(Verdict::Allow)),
+        _ => false,
+    }
+}
