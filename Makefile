@@ -1,16 +1,26 @@
 # make          proves and builds the program ucspi
 # make run      runs the stored run of rulesim
 # make check    proves everything from nothing, and runs all tests
-# make bench    times and measures long rule texts
-# make install  PREFIX=..  copies the program to PREFIX/bin
+# make bench    times the tools and the server, and measures their memory
+# make install  PREFIX=..  puts the program and a link of each tool's name into PREFIX/bin, and the man pages into MANDIR/man1; DESTDIR
+#               stands in front of both
+# make uninstall  takes them away
 
 PREFIX ?= /usr/local
+MANDIR ?= $(PREFIX)/share/man
+BIN = $(DESTDIR)$(PREFIX)/bin
+MAN1 = $(DESTDIR)$(MANDIR)/man1
+PAGES := $(wildcard man/*.1)
+# each tool has a page; the program looks at the name by which it is called
+NAMES := $(filter-out ucspi,$(basename $(notdir $(PAGES))))
 PROGRAM := crates/ucspi/out/ucspi
 BENCH := crates/ucspi_bench/out/ucspi_bench
 PROBE := crates/dir_probe/out/dir_probe
+YARD_PROBE := crates/yard_probe/out/yard_probe
+CONNECTION_PROBE := crates/connection_probe/out/connection_probe
 SOURCES := HANDLES crates.txt $(shell find crates -name out -prune -o -type f -print)
 
-.PHONY: all run check bench install
+.PHONY: all run check bench install uninstall
 
 all: $(PROGRAM)
 
@@ -27,15 +37,33 @@ run: $(PROGRAM)
 
 check:
 	rt ci
-	touch $(PROGRAM) $(BENCH) $(PROBE)
+	touch $(PROGRAM) $(BENCH) $(PROBE) $(YARD_PROBE) $(CONNECTION_PROBE)
 	tests/run
 
 $(PROBE): $(SOURCES)
 	cd crates/dir_probe && rt run </dev/null
 	touch $@
 
+$(YARD_PROBE): $(SOURCES)
+	cd crates/yard_probe && rt run </dev/null
+	touch $@
+
+$(CONNECTION_PROBE): $(SOURCES)
+	cd crates/connection_probe && rt run </dev/null
+	touch $@
+
 bench: $(PROGRAM) $(BENCH)
 	bench/run
+	bench/server
 
 install: $(PROGRAM)
-	install -D -m 755 $(PROGRAM) $(DESTDIR)$(PREFIX)/bin/ucspi
+	install -d "$(BIN)" "$(MAN1)"
+	install -m 755 $(PROGRAM) "$(BIN)/ucspi"
+	for name in $(NAMES); do ln -sf ucspi "$(BIN)/$$name" || exit 1; done
+	install -m 644 $(PAGES) "$(MAN1)"
+
+# a program of such a name that is no link to this one stays
+uninstall:
+	for name in $(NAMES); do if [ "$$(readlink "$(BIN)/$$name")" = ucspi ]; then rm -f "$(BIN)/$$name"; fi; done
+	rm -f "$(BIN)/ucspi"
+	for page in $(notdir $(PAGES)); do rm -f "$(MAN1)/$$page"; done

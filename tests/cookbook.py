@@ -1,0 +1,455 @@
+#!/usr/bin/env python3
+"""Runs the recipes of docs/COOKBOOK.md as they stand: the files of examples/, and each line behind a `$`, with what it prints below.
+
+Usage: tests/cookbook.py [PROGRAM]. A recipe whose programs are not installed, or that has to be root, is skipped, and said to be. The environment
+gives the run scripts a free port and an account; nothing else of them is changed.
+"""
+import os
+import re
+import shutil
+import signal
+import socket
+import subprocess
+import sys
+import tempfile
+import time
+
+import log_events
+from checks import TOP, Checks, run_alone
+
+COOKBOOK = os.path.join(TOP, "docs", "COOKBOOK.md")
+TOOLS = ("tcpserver", "tcprules", "tcprulescheck", "addcr", "delcr", "fixcrio", "recordio", "rulesim")
+ACCOUNT = "nobody"
+WAIT = 30
+# what `ssh` is in the recipe for many machines: an account's home is a folder of the machine's name
+SSH = """#!/bin/sh
+while [ $# -gt 0 ]; do
+    case $1 in
+        -l) shift 2 ;;
+        -n) shift; exec < /dev/null ;;
+        *) break ;;
+    esac
+done
+host=${1#*@}; shift
+cd "$MACHINES/$host" && exec sh -c "$*"
+"""
+
+
+class Missing(Exception):
+    """What a recipe needs and is not there."""
+
+
+class Amiss(Exception):
+    """What a recipe can't go on after."""
+
+
+# the document
+
+
+class Recipe:
+    """A section of the cookbook: its files and its lines behind a prompt, each with the lines below it."""
+
+    def __init__(self, title):
+        self.title = title
+        self.files = []
+        self.commands = []
+
+
+def blocks(text):
+    """The indented blocks of a section: each with the line before it."""
+    lines, before, block = text.split("\n"), "", []
+    for line in lines + ["end"]:
+        if line.startswith("    ") or (block and not line.strip()):
+            block.append(line[4:])
+            continue
+        if block:
+            yield before, "\n".join(block).rstrip("\n")
+            block = []
+        if line.strip():
+            before = line
+
+
+def recipes():
+    """The recipes of the document, by their titles."""
+    with open(COOKBOOK, encoding="utf-8") as file:
+        text = file.read()
+    found = {}
+    for section in re.split(r"^## ", text, flags=re.M)[1:]:
+        title, _, body = section.partition("\n")
+        recipe = found[title] = Recipe(title)
+        for before, block in blocks(body):
+            label = re.fullmatch(r"`(examples/[\w/.-]+)`:", before)
+            if label:
+                recipe.files.append((label.group(1), block + "\n"))
+            elif block.startswith("$ "):
+                for part in re.split(r"^\$ ", block, flags=re.M)[1:]:
+                    command, _, below = part.partition("\n")
+                    recipe.commands.append((command, below.rstrip("\n")))
+    return found
+
+
+# a place to cook
+
+
+class Kitchen:
+    """A copy of the examples, the tools under their names, and what is started there."""
+
+    def __init__(self, program, folder):
+        self.program = program
+        self.folder = folder
+        self.bin = os.path.join(folder, "bin")
+        self.examples = os.path.join(folder, "examples")
+        os.mkdir(self.bin)
+        shutil.copytree(os.path.join(TOP, "examples"), self.examples)
+        os.symlink(os.path.join(TOP, "tests"), os.path.join(folder, "tests"))
+        for tool in TOOLS:
+            self.command(tool, '#!/bin/sh\nexec ucspi %s "$@"\n' % tool)
+        shutil.copy(program, os.path.join(self.bin, "ucspi"))
+        self.environment = dict(os.environ, PATH=self.bin + ":" + os.environ["PATH"] + ":/usr/local/sbin:/usr/sbin:/sbin", LC_ALL="C")
+        self.running = []
+
+    def command(self, name, text):
+        path = os.path.join(self.bin, name)
+        with open(path, "w", encoding="ascii") as file:
+            file.write(text)
+        os.chmod(path, 0o755)
+
+    def needs(self, *programs, root=False):
+        missing = [program for program in programs if not shutil.which(program, path=self.environment["PATH"])]
+        if missing:
+            raise Missing("%s not installed" % ", ".join(missing))
+        if root and os.geteuid() != 0:
+            raise Missing("not root")
+
+    def needs_server(self):
+        ended = self.run("ucspi tcpserver")
+        if ended.stdout.startswith("ucspi: "):
+            raise Missing("the program has no tcpserver yet")
+
+    def run(self, command, **environment):
+        """Runs a line of the cookbook: what it prints on both streams."""
+        return subprocess.run(
+            ["sh", "-c", command], cwd=self.folder, env=dict(self.environment, **environment), stdin=subprocess.DEVNULL, stdout=subprocess.PIPE,
+            stderr=subprocess.STDOUT, timeout=WAIT, text=True,
+        )
+
+    def start(self, words, log, cwd=None, **environment):
+        """Starts a service, with its output in a file."""
+        with open(os.path.join(self.folder, log), "wb") as file:
+            process = subprocess.Popen(
+                words, cwd=cwd or self.folder, env=dict(self.environment, **environment), stdin=subprocess.DEVNULL, stdout=file, stderr=file,
+                start_new_session=True,
+            )
+        self.running.append(process)
+        return process
+
+    def read(self, path):
+        with open(os.path.join(self.folder, path), encoding="latin-1") as file:
+            return file.read()
+
+    def write(self, path, text):
+        with open(os.path.join(self.folder, path), "w", encoding="ascii") as file:
+            file.write(text)
+
+    def shared(self, path):
+        """A folder of the account that the services run as."""
+        path = os.path.join(self.folder, path)
+        os.makedirs(path)
+        shutil.chown(path, ACCOUNT)
+        return path
+
+    def close(self):
+        """Ends what was started here, and no other process."""
+        for process in self.running:
+            if process.poll() is None:
+                process.terminate()
+        for process in self.running:
+            try:
+                process.wait(WAIT)
+            except subprocess.TimeoutExpired:
+                process.kill()
+                process.wait()
+
+
+def free_port():
+    with socket.socket() as taken:
+        taken.bind(("127.0.0.1", 0))
+        return taken.getsockname()[1]
+
+
+def wait_until(what, true):
+    end = time.monotonic() + WAIT
+    while not true():
+        if time.monotonic() > end:
+            raise Amiss("waited %d seconds for %s" % (WAIT, what))
+        time.sleep(0.05)
+
+
+def listens(port):
+    """Whether somebody listens at a port; no connection is made for that."""
+    with open("/proc/net/tcp", encoding="ascii") as file:
+        return re.search(r": [0-9A-F]{8}:%04X 00000000:0000 0A " % port, file.read()) is not None
+
+
+def converse(port, text, source="127.0.0.1"):
+    """What comes back for a text, as a client of the service at this address sees it."""
+    with socket.create_connection(("127.0.0.1", port), timeout=WAIT, source_address=(source, 0)) as connection:
+        pieces = []
+        try:
+            connection.sendall(text.replace("\n", "\r\n").encode())
+            while True:
+                piece = connection.recv(65536)
+                if not piece:
+                    break
+                pieces.append(piece)
+        except ConnectionError:
+            pass
+        return b"".join(pieces).decode("latin-1")
+
+
+# the recipes
+
+
+def mail(checks, kitchen):
+    """Under daemontools: relaying by rules, which change while the server runs."""
+    kitchen.needs_server()
+    kitchen.needs("mailfront", "svscan", "svc", "multilog", "setpriv", "make", root=True)
+    spool = kitchen.shared("spool")
+    kitchen.shared("spool/tmp")
+    kitchen.shared("spool/new")
+    services, service, port = os.path.join(kitchen.folder, "services"), os.path.join(kitchen.examples, "mail"), free_port()
+    os.mkdir(services)
+    os.symlink(service, os.path.join(services, "mail"))
+    try:
+        kitchen.start(["svscan", services], "svscan-log", ACCOUNT=ACCOUNT, QUEUEDIR=spool, PORT=str(port))
+        wait_until("the mail service", lambda: listens(port))
+        talk_to_mail(checks, kitchen, port, spool)
+    finally:
+        kitchen.close()
+        kitchen.run("svc -dx services/mail services/mail/log")
+    log = os.path.join(service, "log", "main", "current")
+    wait_until("the log", lambda: os.path.exists(log) and "deny" in kitchen.read(log))
+    checks.expect("mail: the first lines of the log", kitchen.read(log).split("\n")[:2], ["starting", "tcpserver: status: 0/100"])
+
+
+def talk_to_mail(checks, kitchen, port, spool):
+    session = "HELO me.example\nMAIL FROM:<a@example.com>\nRCPT TO:<b@%s>\nDATA\nSubject: x\n\nhello\n.\nQUIT\n"
+
+    def sent(domain):
+        return [line[:3] for line in converse(port, session % domain).split("\r\n") if line]
+
+    taken, refused = ["220", "250", "250", "250", "354", "250", "221"], ["220", "250", "250", "550"]
+    checks.expect("mail: to elsewhere, from one of our own", sent("example.net"), taken)
+    checks.expect("mail: it lies in the spool", len(os.listdir(os.path.join(spool, "new"))), 1)
+    text = kitchen.read("examples/mail/rules")
+    for line, domain, wanted in (("127.:allow", "example.net", refused), ("127.:allow", "example.org", taken), ("127.:deny", "example.org", [])):
+        kitchen.write("examples/mail/rules", re.sub(r"^127\.:.*$", line, text, flags=re.M))
+        os.utime(os.path.join(kitchen.examples, "mail", "rules"))
+        os.utime(os.path.join(kitchen.examples, "mail", "rules.cdb"), (0, 0))
+        checks.expect("mail: make", kitchen.run("make -s -C examples/mail").stdout, "")
+        checks.expect("mail: to %s under %s" % (domain, line), sent(domain)[:len(wanted)] if wanted else sent(domain), wanted)
+
+
+def git(checks, kitchen):
+    """Under runit: a repository that is cloned."""
+    kitchen.needs_server()
+    kitchen.needs("git", "runsv", "sv", "svlogd", "setpriv", root=True)
+    port, repositories = free_port(), kitchen.shared("repositories")
+    made = kitchen.run(
+        "cd repositories && git init -q --bare a.git && git init -q work && cd work && git -c user.name=a -c user.email=a@example.org commit -q"
+        " --allow-empty -m first && git push -q ../a.git HEAD:refs/heads/main && rm -r ../work && chown -R %s .." % ACCOUNT
+    )
+    checks.expect("git: a repository", made.stdout, "")
+    try:
+        kitchen.start(["runsv", os.path.join(kitchen.examples, "git")], "runsv-log", ACCOUNT=ACCOUNT, REPOSITORIES=repositories, PORT=str(port))
+        wait_until("the git service", lambda: listens(port))
+        told = kitchen.run("git ls-remote git://127.0.0.1:%d/a.git refs/heads/main" % port)
+        checks.holds("git ls-remote", re.fullmatch(r"[0-9a-f]{40}\trefs/heads/main\n", told.stdout), told.stdout)
+        cloned = kitchen.run("git clone -q git://127.0.0.1:%d/a.git cloned -b main && git -C cloned log --format=%%s" % port)
+        checks.expect("git clone", cloned.stdout, "first\n")
+        checks.expect("git: a repository that is not there", kitchen.run("git ls-remote git://127.0.0.1:%d/b.git" % port).returncode, 128)
+    finally:
+        kitchen.run("sv force-stop examples/git; sv exit examples/git")
+        kitchen.close()
+    checks.holds("git: the log", "tcpserver: ok " in kitchen.read("examples/git/log/main/current"))
+
+
+def http(checks, kitchen):
+    kitchen.needs_server()
+    kitchen.needs("micro-httpd", "setpriv", root=True)
+    port, folder = free_port(), kitchen.shared("www")
+    kitchen.write("www/page.txt", "hello\n")
+    kitchen.start([os.path.join(kitchen.examples, "http", "run")], "http-log", ACCOUNT=ACCOUNT, FOLDER=folder, PORT=str(port))
+    wait_until("the http service", lambda: listens(port))
+    answer = converse(port, "GET /page.txt HTTP/1.0\n\n")
+    checks.expect("http: a page", (answer.split()[1], answer.split("\r\n\r\n")[1]), ("200", "hello\n"))
+    checks.expect("http: no page", converse(port, "GET /no HTTP/1.0\n\n").split()[1], "404")
+    checks.holds("http: the log", kitchen.read("http-log").startswith("starting\ntcpserver: status: 0/40\n"), kitchen.read("http-log"))
+
+
+def unit_words(text, **environment):
+    """The words of a unit's ExecStart, with its own environment, some of which is another here."""
+    known = dict(re.findall(r"^Environment=(\w+)=(.*)$", text, re.M))
+    known.update(environment)
+    line = re.search(r"^ExecStart=(.*)$", text, re.M).group(1)
+    return re.sub(r"\$\{(\w+)\}", lambda name: known[name.group(1)], line).split()
+
+
+def rsync(checks, kitchen):
+    """The command of the unit, in the folder that it works in, and what systemd-analyze says of the unit."""
+    kitchen.needs_server()
+    kitchen.needs("rsync")
+    port = free_port()
+    os.mkdir(os.path.join(kitchen.folder, "pub"))
+    kitchen.write("pub/file", "hello\n")
+    config = kitchen.read("examples/rsync/rsyncd.conf")
+    kitchen.write("examples/rsync/rsyncd.conf", config.replace("/srv/pub", os.path.join(kitchen.folder, "pub")))
+    checks.expect("rsync: its rules", kitchen.run("cd examples/rsync && tcprules rules.cdb rules.tmp < rules").stdout, "")
+    words = unit_words(kitchen.read("examples/rsync/tcpserver-rsync.service"), PORT=str(port))
+    kitchen.start(words, "rsync-log", os.path.join(kitchen.examples, "rsync"))
+    wait_until("the rsync service", lambda: listens(port))
+    url = "rsync://127.0.0.1:%d/" % port
+    checks.expect("rsync: what there is", kitchen.run("rsync %s" % url).stdout.split(), ["pub"])
+    checks.expect("rsync: a copy", (kitchen.run("rsync -a %spub/file copy" % url).stdout, kitchen.read("copy")), ("", "hello\n"))
+    kitchen.run("cd examples/rsync && echo :deny | tcprules rules.cdb rules.tmp")
+    checks.holds("rsync: denied", kitchen.run("rsync %s" % url).returncode != 0)
+
+
+def unit(checks, kitchen):
+    """systemd looks for the programs of a unit in its own folders, so tcpserver and rsync have to be installed there."""
+    kitchen.needs("systemd-analyze")
+    missing = [name for name in ("tcpserver", "rsync") if not shutil.which(name, path="/usr/local/sbin:/usr/local/bin:/usr/sbin:/usr/bin")]
+    if missing:
+        raise Missing("%s not where systemd looks" % ", ".join(missing))
+    ended = kitchen.run("systemd-analyze verify examples/rsync/tcpserver-rsync.service")
+    checks.expect("rsync: systemd-analyze verify", (ended.returncode, ended.stdout), (0, ""))
+
+
+def machines(checks, kitchen):
+    """After each of the two ways every machine has the compiled file that this one has."""
+    kitchen.needs("rsync", "sync")
+    kitchen.command("ssh", SSH)
+    hosts = kitchen.read("examples/many/hosts").split()
+    kitchen.environment["MACHINES"] = os.path.join(kitchen.folder, "machines")
+    for host in hosts:
+        os.makedirs(os.path.join(kitchen.folder, "machines", host))
+    for way in ("copy-compiled", "compile-on-each"):
+        kitchen.write("examples/many/rules", "192.0.2.66:deny\n:allow,WAY=\"%s\"\n" % way)
+        checks.expect("machines: " + way, kitchen.run("cd examples/many && tcprules here.cdb here.tmp < rules && ./" + way).stdout, "")
+        for host in hosts:
+            same = kitchen.run("cmp examples/many/here.cdb machines/%s/rules.cdb" % host).stdout
+            checks.expect("machines: %s after %s" % (host, way), same, "")
+    kitchen.write("examples/many/rules", "192.0.2.66:denied\n")
+    told = kitchen.run("cd examples/many && ./compile-on-each 2>&1 | grep -c 'not installed'").stdout
+    checks.expect("machines: a faulty text is told of each", told.strip(), str(len(hosts)))
+    checks.expect("machines: it changes nothing", kitchen.run("cmp examples/many/here.cdb machines/%s/rules.cdb" % hosts[0]).stdout, "")
+
+
+def names(checks, kitchen):
+    """A name of the host table lets a client in, and one that no line confirms does not."""
+    kitchen.needs_server()
+    port = free_port()
+    kitchen.write("table", "127.0.0.1 Relay.Example.org\n=Relay.Example.org 127.0.0.1\n127.0.0.2 false.example.org\n")
+    kitchen.run("printf '=.example.org:allow\\n:deny\\n' | tcprules rules.cdb rules.tmp")
+    kitchen.start(["tcpserver", "-N", "table", "-p", "-x", "rules.cdb", "0", str(port), "echo", "hello"], "names-log")
+    wait_until("a server", lambda: listens(port))
+    checks.expect("a client with a name", converse(port, ""), "hello\n")
+    checks.expect("a client whose name is not confirmed", converse(port, "", "127.0.0.2"), "")
+    checks.expect("a client without a name", converse(port, "", "127.0.0.3"), "")
+
+
+def waiting(checks, kitchen):
+    """A server that is started with SIGCHLD ignored, and has it put back in front: its program is waited for."""
+    kitchen.needs_server()
+    kitchen.needs("env", "echo")
+    port = free_port()
+    line = "trap '' CHLD; exec env --default-signal=CHLD tcpserver -v -c 2 127.0.0.1 %d echo hello" % port
+    kitchen.start(["sh", "-c", line], "waiting-log")
+    wait_until("a server", lambda: listens(port))
+    for _ in range(3):
+        checks.expect("a program that is waited for", converse(port, ""), "hello\n")
+    wait_until("the end of each", lambda: kitchen.read("waiting-log").count("tcpserver: end ") == 3)
+    checks.holds("no place is given up", "retired" not in kitchen.read("waiting-log"))
+
+
+def audited_log(checks, kitchen):
+    """The log of the document is one that a server can have written."""
+    for run in kitchen.read("examples/audit/log").split("starting\n")[1:]:
+        events = log_events.Events(run.encode(), 2)
+        checks.expect("the log of the document: what does not fit", events.faults, [])
+
+
+# the recipes by what of them runs in Python; each title of the document has its lines run too
+SERVICES = {
+    "A mail service under daemontools": [mail],
+    "A file service under runit": [git, http],
+    "rsync under systemd": [rsync, unit],
+    "Rules by name": [names],
+    "One rule text for a hundred machines": [machines],
+    "Reading and auditing a log": [audited_log],
+    "What to do when `no places left` comes": [waiting],
+}
+
+# what the lines of a title need beside what every system has
+NEEDED = {"Rules by name": ["awk"], "One rule text for a hundred machines": ["rsync", "sync"], "Reading and auditing a log": ["tac", "sed", "grep"]}
+
+
+def run_lines(checks, kitchen, recipe):
+    """Each line behind a prompt, and what it prints."""
+    for command, below in recipe.commands:
+        ended = kitchen.run(command)
+        checks.expect("%s: %s" % (recipe.title, command), ended.stdout.rstrip("\n"), below)
+
+
+def check_files(checks, found):
+    """The files that the document shows are those of examples/, all of them and word by word."""
+    shown = {}
+    for recipe in found.values():
+        for path, text in recipe.files:
+            shown[path] = text
+            with open(os.path.join(TOP, path), encoding="ascii") as file:
+                checks.expect("the document's " + path, text, file.read())
+    there = [os.path.relpath(os.path.join(place, name), TOP) for place, _, names in os.walk(os.path.join(TOP, "examples")) for name in names]
+    checks.expect("files of examples/ that the document shows", sorted(shown), sorted(there))
+
+
+def cook(checks, program, title, steps):
+    """Runs steps, each in a place of its own; what is missing for one is said."""
+    for step in steps:
+        with tempfile.TemporaryDirectory() as folder:
+            os.chmod(folder, 0o755)
+            kitchen = Kitchen(program, folder)
+            try:
+                kitchen.run("make -s -C examples/mail")
+                step(checks, kitchen)
+            except Missing as missing:
+                print("cookbook: %s: skipped: %s" % (title, missing))
+            except (Amiss, OSError, ValueError, LookupError, subprocess.SubprocessError) as fault:
+                checks.holds(title, False, "%s: %s" % (type(fault).__name__, fault))
+            finally:
+                kitchen.close()
+
+
+def check(program, failures):
+    """Runs all recipes: how many tests there were."""
+    checks, found = Checks("cookbook", failures), recipes()
+    check_files(checks, found)
+    checks.expect("recipes that the document has", [title for title in SERVICES if title not in found], [])
+    for title, recipe in found.items():
+        needed = NEEDED.get(title, ["make"])
+
+        def lines(checks, kitchen, recipe=recipe, needed=needed):
+            kitchen.needs(*needed)
+            kitchen.command("ssh", SSH)
+            kitchen.environment["MACHINES"] = os.path.join(kitchen.folder, "machines")
+            for host in kitchen.read("examples/many/hosts").split():
+                os.makedirs(os.path.join(kitchen.folder, "machines", host))
+            run_lines(checks, kitchen, recipe)
+
+        cook(checks, program, title, ([lines] if recipe.commands else []) + SERVICES.get(title, []))
+    return checks.tests
+
+
+if __name__ == "__main__":
+    signal.signal(signal.SIGTERM, lambda *_: sys.exit(1))
+    run_alone(check)

@@ -1,0 +1,439 @@
+#!/usr/bin/env python3
+"""Compares the man pages with the sources: options, texts, exit codes, variables and tools of a page are those of the code, and the other way round.
+
+Usage: tests/man_pages.py [PROGRAM]. Pages are in `man/`. Where `mandoc` or `man` is not installed, what it says of a page is skipped.
+"""
+import os
+import re
+import shutil
+import subprocess
+import tempfile
+
+from checks import TOP, Checks, run_alone
+
+# the crate's fault of each tool, and the variant of `ToolFault` that it is
+FAULTS = {
+    "tcprules": ("rules_tools/src/tcprules.rt", "TcprulesFault", "Rules"),
+    "tcprulescheck": ("rules_tools/src/tcprulescheck.rt", "CheckFault", "Check"),
+    "addcr": ("stream_tools/src/filter.rt", "FilterFault", "Filter"),
+    "delcr": ("stream_tools/src/filter.rt", "FilterFault", "Filter"),
+    "fixcrio": ("stream_tools/src/between.rt", "BetweenFault", "Between"),
+    "recordio": ("stream_tools/src/between.rt", "BetweenFault", "Between"),
+    "rulesim": ("script_tool/src/sim.rt", "SimFault", "Script"),
+}
+# what a page writes for a part of a text that changes
+PLACES = {"u64": "N", "char": "L", "Phase": "PHASE", "LineFault": "line N: KIND"}
+SERVER_FAULT = "server_tool/src/fault.rt"
+
+
+# the pages
+
+
+def plain(text):
+    """A line of a page as it is read."""
+    return text.replace("\\&", "").replace("\\e", "\\").replace('"', "").strip()
+
+
+class Page:
+    """A man page: its sections, each a list of lines."""
+
+    def __init__(self, name):
+        self.name = name
+        self.path = os.path.join(TOP, "man", name + ".1")
+        self.sections, here = {}, []
+        with open(self.path, encoding="ascii") as file:
+            for line in file.read().split("\n"):
+                if line.startswith(".Sh "):
+                    here = self.sections.setdefault(line[4:], [])
+                else:
+                    here.append(line)
+
+    def section(self, name):
+        return self.sections.get(name, [])
+
+    def synopsis(self):
+        """The words of the synopsis, without options."""
+        words = []
+        for line in self.section("SYNOPSIS"):
+            macro, _, rest = line.partition(" ")
+            if macro == ".Ar":
+                words.append(rest)
+            elif macro == ".Op" and rest.startswith("Ar "):
+                words.append("[%s]" % rest[3:])
+        return " ".join([self.name] + words)
+
+    def items(self, name, kind):
+        """The items of the lists of a kind in a section: each one's head, and all that stands in it."""
+        found, lists = [], []
+        for line in self.section(name):
+            if line.startswith(".Bl "):
+                lists.append(line.split()[1])
+            elif line == ".El":
+                lists.pop()
+            elif line.startswith(".It ") and lists == [kind]:
+                found.append((plain(line[4:]), []))
+                continue
+            if lists and lists[0] == kind and found:
+                found[-1][1].append(line)
+        return found
+
+    def texts(self):
+        """The texts with an exit code: text and code."""
+        found = {}
+        for head, body in self.items("DIAGNOSTICS", "-diag"):
+            code = re.match(r"Exit code (\d+)\.", body[0]) if body else None
+            if code:
+                found[head] = int(code.group(1))
+        return found
+
+    def below(self, head):
+        """The heads of the list that stands in an item of the diagnostics."""
+        body = dict(self.items("DIAGNOSTICS", "-diag")).get(head, [])
+        return [plain(line[4:]) for line in body if line.startswith(".It ")]
+
+    def log_lines(self):
+        """The diagnostics without an exit code."""
+        return [head for head, _ in self.items("DIAGNOSTICS", "-diag") if head not in self.texts()]
+
+    def variables(self):
+        heads = [head for head, _ in self.items("ENVIRONMENT", "-tag")]
+        return {name for head in heads for name in re.findall(r"Ev ([A-Z0-9]+)", head)}
+
+    def codes(self):
+        return {int(head) for head, _ in self.items("EXIT STATUS", "-tag")}
+
+    def options(self):
+        """The option letters of the description's list, and whether each takes a value."""
+        heads = [head for head, _ in self.items("DESCRIPTION", "-tag")]
+        return {flag: bool(value) for head in heads for flag, value in re.findall(r"\bFl (\w)( Ar \w+)?", head)}
+
+    def synopsis_options(self):
+        found = {}
+        for line in self.section("SYNOPSIS"):
+            for letters, value in re.findall(r"^\.Op Fl (\w+)( Ar \w+)?$", line):
+                found.update({letter: bool(value) for letter in letters})
+        return found
+
+    def refused(self):
+        """The letters of the sentence that ends with `are refused`."""
+        text = " ".join(self.section("DESCRIPTION"))
+        sentence = re.search(r"The options ((?:\.Fl [\w ,F]+|and| )+) are refused", text)
+        return set(re.findall(r"\b(\w)\b", sentence.group(1))) if sentence else set()
+
+
+# the sources
+
+
+def read(path):
+    with open(os.path.join(TOP, "crates", path), encoding="utf-8") as file:
+        return file.read()
+
+
+def block(text, head):
+    """What stands between the braces behind a head."""
+    start = text.index("{", re.search(head, text).end())
+    depth = 0
+    for at in range(start, len(text)):
+        depth += {"{": 1, "}": -1}.get(text[at], 0)
+        if depth == 0:
+            return text[start + 1:at]
+    raise ValueError("no end of " + head)
+
+
+def body_of(text, function):
+    """The body of a function, behind its contract."""
+    rest = text[re.search(r"fn %s\b" % function, text).end():]
+    return block(rest[re.search(r"^\s*\{$", rest, re.M).start():], "")
+
+
+def arms(text, function):
+    """The arms of a function's match: pairs of a pattern and what it gives."""
+    body = re.sub(r"//.*", "", body_of(text, function))
+    return re.findall(r"([\w:|&()\s,{}.]+?)\s*=>\s*([^\n]+?),?\n", block(body, r"match [^{]*") + "\n")
+
+
+def words_of(text, function):
+    """What a function gives for each variant: a text in quotes."""
+    return {re.search(r"(\w+)\W*$", pattern.split("(")[0]).group(1): value.strip('"') for pattern, value in arms(text, function) if value.startswith('"')}
+
+
+def texts_of(path, enum):
+    """The text of each variant of a fault."""
+    body = block(read(path), r"enum %s\b" % enum)
+    form = r'#\[error\("([^"]*)"([^\]]*)\)\]\s*(?:///[^\n]*\s*)*(\w+)(?:\((?:#\[from\] )?([\w&\' ]+)\))?'
+    kinds = words_of(read("rule_lines/src/fault.rt"), "as_str")
+    texts = {}
+    for text, more, variant, carried in re.findall(form, body):
+        named = re.search(r"LineKind::(\w+)", more)
+        text = text.replace("{kind}", kinds[named.group(1)]) if named else text
+        texts[variant] = text.replace("{0}", PLACES.get(carried, carried))
+    return texts
+
+
+def code_of(value):
+    return {"BAD_INPUT": 100, "SYSTEM_FAULT": 111}.get(value) or (int(value) if value.isdigit() else None)
+
+
+def codes_of(source, function, enum, variants):
+    """The exit code of each variant by a function's match."""
+    codes, rest = {}, None
+    for pattern, value in arms(source, function):
+        named = re.findall(enum + r"::(\w+)", pattern)
+        for variant in named:
+            codes[variant] = code_of(value)
+        if not named and pattern.strip() == "_":
+            rest = code_of(value)
+    return {variant: codes.get(variant, rest) for variant in variants}
+
+
+def tool_texts(tool):
+    """The texts of a tool, with their exit codes."""
+    path, enum, variant = FAULTS[tool]
+    source = read("ucspi_tools/src/fault.rt")
+    by = {name: value for pattern, value in arms(source, "exit_code") for name in re.findall(r"ToolFault::(\w+)", pattern)}
+    texts = texts_of(path, enum)
+    function = re.match(r"(\w+)\(", by[variant])
+    if function:
+        codes = codes_of(source, function.group(1), enum, texts)
+    else:
+        codes = dict.fromkeys(texts, code_of(by[variant]))
+    found = {"%s: %s" % (tool, texts[variant]): codes[variant] for variant in texts}
+    found["%s: usage: %s" % (tool, usages()[tool])] = code_of(by["Usage"])
+    return found
+
+
+def usages():
+    """The tools of the program: the usage text of each."""
+    source = read("ucspi_tools/src/tool.rt")
+    names, usage = words_of(source, "name"), words_of(source, "usage")
+    return {names[variant]: usage[variant] for variant in names}
+
+
+def letters():
+    """The options of tcpserver: `plain`, `valued` or `refused`."""
+    text = re.search(r'TCPSERVER_LETTERS: &str = "([^"]*)"', read("ucspi_words/src/letter.rt")).group(1)
+    kinds = {"": "plain", ":": "valued", "!": "refused"}
+    return {letter: kinds[mark] for letter, mark in re.findall(r"([^:!])([:!]?)", text)}
+
+
+def word_texts():
+    """The texts of tcpserver's words, with their exit codes."""
+    path, enum = "server_words/src/fault.rt", "ServerWordsFault"
+    texts = texts_of(path, enum)
+    codes = codes_of(read(path), "exit_code", enum, texts)
+    return {"tcpserver: " + texts[variant]: codes[variant] for variant in texts}
+
+
+def server_texts():
+    """The texts of tcpserver as a tool, where the program has it: those of its words too. A code is None where it is not found."""
+    texts = texts_of(SERVER_FAULT, "ServerFault")
+    found = word_texts()
+    codes = {}
+    for path in ("ucspi_tools/src/fault.rt", SERVER_FAULT):
+        for function in re.findall(r"fn (\w+)\((?:self|\w+: ServerFault)\) -> u8", read(path)):
+            codes.update({key: code for key, code in codes_of(read(path), function, "ServerFault", texts).items() if code})
+    for variant, text in texts.items():
+        if "Fault" not in text:
+            found["tcpserver: " + text] = codes.get(variant)
+    return found
+
+
+# the checks
+
+
+class PageChecks(Checks):
+    """What was compared, and what differs."""
+
+    def expect(self, name, page, code):
+        self.holds(name, page == code, "the page has %s, the code %s" % (show(page, code), show(code, page)))
+
+
+def show(mine, other):
+    """What one side has and the other has not."""
+    if isinstance(mine, dict) and isinstance(other, dict):
+        return {key: mine[key] for key in mine if key not in other or mine[key] != other[key]}
+    if isinstance(mine, (set, frozenset)):
+        return sorted(mine - set(other))
+    return repr(mine)
+
+
+def check_tool(checks, tool):
+    page = Page(tool)
+    checks.expect(tool + ": synopsis", page.synopsis(), usages()[tool])
+    checks.expect(tool + ": texts and exit codes", page.texts(), tool_texts(tool))
+    checks.expect(tool + ": options", page.synopsis_options(), {})
+    checks.holds(tool + ": every exit code of a text stands under EXIT STATUS", set(page.texts().values()) <= page.codes())
+
+
+def check_rule_texts(checks):
+    page = Page("tcprules")
+    kinds = words_of(read("rule_lines/src/fault.rt"), "as_str")
+    kinds.pop("LongText")
+    checks.expect("tcprules: kinds of faults, in their order", page.below("tcprules: line N: KIND"), list(kinds.values()))
+    phases = list(words_of(read("rules_install/src/lib.rt"), "as_str").values())
+    body = dict(page.items("DIAGNOSTICS", "-diag"))["tcprules: device fault at PHASE"]
+    named = [word for line in body if line.startswith(".Cm ") for word in re.findall(r"\w+", line[4:])]
+    checks.expect("tcprules: phases", list(dict.fromkeys(named)), phases)
+    checks.expect("rulesim: phases", [phase for phase in phases if phase in " ".join(Page("rulesim").section("DESCRIPTION"))], phases)
+    source = read("rule_lines/src/limits.rt")
+    numbers = {int(number.replace("_", "")) for number in re.findall(r"\b(\d[\d_]{4,})\b", source)}
+    text = " ".join(page.section("DESCRIPTION"))
+    told = {int(number.replace(",", "")) for number in re.findall(r"\b(\d[\d,]{4,})\b", text)}
+    checks.expect("tcprules: limits", told & numbers, {67108864, 65536, 1073741824})
+
+
+def check_variables(checks):
+    source = read("rules_tools/src/tcprulescheck.rt")
+    asked = set(re.findall(r'read_variable\(\w+, "(\w+)"\)', source))
+    checks.expect("tcprulescheck: variables", Page("tcprulescheck").variables(), asked)
+    asked = set(re.findall(r'variables\.get\("(\w+)"\)', read("stream_tools/src/tools.rt")))
+    checks.expect("recordio: variables", Page("recordio").variables(), asked | {"PATH"})
+    checks.expect("fixcrio: variables", Page("fixcrio").variables(), {"PATH"})
+
+
+def check_commands(checks):
+    """The commands and events of scripts: each word that `script_words` knows stands on the page."""
+    page = Page("rulesim")
+    text = " ".join(page.section("DESCRIPTION"))
+    words = set()
+    for path in ("script_words/src/script.rt", "script_words/src/event_words.rt"):
+        words |= set(re.findall(r'"([a-z]+)"', read(path)))
+    checks.holds("rulesim: the code has commands", {"install", "ask", "replay"} <= words)
+    checks.expect("rulesim: words of scripts", {word for word in words if re.search(r"\b%s\b" % word, text)}, words)
+    told = set(re.findall(r"(?:\.It Cm|\.Li) ([a-z]+)", "\n".join(page.section("DESCRIPTION"))))
+    checks.expect("rulesim: commands and events of the page", told - words, set())
+
+
+def check_program(checks):
+    page = Page("ucspi")
+    tools = dict(usages())
+    listed = {plain(line[7:]) for line in page.section("DESCRIPTION") if line.startswith(".It Li ")}
+    if "tcpserver" not in tools:
+        listed = {item for item in listed if not item.startswith("tcpserver ")}
+    checks.expect("ucspi: tools", listed, set(tools.values()))
+    usage = re.search(r'const USAGE: &str = "([^"]*)"', read("ucspi_tools/src/program.rt")).group(1)
+    checks.expect("ucspi: texts", page.texts(), {"ucspi: usage: " + usage: 100, "ucspi: out of memory": 111})
+
+
+def check_server_words(checks):
+    page = Page("tcpserver")
+    kinds = letters()
+    wanted = {letter: kind == "valued" for letter, kind in kinds.items() if kind != "refused"}
+    checks.expect("tcpserver: options", page.options(), wanted)
+    checks.expect("tcpserver: options of the synopsis", page.synopsis_options(), wanted)
+    checks.expect("tcpserver: options that are refused", page.refused(), {letter for letter, kind in kinds.items() if kind == "refused"})
+    usage = next(text for text in word_texts() if "usage: " in text)
+    checks.expect("tcpserver: synopsis", "tcpserver: usage: " + page.synopsis().replace(" ", " [options] ", 1), usage)
+    checks.expect("tcpserver: texts of words", {text: page.texts().get(text) for text in word_texts()}, word_texts())
+    checks.holds("tcpserver: every exit code of a text stands under EXIT STATUS", set(page.texts().values()) <= page.codes())
+    block_of_names = re.search(r"\[&str; \d+\] = \[(.*?)\];", read("ucspi_env/src/child.rt"), re.S).group(1)
+    checks.expect("tcpserver: variables", page.variables(), set(re.findall(r'"(\w+)"', block_of_names)) | {"PATH"})
+
+
+def check_server_texts(checks):
+    """The texts of the server itself; a code that the sources do not tell in a known form is not compared."""
+    code, page = server_texts(), Page("tcpserver").texts()
+    checks.expect("tcpserver: texts", page, {text: page.get(text) if code[text] is None else code[text] for text in code})
+
+
+def check_log_lines(checks):
+    page, source = Page("tcpserver"), read("status_lines/src/lines.rt")
+    begins = {text.rstrip() for text in re.findall(r'"(tcpserver: [^"]*)"', source)}
+    verdicts = {"tcpserver: " + word.strip() for word in words_of(source, "verdict_word").values()}
+    begins = begins - {"tcpserver:"} | verdicts
+    heads = {re.match(r"tcpserver: [a-z]+:?", line).group(0) for line in page.log_lines()}
+    checks.expect("tcpserver: lines of the log", heads, begins)
+    with open(os.path.join(TOP, "docs", "LOG_LINES.md"), encoding="utf-8") as file:
+        forms = set(re.findall(r"^\| `(tcpserver: [^`]*)`", file.read(), re.M))
+    forms.add(next(form for form in forms if ": ok N" in form).replace(": ok N", ": deny N"))
+    checks.expect("tcpserver: forms of the log, as docs/LOG_LINES.md has them", set(page.log_lines()), forms)
+    causes = re.findall(r'"([^"]*)"', body_of(source, "cause_words"))
+    checks.expect("tcpserver: causes", page.below("tcpserver: drop N CAUSE"), causes)
+    faults = re.findall(r'"([^"]*)"', body_of(source, "fault_words"))
+    checks.expect("tcpserver: faults of a start", page.below("tcpserver: start N FAULT"), faults)
+
+
+def check_form(checks, name, names):
+    """What the programs that show pages say of one."""
+    path = os.path.join(TOP, "man", name + ".1")
+    if shutil.which("mandoc"):
+        ended = subprocess.run(["mandoc", "-T", "lint", path], stdout=subprocess.PIPE, stderr=subprocess.DEVNULL, timeout=60)
+        said = ended.stdout.decode().splitlines()
+        # where these pages are not installed their names are not known
+        said = [line for line in said if not re.search(r"referenced manual not found: Xr (%s) 1" % "|".join(names), line)]
+        checks.expect(name + ": mandoc -T lint", said, [])
+    if shutil.which("man"):
+        words = ["man", "-l", path]
+        if b"man-db" in subprocess.run(["man", "--version"], stdout=subprocess.PIPE, stderr=subprocess.STDOUT, timeout=60).stdout:
+            words.insert(1, "--warnings")
+        ended = subprocess.run(words, stdin=subprocess.DEVNULL, stdout=subprocess.PIPE, stderr=subprocess.PIPE, timeout=60)
+        checks.expect(name + ": man -l", (ended.returncode, ended.stderr.decode()), (0, ""))
+        checks.holds(name + ": man -l shows the page", b"NAME" in re.sub(b".\b", b"", ended.stdout))
+
+
+def examples(page):
+    """The examples of a page that begin with a prompt: each command, and the lines below it."""
+    found, literal = [], False
+    for line in page.section("EXAMPLES"):
+        if line.startswith((".Bd -literal", ".Ed")):
+            literal = line.startswith(".Bd")
+        elif literal and line.startswith("$ "):
+            found.append((line[2:].replace("\\e", "\\").replace("\\&", ""), []))
+        elif literal and found:
+            found[-1][1].append(line.replace("\\e", "\\").replace("\\&", ""))
+    return found
+
+
+def check_examples(checks, program, name):
+    """Each example gives the lines below it. Two streams may come in any order, and a blank at a line's end is not seen on a page."""
+    rules = '10.0.0-3.:allow,RELAYCLIENT=""\n=.example.org:allow,RELAYCLIENT=""\n192.0.2.66:deny\n:allow\n'
+    with tempfile.TemporaryDirectory() as folder:
+        os.symlink(program, os.path.join(folder, "ucspi"))
+        for tool in usages():
+            with open(os.path.join(folder, tool), "w") as file:
+                file.write('#!/bin/sh\nexec ucspi %s "$@"\n' % tool)
+            os.chmod(os.path.join(folder, tool), 0o755)
+        subprocess.run([program, "tcprules", "rules.cdb", "rules.tmp"], input=rules.encode(), cwd=folder, check=True, timeout=60)
+        environment = {"PATH": folder + ":" + os.environ["PATH"]}
+        for command, wanted in examples(Page(name)):
+            ended = subprocess.run(
+                ["sh", "-c", command], cwd=folder, env=environment, stdout=subprocess.PIPE, stderr=subprocess.STDOUT, timeout=60
+            )
+            lines = ended.stdout.decode().splitlines()
+            checks.expect("%s: %s" % (name, command), sorted(line.rstrip() for line in wanted), sorted(line.rstrip() for line in lines))
+
+
+def check(program, failures):
+    """Compares all pages: how many tests there were."""
+    checks = PageChecks("man page", failures)
+    names = sorted(name[:-2] for name in os.listdir(os.path.join(TOP, "man")) if name.endswith(".1"))
+    server = os.path.exists(os.path.join(TOP, "crates", SERVER_FAULT))
+    wanted = set(usages()) | {"ucspi"} | ({"tcpserver"} if "tcpserver" in names else set())
+    checks.expect("one page for each tool", set(names), wanted)
+    for tool in sorted(FAULTS):
+        check_tool(checks, tool)
+    check_rule_texts(checks)
+    check_variables(checks)
+    check_commands(checks)
+    check_program(checks)
+    if "tcpserver" in names:
+        check_server_words(checks)
+        check_log_lines(checks)
+        if server:
+            check_server_texts(checks)
+        else:
+            print("man_pages: the program has no tcpserver yet: the texts of its start and end but those of its words are skipped")
+    for missing in [tool for tool in ("mandoc", "man") if not shutil.which(tool)]:
+        print("man_pages: %s is not installed: what it says of the pages is skipped" % missing)
+    for name in names:
+        check_form(checks, name, names)
+    if os.path.exists(program):
+        for name in names:
+            check_examples(checks, program, name)
+    else:
+        print("man_pages: there is no program: the examples of the pages are skipped")
+    return checks.tests
+
+
+if __name__ == "__main__":
+    run_alone(check)
