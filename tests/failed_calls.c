@@ -1,0 +1,235 @@
+/* A library to load before the C library: it fails calls of a program, those of one name that have certain numbers.
+
+   FAILED_CALL is the name of a call below, or `memory`: malloc, calloc, realloc and posix_memalign together. FAILED_FIRST and FAILED_LAST are the
+   first and the last number that fail, counted from 1 over all threads, and FAILED_STEP how far they stand apart; FAILED_ERROR is the error, and 0
+   has a read or a write take one byte. While FAILED_WHILE names a file that is there, each of these calls fails instead. Where a call fails, its
+   number and its first descriptor (-1 where it has none) are added to the file FAILED_MARK. Programs that are started meet none of this. */
+#define _GNU_SOURCE
+#include <dlfcn.h>
+#include <errno.h>
+#include <fcntl.h>
+#include <pthread.h>
+#include <signal.h>
+#include <spawn.h>
+#include <stdarg.h>
+#include <stdint.h>
+#include <stdio.h>
+#include <stdlib.h>
+#include <string.h>
+#include <sys/socket.h>
+#include <sys/stat.h>
+#include <sys/syscall.h>
+#include <sys/wait.h>
+#include <unistd.h>
+
+static char call[64], mark[512], while_there[512];
+static unsigned long first, last, step, calls;
+static int error, ready;
+static __thread int inside;
+
+static void take(const char *name, char *text, size_t size)
+{
+    const char *value = getenv(name);
+    if (value && strlen(value) < size)
+        strcpy(text, value);
+    unsetenv(name);
+}
+
+static unsigned long number_of(const char *name)
+{
+    char text[32] = "0";
+    take(name, text, sizeof text);
+    return strtoul(text, NULL, 10);
+}
+
+__attribute__((constructor)) static void begin(void)
+{
+    take("FAILED_CALL", call, sizeof call);
+    take("FAILED_MARK", mark, sizeof mark);
+    take("FAILED_WHILE", while_there, sizeof while_there);
+    first = number_of("FAILED_FIRST");
+    last = number_of("FAILED_LAST");
+    step = number_of("FAILED_STEP");
+    error = (int)number_of("FAILED_ERROR");
+    unsetenv("LD_PRELOAD");
+    ready = 1;
+}
+
+/* by the system alone, so that nothing here is counted */
+static void note(unsigned long number, int descriptor)
+{
+    char line[64];
+    int length = snprintf(line, sizeof line, "%lu %d\n", number, descriptor);
+    int file = (int)syscall(SYS_openat, AT_FDCWD, mark, O_WRONLY | O_CREAT | O_APPEND | O_CLOEXEC, 0600);
+    if (file >= 0) {
+        syscall(SYS_write, file, line, length);
+        syscall(SYS_close, file);
+    }
+}
+
+static int fails(const char *name, int descriptor)
+{
+    if (!ready || inside || strcmp(name, call) != 0)
+        return 0;
+    unsigned long number = __sync_add_and_fetch(&calls, 1);
+    int chosen = number >= first && number <= last && (step < 2 || (number - first) % step == 0);
+    inside = 1;
+    if (while_there[0])
+        chosen = syscall(SYS_faccessat, AT_FDCWD, while_there, F_OK) == 0;
+    if (chosen)
+        note(number, descriptor);
+    inside = 0;
+    if (chosen && error)
+        errno = error;
+    return chosen;
+}
+
+#define NEXT(name) \
+    static __typeof__(name) *next; \
+    if (!next) \
+        next = (__typeof__(name) *)dlsym(RTLD_NEXT, #name)
+
+#define CALL(type, name, words, given, descriptor) \
+    type name words \
+    { \
+        NEXT(name); \
+        if (fails(#name, descriptor)) \
+            return -1; \
+        return next given; \
+    }
+
+/* one that takes bytes: without an error it takes one of them */
+#define PART(name, words, given, descriptor, size) \
+    ssize_t name words \
+    { \
+        NEXT(name); \
+        if (fails(#name, descriptor)) { \
+            if (error) \
+                return -1; \
+            size = size < 1 ? size : 1; \
+        } \
+        return next given; \
+    }
+
+CALL(int, socket, (int a, int b, int c), (a, b, c), -1)
+CALL(int, setsockopt, (int a, int b, int c, const void *d, socklen_t e), (a, b, c, d, e), a)
+CALL(int, bind, (int a, const struct sockaddr *b, socklen_t c), (a, b, c), a)
+CALL(int, listen, (int a, int b), (a, b), a)
+CALL(int, getsockname, (int a, struct sockaddr *b, socklen_t *c), (a, b, c), a)
+CALL(int, accept4, (int a, struct sockaddr *b, socklen_t *c, int d), (a, b, c, d), a)
+CALL(int, shutdown, (int a, int b), (a, b), a)
+CALL(int, pipe2, (int a[2], int b), (a, b), -1)
+CALL(pid_t, waitpid, (pid_t a, int *b, int c), (a, b, c), -1)
+CALL(int, kill, (pid_t a, int b), (a, b), -1)
+CALL(int, fstat, (int a, struct stat *b), (a, b), a)
+CALL(int, stat, (const char *a, struct stat *b), (a, b), -1)
+CALL(int, lstat, (const char *a, struct stat *b), (a, b), -1)
+CALL(int, fstatat, (int a, const char *b, struct stat *c, int d), (a, b, c, d), a)
+CALL(int, statx, (int a, const char *b, int c, unsigned d, struct statx *e), (a, b, c, d, e), a)
+CALL(off_t, lseek, (int a, off_t b, int c), (a, b, c), a)
+CALL(int, unlink, (const char *a), (a), -1)
+CALL(int, unlinkat, (int a, const char *b, int c), (a, b, c), a)
+CALL(int, rename, (const char *a, const char *b), (a, b), -1)
+CALL(int, renameat, (int a, const char *b, int c, const char *d), (a, b, c, d), a)
+CALL(int, fsync, (int a), (a), a)
+CALL(int, flock, (int a, int b), (a, b), a)
+PART(read, (int a, void *b, size_t c), (a, b, c), a, c)
+PART(write, (int a, const void *b, size_t c), (a, b, c), a, c)
+PART(recv, (int a, void *b, size_t c, int d), (a, b, c, d), a, c)
+PART(send, (int a, const void *b, size_t c, int d), (a, b, c, d), a, c)
+PART(pread, (int a, void *b, size_t c, off_t d), (a, b, c, d), a, c)
+PART(pread64, (int a, void *b, size_t c, off_t d), (a, b, c, d), a, c)
+PART(pwrite, (int a, const void *b, size_t c, off_t d), (a, b, c, d), a, c)
+
+/* the descriptor is closed all the same, as the system does */
+int close(int a)
+{
+    NEXT(close);
+    int is_failed = fails("close", a);
+    int ended = next(a);
+    if (!is_failed)
+        return ended;
+    errno = error;
+    return -1;
+}
+
+#define OPEN(name, words, given, descriptor, of) \
+    int name words \
+    { \
+        NEXT(name); \
+        va_list rest; \
+        va_start(rest, of); \
+        int mode = va_arg(rest, int); \
+        va_end(rest); \
+        if (fails("open", descriptor)) \
+            return -1; \
+        return next given; \
+    }
+
+OPEN(open, (const char *a, int b, ...), (a, b, mode), -1, b)
+OPEN(open64, (const char *a, int b, ...), (a, b, mode), -1, b)
+OPEN(openat, (int d, const char *a, int b, ...), (d, a, b, mode), d, b)
+
+int fcntl(int a, int b, ...)
+{
+    NEXT(fcntl);
+    va_list rest;
+    va_start(rest, b);
+    void *c = va_arg(rest, void *);
+    va_end(rest);
+    return fails("fcntl", a) ? -1 : next(a, b, c);
+}
+
+int posix_spawn(pid_t *a, const char *b, const posix_spawn_file_actions_t *c, const posix_spawnattr_t *d, char *const e[], char *const f[])
+{
+    NEXT(posix_spawn);
+    return fails("posix_spawn", -1) ? error : next(a, b, c, d, e, f);
+}
+
+int pthread_create(pthread_t *a, const pthread_attr_t *b, void *(*c)(void *), void *d)
+{
+    NEXT(pthread_create);
+    return fails("pthread_create", -1) ? error : next(a, b, c, d);
+}
+
+static void *refused(void)
+{
+    errno = ENOMEM;
+    return NULL;
+}
+
+void *malloc(size_t a)
+{
+    NEXT(malloc);
+    return fails("memory", -1) ? refused() : next(a);
+}
+
+void *realloc(void *a, size_t b)
+{
+    NEXT(realloc);
+    return fails("memory", -1) ? refused() : next(a, b);
+}
+
+int posix_memalign(void **a, size_t b, size_t c)
+{
+    NEXT(posix_memalign);
+    return fails("memory", -1) ? ENOMEM : next(a, b, c);
+}
+
+void *calloc(size_t a, size_t b)
+{
+    /* `dlsym` may ask for memory while the next one is looked for */
+    static char early[4096];
+    static size_t taken;
+    static int looking;
+    static void *(*next)(size_t, size_t);
+    if (!next && looking) {
+        size_t place = taken;
+        taken += (a * b + 15) & ~(size_t)15;
+        return taken <= sizeof early ? early + place : NULL;
+    }
+    looking = 1;
+    if (!next)
+        next = (void *(*)(size_t, size_t))dlsym(RTLD_NEXT, "calloc");
+    return fails("memory", -1) ? refused() : next(a, b);
+}
