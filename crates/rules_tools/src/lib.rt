@@ -7,8 +7,3 @@ pub mod tcprulescheck;
 
 pub use tcprules::{TcprulesFault, run_tcprules};
 pub use tcprulescheck::{CheckFault, run_tcprulescheck};
-
-#[cfg(test)]
-mod check_tests;
-#[cfg(test)]
-mod path_tests;

@@ -177,7 +177,10 @@ fn read_name(alloc: Global, text: &str) -> Result<Option<Name>, TcprulesFault>
 }
 
 /// Reads a text, and one byte over its limit at most.
-pub(crate) fn read_text<R: Read>(
+///
+/// # Errors
+/// `ReadFault` where the reader failed; `OutOfMemory`. What was read is lost.
+pub fn read_text<R: Read>(
     alloc: Global,
     reader: &mut R,
     limit: u64,

@@ -88,8 +88,11 @@ where
     write_answer(writer, answer.as_slice())
 }
 
-/// The peer of the variables.
-pub(crate) fn read_peer<E: Env + AllocGlobal>(env: &E) -> Result<Peer, CheckFault> {
+/// The peer of `TCPREMOTEIP`, `TCPREMOTEHOST` and `TCPREMOTEINFO`. What is unset, empty or no UTF-8 is unknown; an unknown address is 0.0.0.0.
+///
+/// # Errors
+/// `BadIp`, else `BadHost`, else `BadInfo`, where the variable is no address, or no name that a peer may have; `OutOfMemory`.
+pub fn read_peer<E: Env + AllocGlobal>(env: &E) -> Result<Peer, CheckFault> {
     let ip = match read_variable(env, "TCPREMOTEIP")? {
         None => NO_ADDRESS,
         Some(text) => parse_address(text.as_str()).ok_or(CheckFault::BadIp)?,

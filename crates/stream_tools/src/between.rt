@@ -100,7 +100,7 @@ where
 }
 
 /// The end of a program, which is waited for once. One that was not served, since its input got no thread, is given up.
-pub(crate) fn end_of<J: Job + Drop>(job: J, served: bool) -> Result<Status, BetweenFault> {
+pub fn end_of<J: Job + Drop>(job: J, served: bool) -> Result<Status, BetweenFault> {
     if !served {
         return Err(give_up(job));
     }

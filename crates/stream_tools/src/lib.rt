@@ -13,8 +13,3 @@ pub use filter::{FilterFault, run_filter};
 pub use launcher::{OsJob, OsLauncher};
 pub use shared::SharedWriter;
 pub use tools::{run_addcr, run_delcr, run_fixcrio, run_recordio};
-
-#[cfg(test)]
-mod between_tests;
-#[cfg(test)]
-mod tests;

@@ -12,6 +12,3 @@ pub use script_tool::{SimFault, run_rulesim};
 pub use stream_tools::{
     BetweenFault, FilterFault, Lane, OsJob, OsLauncher, SharedWriter, run_between, run_filter,
 };
-
-#[cfg(test)]
-mod tests;

@@ -1,8 +1,6 @@
 //! Programs between two pumps, by a launcher of the tests' own.
 ghost use Rattle.std.specs.Prelude.{is_some, ⊤};
 
-use crate::between::{BetweenFault, Lane, end_of, run_between};
-use crate::shared::SharedWriter;
 use byte_pump::NoTap;
 use child_jobs::{Job, Launcher, NoEnds, Program, WaitFault};
 use rule_lookup::{StartFault, Status};
@@ -12,6 +10,8 @@ use std::snapshot::Snapshot;
 use std::sync::{Mutex, Wait};
 use std::test::Fail;
 use std::thread::Threads;
+use stream_tools::between::end_of;
+use stream_tools::{BetweenFault, Lane, SharedWriter, run_between};
 use ucspi_env::Environment;
 use wrapper_chain::{Chain, FixCr};
 

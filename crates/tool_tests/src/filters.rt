@@ -1,8 +1,8 @@
 //! A stream through a stage.
-use crate::filter::{FilterFault, run_filter};
 use std::io;
 use std::io::{Error, ErrorKind, Read};
 use std::test::Fail;
+use stream_tools::{FilterFault, run_filter};
 use wrapper_chain::{AddCr, Chain};
 
 /// A reader that gives its text, and then fails.

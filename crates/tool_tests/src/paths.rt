@@ -1,6 +1,6 @@
 //! The paths and the text of `tcprules`, and what is wrong with them.
-use crate::path::{folder_path, split_path};
-use crate::tcprules::{TcprulesFault, read_places, read_text};
+use rules_tools::path::{folder_path, split_path};
+use rules_tools::tcprules::{TcprulesFault, read_places, read_text};
 use std::io;
 use std::io::{Error, ErrorKind, Read};
 use std::test::Fail;

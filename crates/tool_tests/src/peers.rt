@@ -1,5 +1,5 @@
 //! The peer of the variables, by an environment of the tests' own.
-use crate::tcprulescheck::{CheckFault, read_peer};
+use rules_tools::tcprulescheck::{CheckFault, read_peer};
 use std::env::FillError;
 use std::rt::Env;
 use std::test::Fail;
