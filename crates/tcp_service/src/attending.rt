@@ -5,6 +5,7 @@ use crate::accepting::Shut;
 use crate::connection::Server;
 use crate::logged::LoggedDesk;
 use crate::service::Worker;
+use crate::threads::connection_thread;
 use byte_pump::{NoTap, Recorder, Tap, pump};
 use child_jobs::{Job, Launcher, Running, finish};
 use dir_calls::Dir;
@@ -138,8 +139,11 @@ where
             move |scope|
                 requires { IsSync R.row × IsSend I.row × IsSend P.row × IsSend G.row × IsSend T.row }
             {
-                let has_thread = scope
-                    .spawn(move || pump_stream(rt, alloc, reader, to, first, input))
+                let has_thread = connection_thread()
+                    .spawn_scoped(
+                        scope,
+                        move || pump_stream(rt, alloc, reader, to, first, input),
+                    )
                     .is_ok();
                 if has_thread {
                     pump_stream(rt, alloc, from, writer, second, output);

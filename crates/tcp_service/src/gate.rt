@@ -7,6 +7,7 @@ use crate::connection::{Reserved, Server, Work};
 use crate::places::Hall;
 use crate::service::{Service, Worker};
 use crate::serving::ServeEnd;
+use crate::threads::connection_thread;
 use child_jobs::{Job, Launcher, Plan};
 use dir_calls::Dir;
 use event_journals::Journal;
@@ -244,7 +245,8 @@ where
         };
         let server = self.server.again();
         *seat.lock(self.server.rt) = Some(work);
-        let spawned = scope.spawn(
+        let spawned = connection_thread().spawn_scoped(
+            scope,
             move ||
                 requires { IsSync R.row × IsSend W.row × IsSend S.Job.Input.row × IsSend I.row × IsSend G.row }
             {

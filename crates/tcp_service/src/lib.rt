@@ -11,6 +11,7 @@ pub mod names;
 mod places;
 pub mod service;
 pub mod serving;
+mod threads;
 
 pub use accepting::{AcceptFault, Accepted, Acceptor, Shut};
 pub use names::Names;
