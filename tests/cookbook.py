@@ -21,6 +21,8 @@ COOKBOOK = os.path.join(TOP, "docs", "COOKBOOK.md")
 TOOLS = ("tcpserver", "tcprules", "tcprulescheck", "addcr", "delcr", "fixcrio", "recordio", "rulesim")
 ACCOUNT = "nobody"
 WAIT = 30
+# longer than a step of the times of files, in seconds
+STEP = 0.03
 # what `ssh` is in the recipe for many machines: an account's home is a folder of the machine's name
 SSH = """#!/bin/sh
 while [ $# -gt 0 ]; do
@@ -397,6 +399,8 @@ NEEDED = {"Rules by name": ["awk"], "One rule text for a hundred machines": ["rs
 def run_lines(checks, kitchen, recipe):
     """Each line behind a prompt, and what it prints."""
     for command, below in recipe.commands:
+        # the times of files go in steps of some milliseconds, and whoever types a line is slower
+        time.sleep(STEP)
         ended = kitchen.run(command)
         checks.expect("%s: %s" % (recipe.title, command), ended.stdout.rstrip("\n"), below)
 

@@ -1,6 +1,7 @@
 #!/usr/bin/env python3
 """How `tcpserver` ends and goes on, and what its programs are given of the system: signals, descriptors, folders; what thousands of connections
 leave behind; and a system that has no descriptors, no threads or no connections to give."""
+import fcntl
 import os
 import queue
 import resource
@@ -11,6 +12,7 @@ import sys
 import threading
 import time
 
+import log_events
 import refused_memory
 import server_runs
 from server_runs import read_all, reset
@@ -118,12 +120,26 @@ def descriptors_of_programs(suite):
 OF_THE_LIBRARY = 1 << 31 | 1 << 32
 
 
+def signals_told(server):
+    """Which signals a program that prints its status has blocked, and which it ignores, by bits; the C library's own are left out."""
+    told = dict(line.split(":", 1) for line in server.ask().decode().splitlines())
+    return tuple(int(told[name], 16) & ~OF_THE_LIBRARY for name in ("SigBlk", "SigIgn"))
+
+
 def signals_of_programs(suite):
-    """A program has every signal at its default, but for the C library's own, and none blocked; its pipes end it."""
+    """A program has every signal at its default, but for the C library's own, and none blocked; its pipes end it. What whoever started the
+    server ignores stays ignored, but for the signal of a lost pipe."""
     with suite.start(server_runs.QUIET, ["cat", "/proc/self/status"]) as server:
-        told = dict(line.split(":", 1) for line in server.ask().decode().splitlines())
-        blocked, ignored = (int(told[name], 16) & ~OF_THE_LIBRARY for name in ("SigBlk", "SigIgn"))
-        suite.expect("signals blocked and ignored", (blocked, ignored), (0, 0))
+        suite.expect("signals blocked and ignored", signals_told(server), (0, 0))
+    kept = (signal.SIGHUP, signal.SIGINT, signal.SIGQUIT)
+
+    def ignore():
+        for number in kept + (signal.SIGPIPE,):
+            signal.signal(number, signal.SIG_IGN)
+
+    with suite.start(server_runs.QUIET, ["cat", "/proc/self/status"], preexec_fn=ignore) as server:
+        ignored = sum(1 << number - 1 for number in kept)
+        suite.expect("signals that were ignored when the server was started", signals_told(server), (0, ignored))
     with suite.start(server_runs.QUIET, ["sh", "-c", "yes | head -n 1"]) as server:
         suite.expect("a pipe's end in a program", server.ask(), b"y\n")
 
@@ -359,9 +375,39 @@ def lost_log(suite):
     suite.expect("a lost log", (got, process.wait(server_runs.WAIT)), ([b"hi\n"] * 3, 0))
 
 
+def log_that_does_not_block(suite):
+    """A log whose descriptor was left non-blocking has every line, and each whole, however late it is read."""
+    connections = 300
+    reading, writing = os.pipe()
+    os.set_blocking(writing, False)
+    # a page, which the log of some twenty connections fills
+    fcntl.fcntl(writing, getattr(fcntl, "F_SETPIPE_SZ", 1031), 4096)
+    words = suite.command + ["-1", "-v", "-c", "4", "-k", str(connections)] + server_runs.QUIET + ["127.0.0.1", "0", "true"]
+    process = subprocess.Popen(words, stdin=subprocess.DEVNULL, stdout=subprocess.PIPE, stderr=writing)
+    suite.running.append(process)
+    os.close(writing)
+    port = int(process.stdout.readline())
+
+    def visit():
+        for _ in range(connections):
+            with socket.create_connection(("127.0.0.1", port), server_runs.WAIT) as client:
+                read_all(client)
+
+    visitor = threading.Thread(target=visit, daemon=True)
+    visitor.start()
+    time.sleep(1)
+    with open(reading, "rb") as file:
+        log = file.read()
+    visitor.join(server_runs.WAIT)
+    events = log_events.Events(log)
+    suite.expect("a log that does not block: its end", process.wait(server_runs.WAIT), 0)
+    suite.expect("a log that does not block: what does not fit", events.faults, [])
+    suite.expect("a log that does not block: connections", (events.admitted, events.last_live), (connections, 0))
+
+
 CHECKS = [
     terminated, descriptors_of_programs, signals_of_programs, folders_of_programs, errors_of_programs, nothing_left, few_descriptors, no_descriptors,
-    failed_accepts, failed_threads, missing_descriptors, lost_log,
+    failed_accepts, failed_threads, missing_descriptors, lost_log, log_that_does_not_block,
 ]
 COMMON = [terminated, descriptors_of_programs, signals_of_programs, folders_of_programs, errors_of_programs, nothing_left]
 

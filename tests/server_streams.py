@@ -231,6 +231,15 @@ def vanished_before(suite):
         suite.audit("clients that were gone", server)
 
 
+def numbers_in(path):
+    """The numbers of a file, a line each; none where it is not there."""
+    try:
+        with open(path) as file:
+            return [int(line) for line in file]
+    except OSError:
+        return []
+
+
 def grandchildren(suite):
     """What a program left behind writes still comes, and a connection ends with the last that holds its output."""
     with suite.start(["-v"] + server_runs.QUIET, ["sh", "-c", "(sleep 0.5; echo late) & echo hi"]) as server:
@@ -240,7 +249,10 @@ def grandchildren(suite):
         suite.audit("a program left behind", server)
     if suite.original:
         return
-    script = "exec 3<&0; (exec >&- 2>&- <&3; sleep 1.5) & exec 3<&-; echo hi"
+    # they read nothing until somebody opens this
+    gate = suite.path("gate")
+    os.mkfifo(gate)
+    script = "exec 3<&0; (exec >&- 2>&- <&3; read x < %s; cat | wc -c >> %s) & exec 3<&-; echo hi" % (gate, suite.path("left"))
     with suite.start(["-v", "-c", "1"], ["sh", "-c", script]) as server:
         clients = [server.connect() for _ in range(3)]
         for client in clients:
@@ -254,6 +266,11 @@ def grandchildren(suite):
         suite.audit("programs left behind that hold their input", server)
         for client in clients:
             client.close()
+        # they read what their pipes have, and see the end of it
+        with open(gate, "w"):
+            pass
+        server_runs.wait_until("what was left to read", lambda: len(numbers_in(suite.path("left"))) == 4)
+        suite.holds("what programs left behind read", all(number <= 65536 for number in numbers_in(suite.path("left"))), numbers_in(suite.path("left")))
 
 
 def faulty_programs(suite):

@@ -1,12 +1,15 @@
 #!/usr/bin/env python3
 """The words of `tcpserver`: each option, the order of checks, each text with its exit code, and the environment that a program is given."""
 import os
+import shutil
 import socket
 import subprocess
 import sys
 
 import server_runs
 
+# the user of nobody, as whom root tries what may not be done
+NOBODY = 65534
 USAGE = "usage: tcpserver [options] host port prog [args]"
 SERVE = ["127.0.0.1", "0", "true"]
 VALUED = "ckmxBlNwtb"
@@ -21,9 +24,9 @@ INHERITED = {
 }
 
 
-def refused(suite, name, words, text, code=100):
+def refused(suite, name, words, text, code=100, **how):
     """These words end the server with one line, and nothing on standard output."""
-    suite.expect(name, suite.run(words), (code, b"", ("tcpserver: %s\n" % text).encode()))
+    suite.expect(name, suite.run(words, **how), (code, b"", ("tcpserver: %s\n" % text).encode()))
 
 
 def usage(suite):
@@ -111,6 +114,32 @@ def folders_of_rules(suite):
     suite.path("a-file", "x")
     for path in ("absent/rules.cdb", "a-file/rules.cdb", "", "/", ".", "..", "x/", suite.folder + "/", suite.folder + "/..", "a" * 256, "absent/"):
         refused(suite, "-x %r" % path, ["-x", path] + SERVE, "device fault", 111)
+
+
+def closed_folder(suite):
+    """Without a rules file the server needs no folder: it serves from one that it may not look at."""
+    folder = suite.path("closed")
+    os.mkdir(folder)
+    program = suite.path("program-for-all")
+    shutil.copyfile(suite.command[0], program)
+    os.chmod(program, 0o755)
+
+    def close():
+        os.chmod(folder, 0)
+        if os.geteuid() == 0:
+            os.setgid(NOBODY)
+            os.setuid(NOBODY)
+
+    before = suite.command
+    suite.command = [program] + before[1:]
+    try:
+        with suite.start(server_runs.QUIET, ["echo", "hi"], cwd=folder, preexec_fn=close) as server:
+            suite.expect("a folder that may not be looked at", server.ask(), b"hi\n")
+        os.chmod(folder, 0o700)
+        refused(suite, "the same folder for the rules", ["-x", "rules.cdb"] + SERVE, "device fault", 111, cwd=folder, preexec_fn=close)
+    finally:
+        suite.command = before
+        os.chmod(folder, 0o700)
 
 
 def listening(suite):
@@ -275,8 +304,8 @@ def banners(suite):
 
 
 CHECKS = [
-    usage, unknown_options, options_without_a_value, options_of_others, numbers, wrappers, host_tables, folders_of_rules, listening, the_port,
-    any_address, accepted_options, whole_environments, names, rules, rules_of_names, absent_rules, banners,
+    usage, unknown_options, options_without_a_value, options_of_others, numbers, wrappers, host_tables, folders_of_rules, closed_folder, listening,
+    the_port, any_address, accepted_options, whole_environments, names, rules, rules_of_names, absent_rules, banners,
 ]
 COMMON = [the_port, any_address, accepted_options, whole_environments, rules, absent_rules, banners]
 

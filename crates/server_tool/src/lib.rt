@@ -2,11 +2,13 @@
 #![tactic(auto)]
 
 pub mod fault;
+pub mod programs;
 pub mod sockets;
 pub mod tool;
 pub mod wrappers;
 
 pub use fault::ServerFault;
+pub use programs::ServiceLauncher;
 pub use sockets::TcpAcceptor;
 pub use tool::run_tcpserver;
 pub use wrappers::Wrapper;

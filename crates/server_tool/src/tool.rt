@@ -2,6 +2,7 @@
 ghost use Rattle.std.specs.Prelude.{◌≡◌, ◌<◌, false};
 
 use crate::fault::ServerFault;
+use crate::programs::ServiceLauncher;
 use crate::sockets::TcpAcceptor;
 use crate::wrappers::{Wrapper, chain_of};
 use child_jobs::{Plan, Program};
@@ -19,20 +20,22 @@ use std::io::{Read, Write};
 use std::marker::Brand;
 use std::net::{Ipv4Addr, Net, OpenListener, SocketAddr, SocketAddrV4, TcpListener, TcpStream};
 use std::os::fd::AsRawFd;
-use std::process::{OpenProcess, Processes};
+use std::process::{ChildStdin, OpenProcess, Processes};
 use std::rt::Env;
 use std::sync::ledger::Blank;
 use std::sync::{Mutex, Wait};
 use std::thread::Threads;
 use std::time::Clock;
 use std::{fs, io};
-use stream_tools::OsLauncher;
 use stream_tools::started::inherited_variables;
 use tcp_service::{Log, Names, ServeEnd, Service, Worker, serve};
 use ucspi_env::{HostFault, HostTable, Local};
 
 /// The descriptor of standard error, the last of the standard ones.
 const STANDARD_ERROR: i32 = 2;
+
+/// The folder of a server without a rules file, which uses none: everybody may look at this one.
+const ROOT: &str = "/";
 
 /// Runs `tcpserver` with these words, over the system's sockets, files and programs; `errors` takes the lines of its log. It returns once
 /// as many connections were served as it was to serve, and all of them are over.
@@ -45,8 +48,8 @@ where
     R: Net<Stream = TcpStream>,
     E: Write + Send + Drop,
     R::Dir: Send + Sync,
-    R::Started: Send,
-    <R::Started as OpenProcess>::Stdin: Send,
+    R::Listener: Send + Sync,
+    R::Started: OpenProcess<Stdin = ChildStdin> + Send,
     <R::Started as OpenProcess>::Stdout: Send,
     <R::Started as OpenProcess>::Stderr: Send,
 {
@@ -179,7 +182,7 @@ where
     R: Files<File = File>,
 {
     let Some(path) = words.rules() else {
-        return Ok((open_folder(alloc, files, ".")?, None));
+        return Ok((open_folder(alloc, files, ROOT)?, None));
     };
     let (folder, name) = split_path(path);
     let name = match Name::new(alloc, name.as_bytes()) {
@@ -275,11 +278,12 @@ where
     L: Premises + Send + Sync,
     N: Callers + Send + Sync,
     R: AllocGlobal + Files<File = File> + Processes + Threads + Wait + Clock + Sync,
+    R: Net<Stream = TcpStream>,
     R::Dir: Send + Sync,
+    R::Listener: Send + Sync,
     T: OpenListener<Stream = TcpStream> + Drop,
     E: Write + Send + Drop,
-    R::Started: Send,
-    <R::Started as OpenProcess>::Stdin: Send,
+    R::Started: OpenProcess<Stdin = ChildStdin> + Send,
     <R::Started as OpenProcess>::Stdout: Send,
     <R::Started as OpenProcess>::Stderr: Send,
     requires places { (places.name ≡ L.name) × (places.parts ≡ L.parts) × (places.parts ≡ limits.connections) }
@@ -310,7 +314,7 @@ where
         return Err(ServerFault::OutOfMemory);
     };
     let workers = workers_of(alloc, callers, wrapping)?;
-    let launcher = OsLauncher::new(rt);
+    let launcher = ServiceLauncher::new(rt);
     let end = serve(
         rt,
         alloc,

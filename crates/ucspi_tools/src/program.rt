@@ -1,6 +1,7 @@
 //! The program `ucspi`: its words, and the tool that they ask for.
 use crate::choice::{Choice, choose};
 use crate::fault::{ToolFault, end, status_code};
+use patient_streams::Patient;
 use rules_tools::{run_tcprules, run_tcprulescheck};
 use script_tool::run_script;
 use server_tool::run_tcpserver;
@@ -8,8 +9,7 @@ use std::fs::{File, Files};
 use std::io;
 use std::io::Write;
 use std::net::{Net, TcpStream};
-use std::os::fd::AsRawFd;
-use std::process::{OpenProcess, Processes};
+use std::process::{ChildStdin, OpenProcess, Processes};
 use std::rt::Env;
 use std::sync::Wait;
 use std::thread::Threads;
@@ -32,8 +32,8 @@ where
     R::Reader: Send,
     E: Write + Send + Drop,
     R::Dir: Send + Sync,
-    R::Started: Send,
-    <R::Started as OpenProcess>::Stdin: Send + AsRawFd,
+    R::Listener: Send + Sync,
+    R::Started: OpenProcess<Stdin = ChildStdin> + Send,
     <R::Started as OpenProcess>::Stdout: Send,
     <R::Started as OpenProcess>::Stderr: Send,
 {
@@ -54,13 +54,13 @@ where
     R::Reader: Send,
     E: Write + Send + Drop,
     R::Dir: Send + Sync,
-    R::Started: Send,
-    <R::Started as OpenProcess>::Stdin: Send + AsRawFd,
+    R::Listener: Send + Sync,
+    R::Started: OpenProcess<Stdin = ChildStdin> + Send,
     <R::Started as OpenProcess>::Stdout: Send,
     <R::Started as OpenProcess>::Stderr: Send,
 {
     match choice {
-        Choice::Tcpserver { words } => run_tcpserver(rt, errors, words)?,
+        Choice::Tcpserver { words } => run_tcpserver(rt, Patient::new(rt, errors), words)?,
         Choice::Rulesim => run_script(rt)?,
         Choice::Tcprules { cdb, tmp } => run_tcprules(rt.alloc(), &mut rt.reader(), rt, cdb, tmp)?,
         Choice::Tcprulescheck { cdb } => run_tcprulescheck(rt, rt, &mut io::writer(rt), cdb)?,
