@@ -11,5 +11,7 @@ mod folders;
 mod installations;
 #[cfg(test)]
 mod names;
-pub mod shown;
-pub mod test_disk;
+#[cfg(test)]
+mod shown;
+#[cfg(test)]
+mod test_disk;
