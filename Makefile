@@ -15,12 +15,11 @@ PAGES := $(wildcard man/*.1)
 NAMES := $(filter-out ucspi,$(basename $(notdir $(PAGES))))
 PROGRAM := crates/ucspi/out/ucspi
 BENCH := crates/ucspi_bench/out/ucspi_bench
-PROBE := crates/dir_probe/out/dir_probe
-YARD_PROBE := crates/yard_probe/out/yard_probe
-CONNECTION_PROBE := crates/connection_probe/out/connection_probe
+# small programs that make calls for the tests
+PROBES := $(foreach name,dir_probe yard_probe connection_probe,crates/$(name)/out/$(name))
 SOURCES := HANDLES crates.txt $(shell find crates -name out -prune -o -type f -print)
 
-.PHONY: all run check bench install uninstall
+.PHONY: all run check probes bench install uninstall
 
 all: $(PROGRAM)
 
@@ -37,19 +36,13 @@ run: $(PROGRAM)
 
 check:
 	rt ci
-	touch $(PROGRAM) $(BENCH) $(PROBE) $(YARD_PROBE) $(CONNECTION_PROBE)
+	touch $(PROGRAM) $(BENCH) $(PROBES)
 	tests/run
 
-$(PROBE): $(SOURCES)
-	cd crates/dir_probe && rt run </dev/null
-	touch $@
+probes: $(BENCH) $(PROBES)
 
-$(YARD_PROBE): $(SOURCES)
-	cd crates/yard_probe && rt run </dev/null
-	touch $@
-
-$(CONNECTION_PROBE): $(SOURCES)
-	cd crates/connection_probe && rt run </dev/null
+$(PROBES): $(SOURCES)
+	cd $(dir $@).. && rt run </dev/null
 	touch $@
 
 bench: $(PROGRAM) $(BENCH)

@@ -1,0 +1,25 @@
+"""What the groups share that make calls by a small program (crates/*_probe): one run of it is one call."""
+import subprocess
+
+
+def run(words, given=b""):
+    """Runs a program once; answers its exit code, and what it wrote to both of its outputs."""
+    ended = subprocess.run(words, input=given, stdout=subprocess.PIPE, stderr=subprocess.STDOUT, timeout=60)
+    return ended.returncode, ended.stdout
+
+
+class Calls:
+    """Calls of one program, each compared with what is wanted."""
+
+    def __init__(self, program, group, failures):
+        self.program = program
+        self.group = group
+        self.failures = failures
+        self.tests = 0
+
+    def expect(self, name, words, given, wanted, code=0):
+        """One call, which has to write exactly this and to end with this code."""
+        self.tests += 1
+        outcome = run([self.program] + words, given)
+        if outcome != (code, wanted):
+            self.failures.append("%s: %s: %r, and not %r" % (self.group, name, outcome, (code, wanted)))
