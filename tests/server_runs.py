@@ -311,15 +311,14 @@ def place_of_files():
 
 
 def run_group(module, program, failures, original=False):
-    """Runs a group, prints a line of it, and gives the number of its checks."""
-    began, found = time.monotonic(), []
+    """Runs a group, and gives the number of its checks."""
+    found = []
     with tempfile.TemporaryDirectory(dir=place_of_files()) as folder:
         os.chmod(folder, 0o755)
         suite = Suite(program, found, folder, original)
         for check in module.COMMON if original else module.CHECKS:
             run_check(suite, check)
     name = module.__name__ if module.__name__ != "__main__" else os.path.basename(sys.argv[0])[:-3]
-    print("%s: %d checks, %d failed, %.1f seconds" % (name, suite.tests, len(found), time.monotonic() - began), flush=True)
     failures += ["%s: %s" % (name, failure) for failure in found]
     return suite.tests
 
@@ -331,7 +330,8 @@ def main(module):
     words = words[1:] if original else words
     program = os.path.abspath(words[0]) if words else (ORIGINAL if original else PROGRAM)
     failures = []
-    run_group(module, program, failures, original)
+    tests = run_group(module, program, failures, original)
     for failure in failures:
         print("FAILED " + failure)
+    print("%d passed, %d failed" % (tests - len(failures), len(failures)))
     return 1 if failures else 0

@@ -1,41 +1,30 @@
 //! The tool: its words, what it opens, and the server.
 ghost use Rattle.std.specs.Prelude.{◌≡◌, ◌<◌, false};
 
-use crate::fault::ServerFault;
-use crate::programs::ServiceLauncher;
-use crate::sockets::TcpAcceptor;
-use crate::wrappers::{Wrapper, chain_of};
-use child_jobs::{Plan, Program};
-use dir_calls::{Name, NameFault};
-use dir_disk::{FolderFault, OsDir};
+use child_jobs::Plan;
+use dir_calls::Name;
+use dir_disk::OsDir;
 use event_journals::Counts;
 use rule_lookup::Missing;
-use rules_tools::path::{folder_path, split_path};
-use server_words::{Limits, ServerWords, Wrapping, read_server_words};
+use server_parts::opening::{
+    listen, names_of, open_rules, plan_of, print_port, stand_in, texts_of,
+};
+use server_parts::{ServerFault, ServiceLauncher, TcpAcceptor, Wrapper, chain_of};
+use server_words::{Limits, Wrapping, read_server_words};
 use server_yard::{Premises, Yard};
 use site_lock::{Caller, Callers, Site};
 use std::alloc::{AllocError, Global};
 use std::fs::{File, Files};
-use std::io::{Read, Write};
+use std::io::Write;
 use std::marker::Brand;
-use std::net::{Ipv4Addr, Net, OpenListener, SocketAddr, SocketAddrV4, TcpListener, TcpStream};
-use std::os::fd::AsRawFd;
+use std::net::{Net, OpenListener, TcpStream};
 use std::process::{ChildStdin, OpenProcess, Processes};
 use std::rt::Env;
 use std::sync::ledger::Blank;
 use std::sync::{Mutex, Wait};
 use std::thread::Threads;
 use std::time::Clock;
-use std::{fs, io};
-use stream_tools::started::inherited_variables;
-use tcp_service::{Log, Names, ServeEnd, Service, Worker, serve};
-use ucspi_env::{HostFault, HostTable, Local};
-
-/// The descriptor of standard error, the last of the standard ones.
-const STANDARD_ERROR: i32 = 2;
-
-/// The folder of a server without a rules file, which uses none: everybody may look at this one.
-const ROOT: &str = "/";
+use tcp_service::{Log, ServeEnd, Service, Worker, serve};
 
 /// Runs `tcpserver` with these words, over the system's sockets, files and programs; `errors` takes the lines of its log. It returns once
 /// as many connections were served as it was to serve, and all of them are over.
@@ -103,150 +92,12 @@ struct Station<D, E, T> {
     rules: Option<(Name, Missing)>,
 }
 
-// Holds a standard descriptor, where the server was started without it, so that no connection gets it: a line of the log would go to a
-// client else. Without such a descriptor nothing is held.
-fn stand_in<F: Files<File = File>>(files: &F) -> Option<File> {
-    let file = File::open(files, "/dev/null").ok()?;
-    (file.as_raw_fd() <= STANDARD_ERROR).then_some(file)
-}
-
-// The words as texts. One that is no text counts as empty.
-fn texts_of(alloc: Global, words: &[Vec<u8>]) -> Result<Vec<String>, AllocError> {
-    let mut texts = Vec::new(alloc);
-    for word in words {
-        texts.push(String::from_str(alloc, str::from_utf8(word).unwrap_or_default())?)?;
-    }
-    Ok(texts)
-}
-
 // What a server has but for its site.
 #[derive(Drop)]
 struct House<E> {
     plan: Plan,
     service: Service,
     log: Mutex<Log<E>>,
-}
-
-// The names of the ends of connections, with the host table that the words name.
-fn names_of<F: Files + AllocGlobal>(
-    alloc: Global,
-    files: &F,
-    words: &ServerWords<'_>,
-) -> Result<Names, ServerFault> {
-    let hosts = match words.hosts() {
-        Some(path) => Some(read_hosts(alloc, files, path)?),
-        None => None,
-    };
-    let local = match words.local() {
-        Some(name) => Some(String::from_str(alloc, name)?),
-        None => None,
-    };
-    Ok(Names {
-        hosts,
-        local,
-        remote: words.names_remote(),
-        confirm: words.confirms(),
-    })
-}
-
-// The host table of a file.
-fn read_hosts<F: Files + AllocGlobal>(
-    alloc: Global,
-    files: &F,
-    path: &str,
-) -> Result<HostTable, ServerFault> {
-    let text = read_file(files, path)?;
-    match HostTable::read(alloc, text.as_slice()) {
-        Ok(table) => Ok(table),
-        Err(HostFault::BadLine(line)) => Err(ServerFault::BadHosts(line)),
-        Err(HostFault::OutOfMemory) => Err(ServerFault::OutOfMemory),
-    }
-}
-
-// All that a file holds.
-fn read_file<F: Files + AllocGlobal>(files: &F, path: &str) -> Result<Vec<u8>, ServerFault> {
-    match fs::read(files, path) {
-        Ok(text) => Ok(text),
-        Err(error) if error.kind() == io::ErrorKind::OutOfMemory => Err(ServerFault::OutOfMemory),
-        Err(_) => Err(ServerFault::ReadFault),
-    }
-}
-
-// The folder of the rules file, and its name there with what is done where it is missing; without a rules file the folder is not used.
-fn open_rules<'a, R>(
-    alloc: Global,
-    files: &'a R,
-    words: &ServerWords<'_>,
-) -> Result<(OsDir<&'a R>, Option<(Name, Missing)>), ServerFault>
-where
-    R: Files<File = File>,
-{
-    let Some(path) = words.rules() else {
-        return Ok((open_folder(alloc, files, ROOT)?, None));
-    };
-    let (folder, name) = split_path(path);
-    let name = match Name::new(alloc, name.as_bytes()) {
-        Ok(name) => name,
-        Err(NameFault::OutOfMemory) => return Err(ServerFault::OutOfMemory),
-        Err(_) => return Err(ServerFault::Device),
-    };
-    let dir = open_folder(alloc, files, folder_path(folder))?;
-    Ok((dir, Some((name, words.missing()))))
-}
-
-fn open_folder<'a, R>(alloc: Global, files: &'a R, path: &str) -> Result<OsDir<&'a R>, ServerFault>
-where
-    R: Files<File = File>,
-{
-    match OsDir::new(alloc, files, path) {
-        Ok(dir) => Ok(dir),
-        Err(FolderFault::OutOfMemory) => Err(ServerFault::OutOfMemory),
-        Err(_) => Err(ServerFault::Device),
-    }
-}
-
-// A socket that listens at an address and port.
-fn listen<R: Net>(net: &R, ip: [u8; 4], port: u16) -> Result<R::Listener, ServerFault> {
-    let [a, b, c, d] = ip;
-    let end = SocketAddr::V4(SocketAddrV4::new(Ipv4Addr::new(a, b, c, d), port));
-    match TcpListener::bind(net, end) {
-        Ok(listener) => Ok(listener),
-        Err(_) => Err(ServerFault::CannotListen),
-    }
-}
-
-// Prints the port of a listening socket.
-fn print_port<R: Print, T: OpenListener>(rt: &R, listener: &T) -> Result<(), ServerFault> {
-    let Ok(end) = listener.local_addr() else {
-        return Err(ServerFault::CannotListen);
-    };
-    let mut writer = io::writer(rt);
-    let mut digits = itoa::Buffer::new();
-    let port = digits.format(end.port());
-    if writer.write_all(port.as_bytes()).is_err()
-        || writer.write_all(b"\n").is_err()
-        || writer.flush().is_err()
-    {
-        return Err(ServerFault::WriteFault);
-    }
-    Ok(())
-}
-
-// The program, with its arguments.
-fn program_of(alloc: Global, words: &ServerWords<'_>) -> Result<Program, AllocError> {
-    let mut args = Vec::new(alloc);
-    for word in words.service().args() {
-        args.push(String::from_str(alloc, word.as_str())?)?;
-    }
-    Ok(Program::new(String::from_str(alloc, words.service().path())?, args))
-}
-
-// What each connection is served by; the server's end is set for each.
-fn plan_of<R: Env>(alloc: Global, env: &R, words: &ServerWords<'_>) -> Result<Plan, ServerFault> {
-    let program = program_of(alloc, words)?;
-    let inherited = inherited_variables(alloc, env)?;
-    let banner = words.banner().to_vec(alloc)?;
-    Ok(Plan::new(program, inherited, Local::new([0; 4], 0, None), banner))
 }
 
 // A worker for each caller.

@@ -5,9 +5,9 @@ ghost use Rattle.server_yard.specs.Yards.{yard_roll};
 ghost use Rattle.site_lock.specs.Audits.{AreRight, AreRightBefore, IsAbove, IsFirstWrong, IsRight, Rise, StandsAtItsPlace};
 
 use crate::receipt::Receipt;
-use crate::same::is_same_event;
 use dir_calls::Dir;
 use event_journals::Full;
+use same_events::is_same_event;
 use server_yard::{Premises, Yard};
 use thiserror::Error;
 

@@ -6,7 +6,6 @@ pub mod caller;
 mod guarded;
 pub mod laws;
 pub mod receipt;
-mod same;
 pub mod site;
 pub mod turns;
 

@@ -1,6 +1,4 @@
 //! The thread of one connection.
-use crate::accepting::Shut;
-use crate::attending::Line;
 use crate::logged::LoggedDesk;
 use crate::service::Worker;
 use child_jobs::{Job, Launcher, Plan};
@@ -9,15 +7,14 @@ use dir_calls::Dir;
 use event_journals::Journal;
 use one_connection::{Desk, Served, serve_one};
 use rule_lookup::{DropCause, Peer};
-use server_log::Log;
 use server_yard::Premises;
 use site_desk::SiteDesk;
 use site_lock::{Callers, Site};
-use std::alloc::Global;
 use std::io::{Read, Write};
 use std::sync::ledger::Ledger;
 use std::sync::{Mutex, Wait};
 use std::thread::Threads;
+use tcp_connections::{Attendant, Line, Shut};
 use wrapper_chain::LineStage;
 
 /// The place of a connection whose thread has not taken it yet. One that is let go stays counted for good.
@@ -46,12 +43,9 @@ pub(crate) struct Work<L: Ledger, I, O, X> {
 /// What the threads of all connections share.
 #[derive(Drop)]
 pub(crate) struct Server<'a, L: Premises, N: Callers, D: Dir + Drop, J: Journal, S, R, W> {
-    pub rt: &'a R,
-    pub alloc: Global,
     pub site: &'a Site<L, N, D, J>,
     pub launcher: &'a S,
-    pub log: &'a Mutex<Log<W>>,
-    pub recording: bool,
+    pub attendant: Attendant<'a, R, W>,
 }
 
 impl<'a, L: Premises, N: Callers, D: Dir + Drop, J: Journal, S, R, W> Server<
@@ -67,12 +61,9 @@ impl<'a, L: Premises, N: Callers, D: Dir + Drop, J: Journal, S, R, W> Server<
     /// The same once more, for another thread.
     pub fn again(&self) -> Server<'a, L, N, D, J, S, R, W> {
         Server {
-            rt: self.rt,
-            alloc: self.alloc,
             site: self.site,
             launcher: self.launcher,
-            log: self.log,
-            recording: self.recording,
+            attendant: self.attendant.again(),
         }
     }
 }
@@ -98,7 +89,8 @@ where
         <S::Job as Job>::Input: Send + Drop,
         <S::Job as Job>::Output: Drop,
     {
-        let Some(work) = seat.lock(self.rt).take() else {
+        let rt = self.attendant.rt;
+        let Some(work) = seat.lock(rt).take() else {
             return;
         };
         let Work {
@@ -110,16 +102,16 @@ where
         let Some(place) = reserved.place.take() else {
             return;
         };
-        worker.renew(self.rt);
-        let mut caller = worker.caller.lock(self.rt);
+        worker.renew(rt);
+        let mut caller = worker.caller.lock(rt);
         let mut desk = LoggedDesk {
-            rt: self.rt,
-            site: SiteDesk::new(self.rt, self.site, &mut caller),
-            log: self.log,
+            rt,
+            site: SiteDesk::new(rt, self.site, &mut caller),
+            log: self.attendant.log,
             local: plan.local(),
         };
         let served = serve_one(
-            self.alloc,
+            self.attendant.alloc,
             &mut desk,
             place,
             line.serial,
@@ -129,7 +121,10 @@ where
             &mut line.writer,
         );
         match served {
-            Served::Running(running) => self.attend(&mut desk, running, line, worker),
+            Served::Running(running) => {
+                self.attendant
+                    .attend(&mut desk, running, line, &worker.chains());
+            }
             Served::Denied | Served::StartFailed(_) | Served::Dropped(_) => line.shut.shut(),
         }
     }
@@ -141,17 +136,18 @@ where
         O: Drop,
         X: Shut + Drop,
     {
-        let Some(mut work) = seat.lock(self.rt).take() else {
+        let rt = self.attendant.rt;
+        let Some(mut work) = seat.lock(rt).take() else {
             return;
         };
         let Some(place) = work.reserved.place.take() else {
             return;
         };
-        let mut caller = worker.caller.lock(self.rt);
+        let mut caller = worker.caller.lock(rt);
         let mut desk = LoggedDesk {
-            rt: self.rt,
-            site: SiteDesk::new(self.rt, self.site, &mut caller),
-            log: self.log,
+            rt,
+            site: SiteDesk::new(rt, self.site, &mut caller),
+            log: self.attendant.log,
             local: work.plan.local(),
         };
         desk.dropped(place, work.line.serial, &work.peer, DropCause::NoThread);

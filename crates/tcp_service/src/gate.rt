@@ -1,13 +1,10 @@
 //! Where connections are let in.
 ghost use Rattle.std.specs.Thread.{IsSend, IsSync};
 
-use crate::accepting::{AcceptFault, Accepted, Acceptor, Shut};
-use crate::attending::Line;
 use crate::connection::{Reserved, Server, Work};
 use crate::places::Hall;
 use crate::service::{Service, Worker};
 use crate::serving::ServeEnd;
-use crate::threads::connection_thread;
 use child_jobs::{Job, Launcher, Plan};
 use dir_calls::Dir;
 use event_journals::Journal;
@@ -20,6 +17,7 @@ use std::sync::ledger::Ledger;
 use std::sync::{Mutex, Wait};
 use std::thread::{Scope, Threads};
 use std::time::{Clock, Duration};
+use tcp_connections::{AcceptFault, Accepted, Acceptor, Line, Shut, connection_thread};
 use ucspi_env::Local;
 use wrapper_chain::LineStage;
 
@@ -97,7 +95,7 @@ where
         A: Acceptor<Reader = I, Writer = O, Shut = X>,
         'a: 's,
     {
-        let rt = self.server.rt;
+        let rt = self.server.attendant.rt;
         let mut admitted = 0u32;
         let mut faults = 0u32;
         for _ in rt.forever() {
@@ -135,7 +133,7 @@ where
             && self
                 .hall
                 .free
-                .wait_for_one(self.server.rt, Duration::from_secs(PAUSE))
+                .wait_for_one(self.server.attendant.rt, Duration::from_secs(PAUSE))
     }
 
     // Accepts a connection when a worker is free for it, and lets it in.
@@ -148,7 +146,7 @@ where
         A: Acceptor<Reader = I, Writer = O, Shut = X>,
         'a: 's,
     {
-        let worker = self.hall.free.take(self.server.rt);
+        let worker = self.hall.free.take(self.server.attendant.rt);
         let entry = match acceptor.accept() {
             Ok(accepted) => Ok(self.let_in(accepted)),
             Err(AcceptFault::OutOfMemory) => Ok(self.refuse_for_memory()),
@@ -160,15 +158,15 @@ where
                 Ok(Entry::In(()))
             }
             Ok(Entry::Refused) => {
-                self.hall.free.give(self.server.rt, worker);
+                self.hall.free.give(self.server.attendant.rt, worker);
                 Ok(Entry::Refused)
             }
             Ok(Entry::Spent) => {
-                self.hall.free.give(self.server.rt, worker);
+                self.hall.free.give(self.server.attendant.rt, worker);
                 Ok(Entry::Spent)
             }
             Err(fault) => {
-                self.hall.free.give(self.server.rt, worker);
+                self.hall.free.give(self.server.attendant.rt, worker);
                 Err(fault)
             }
         }
@@ -176,7 +174,12 @@ where
 
     // A connection has found no memory.
     fn refuse_for_memory(&self) -> Entry<Work<L, I, O, X>> {
-        let _ = self.server.log.lock(self.server.rt).out_of_memory();
+        let _ = self
+            .server
+            .attendant
+            .log
+            .lock(self.server.attendant.rt)
+            .out_of_memory();
         Entry::Refused
     }
 
@@ -189,11 +192,11 @@ where
         let Some(first) = self.workers.first() else {
             return Entry::Refused;
         };
-        let mut caller = first.caller.lock(server.rt);
-        let mut log = server.log.lock(server.rt);
-        match server.site.admit(server.rt, &mut caller, &peer) {
+        let mut caller = first.caller.lock(server.attendant.rt);
+        let mut log = server.attendant.log.lock(server.attendant.rt);
+        match server.site.admit(server.attendant.rt, &mut caller, &peer) {
             Ok((serial, place, _)) => {
-                let _ = log.admitted(serial, peer.ip(), server.site.live(server.rt));
+                let _ = log.admitted(serial, peer.ip(), server.site.live(server.attendant.rt));
                 Entry::In(Work {
                     reserved: Reserved { place: Some(place) },
                     line: line_of(accepted, serial, peer.port()),
@@ -216,7 +219,7 @@ where
 
     // The client with its name, and the plan with the server's end of this connection.
     fn plan_for(&self, accepted: &Accepted<I, O, X>) -> Result<(Peer, Plan), AllocError> {
-        let alloc = self.server.alloc;
+        let alloc = self.server.attendant.alloc;
         let names = &self.service.names;
         let peer = names.peer(alloc, accepted.ip, accepted.port)?;
         let local = names.local(alloc, accepted.local.ip(), accepted.local.port())?;
@@ -244,19 +247,19 @@ where
             return;
         };
         let server = self.server.again();
-        *seat.lock(self.server.rt) = Some(work);
+        *seat.lock(self.server.attendant.rt) = Some(work);
         let spawned = connection_thread().spawn_scoped(
             scope,
             move ||
                 requires { IsSync R.row × IsSend W.row × IsSend S.Job.Input.row × IsSend I.row × IsSend G.row }
             {
                 server.serve(seat, mine);
-                hall.free.give(server.rt, worker);
+                hall.free.give(server.attendant.rt, worker);
             },
         );
         if spawned.is_err() {
             self.server.give_up(seat, mine);
-            hall.free.give(self.server.rt, worker);
+            hall.free.give(self.server.attendant.rt, worker);
         }
     }
 }

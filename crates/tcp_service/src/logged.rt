@@ -14,6 +14,7 @@ use site_lock::Callers;
 use std::alloc::Global;
 use std::io::Write;
 use std::sync::{Mutex, Wait};
+use tcp_connections::Endings;
 use ucspi_env::Local;
 
 /// The desk of one connection: its calls go to the site by one caller, and the lines of each event are written while the log is locked, so
@@ -26,7 +27,7 @@ pub(crate) struct LoggedDesk<'a, L: Premises, N: Callers, D: Dir + Drop, J: Jour
     pub local: &'a Local,
 }
 
-impl<L, N, D, J, R, W> LoggedDesk<'_, L, N, D, J, R, W>
+impl<L, N, D, J, R, W, C> Endings<L, C> for LoggedDesk<'_, L, N, D, J, R, W>
 where
     L: Premises,
     N: Callers,
@@ -34,16 +35,19 @@ where
     J: Journal,
     R: Wait,
     W: Write,
+    C: Job + Drop,
 {
-    /// The child of a connection ended.
-    pub fn ended(&mut self, place: Place<L>, serial: u64, status: Status) {
+    type Place = Place<L>;
+
+    type Child = Running<L, C>;
+
+    fn ended(&mut self, place: Place<L>, serial: u64, status: Status) {
         let mut log = self.log.lock(self.rt);
         self.site.ended(place, status);
         let _ = log.ended(serial, status, self.site.live());
     }
 
-    /// The child of a connection could not be waited for.
-    pub fn retired<C: Job + Drop>(&mut self, running: Running<L, C>, serial: u64) {
+    fn retired(&mut self, running: Running<L, C>, serial: u64) {
         let mut log = self.log.lock(self.rt);
         self.site.retired(running);
         let _ = log.retired(serial, self.site.live());

@@ -1,7 +1,6 @@
 //! The server: it lets connections in, each served by a thread of its own, until it comes to an end.
 ghost use Rattle.std.specs.Thread.{IsSend, IsSync};
 
-use crate::accepting::Acceptor;
 use crate::connection::Server;
 use crate::gate::Gate;
 use crate::places::Hall;
@@ -18,6 +17,7 @@ use std::sync::{Mutex, Wait};
 use std::thread;
 use std::thread::Threads;
 use std::time::Clock;
+use tcp_connections::{Acceptor, Attendant};
 use wrapper_chain::LineStage;
 
 /// How a server ended.
@@ -101,12 +101,14 @@ where
     W: Write + Send,
 {
     let server = Server {
-        rt,
-        alloc,
         site,
         launcher,
-        log,
-        recording: service.recording,
+        attendant: Attendant {
+            rt,
+            alloc,
+            log,
+            recording: service.recording,
+        },
     };
     let gate = Gate {
         server,

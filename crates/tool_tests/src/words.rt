@@ -1,8 +1,8 @@
 //! Words, and the tool that they ask for.
 use std::test::Fail;
 use stream_tools::started::program_of;
-use ucspi_tools::choice::{Choice, choose};
-use ucspi_tools::tool::Tool;
+use tool_words::choice::{Choice, choose};
+use tool_words::tool::Tool;
 
 #[test]
 fn words_of_the_program(rt: HostRuntime) -> Result<(), Fail> {

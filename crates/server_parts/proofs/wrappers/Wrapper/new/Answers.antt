@@ -1,0 +1,9 @@
+use Rattle.std.proofs.Common.{sym, ap, ◌∙◌}
+use Rattle.server_parts.specs.Wrappers.{changed_by}
+use Rattle.server_parts.proofs.wrappers.Wrapper.new.Goals as goal
+
+pub returns-in-DelCr-clause-rest : goal.returns-in-DelCr-clause-rest
+returns-in-DelCr-clause-rest c = c.new.ensures ∙ sym (ap changed_by c.in-DelCr.is)
+
+pub returns-in-FixCr-clause-rest : goal.returns-in-FixCr-clause-rest
+returns-in-FixCr-clause-rest c = c.new-in-FixCr.ensures ∙ sym (ap changed_by c.in-FixCr.is)

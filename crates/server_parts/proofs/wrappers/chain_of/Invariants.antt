@@ -1,0 +1,10 @@
+use Rattle.std.proofs.Common.{◌≡◌, map, take}
+use Rattle.server_parts.specs.Wrappers.{changed_by}
+use Rattle.server_parts.proofs.Stages.{rest_of, whole_of}
+use Rattle.server_parts.proofs.wrappers.chain_of.Given as goal
+
+abbrev pub invariant-loop-name : goal.invariant-loop-name
+invariant-loop-name l = record {
+  rest : map rest_of l.wrappers.items ≡ map changed_by (take l.name-index l.names);
+  whole : map whole_of l.wrappers.items ≡ map changed_by (take l.name-index l.names);
+}

@@ -1,0 +1,47 @@
+//! How a server ends other than by its count.
+ghost use Rattle.std.specs.Prelude.{◌≡◌};
+ghost use Rattle.server_parts.specs.declared.fault.ServerFault.TheVariants.{OutOfMemory, Words};
+
+use server_words::ServerWordsFault;
+use std::alloc::AllocError;
+use thiserror::Error;
+
+/// Why `tcpserver` ends, in the order of its checks. It prints as what stands behind the tool's name.
+#[derive(Clone, Copy, PartialEq, Eq, Debug, Error)]
+pub enum ServerFault {
+    /// Its words are wrong.
+    #[error("{0}")]
+    Words(#[from] ServerWordsFault),
+    /// The host table could not be read.
+    #[error("read fault")]
+    ReadFault,
+    /// This line of the host table, from 1, is none.
+    #[error("host table line {0}")]
+    BadHosts(u64),
+    /// The folder of the rules file is not there, or the last part of its path is no name.
+    #[error("device fault")]
+    Device,
+    /// The port could not be printed.
+    #[error("write fault")]
+    WriteFault,
+    /// It can't listen at that address and port.
+    #[error("cannot listen")]
+    CannotListen,
+    /// A hundred faults of accepting came in succession.
+    #[error("accept fault")]
+    AcceptFault,
+    /// No child of any place could be waited for.
+    #[error("no places left")]
+    NoPlaces,
+    /// There was no memory for the server itself.
+    #[error("out of memory")]
+    OutOfMemory,
+}
+
+impl From<AllocError> for ServerFault {
+    ghost from_gives = { λ _ fault. fault ≡ OutOfMemory };
+
+    fn from(_error: AllocError) -> ServerFault {
+        ServerFault::OutOfMemory
+    }
+}

@@ -1,0 +1,185 @@
+//! What a server opens before it begins: its words, files, folder, socket and program.
+
+use crate::fault::ServerFault;
+use child_jobs::{Plan, Program};
+use dir_calls::{Name, NameFault};
+use dir_disk::{FolderFault, OsDir};
+use rule_lookup::Missing;
+use rules_tools::path::{folder_path, split_path};
+use server_words::ServerWords;
+use std::alloc::{AllocError, Global};
+use std::fs::{File, Files};
+use std::io::Write;
+use std::net::{Ipv4Addr, Net, OpenListener, SocketAddr, SocketAddrV4, TcpListener};
+use std::os::fd::AsRawFd;
+use std::rt::Env;
+use std::{fs, io};
+use stream_tools::started::inherited_variables;
+use tcp_connections::Names;
+use ucspi_env::{HostFault, HostTable, Local};
+
+/// The descriptor of standard error, the last of the standard ones.
+const STANDARD_ERROR: i32 = 2;
+
+/// The folder of a server without a rules file, which uses none: everybody may look at this one.
+const ROOT: &str = "/";
+
+/// Holds a standard descriptor, where the server was started without it, so that no connection gets it: a line of the log would go to a
+/// client else. Without such a descriptor nothing is held.
+pub fn stand_in<F: Files<File = File>>(files: &F) -> Option<File> {
+    let file = File::open(files, "/dev/null").ok()?;
+    (file.as_raw_fd() <= STANDARD_ERROR).then_some(file)
+}
+
+/// The words as texts. One that is no text counts as empty.
+///
+/// # Errors
+/// There was no memory.
+pub fn texts_of(alloc: Global, words: &[Vec<u8>]) -> Result<Vec<String>, AllocError> {
+    let mut texts = Vec::new(alloc);
+    for word in words {
+        texts.push(String::from_str(alloc, str::from_utf8(word).unwrap_or_default())?)?;
+    }
+    Ok(texts)
+}
+
+/// The names of the ends of connections, with the host table that the words name.
+///
+/// # Errors
+/// `ReadFault` where the table could not be read, `BadHosts` with the first bad line of it, `OutOfMemory`.
+pub fn names_of<F: Files + AllocGlobal>(
+    alloc: Global,
+    files: &F,
+    words: &ServerWords<'_>,
+) -> Result<Names, ServerFault> {
+    let hosts = match words.hosts() {
+        Some(path) => Some(read_hosts(alloc, files, path)?),
+        None => None,
+    };
+    let local = match words.local() {
+        Some(name) => Some(String::from_str(alloc, name)?),
+        None => None,
+    };
+    Ok(Names {
+        hosts,
+        local,
+        remote: words.names_remote(),
+        confirm: words.confirms(),
+    })
+}
+
+// The host table of a file.
+fn read_hosts<F: Files + AllocGlobal>(
+    alloc: Global,
+    files: &F,
+    path: &str,
+) -> Result<HostTable, ServerFault> {
+    let text = read_file(files, path)?;
+    match HostTable::read(alloc, text.as_slice()) {
+        Ok(table) => Ok(table),
+        Err(HostFault::BadLine(line)) => Err(ServerFault::BadHosts(line)),
+        Err(HostFault::OutOfMemory) => Err(ServerFault::OutOfMemory),
+    }
+}
+
+// All that a file holds.
+fn read_file<F: Files + AllocGlobal>(files: &F, path: &str) -> Result<Vec<u8>, ServerFault> {
+    match fs::read(files, path) {
+        Ok(text) => Ok(text),
+        Err(error) if error.kind() == io::ErrorKind::OutOfMemory => Err(ServerFault::OutOfMemory),
+        Err(_) => Err(ServerFault::ReadFault),
+    }
+}
+
+/// The folder of the rules file, and its name there with what is done where it is missing; without a rules file the folder is not used.
+///
+/// # Errors
+/// `Device` where the folder can't be used, or the last part of the path is no name; `OutOfMemory`.
+pub fn open_rules<'a, R>(
+    alloc: Global,
+    files: &'a R,
+    words: &ServerWords<'_>,
+) -> Result<(OsDir<&'a R>, Option<(Name, Missing)>), ServerFault>
+where
+    R: Files<File = File>,
+{
+    let Some(path) = words.rules() else {
+        return Ok((open_folder(alloc, files, ROOT)?, None));
+    };
+    let (folder, name) = split_path(path);
+    let name = match Name::new(alloc, name.as_bytes()) {
+        Ok(name) => name,
+        Err(NameFault::OutOfMemory) => return Err(ServerFault::OutOfMemory),
+        Err(_) => return Err(ServerFault::Device),
+    };
+    let dir = open_folder(alloc, files, folder_path(folder))?;
+    Ok((dir, Some((name, words.missing()))))
+}
+
+fn open_folder<'a, R>(alloc: Global, files: &'a R, path: &str) -> Result<OsDir<&'a R>, ServerFault>
+where
+    R: Files<File = File>,
+{
+    match OsDir::new(alloc, files, path) {
+        Ok(dir) => Ok(dir),
+        Err(FolderFault::OutOfMemory) => Err(ServerFault::OutOfMemory),
+        Err(_) => Err(ServerFault::Device),
+    }
+}
+
+/// A socket that listens at an address and port.
+///
+/// # Errors
+/// `CannotListen` with each fault of the system.
+pub fn listen<R: Net>(net: &R, ip: [u8; 4], port: u16) -> Result<R::Listener, ServerFault> {
+    let [a, b, c, d] = ip;
+    let end = SocketAddr::V4(SocketAddrV4::new(Ipv4Addr::new(a, b, c, d), port));
+    match TcpListener::bind(net, end) {
+        Ok(listener) => Ok(listener),
+        Err(_) => Err(ServerFault::CannotListen),
+    }
+}
+
+/// Prints the port of a listening socket.
+///
+/// # Errors
+/// `CannotListen` where the socket doesn't tell it, `WriteFault` where it could not be printed.
+pub fn print_port<R: Print, T: OpenListener>(rt: &R, listener: &T) -> Result<(), ServerFault> {
+    let Ok(end) = listener.local_addr() else {
+        return Err(ServerFault::CannotListen);
+    };
+    let mut writer = io::writer(rt);
+    let mut digits = itoa::Buffer::new();
+    let port = digits.format(end.port());
+    if writer.write_all(port.as_bytes()).is_err()
+        || writer.write_all(b"\n").is_err()
+        || writer.flush().is_err()
+    {
+        return Err(ServerFault::WriteFault);
+    }
+    Ok(())
+}
+
+// The program, with its arguments.
+fn program_of(alloc: Global, words: &ServerWords<'_>) -> Result<Program, AllocError> {
+    let mut args = Vec::new(alloc);
+    for word in words.service().args() {
+        args.push(String::from_str(alloc, word.as_str())?)?;
+    }
+    Ok(Program::new(String::from_str(alloc, words.service().path())?, args))
+}
+
+/// What each connection is served by; the server's end is set for each.
+///
+/// # Errors
+/// There was no memory.
+pub fn plan_of<R: Env>(
+    alloc: Global,
+    env: &R,
+    words: &ServerWords<'_>,
+) -> Result<Plan, ServerFault> {
+    let program = program_of(alloc, words)?;
+    let inherited = inherited_variables(alloc, env)?;
+    let banner = words.banner().to_vec(alloc)?;
+    Ok(Plan::new(program, inherited, Local::new([0; 4], 0, None), banner))
+}

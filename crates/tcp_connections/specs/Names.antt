@@ -1,0 +1,32 @@
+-- Which names the ends of a connection have.
+use Rattle.std.specs.Prelude.{ℕ, Bool, not, ◌&&◌, List, Option, Some, None, option_map, string_bytes, if◌then◌else◌}
+use Rattle.ucspi_env.specs.Hosts.{Hosts, name_of, confirms}
+use Rattle.tcp_connections.specs.declared.names.Names.{Names}
+
+-- the name that a table has of an address, where there is a table
+abbrev pub name_in : Option Hosts → List ℕ → Option (List ℕ)
+name_in None ip = None
+name_in (Some hosts) ip = name_of hosts ip
+
+-- a name, unless only names that the table confirms are wanted and it does not confirm this one
+abbrev pub kept_name : (confirm : Bool) → Hosts → (ip : List ℕ) → Option (List ℕ) → Option (List ℕ)
+kept_name confirm hosts ip None = None
+kept_name confirm hosts ip (Some name) = if confirm && not (confirms hosts name ip) then None else Some name
+
+-- the name that a table has of a client, as far as it is wanted
+abbrev pub wanted_name : (confirm : Bool) → Option Hosts → (ip : List ℕ) → Option (List ℕ)
+wanted_name confirm None ip = None
+wanted_name confirm (Some hosts) ip = kept_name confirm hosts ip (name_of hosts ip)
+
+-- the name of the client at an address
+abbrev pub client_name : Names → (ip : List ℕ) → Option (List ℕ)
+client_name names ip = if names.remote then wanted_name names.confirm names.hosts ip else None
+
+-- one name, or else another
+abbrev pub or_else : Option (List ℕ) → Option (List ℕ) → Option (List ℕ)
+or_else (Some name) other = Some name
+or_else None other = other
+
+-- the name of the server's end at an address: the one that was given, else the table's
+abbrev pub local_name : Names → (ip : List ℕ) → Option (List ℕ)
+local_name names ip = or_else (option_map string_bytes names.local) (name_in names.hosts ip)
