@@ -1,6 +1,6 @@
 use Rattle.std.proofs.Common.{arith}
 use Rattle.dir_calls.proofs.Scratches.{appended_room}
-use Rattle.disk_tests.proofs.dirs.make_patched.Goals as goal
+use Rattle.disk_probe.proofs.commands.make_patched.Goals as goal
 
 pub patch-requires : goal.patch-requires
 patch-requires g c = record {

@@ -1,0 +1,126 @@
+//! Runs commands on a directory in memory, and prints what each answers. The commands stand on standard input, one a line. The words say which
+//! directory: `memory`, `fuse CALL`, where that call fails, or `disk CALL MISHAP`, a folder of a disk whose call of that number has a mishap,
+//! counted from 1. `name`, `read PLACE ROOM` and `faults` are single calls without a directory. With no words it does nothing.
+#![tactic(auto)]
+
+mod commands;
+mod kinds;
+mod single;
+mod test_disk;
+
+use commands::{Fault, OwnCommands, Words, answer};
+use dir_calls::{Dir, FuseDir, MemDir};
+use dir_disk::DiskDir;
+use std::env::Args;
+use std::io::{BufRead, BufReader, ErrorKind, Read};
+use std::process::ExitCode;
+use std::{env, io};
+use test_disk::{Mishap, TestDisk};
+
+/// The words of a line, one space between each two.
+fn words_of(line: &str) -> Words<'_> {
+    let mut words = line.split(' ');
+    Words {
+        call: words.next().unwrap_or(""),
+        first: words.next().unwrap_or(""),
+        second: words.next().unwrap_or(""),
+        third: words.next().unwrap_or(""),
+    }
+}
+
+/// What is answered to words that ask for nothing.
+fn no_such() -> io::Error {
+    io::Error::from(ErrorKind::InvalidInput)
+}
+
+/// Runs all commands on a directory.
+fn run_commands<R: Input + Print + AllocGlobal, D: Dir + OwnCommands + Drop>(
+    rt: &R,
+    dir: D,
+) -> io::Result<()> {
+    let mut dir = dir;
+    let mut kept = Vec::new(rt.alloc());
+    for line in BufReader::new(rt.alloc(), rt.reader())?.lines(rt.alloc()) {
+        let line = line?;
+        match answer(rt.alloc(), &mut dir, &mut kept, &words_of(line.as_str())) {
+            Ok(text) => println!(rt; "{}", text.as_str())?,
+            Err(Fault::Call(fault)) => println!(rt; "{fault}")?,
+            Err(Fault::Words) => return Err(no_such()),
+        }
+    }
+    Ok(())
+}
+
+/// The next number among the words.
+fn next_number(words: &mut Args) -> io::Result<u64> {
+    match words.next() {
+        Some(word) => word.as_str().parse().map_err(|_| no_such()),
+        None => Err(no_such()),
+    }
+}
+
+/// The mishap that the next word names.
+fn next_mishap(words: &mut Args) -> io::Result<Mishap> {
+    let word = words.next().ok_or(no_such())?;
+    match word.as_str() {
+        "fails" => Ok(Mishap::Fails),
+        "fails_after" => Ok(Mishap::FailsAfter),
+        "interrupted" => Ok(Mishap::Interrupted),
+        "short" => Ok(Mishap::Short),
+        "stop" => Ok(Mishap::Stop),
+        _ => Err(no_such()),
+    }
+}
+
+/// Runs the commands on a folder of a disk.
+fn run_disk<R: Input + Print + AllocGlobal>(rt: &R, words: &mut Args) -> io::Result<()> {
+    let at = next_number(words)?;
+    let disk = TestDisk::new(rt.alloc(), at, next_mishap(words)?);
+    run_commands(rt, DiskDir::over(rt.alloc(), disk)?)
+}
+
+/// All bytes of standard input.
+fn input<R: Input + AllocGlobal>(rt: &R) -> io::Result<Vec<u8>> {
+    let mut bytes = Vec::new(rt.alloc());
+    rt.reader().read_to_end(&mut bytes)?;
+    Ok(bytes)
+}
+
+/// Makes a single read of a file.
+fn run_read<R: Input + Print + AllocGlobal>(rt: &R, words: &mut Args) -> io::Result<()> {
+    let place = next_number(words)?;
+    let Ok(room) = usize::try_from(next_number(words)?) else {
+        return Err(no_such());
+    };
+    single::print_read(rt, rt.alloc(), input(rt)?, place, room)
+}
+
+/// Runs what the first word names.
+fn run<R: Input + Print + AllocGlobal>(rt: &R, first: &str, words: &mut Args) -> io::Result<()> {
+    match first {
+        "memory" => run_commands(rt, MemDir::new(rt.alloc())),
+        "fuse" => {
+            let call = next_number(words)?;
+            run_commands(rt, FuseDir::new(MemDir::new(rt.alloc()), call))
+        }
+        "disk" => run_disk(rt, words),
+        "name" => single::print_name(rt, rt.alloc(), &input(rt)?),
+        "read" => run_read(rt, words),
+        "faults" => single::print_faults(rt),
+        _ => Err(no_such()),
+    }
+}
+
+fn main(rt: HostRuntime) -> ExitCode {
+    let Ok(mut words) = env::args(&rt) else {
+        return ExitCode::FAILURE;
+    };
+    let _program = words.next();
+    let Some(first) = words.next() else {
+        return ExitCode::SUCCESS;
+    };
+    match run(&rt, first.as_str(), &mut words) {
+        Ok(()) => ExitCode::SUCCESS,
+        Err(_) => ExitCode::FAILURE,
+    }
+}
