@@ -1,19 +1,16 @@
 //! The calls of one connection, by one caller of a site.
-ghost use Rattle.std.specs.Prelude.{◌≡◌, IfOk, IfSome, IfErr, OnErr, Some};
-ghost use Rattle.server_events.specs.declared.event.Event.TheVariants.{Ended, Retired};
-ghost use Rattle.site_lock.specs.Callers.{IsCountedFor, caller_number};
-ghost use Rattle.site_lock.specs.Receipts.{IsReceiptOf, event_serial};
-
 use child_jobs::{Job, Running};
 use child_table::Place;
 use dir_calls::Dir;
 use event_journals::Journal;
+use logged_desk::Living;
 use one_connection::{Desk, OpenFault, decide_by_pass};
 use rule_lookup::{DecideFault, Decision, DropCause, Peer, StartFault, Status};
 use server_yard::{Pass, Premises};
-use site_lock::{Caller, Callers, Receipt, Site, turns};
+use site_lock::{Caller, Callers, Site, turns};
 use std::alloc::Global;
 use std::sync::Wait;
+use tcp_connections::Endings;
 
 /// A caller of a site, as the desk of one connection at a time: each call is the site's of its name, made by this caller.
 ///
@@ -35,20 +32,34 @@ impl<'a, L: Premises, N: Callers, D: Dir + Drop, J: Journal, R: Wait> SiteDesk<'
     ) -> SiteDesk<'a, L, N, D, J, R> {
         SiteDesk { rt, site, caller }
     }
+}
 
-    /// The child of a connection has ended: `Site::ended`.
-    pub fn ended(&mut self, place: Place<L>, status: Status) -> Option<Receipt> {
-        self.site.ended(self.rt, self.caller, place, status)
-    }
-
-    /// The child of a connection could not be waited for: `Site::retired`.
-    pub fn retired<C: Job + Drop>(&mut self, running: Running<L, C>) -> Option<Receipt> {
-        self.site.retired(self.rt, self.caller, running)
-    }
-
-    /// How many connections are alive, retired ones too: `Site::live`.
-    pub fn live(&self) -> u64 {
+impl<L: Premises, N: Callers, D: Dir + Drop, J: Journal, R: Wait> Living
+    for SiteDesk<'_, L, N, D, J, R> {
+    fn live(&self) -> u64 {
         self.site.live(self.rt)
+    }
+}
+
+impl<L, N, D, J, R, C> Endings<L, C> for SiteDesk<'_, L, N, D, J, R>
+where
+    L: Premises,
+    N: Callers,
+    D: Dir + Drop,
+    J: Journal,
+    R: Wait,
+    C: Job + Drop,
+{
+    type Place = Place<L>;
+
+    type Child = Running<L, C>;
+
+    fn ended(&mut self, place: Place<L>, _serial: u64, status: Status) {
+        self.site.ended(self.rt, self.caller, place, status);
+    }
+
+    fn retired(&mut self, running: Running<L, C>, _serial: u64) {
+        self.site.retired(self.rt, self.caller, running);
     }
 }
 

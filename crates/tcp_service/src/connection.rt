@@ -1,10 +1,10 @@
 //! The thread of one connection.
-use crate::logged::LoggedDesk;
 use crate::service::Worker;
 use child_jobs::{Job, Launcher, Plan};
 use child_table::Place;
 use dir_calls::Dir;
 use event_journals::Journal;
+use logged_desk::LoggedDesk;
 use one_connection::{Desk, Served, serve_one};
 use rule_lookup::{DropCause, Peer};
 use server_yard::Premises;
@@ -106,8 +106,9 @@ where
         let mut caller = worker.caller.lock(rt);
         let mut desk = LoggedDesk {
             rt,
-            site: SiteDesk::new(rt, self.site, &mut caller),
+            desk: SiteDesk::new(rt, self.site, &mut caller),
             log: self.attendant.log,
+            serial: line.serial,
             local: plan.local(),
         };
         let served = serve_one(
@@ -146,8 +147,9 @@ where
         let mut caller = worker.caller.lock(rt);
         let mut desk = LoggedDesk {
             rt,
-            site: SiteDesk::new(rt, self.site, &mut caller),
+            desk: SiteDesk::new(rt, self.site, &mut caller),
             log: self.attendant.log,
+            serial: work.line.serial,
             local: work.plan.local(),
         };
         desk.dropped(place, work.line.serial, &work.peer, DropCause::NoThread);

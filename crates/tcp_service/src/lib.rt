@@ -4,7 +4,6 @@
 
 mod connection;
 mod gate;
-mod logged;
 mod places;
 pub mod service;
 pub mod serving;

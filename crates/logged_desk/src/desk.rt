@@ -1,0 +1,134 @@
+//! A desk whose events are told to a log.
+
+use child_jobs::{Job, Running};
+use child_table::Place;
+use one_connection::{Desk, OpenFault};
+use rule_lookup::{DecideFault, Decision, DropCause, Peer, StartFault, Status};
+use server_log::Log;
+use server_yard::Premises;
+use std::alloc::Global;
+use std::io::Write;
+use std::sync::ledger::Ledger;
+use std::sync::{Mutex, Wait};
+use tcp_connections::Endings;
+use ucspi_env::Local;
+
+/// What tells how many connections are alive.
+pub trait Living {
+    /// How many connections are alive, retired ones too.
+    fn live(&self) -> u64;
+}
+
+/// The desk of one connection: its calls go to another desk, and the lines of each event are written while the log is locked, so that lines
+/// stand in the order of events. A line that can't be written is left out.
+#[derive(Drop)]
+pub struct LoggedDesk<'a, K, R, W> {
+    /// The runtime.
+    pub rt: &'a R,
+    /// The desk to which the calls go.
+    pub desk: K,
+    /// The log.
+    pub log: &'a Mutex<Log<W>>,
+    /// The connection's serial number.
+    pub serial: u64,
+    /// The server's end of the connection.
+    pub local: &'a Local,
+}
+
+impl<L, C, K, R, W> Endings<L, C> for LoggedDesk<'_, K, R, W>
+where
+    L: Ledger,
+    C: Job,
+    K: Endings<L, C> + Living,
+    R: Wait,
+    W: Write,
+{
+    type Place = K::Place;
+
+    type Child = K::Child;
+
+    fn ended(&mut self, place: K::Place, serial: u64, status: Status) {
+        let mut log = self.log.lock(self.rt);
+        self.desk.ended(place, serial, status);
+        let _ = log.ended(serial, status, self.desk.live());
+    }
+
+    fn retired(&mut self, child: K::Child, serial: u64) {
+        let mut log = self.log.lock(self.rt);
+        self.desk.retired(child, serial);
+        let _ = log.retired(serial, self.desk.live());
+    }
+}
+
+impl<L: Premises, K: Desk<L> + Living, R: Wait, W: Write> Desk<L> for LoggedDesk<'_, K, R, W> {
+    type Place = K::Place;
+
+    type Pass = K::Pass;
+
+    ghost index = { K.index };
+
+    ghost opening = { K.opening };
+
+    ghost serial = { K.serial };
+
+    ghost honest = { K.honest };
+
+    ghost sound = { K.sound };
+
+    ghost stands = { λ logged. K.stands logged.desk };
+
+    ghost is_gone = { λ logged. K.is_gone logged.desk };
+
+    ghost finds = { λ logged. K.finds logged.desk };
+
+    ghost is_missing = { λ logged. K.is_missing logged.desk };
+
+    ghost failures = { λ logged. K.failures logged.desk };
+
+    ghost is_shared = { K.is_shared };
+
+    fn open(
+        &mut self,
+        alloc: Global,
+        place: &Place<L>,
+        number: u64,
+        peer: &Peer,
+    ) -> Result<K::Pass, OpenFault> {
+        self.desk.open(alloc, place, number, peer)
+    }
+
+    fn decide(alloc: Global, pass: &K::Pass, peer: &Peer) -> Result<Decision, DecideFault> {
+        K::decide(alloc, pass, peer)
+    }
+
+    fn decided(
+        &mut self,
+        alloc: Global,
+        place: &Place<L>,
+        pass: K::Pass,
+        peer: &Peer,
+        decision: Decision,
+    ) -> Result<(), (K::Pass, Decision)> {
+        let verdict = decision.verdict;
+        let mut log = self.log.lock(self.rt);
+        self.desk.decided(alloc, place, pass, peer, decision)?;
+        let _ = log.decided(verdict, self.serial, self.local, peer);
+        Ok(())
+    }
+
+    fn started<C: Job>(&mut self, running: &Running<L, C>, number: u64, peer: &Peer) {
+        self.desk.started(running, number, peer);
+    }
+
+    fn start_failed(&mut self, place: K::Place, number: u64, peer: &Peer, fault: StartFault) {
+        let mut log = self.log.lock(self.rt);
+        self.desk.start_failed(place, number, peer, fault);
+        let _ = log.start_failed(number, fault, self.desk.live());
+    }
+
+    fn dropped(&mut self, place: K::Place, number: u64, peer: &Peer, cause: DropCause) {
+        let mut log = self.log.lock(self.rt);
+        self.desk.dropped(place, number, peer, cause);
+        let _ = log.dropped(number, cause, self.desk.live());
+    }
+}
