@@ -61,7 +61,7 @@ def one_slot(number, place):
 
 EMPTY = pointers((256, 2048, 0))
 ONE_RULE = one_rule(2)
-# the keys "4." and "6l" in one table of four slots, where the probe of both begins at the last
+# the keys "4." and "6l" in one table of four slots, where the search for both begins at the last
 TWO_KEYS = (
     pointers((159, 2070, 0), (1, 2070, 4), (96, 2102, 0))
     + b"\x02\x00\x00\x00\x02\x00\x00\x004.D\x00\x02\x00\x00\x00\x00\x00\x00\x006l"

@@ -1,14 +1,13 @@
 //! Compiled files, and pieces of them.
-use crate::words::{append_line, bad_word, next_short};
+use crate::words::{append_text, bad_word, next_short};
 use cdb_write::{Maker, hash, header, record_piece, table_piece};
-use std::alloc::{AllocError, Global};
+use std::alloc::Global;
 use std::env::Args;
 use std::io;
 
 /// The hash of a key.
 pub fn append_hash(alloc: Global, key: &str, out: &mut Vec<u8>) -> io::Result<()> {
-    let line = format!(in alloc; "{}", hash(key.as_bytes()))?;
-    Ok(append_line(line.as_str().as_bytes(), out)?)
+    append_text(format!(in alloc; "{}", hash(key.as_bytes())), out)
 }
 
 /// The record of a key and a value.
@@ -60,12 +59,9 @@ fn add_pair(
     key: &str,
     value: &str,
     out: &mut Vec<u8>,
-) -> Result<(), AllocError> {
+) -> io::Result<()> {
     match maker.add(key.as_bytes(), value.as_bytes()) {
         Ok(()) => Ok(()),
-        Err(fault) => {
-            let line = format!(in alloc; "{fault}")?;
-            append_line(line.as_str().as_bytes(), out)
-        }
+        Err(fault) => append_text(format!(in alloc; "{fault}"), out),
     }
 }

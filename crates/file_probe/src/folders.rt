@@ -1,10 +1,10 @@
 //! Installations over a directory in memory.
-use crate::words::{append_line, bad_word, next_number, next_word};
+use crate::words::{append_line, append_text, bad_word, next_number, next_word};
 use dir_calls::{Choice, Dir, FuseDir, MemDir, MemFile, Name, RulesFile};
 use rule_lines::Limits;
 use rules_install::whole::{install, prepare};
 use rules_install::{Install, InstallFault, Names, Phase};
-use std::alloc::{AllocError, Global};
+use std::alloc::Global;
 use std::env::Args;
 use std::io;
 
@@ -15,13 +15,13 @@ const RULES: &[u8] = b"rules";
 
 /// The names that two words make, or why they make none.
 pub fn append_names(alloc: Global, words: &mut Args, out: &mut Vec<u8>) -> io::Result<()> {
-    let cdb = name_of(alloc, next_word(words)?.as_str().as_bytes())?;
-    let tmp = name_of(alloc, next_word(words)?.as_str().as_bytes())?;
-    let line = match Names::new(cdb, tmp) {
-        Ok(names) => format!(in alloc; "{} {}", names.cdb().as_str(), names.tmp().as_str())?,
-        Err(fault) => format!(in alloc; "{fault}")?,
+    let cdb = next_name(alloc, words)?;
+    let tmp = next_name(alloc, words)?;
+    let text = match Names::new(cdb, tmp) {
+        Ok(names) => format!(in alloc; "{} {}", names.cdb().as_str(), names.tmp().as_str()),
+        Err(fault) => format!(in alloc; "{fault}"),
     };
-    Ok(append_line(line.as_str().as_bytes(), out)?)
+    append_text(text, out)
 }
 
 /// Runs the commands that are left among the words on an empty directory, of which one call fails.
@@ -55,12 +55,9 @@ fn append_answer(
             append_whole(alloc, dir, &limits, words, out)
         }
         "steps" => append_all_steps(alloc, dir, next_word(words)?.as_str().as_bytes(), out),
-        "show" => append_file(alloc, dir, next_word(words)?.as_str().as_bytes(), out),
+        "show" => append_file(alloc, dir, &next_name(alloc, words)?, out),
         "left" => append_left(alloc, dir, choice_of(next_word(words)?.as_str())?, out),
-        "failures" => {
-            let line = format!(in alloc; "failures {}", dir.failures())?;
-            Ok(append_line(line.as_str().as_bytes(), out)?)
-        }
+        "failures" => append_text(format!(in alloc; "failures {}", dir.failures()), out),
         _ => Err(bad_word()),
     }
 }
@@ -83,6 +80,11 @@ fn name_of(alloc: Global, bytes: &[u8]) -> io::Result<Name> {
     }
 }
 
+/// The name that is the next word.
+fn next_name(alloc: Global, words: &mut Args) -> io::Result<Name> {
+    name_of(alloc, next_word(words)?.as_str().as_bytes())
+}
+
 /// The names of the rules file and of the scratch file.
 fn names(alloc: Global) -> io::Result<Names> {
     match Names::new(name_of(alloc, RULES)?, name_of(alloc, b"tmp")?) {
@@ -101,8 +103,8 @@ fn append_whole(
 ) -> io::Result<()> {
     let text = next_word(words)?;
     match install_text(alloc, dir, names(alloc)?, limits, text.as_str().as_bytes()) {
-        Ok(()) => Ok(append_line(b"installed", out)?),
-        Err(fault) => Ok(append_fault(alloc, &fault, out)?),
+        Ok(()) => append_line(b"installed", out),
+        Err(fault) => append_fault(alloc, &fault, out),
     }
 }
 
@@ -118,12 +120,14 @@ fn install_text(
 }
 
 /// Appends why an installation, or a step of one, fails.
-fn append_fault(alloc: Global, fault: &InstallFault, out: &mut Vec<u8>) -> Result<(), AllocError> {
-    let line = match fault {
-        InstallFault::Disk(fault, phase) => format!(in alloc; "{fault} at {phase}")?,
-        fault => format!(in alloc; "{fault}")?,
-    };
-    append_line(line.as_str().as_bytes(), out)
+fn append_fault(alloc: Global, fault: &InstallFault, out: &mut Vec<u8>) -> io::Result<()> {
+    match fault {
+        InstallFault::Disk(fault, phase) => append_text(
+            format!(in alloc; "{fault} at {phase}"),
+            out,
+        ),
+        fault => append_text(format!(in alloc; "{fault}"), out),
+    }
 }
 
 /// Installs a text step by step, and makes one step more. Appends the answers, with what stops then leave, and whether a step is said to
@@ -147,11 +151,11 @@ fn append_all_steps(
         }
         is_ended = matches!(answer, Ok(Phase::Done) | Err(_));
     }
-    Ok(append_stepped(&install, out)?)
+    append_stepped(&install, out)
 }
 
 /// Appends whether a step is said to have been made.
-fn append_stepped(install: &Install, out: &mut Vec<u8>) -> Result<(), AllocError> {
+fn append_stepped(install: &Install, out: &mut Vec<u8>) -> io::Result<()> {
     if install.stepped() {
         append_line(b"stepped", out)
     } else {
@@ -183,23 +187,25 @@ fn append_left(
     out: &mut Vec<u8>,
 ) -> io::Result<()> {
     let left = dir.inner().crash(alloc, choice)?;
-    append_file(alloc, &mut FuseDir::new(left, 0), RULES, out)
+    append_file(
+        alloc,
+        &mut FuseDir::new(left, 0),
+        &name_of(alloc, RULES)?,
+        out,
+    )
 }
 
 /// Appends the file with a name.
 fn append_file(
     alloc: Global,
     dir: &mut FuseDir<MemDir>,
-    name: &[u8],
+    name: &Name,
     out: &mut Vec<u8>,
 ) -> io::Result<()> {
-    match dir.open(alloc, &name_of(alloc, name)?) {
+    match dir.open(alloc, name) {
         Ok(Some(file)) => append_bytes(alloc, &file, out),
-        Ok(None) => Ok(append_line(b"no file", out)?),
-        Err(fault) => {
-            let line = format!(in alloc; "{fault}")?;
-            Ok(append_line(line.as_str().as_bytes(), out)?)
-        }
+        Ok(None) => append_line(b"no file", out),
+        Err(fault) => append_text(format!(in alloc; "{fault}"), out),
     }
 }
 
@@ -210,7 +216,7 @@ fn append_bytes(alloc: Global, file: &MemFile, out: &mut Vec<u8>) -> io::Result<
     };
     let mut bytes = vec![in alloc; 0; len]?;
     match file.read_at(0, &mut bytes) {
-        Ok(count) if count == len => Ok(append_line(&bytes, out)?),
+        Ok(count) if count == len => append_line(&bytes, out),
         _ => Err(bad_word()),
     }
 }

@@ -1,11 +1,11 @@
 //! Look-ups in a compiled file.
 ghost use Rattle.std.specs.Prelude.{[], false};
 
-use crate::words::{append_line, next_number, next_word};
+use crate::words::{append_line, append_text, next_number, next_word};
 use cdb_read::CdbFile;
 use dir_calls::{DeviceFault, MemFile, RulesFile};
 use rule_lines::{FindFault, PairSource};
-use std::alloc::{AllocError, Global};
+use std::alloc::Global;
 use std::cell::Cell;
 use std::env::Args;
 use std::io;
@@ -85,17 +85,14 @@ fn append_value(
     alloc: Global,
     found: Result<Option<Vec<u8>>, FindFault>,
     out: &mut Vec<u8>,
-) -> Result<(), AllocError> {
+) -> io::Result<()> {
     match found {
         Ok(Some(value)) => {
             out.extend_from_slice(b"value ")?;
             append_line(&value, out)
         }
         Ok(None) => append_line(b"none", out),
-        Err(fault) => {
-            let line = format!(in alloc; "{fault}")?;
-            append_line(line.as_str().as_bytes(), out)
-        }
+        Err(fault) => append_text(format!(in alloc; "{fault}"), out),
     }
 }
 
@@ -110,7 +107,7 @@ pub fn append_found(
     let most = usize::try_from(next_number(words)?).unwrap_or(usize::MAX);
     let failing = next_number(words)?;
     let found = look_up(alloc, &Log::new(), given, most, failing, key.as_str());
-    Ok(append_value(alloc, found, out)?)
+    append_value(alloc, found, out)
 }
 
 /// How many reads a look-up makes, and how many bytes they give.
@@ -123,8 +120,8 @@ pub fn append_reads(
     let key = next_word(words)?;
     let log = Log::new();
     let _found = look_up(alloc, &log, given, usize::MAX, 0, key.as_str());
-    let line = format!(in alloc; "{} reads of {} bytes", log.reads.get(), log.bytes.get())?;
-    Ok(append_line(line.as_str().as_bytes(), out)?)
+    let (reads, bytes) = (log.reads.get(), log.bytes.get());
+    append_text(format!(in alloc; "{reads} reads of {bytes} bytes"), out)
 }
 
 /// What is found under a key in each file that has only the first bytes of this one, from none on.

@@ -33,8 +33,12 @@ pub fn next_short(words: &mut Args) -> io::Result<u32> {
 }
 
 /// Appends some bytes and a line feed.
-pub fn append_line(line: &[u8], out: &mut Vec<u8>) -> Result<(), AllocError> {
+pub fn append_line(line: &[u8], out: &mut Vec<u8>) -> io::Result<()> {
     out.extend_from_slice(line)?;
-    out.push(b'\n')?;
-    Ok(())
+    Ok(out.push(b'\n')?)
+}
+
+/// Appends a text and a line feed.
+pub fn append_text(text: Result<String, AllocError>, out: &mut Vec<u8>) -> io::Result<()> {
+    append_line(text?.as_str().as_bytes(), out)
 }
