@@ -11,6 +11,7 @@ mod test_disk;
 use commands::{Fault, OwnCommands, Words, answer};
 use dir_calls::{Dir, FuseDir, MemDir};
 use dir_disk::DiskDir;
+use std::alloc::Global;
 use std::env::Args;
 use std::io::{BufRead, BufReader, ErrorKind, Read};
 use std::process::ExitCode;
@@ -33,20 +34,29 @@ fn no_such() -> io::Error {
     io::Error::from(ErrorKind::InvalidInput)
 }
 
+/// Runs a command, and prints its answer.
+fn obey<R: Print, D: Dir + OwnCommands>(
+    rt: &R,
+    alloc: Global,
+    dir: &mut D,
+    kept: &mut Vec<D::File>,
+    line: &str,
+) -> io::Result<()> {
+    match answer(alloc, dir, kept, &words_of(line)) {
+        Ok(text) => println!(rt; "{}", text.as_str()),
+        Err(Fault::Call(fault)) => println!(rt; "{fault}"),
+        Err(Fault::Words) => Err(no_such()),
+    }
+}
+
 /// Runs all commands on a directory.
 fn run_commands<R: Input + Print + AllocGlobal, D: Dir + OwnCommands + Drop>(
     rt: &R,
-    dir: D,
+    mut dir: D,
 ) -> io::Result<()> {
-    let mut dir = dir;
     let mut kept = Vec::new(rt.alloc());
     for line in BufReader::new(rt.alloc(), rt.reader())?.lines(rt.alloc()) {
-        let line = line?;
-        match answer(rt.alloc(), &mut dir, &mut kept, &words_of(line.as_str())) {
-            Ok(text) => println!(rt; "{}", text.as_str())?,
-            Err(Fault::Call(fault)) => println!(rt; "{fault}")?,
-            Err(Fault::Words) => return Err(no_such()),
-        }
+        obey(rt, rt.alloc(), &mut dir, &mut kept, line?.as_str())?;
     }
     Ok(())
 }

@@ -68,6 +68,22 @@ fn copied(alloc: Global, names: &[(String, usize)]) -> Result<Vec<(String, usize
     Ok(copy)
 }
 
+// Bytes with others over them from a place on, or at their end.
+fn overwritten(
+    alloc: Global,
+    bytes: &[u8],
+    place: usize,
+    others: &[u8],
+) -> Result<Vec<u8>, AllocError> {
+    let end = bytes.len().min(place);
+    let mut written = bytes[..end].to_vec(alloc)?;
+    written.extend_from_slice(others)?;
+    if let Some(rest) = bytes.get(written.len()..) {
+        written.extend_from_slice(rest)?;
+    }
+    Ok(written)
+}
+
 impl TestDisk {
     /// An empty disk, whose call number `at` has a mishap, counted from 1.
     pub fn new(alloc: Global, at: u64, mishap: Mishap) -> Self {
@@ -135,6 +151,15 @@ impl TestDisk {
 
     fn place_of(&self, name: &str) -> Option<usize> {
         self.names.iter().position(|entry| entry.0.as_str() == name)
+    }
+
+    // Takes a name away, if it stands.
+    fn forget(&mut self, name: &str) {
+        if let Some(place) = self.place_of(name) {
+            if place < self.names.len() {
+                self.names.remove(place);
+            }
+        }
     }
 
     fn number_of(&self, name: &str) -> io::Result<usize> {
@@ -213,12 +238,8 @@ impl Disk for TestDisk {
 
     fn unlink(&mut self, _folder: &(), path: &String) -> io::Result<()> {
         let met = self.met()?;
-        let Some(place) = self.place_of(path.as_str()) else {
-            return Err(fault(ErrorKind::NotFound));
-        };
-        if place < self.names.len() {
-            self.names.remove(place);
-        }
+        self.number_of(path.as_str())?;
+        self.forget(path.as_str());
         self.answered(met, ())
     }
 
@@ -250,14 +271,7 @@ impl Disk for TestDisk {
             return Err(fault(ErrorKind::Other));
         };
         held.synced = false;
-        let end = held.bytes.len().min(place as usize);
-        let mut written = held.bytes[..end].to_vec(self.alloc)?;
-        written.extend_from_slice(&bytes[..count])?;
-        if written.len() < held.bytes.len() {
-            let rest = written.len();
-            written.extend_from_slice(&held.bytes[rest..])?;
-        }
-        held.bytes = written;
+        held.bytes = overwritten(self.alloc, &held.bytes, place as usize, &bytes[..count])?;
         self.answered(met, count)
     }
 
@@ -278,13 +292,8 @@ impl Disk for TestDisk {
         let met = self.met()?;
         let number = self.number_of(from.as_str())?;
         let name = String::from_str(self.alloc, to.as_str())?;
-        for gone in [from, to] {
-            if let Some(place) = self.place_of(gone.as_str()) {
-                if place < self.names.len() {
-                    self.names.remove(place);
-                }
-            }
-        }
+        self.forget(from.as_str());
+        self.forget(to.as_str());
         self.names.push((name, number))?;
         self.answered(met, ())
     }
