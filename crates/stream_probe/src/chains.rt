@@ -2,7 +2,6 @@
 //! written; `back` goes back to the text's beginning, with nothing written; and `pump` is of the module `pumps`.
 use crate::pumps::pump_next;
 use crate::words::{bad_word, next_number, next_word, number_of};
-use std::alloc::Global;
 use std::env::Args;
 use std::io;
 use wrapper_chain::{AddCr, Chain, ChainFault, DelCr, FixCr, Stage};
@@ -16,26 +15,9 @@ pub struct Stream<'a> {
     pub out: Vec<u8>,
 }
 
-/// Makes all calls, on the chain that the next words describe.
+/// Makes all calls, on a chain of so many stages as the next word says, which the words after it name.
 pub fn run_calls<R: Print + AllocGlobal>(rt: &R, text: &[u8], words: &mut Args) -> io::Result<()> {
     let alloc = rt.alloc();
-    let mut stream = Stream {
-        chain: next_chain(alloc, words)?,
-        text,
-        left: text,
-        out: Vec::new(alloc),
-    };
-    for _ in 0..u64::MAX {
-        let Some(word) = words.next() else {
-            break;
-        };
-        call(rt, &mut stream, word.as_str(), words)?;
-    }
-    Ok(())
-}
-
-/// A chain of so many stages as the next word says, which the words after it name.
-fn next_chain(alloc: Global, words: &mut Args) -> io::Result<Chain<Stage>> {
     let mut stages: Vec<Stage> = Vec::new(alloc);
     for _ in 0..next_number(words)? {
         match next_word(words)?.as_str() {
@@ -45,7 +27,28 @@ fn next_chain(alloc: Global, words: &mut Args) -> io::Result<Chain<Stage>> {
             _ => return Err(bad_word()),
         }
     }
-    Ok(Chain::new(alloc, stages))
+    let mut stream = Stream {
+        chain: Chain::new(alloc, stages),
+        text,
+        left: text,
+        out: Vec::new(alloc),
+    };
+    call_all(rt, &mut stream, words)
+}
+
+/// Makes the calls that the words that are left ask for.
+fn call_all<R: Print + AllocGlobal>(
+    rt: &R,
+    stream: &mut Stream<'_>,
+    words: &mut Args,
+) -> io::Result<()> {
+    for _ in 0..u64::MAX {
+        let Some(word) = words.next() else {
+            break;
+        };
+        call(rt, stream, word.as_str(), words)?;
+    }
+    Ok(())
 }
 
 /// Makes a call, and prints its answer.
