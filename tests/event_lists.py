@@ -71,9 +71,13 @@ AFTER_A_STOP = "admitted 1000 live 0 retired 0 most 201, 4201 events"
 # of the connections 1 and 2, which have four events and five, the fifth and the ninth event
 FIFTH, NINTH = "caller 2: admitted 2 10.0.2.1", "caller 3: ended 2 3"
 
-# a place, the pipe ends of its child and two kills, each wait, and the place that is given back
+# a place; that of its child, whose pipe ends are asked for and which is killed twice; each wait; and the place that is given back
 JOBS = [
-    ("a wait that fails once", ["job", "1"], ["place 0", "no ends true, kills Ok(()) Err(Failed)", "Failed, place 0, live 1", "Code(7)", "place 0, live 0"]),
+    (
+        "a wait that fails once",
+        ["job", "1"],
+        ["place 0", "place 0, no ends true, kills Ok(()) Err(Failed)", "Failed, place 0, live 1", "Code(7)", "place 0, live 0"],
+    ),
     ("a program that does not start", ["no_job", "1"], ["place 0", "Refused", "place 0, live 0"]),
 ]
 

@@ -127,8 +127,12 @@ fn wait_for<L: Ledger>(
     mut running: Running<L, Stubborn>,
     lines: &mut String,
 ) {
+    let index = running.place().index();
     let (no_ends, first, second) = (running.ends().is_err(), running.kill(), running.kill());
-    let _ = writeln!(lines, "no ends {no_ends}, kills {first:?} {second:?}");
+    let _ = writeln!(
+        lines,
+        "place {index}, no ends {no_ends}, kills {first:?} {second:?}"
+    );
     for _ in 0..WAITS {
         match finish(running) {
             Ok((place, status)) => {
