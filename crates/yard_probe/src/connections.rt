@@ -1,7 +1,7 @@
 //! Connections one after the other, which end in five ways by turns.
 ghost use Rattle.std.specs.Prelude.{◌≡◌, false};
 
-use crate::shown::{peer_of, print_events};
+use crate::shown::{peer_of, print_events, print_report};
 use child_table::Place;
 use dir_calls::MemDir;
 use rule_lines::Verdict;
@@ -60,12 +60,7 @@ fn print_all<R: Print, L: Premises, J: Journal>(
     for number in 0..connections {
         serve(alloc, yard, (number % 5) as u8)?;
     }
-    let report = yard.journal().report();
-    let events = yard.journal().events();
-    println!(rt;
-        "admitted {} live {} retired {} most {}, {events} events",
-        report.admitted, report.live, report.retired, report.most
-    )
+    print_report(rt, &yard.journal().report(), yard.journal().events())
 }
 
 /// One connection from its admission to its end, which is by the kind.

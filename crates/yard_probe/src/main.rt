@@ -1,27 +1,53 @@
-//! Makes calls of a yard over directories in memory, and prints what each answers. The words are the name of a case and its number; with none
-//! it does nothing.
+//! Makes calls of a yard over directories in memory, of journals and of jobs, and prints what each answers. The words are the name of a case
+//! and its number, for some a second one; with none it does nothing.
 #![tactic(auto)]
 
 mod connections;
+mod events;
 mod installations;
+mod jobs;
 mod limits;
 mod shown;
 
+use rule_lookup::StartFault;
 use std::alloc::Global;
+use std::env::Args;
 use std::marker::Brand;
 use std::process::ExitCode;
 use std::sync::ledger::Blank;
 use std::{env, io};
 
 /// Runs a case.
-fn run<R: Print>(rt: &R, alloc: Global, name: &str, number: u64) -> io::Result<()> {
+fn run<R: Input + Print>(
+    rt: &R,
+    alloc: Global,
+    name: &str,
+    number: u64,
+    second: u64,
+) -> io::Result<()> {
     match name {
         "limit" => limits::print_limit::<R, Brand>(rt, alloc, Blank::new(number), number),
         "counted" => connections::print_counted::<R, Brand>(rt, alloc, Blank::new(number), number),
         "stored" => connections::print_stored::<R, Brand>(rt, alloc, Blank::new(number), number),
         "fault" => installations::print_installation::<R, Brand>(rt, alloc, Blank::new(1), number),
+        "replay" => events::print_replay(rt, alloc, number, second),
+        "count_events" => events::print_counted(rt, alloc, number),
+        "store_events" => events::print_stored(rt, alloc, number),
+        "job" | "no_job" => {
+            let fails = if name == "job" {
+                Ok(number)
+            } else {
+                Err(StartFault::Refused)
+            };
+            jobs::print_job::<R, Brand>(rt, alloc, Blank::new(1), fails)
+        }
         _ => Err(io::Error::from(io::ErrorKind::InvalidInput)),
     }
+}
+
+/// The next number among the words.
+fn next_number(words: &mut Args) -> Option<u64> {
+    words.next()?.as_str().parse().ok()
 }
 
 fn main(rt: HostRuntime) -> ExitCode {
@@ -29,11 +55,15 @@ fn main(rt: HostRuntime) -> ExitCode {
         return ExitCode::FAILURE;
     };
     let _program = words.next();
-    let (Some(name), Some(number)) = (words.next(), words.next()) else {
+    let Some(name) = words.next() else {
         return ExitCode::SUCCESS;
     };
-    match number.as_str().parse::<u64>() {
-        Ok(number) if run(&rt, rt.alloc(), name.as_str(), number).is_ok() => ExitCode::SUCCESS,
-        _ => ExitCode::FAILURE,
+    let Some(number) = next_number(&mut words) else {
+        return ExitCode::FAILURE;
+    };
+    let second = next_number(&mut words).unwrap_or(number);
+    match run(&rt, rt.alloc(), name.as_str(), number, second) {
+        Ok(()) => ExitCode::SUCCESS,
+        Err(_) => ExitCode::FAILURE,
     }
 }

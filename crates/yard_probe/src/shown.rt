@@ -4,7 +4,7 @@ use dir_calls::{Choice, Dir, MemDir};
 use rule_lines::Verdict;
 use rule_lookup::{Missing, Peer, Status, decide};
 use rules_install::{InstallFault, Phase};
-use server_core::{Event, Full, Journal};
+use server_core::{Event, Full, Journal, Report};
 use std::alloc::{AllocError, Global};
 use std::io;
 use yard_steps::{rules_name, stuck};
@@ -59,8 +59,16 @@ fn code_of(status: Status) -> u8 {
     }
 }
 
+/// A report and a number of events.
+pub fn print_report<R: Print>(rt: &R, report: &Report, events: u64) -> io::Result<()> {
+    println!(rt;
+        "admitted {} live {} retired {} most {}, {events} events",
+        report.admitted, report.live, report.retired, report.most
+    )
+}
+
 /// An admission, an opening or a decision in the words of a script, or another event.
-fn event_words(alloc: Global, event: &Event) -> Result<String, AllocError> {
+pub fn event_words(alloc: Global, event: &Event) -> Result<String, AllocError> {
     match event {
         Event::Admitted { serial, peer } => {
             let [a, b, c, d] = peer.ip();

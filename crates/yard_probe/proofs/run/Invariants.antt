@@ -24,3 +24,6 @@ ghosts-print_installation-L-Ledger g a = record { name = a.blank.name; parts = a
 
 abbrev pub ghosts-print_installation-L-Premises : goal.ghosts-print_installation-L-Premises
 ghosts-print_installation-L-Premises g a = record { met = false }
+
+abbrev pub ghosts-print_job : goal.ghosts-print_job
+ghosts-print_job g a = record { name = a.blank.name; parts = a.blank.parts }
