@@ -1,0 +1,95 @@
+//! The lines of the log.
+use crate::arguments::{Arguments, shown};
+use byte_text::{push_number, push_text, whole_or_none};
+use rule_lines::Verdict;
+use rule_lookup::{DropCause, Peer, StartFault, Status};
+use status_lines::{
+    drop_address_line, drop_line, end_line, pid_from, retired_line, start_fault_line, status,
+    verdict_line,
+};
+use std::alloc::{AllocError, Global};
+
+/// Adds the standard input with a line behind it.
+pub fn push_line(
+    alloc: Global,
+    call: &str,
+    given: &Arguments,
+    out: &mut String,
+) -> Result<(), AllocError> {
+    let mut lines = Vec::from_slice(alloc, given.input())?;
+    append(call, given, &mut lines)?;
+    out.push_str(shown(&lines))
+}
+
+/// Appends a line to others.
+fn append(call: &str, given: &Arguments, lines: &mut Vec<u8>) -> Result<(), AllocError> {
+    let serial = given.number("serial");
+    match call {
+        "status" => status(given.number("live"), given.number("limit"), lines),
+        "pid" => pid_from(serial, given.address("ip"), lines),
+        "end" => end_line(serial, status_of(given), lines),
+        "retired" => retired_line(serial, lines),
+        "drop" => drop_line(serial, cause_of(given), lines),
+        "start" => start_fault_line(serial, start_fault_of(given), lines),
+        _ => drop_address_line(given.address("ip"), lines),
+    }
+}
+
+/// Adds the standard input with the line of a verdict behind it.
+pub fn push_verdict(
+    alloc: Global,
+    given: &Arguments,
+    verdict: Verdict,
+    peer: &Peer,
+    out: &mut String,
+) -> Result<(), AllocError> {
+    let local = given.local(alloc)?;
+    let mut lines = Vec::from_slice(alloc, given.input())?;
+    verdict_line(verdict, given.number("serial"), &local, peer, &mut lines)?;
+    out.push_str(shown(&lines))
+}
+
+/// How a child ended: by its code, or by a signal.
+fn status_of(given: &Arguments) -> Status {
+    match given.text("code").parse() {
+        Ok(code) => Status::Code(code),
+        Err(_) => Status::Signal,
+    }
+}
+
+/// The cause with a name.
+fn cause_of(given: &Arguments) -> DropCause {
+    match given.text("cause") {
+        "banner" => DropCause::Banner,
+        "directory" => DropCause::Directory,
+        "read fault" => DropCause::ReadFault,
+        "damaged" => DropCause::Damaged,
+        "memory" => DropCause::Memory,
+        "no thread" => DropCause::NoThread,
+        _ => DropCause::Denied,
+    }
+}
+
+/// The fault of a start with a name, or none where the child has no pipe ends.
+fn start_fault_of(given: &Arguments) -> Option<StartFault> {
+    match given.text("fault") {
+        "not found" => Some(StartFault::NotFound),
+        "refused" => Some(StartFault::Refused),
+        "memory" => Some(StartFault::OutOfMemory),
+        "other" => Some(StartFault::Other),
+        _ => None,
+    }
+}
+
+/// Adds the standard input with a whole of a text and a number behind it, and then what is left of this when the whole is taken back, as for want
+/// of memory.
+pub fn push_whole(alloc: Global, given: &Arguments, out: &mut String) -> Result<(), AllocError> {
+    let mut lines = Vec::from_slice(alloc, given.input())?;
+    let whole = lines.len();
+    push_text(&mut lines, given.text("text"))?;
+    push_number(&mut lines, given.number("number"))?;
+    whole_or_none(&mut lines, whole, Ok(()))?;
+    writeln!(out, "{}", shown(&lines))?;
+    let done = whole_or_none(&mut lines, whole, Err(AllocError));
+    writeln!(out, "{done:?} {}", shown(&lines))
+}
