@@ -279,6 +279,7 @@ PREFIX_RULES = "10.2-3.:deny\n10.3.0.1:allow\n"
 SETTING_RULES = '18.23.0.32:allow,R="2"\n127.:allow,R="3"\n:allow,R="4"\n'
 USER_RULES = 'joe@127.0.0.1:allow,R="1"\n' + SETTING_RULES
 # rules, a peer's address and names, and what is decided of it
+NAME_RULES = 'Joe@=Mail.Example:deny\n=.example:allow,A="b"\n=:deny\n'
 DECISIONS = [
     (ADDRESS_RULES, ["ip=1.2.3.36"], "rule : deny"),
     (ADDRESS_RULES, ["ip=1.2.3.37"], "rule 1.2.3.37: allow"),
@@ -306,6 +307,16 @@ DECISIONS = [
     (USER_RULES, ["ip=127.0.0.1", "info=bill"], "rule 127.: allow R=3"),
     (USER_RULES, ["ip=127.0.0.1", "host=a", "info=joe"], "rule joe@127.0.0.1: allow R=1"),
     (USER_RULES, ["ip=127.0.0.1"], "rule 127.: allow R=3"),
+    (USER_RULES, ["ip=18.23.0.32"], "rule 18.23.0.32: allow R=2"),
+    (USER_RULES, ["ip=10.119.75.38"], "rule : allow R=4"),
+    (NAME_RULES, ["ip=1.1.1.1", "host=mail.EXAMPLE", "info=Joe"], "rule Joe@=mail.example: deny"),
+    (NAME_RULES, ["ip=1.1.1.1", "host=mail.EXAMPLE"], "rule =.example: allow A=b"),
+    (NAME_RULES, ["ip=1.1.1.1", "host=b"], "rule =: deny"),
+    (NAME_RULES, ["ip=1.1.1.1"], "default: allow"),
+    ("", ["ip=10.0.0.1"], "default: allow"),
+    ("4.:deny\n4.:allow\n", ["ip=6.1.1.1"], "default: allow"),
+    ("4.:deny\n6l:allow\n", ["ip=4.1.1.1"], "rule 4.: deny"),
+    ("4.:deny\n6l:allow\n", ["ip=6.1.1.1"], "default: allow"),
     ("=A.Example:deny", ["ip=127.0.0.1", "host=a.EXAMPLE"], "rule =a.example: deny"),
     ("Joe@=A:deny", ["ip=127.0.0.1", "host=A", "info=Joe"], "rule Joe@=a: deny"),
     ("Joe@127.0.0.1:deny", ["ip=127.0.0.1", "info=joe"], "default: allow"),
