@@ -16,7 +16,7 @@ NAMES := $(filter-out ucspi,$(basename $(notdir $(PAGES))))
 PROGRAM := crates/ucspi/out/ucspi
 BENCH := crates/ucspi_bench/out/ucspi_bench
 # small programs that make calls for the tests
-PROBES := $(foreach name,dir_probe yard_probe connection_probe stream_probe table_probe file_probe disk_probe text_probe,crates/$(name)/out/$(name))
+PROBES := $(foreach name,yard_probe call_probe disk_probe text_probe service_probe,crates/$(name)/out/$(name))
 SOURCES := HANDLES crates.txt $(shell find crates -name out -prune -o -type f -print)
 
 .PHONY: all run check probes bench install uninstall

@@ -1,4 +1,4 @@
-"""Calls that write compiled files, look keys up in them and install rules in a directory in memory, by the program file_probe. Files are compared
+"""Calls that write compiled files, look keys up in them and install rules in a directory in memory, by the program call_probe. Files are compared
 byte for byte with worked ones, and with those of a plain writer."""
 import struct
 
@@ -111,7 +111,7 @@ def check_many_pairs(calls):
     """Each first pair of many is found, and nothing else."""
     pairs = [(b"key %d" % (number % MANY_KEYS), b"value %d" % number) for number in range(MANY)]
     given = b"".join(key + b"\t" + value + b"\n" for key, value in pairs)
-    code, file = probes.run([calls.program, "pairs", "1000000"], given)
+    code, file = probes.run([calls.program, "file", "pairs", "1000000"], given)
     wanted = [(key, value) for key, value in pairs[:MANY_KEYS]] + [(b"key %d" % MANY_KEYS, None), (b"", None)]
     differing = [key for key, value in wanted if first_value(file, key) != value] if code == 0 else ["exit %d" % code]
     calls.tests += 2
@@ -225,7 +225,7 @@ def check_folders(calls):
         for name, call, words, lines in cases:
             calls.tests += 1
             wanted = b"".join(line + b"\n" for line in lines)
-            outcome = probes.run([calls.program, "folder", str(call)] + words)
+            outcome = probes.run([calls.program, "file", "folder", str(call)] + words)
             if outcome != (0, wanted):
                 failure = (calls.group, name, outcome[0], named(outcome[1]), named(wanted))
                 calls.failures.append("%s: %s: exit %d, %r, and not %r" % failure)
@@ -233,7 +233,7 @@ def check_folders(calls):
 
 def check(program, failures):
     """Counts the cases, and adds a line to the failures for each that prints otherwise."""
-    calls = probes.Calls(program, "file_calls", failures)
+    calls = probes.Calls(program, "file_calls", failures, "file")
     for part in (check_pieces, check_pairs, check_many_pairs, check_found, check_cut, check_folders):
         part(calls)
     same = "the rules file and the scratch file have one name\n"

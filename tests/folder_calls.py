@@ -1,4 +1,4 @@
-"""Calls of a directory on a real folder, by the program dir_probe: what they answer, what they leave, and which system calls they make."""
+"""Calls of a directory on a real folder, by the program disk_probe: what they answer, what they leave, and which system calls they make."""
 import os
 import pwd
 import re
@@ -32,7 +32,7 @@ class Probe:
 
     def answers(self, folder, words, **how):
         """The lines that these calls answer."""
-        command = [self.program, folder] + words.split()
+        command = [self.program, "folder", folder] + words.split()
         ended = subprocess.run(command, stdout=subprocess.PIPE, stderr=subprocess.STDOUT, timeout=60, **how)
         lines = ended.stdout.decode().split("\n")[:-1]
         return lines if ended.returncode == 0 else lines + ["exit %d" % ended.returncode]
@@ -103,7 +103,7 @@ def system_calls(probe, folder, words):
     """The system calls on the folder and its files, each as its name and its file."""
     trace = os.path.join(folder, "..", "trace")
     calls = "trace=openat,unlink,unlinkat,write,pwrite64,fsync,close,rename,renameat,renameat2"
-    subprocess.run(["strace", "-y", "-o", trace, "-e", calls, probe.program, folder] + words.split(), stdout=subprocess.DEVNULL, timeout=60, check=True)
+    subprocess.run(["strace", "-y", "-o", trace, "-e", calls, probe.program, "folder", folder] + words.split(), stdout=subprocess.DEVNULL, timeout=60, check=True)
     found = []
     with open(trace) as lines:
         for line in lines:
@@ -125,7 +125,7 @@ def trace_cases(probe, folder):
 def opened_flags(probe, folder):
     """The flags and the permissions with which a scratch file is made."""
     trace = os.path.join(folder, "..", "trace")
-    subprocess.run(["strace", "-o", trace, "-e", "trace=openat", probe.program, folder, "fresh", "tmp"], stdout=subprocess.DEVNULL, timeout=60, check=True)
+    subprocess.run(["strace", "-o", trace, "-e", "trace=openat", probe.program, "folder", folder, "fresh", "tmp"], stdout=subprocess.DEVNULL, timeout=60, check=True)
     with open(trace) as lines:
         return [re.findall(r"O_WRONLY\|O_CREAT\|O_EXCL|0[0-7]+", line) for line in lines if "/tmp\"" in line]
 
@@ -133,7 +133,7 @@ def opened_flags(probe, folder):
 def injected(probe, folder, call, how, words, on=()):
     """What is answered where a system call has a mishap; `on` names the file whose calls alone count."""
     inject = [*on, "-e", "trace=" + call, "-e", "inject=%s:%s" % (call, how)]
-    command = ["strace", "-qq", "-o", os.devnull] + inject + [probe.program, folder] + words.split()
+    command = ["strace", "-qq", "-o", os.devnull] + inject + [probe.program, "folder", folder] + words.split()
     return subprocess.run(command, stdout=subprocess.PIPE, timeout=60, check=True).stdout.decode().split("\n")[:-1]
 
 

@@ -18,7 +18,7 @@ TOOLS = {
     "recordio": ("prog [args]", [[]]),
     "addcr": ("", [["x"], ["addcr"]]),
     "delcr": ("", [["x"], ["delcr"]]),
-    "rulesim": ("", [["x"], ["rulesim"], ["tcprules", "a", "b"]]),
+    "rulesim": ("", [["x"], [""], ["rulesim"], ["tcprules", "a", "b"]]),
 }
 RULES = b'10.:allow,A="1"\n:deny\n'
 CHECKED = b"rule 10.:\nset environment variable A=1\nallow connection\n"
@@ -70,6 +70,9 @@ def check_usage(names, tools):
         wrong = TOOLS[tool][1][0]
         for word in (tool, "./" + tool, "/no/such/folder/" + tool, "//" + tool, "ucspi/" + tool):
             names.expect("word 0 %r" % word, names.called(word, wrong), (100, b"", usage(tool)))
+        for words in TOOLS[tool][1] + [[b"\xff"]]:
+            wanted = (100, b"", usage(tool))
+            names.expect("the first word %s, then %r" % (tool, words), names.called("ucspi", [tool] + words), wanted)
 
 
 def check_runs(names):
@@ -105,7 +108,8 @@ def check_other_names(names):
     for word in OTHER_NAMES:
         names.expect("word 0 %r" % word, names.called(word, ["addcr"], b"a\n"), (0, b"a\r\n", b""))
         wanted = (100, b"", b"ucspi: usage: ucspi TOOL ...\n")
-        names.expect("word 0 %r, and no tool" % word, names.called(word, ["no-tool"]), wanted)
+        for first in ("no-tool", "Rulesim", "tcpclient"):
+            names.expect("word 0 %r, and no tool" % word, names.called(word, [first]), wanted)
         ended = names.called(word, [], b"|:deny\ninstall\n")
         names.expect("word 0 %r, and no words: rulesim" % word, ended, (0, b"installed\n", b""))
 

@@ -1,4 +1,4 @@
-"""Calls of stages, chains, pumps and records, by the program stream_probe: texts in every cutting, readers and writers that stop at each call,
+"""Calls of stages, chains, pumps and records, by the program call_probe: texts in every cutting, readers and writers that stop at each call,
 and what taps are shown."""
 import collections
 import json
@@ -89,7 +89,7 @@ class Streams(Checks):
 
     def answers(self, words, given):
         """The lines that one run prints."""
-        code, output = probes.run([self.program] + words, given)
+        code, output = probes.run([self.program, "stream"] + words, given)
         return output.decode().split("\n")[:-1] if code == 0 else ["exit %d" % code]
 
     def chain_answers(self, stages, text, groups):

@@ -1,4 +1,4 @@
-"""Commands on tables of places, by the program table_probe: limits, full tables, places that are given back, retired and stranded, and ten
+"""Commands on tables of places, by the program call_probe: limits, full tables, places that are given back, retired and stranded, and ten
 thousand places in a mixed order beside a plain list."""
 import collections
 
@@ -188,7 +188,7 @@ def differences(steps, answers):
 def check_steps(probe, name, limits, steps, failures):
     """One run, whose answers have to be as wanted."""
     given = "".join(command + "\n" for command, _ in steps).encode()
-    code, output = probes.run([probe] + limits, given)
+    code, output = probes.run([probe, "table"] + limits, given)
     answers = output.decode().split("\n")[:-1]
     amiss = differences(steps, answers)
     if code != 0 or len(answers) != len(steps):
@@ -209,8 +209,8 @@ def check_mixed(probe, failures):
 
 def check(probe, failures):
     """Runs all cases, and answers how many they were."""
-    calls = probes.Calls(probe, "table_calls", failures)
-    calls.expect("no words", [], b"", b"")
+    calls = probes.Calls(probe, "table_calls", failures, "table")
+    calls.expect("no limit", [], b"", b"", 1)
     for limits, fault in REFUSED:
         calls.expect("limits %s" % " ".join(limits), limits, b"", fault.encode() + b"\n")
     tests = calls.tests + sum(check_steps(probe, name, limits, steps, failures) for name, limits, steps in CASES)

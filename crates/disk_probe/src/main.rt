@@ -1,9 +1,11 @@
 //! Runs commands on a directory in memory, and prints what each answers. The commands stand on standard input, one a line. The words say which
 //! directory: `memory`, `fuse CALL`, where that call fails, or `disk CALL MISHAP`, a folder of a disk whose call of that number has a mishap,
-//! counted from 1. `name`, `read PLACE ROOM` and `faults` are single calls without a directory. With no words it does nothing.
+//! counted from 1. `name`, `read PLACE ROOM` and `faults` are single calls without a directory; `folder` makes calls on a folder of the system,
+//! which stand among the words. With no words it does nothing.
 #![tactic(auto)]
 
 mod commands;
+mod folder;
 mod kinds;
 mod single;
 mod test_disk;
@@ -13,7 +15,9 @@ use dir_calls::{Dir, FuseDir, MemDir};
 use dir_disk::DiskDir;
 use std::alloc::Global;
 use std::env::Args;
-use std::io::{BufRead, BufReader, ErrorKind, Read};
+use std::fs::Files;
+use std::io::{ErrorKind, Read};
+use std::os::unix::fs::FileExt;
 use std::process::ExitCode;
 use std::{env, io};
 use test_disk::{Mishap, TestDisk};
@@ -54,9 +58,23 @@ fn run_commands<R: Input + Print + AllocGlobal, D: Dir + OwnCommands + Drop>(
     rt: &R,
     mut dir: D,
 ) -> io::Result<()> {
+    let given = input(rt)?;
     let mut kept = Vec::new(rt.alloc());
-    for line in BufReader::new(rt.alloc(), rt.reader())?.lines(rt.alloc()) {
-        obey(rt, rt.alloc(), &mut dir, &mut kept, line?.as_str())?;
+    obey_all(rt, &mut dir, &mut kept, &given)
+}
+
+/// Runs the commands of these lines.
+fn obey_all<R: Print + AllocGlobal, D: Dir + OwnCommands>(
+    rt: &R,
+    dir: &mut D,
+    kept: &mut Vec<D::File>,
+    given: &[u8],
+) -> io::Result<()> {
+    let text = str::from_utf8(given).map_err(|_| no_such())?;
+    for line in text.split('\n') {
+        if !line.is_empty() {
+            obey(rt, rt.alloc(), dir, kept, line)?;
+        }
     }
     Ok(())
 }
@@ -105,8 +123,28 @@ fn run_read<R: Input + Print + AllocGlobal>(rt: &R, words: &mut Args) -> io::Res
     single::print_read(rt, rt.alloc(), input(rt)?, place, room)
 }
 
+/// Makes calls on a folder of the system.
+fn run_folder<R: Print + AllocGlobal + Files>(rt: &R, words: &mut Args) -> io::Result<()>
+where
+    R::File: FileExt,
+{
+    let folder = words.next().ok_or(no_such())?;
+    if folder::run_calls_on(rt, rt.alloc(), folder.as_str(), words)? {
+        Ok(())
+    } else {
+        Err(no_such())
+    }
+}
+
 /// Runs what the first word names.
-fn run<R: Input + Print + AllocGlobal>(rt: &R, first: &str, words: &mut Args) -> io::Result<()> {
+fn run<R: Input + Print + AllocGlobal + Files>(
+    rt: &R,
+    first: &str,
+    words: &mut Args,
+) -> io::Result<()>
+where
+    R::File: FileExt,
+{
     match first {
         "memory" => run_commands(rt, MemDir::new(rt.alloc())),
         "fuse" => {
@@ -114,6 +152,7 @@ fn run<R: Input + Print + AllocGlobal>(rt: &R, first: &str, words: &mut Args) ->
             run_commands(rt, FuseDir::new(MemDir::new(rt.alloc()), call))
         }
         "disk" => run_disk(rt, words),
+        "folder" => run_folder(rt, words),
         "name" => single::print_name(rt, rt.alloc(), &input(rt)?),
         "read" => run_read(rt, words),
         "faults" => single::print_faults(rt),

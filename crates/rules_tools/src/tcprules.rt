@@ -1,9 +1,10 @@
 //! `tcprules`: compiles a rule text from standard input, and installs it.
-ghost use Rattle.std.specs.Prelude.{◌≡◌, ◌≢◌, ◌⊎◌, ◌<◌, ◌^◌, ◌-◌, ◌+◌, List, ℕ, IsTrue, None, Option, IsSome, IfOk, IfErr, IfSome, OnOk, take};
+ghost use Rattle.std.specs.Prelude.{◌≡◌, ◌≢◌, ◌⊎◌, ◌<◌, ◌^◌, ◌-◌, ◌+◌, List, ℕ, IsTrue, false, None, Option, IsSome, IfOk, IfErr, IfSome, OnOk, take};
 ghost use Rattle.dir_calls.specs.Lasting.{LastsAmong};
 ghost use Rattle.dir_calls.specs.Names.{name_fault};
 ghost use Rattle.dir_calls.specs.Replacing.{Stays};
 ghost use Rattle.dir_disk.specs.OsParts.{os_left_since, os_moment, os_state};
+ghost use Rattle.rules_install.specs.Installs.{installing};
 ghost use Rattle.rules_install.specs.ParseFaults.{of_parse};
 ghost use Rattle.rules_tools.specs.Paths.{PlacesOf};
 ghost use Rattle.rules_tools.specs.Rules.{told_fault};
@@ -12,7 +13,7 @@ ghost use Rattle.rules_tools.specs.declared.tcprules.TcprulesFault.TheVariants.{
 use crate::path::{folder_path, split_path};
 use dir_calls::{Name, NameFault};
 use dir_disk::{Disk, DiskDir, FolderFault, OsDir};
-use rule_lines::{Limits, LineFault, LineKind, ParseFault, parse};
+use rule_lines::{Limits, LineFault, LineKind, ParseFault, RuleList, parse};
 use rules_install::whole::finish;
 use rules_install::{Install, InstallFault, Names, Phase};
 use std::alloc::{AllocError, Global};
@@ -101,18 +102,51 @@ pub fn run_tcprules<R: Read, F: Files<File = File> + Drop>(
     tmp: &str,
 ) -> Result<(), TcprulesFault> {
     let (folder, names) = read_places(alloc, cdb, tmp)?;
+    let install = compile(alloc, reader, names)?;
+    let dir = open_folder(alloc, files, folder)?;
+    install_in(alloc, dir, install, cdb, tmp)
+}
+
+/// Reads a rule text and compiles it, for an installation under these names.
+fn compile<R: Read>(alloc: Global, reader: &mut R, names: Names) -> Result<Install, TcprulesFault>
+    ensures { IfOk result (λ install. (installing install).over ≡ false) }
+{
+    let list = read_list(alloc, reader)?;
+    Ok(Install::begin(alloc, list, names, &Limits::profile())?)
+}
+
+/// The rules of a text that is read to its end.
+fn read_list<R: Read>(alloc: Global, reader: &mut R) -> Result<RuleList, TcprulesFault> {
     let limits = Limits::profile();
     let text = read_text(alloc, reader, limits.text)?;
-    let list = parse(alloc, text.as_slice(), &limits)?;
-    drop(text);
-    let mut install = Install::begin(alloc, list, names, &limits)?;
-    let mut dir = match OsDir::new(alloc, files, folder_path(folder)) {
-        Ok(dir) => dir,
+    Ok(parse(alloc, text.as_slice(), &limits)?)
+}
+
+/// The folder of the rules file.
+fn open_folder<F: Files<File = File> + Drop>(
+    alloc: Global,
+    files: F,
+    folder: &str,
+) -> Result<OsDir<F>, TcprulesFault> {
+    match OsDir::new(alloc, files, folder_path(folder)) {
+        Ok(dir) => Ok(dir),
         Err(FolderFault::NoFolder | FolderFault::Device) => {
-            return Err(TcprulesFault::Device(Phase::Fresh));
+            Err(TcprulesFault::Device(Phase::Fresh))
         }
-        Err(FolderFault::OutOfMemory) => return Err(TcprulesFault::OutOfMemory),
-    };
+        Err(FolderFault::OutOfMemory) => Err(TcprulesFault::OutOfMemory),
+    }
+}
+
+/// Installs what was compiled, under the lock of the folder.
+fn install_in<F: Files<File = File> + Drop>(
+    alloc: Global,
+    mut dir: OsDir<F>,
+    mut install: Install,
+    cdb: &str,
+    tmp: &str,
+) -> Result<(), TcprulesFault>
+    requires { (installing install).over ≡ false }
+{
     if dir.lock().is_err() {
         return Err(TcprulesFault::Device(Phase::Fresh));
     }

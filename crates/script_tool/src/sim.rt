@@ -4,7 +4,7 @@ ghost use Rattle.std.specs.Io.BufRead.{strip_last};
 ghost use Rattle.std.specs.Io.KnownBytes.{Appends};
 ghost use Rattle.script_tool.specs.Commands.{Carries};
 ghost use Rattle.script_tool.specs.Kept.{IsAt};
-ghost use Rattle.script_tool.specs.Sim.{State, command_at, sim, Prints};
+ghost use Rattle.script_tool.specs.Sim.{State, command_at, sim, start, Prints};
 
 use crate::simulation::Simulation;
 use script_words::{LineEnd, read_command};
@@ -63,9 +63,23 @@ fn run_lines<R: BufRead, W: Write>(
     ensures { IfSome (R.remaining reader.old) (λ script.
         Prints (W.contents writer.old) (W.contents writer.new) (sim script) result) }
 {
-    let Ok(mut sim) = Simulation::new(alloc) else {
-        return Err(SimFault::OutOfMemory);
-    };
+    match Simulation::new(alloc) {
+        Ok(mut sim) => run_with(alloc, reader, writer, &mut sim),
+        Err(_) => Err(SimFault::OutOfMemory),
+    }
+}
+
+/// Carries a script out from the start.
+fn run_with<R: BufRead, W: Write>(
+    alloc: Global,
+    reader: &mut R,
+    writer: &mut W,
+    kept: &mut Simulation,
+) -> Result<(), SimFault>
+    requires { IsAt kept.old start }
+    ensures { IfSome (R.remaining reader.old) (λ script.
+        Prints (W.contents writer.old) (W.contents writer.new) (sim script) result) }
+{
     let mut line = Vec::new(alloc);
     for number in 1..=MOST_LINES {
         line.clear();
@@ -74,7 +88,7 @@ fn run_lines<R: BufRead, W: Write>(
             Ok(_) => {}
             Err(error) => return Err(read_fault(&error)),
         }
-        match answer(alloc, &mut sim, line.as_slice()) {
+        match answer(alloc, kept, line.as_slice()) {
             Ok(out) => match write_out(writer, out.as_slice()) {
                 Ok(()) => {}
                 Err(_) => return Err(SimFault::WriteFault),

@@ -2,15 +2,14 @@
 ghost use Rattle.std.specs.Prelude.{◌≡◌, ◌<◌, false};
 
 use child_jobs::Plan;
-use dir_calls::Name;
-use dir_disk::OsDir;
+use dir_calls::{Dir, Name};
 use event_journals::Counts;
 use rule_lookup::Missing;
 use server_parts::opening::{
     listen, names_of, open_rules, plan_of, print_port, stand_in, texts_of,
 };
 use server_parts::{ServerFault, ServiceLauncher, TcpAcceptor, Wrapper, chain_of};
-use server_words::{Limits, Wrapping, read_server_words};
+use server_words::{Limits, ServerWords, Wrapping, read_server_words};
 use server_yard::{Premises, Yard};
 use site_lock::{Caller, Callers, Site};
 use std::alloc::{AllocError, Global};
@@ -44,37 +43,91 @@ where
 {
     let alloc = rt.alloc();
     let _held = [stand_in(rt), stand_in(rt), stand_in(rt)];
-    let words = texts_of(alloc, words)?;
-    let words = read_server_words(alloc, words.as_slice())?;
-    let names = names_of(alloc, rt, &words)?;
-    let (dir, rules) = open_rules(alloc, rt, &words)?;
-    let listener = listen(rt, words.service().address(), words.service().port())?;
-    if words.prints_port() {
-        print_port(rt, &listener)?;
-    }
-    let house = House {
-        plan: plan_of(alloc, rt, &words)?,
-        service: Service {
-            count: words.limits().count,
-            names,
-            recording: words.wrapping().records(),
-        },
-        log: Mutex::new(Log::new(alloc, errors, words.level(), words.limits().connections)),
-    };
+    let texts = texts_of(alloc, words)?;
+    run_words(rt, errors, texts.as_slice())
+}
+
+// What a server has but for its site and its socket.
+#[derive(Drop)]
+struct House<E> {
+    plan: Plan,
+    service: Service,
+    log: Mutex<Log<E>>,
+}
+
+// Runs the tool with these words. Here and below, what a function owns it lends to the calls that follow: they have the many ways out.
+fn run_words<R, E>(rt: &R, errors: E, words: &[String]) -> Result<(), ServerFault>
+where
+    R: Env + Print + AllocGlobal + Files<File = File> + Processes + Threads + Wait + Clock + Sync,
+    R: Net<Stream = TcpStream>,
+    E: Write + Send + Drop,
+    R::Dir: Send + Sync,
+    R::Listener: Send + Sync,
+    R::Started: OpenProcess<Stdin = ChildStdin> + Send,
+    <R::Started as OpenProcess>::Stdout: Send,
+    <R::Started as OpenProcess>::Stderr: Send,
+{
+    let words = read_server_words(rt.alloc(), words)?;
+    let house = house_of(rt, errors, &words)?;
+    run_house(rt, &house, &words)
+}
+
+// What a server has by its words, but for its site and its socket.
+fn house_of<R, E>(rt: &R, errors: E, words: &ServerWords<'_>) -> Result<House<E>, ServerFault>
+where
+    R: Env + AllocGlobal + Files,
+    E: Write + Drop,
+{
+    let alloc = rt.alloc();
+    let log = Log::new(alloc, errors, words.level(), words.limits().connections);
+    let service = service_of(rt, words)?;
+    let plan = plan_of(alloc, rt, words)?;
+    Ok(House {
+        plan,
+        service,
+        log: Mutex::new(log),
+    })
+}
+
+// What a server does for all connections.
+fn service_of<R: AllocGlobal + Files>(
+    rt: &R,
+    words: &ServerWords<'_>,
+) -> Result<Service, ServerFault> {
+    let names = names_of(rt.alloc(), rt, words)?;
+    Ok(Service {
+        count: words.limits().count,
+        names,
+        recording: words.wrapping().records(),
+    })
+}
+
+// Opens the folder of the rules and the socket, and runs the server on them.
+fn run_house<R, E>(rt: &R, house: &House<E>, words: &ServerWords<'_>) -> Result<(), ServerFault>
+where
+    R: Print + AllocGlobal + Files<File = File> + Processes + Threads + Wait + Clock + Sync,
+    R: Net<Stream = TcpStream>,
+    E: Write + Send,
+    R::Dir: Send + Sync,
+    R::Listener: Send + Sync,
+    R::Started: OpenProcess<Stdin = ChildStdin> + Send,
+    <R::Started as OpenProcess>::Stdout: Send,
+    <R::Started as OpenProcess>::Stderr: Send,
+{
     let limits = words.limits();
     let Some(callers) = limits.connections.checked_add(1) else {
         return Err(ServerFault::OutOfMemory);
     };
-    let station = Station {
-        house,
-        acceptor: TcpAcceptor::new(alloc, listener),
-        dir,
-        rules,
-    };
+    let alloc = rt.alloc();
+    let (dir, rules) = open_rules(alloc, rt, words)?;
+    let listener = open_socket(rt, words)?;
+    let mut acceptor = TcpAcceptor::new(alloc, listener);
     let (places, parts) = (Blank::new(limits.connections), Blank::new(callers));
-    run_site::<Brand, Brand, _, _, _>(
+    run_site::<Brand, Brand, _, _, _, _>(
         rt,
-        station,
+        house,
+        &mut acceptor,
+        (dir, rules),
         words.wrapping(),
         limits,
         places,
@@ -83,21 +136,16 @@ where
     )
 }
 
-// What a server stands on: where its connections come from, and the folder and the name of its rules file.
-#[derive(Drop)]
-struct Station<D, E, T> {
-    house: House<E>,
-    acceptor: TcpAcceptor<T>,
-    dir: D,
-    rules: Option<(Name, Missing)>,
-}
-
-// What a server has but for its site.
-#[derive(Drop)]
-struct House<E> {
-    plan: Plan,
-    service: Service,
-    log: Mutex<Log<E>>,
+// The socket that listens where the words say, its port printed where they ask for that.
+fn open_socket<R: Print + Net>(
+    rt: &R,
+    words: &ServerWords<'_>,
+) -> Result<R::Listener, ServerFault> {
+    let listener = listen(rt, words.service().address(), words.service().port())?;
+    if words.prints_port() {
+        print_port(rt, &listener)?;
+    }
+    Ok(listener)
 }
 
 // A worker for each caller.
@@ -116,9 +164,11 @@ fn workers_of<N: Callers>(
 }
 
 // The server over a yard and a site of its own.
-fn run_site<L, N, R, E, T>(
+fn run_site<L, N, D, R, E, T>(
     rt: &R,
-    station: Station<OsDir<&R>, E, T>,
+    house: &House<E>,
+    acceptor: &mut TcpAcceptor<T>,
+    rules: (D, Option<(Name, Missing)>),
     wrapping: &Wrapping,
     limits: Limits,
     places: Blank,
@@ -128,12 +178,13 @@ fn run_site<L, N, R, E, T>(
 where
     L: Premises + Send + Sync,
     N: Callers + Send + Sync,
-    R: AllocGlobal + Files<File = File> + Processes + Threads + Wait + Clock + Sync,
+    D: Dir + Send + Drop,
+    D::File: Send,
+    R: AllocGlobal + Processes + Threads + Wait + Clock + Sync,
     R: Net<Stream = TcpStream>,
-    R::Dir: Send + Sync,
     R::Listener: Send + Sync,
     T: OpenListener<Stream = TcpStream> + Drop,
-    E: Write + Send + Drop,
+    E: Write + Send,
     R::Started: OpenProcess<Stdin = ChildStdin> + Send,
     <R::Started as OpenProcess>::Stdout: Send,
     <R::Started as OpenProcess>::Stderr: Send,
@@ -142,42 +193,89 @@ where
     requires parts { (parts.name ≡ N.name) × (parts.parts ≡ N.parts) × (parts.parts ≡ count) }
     requires callers { (N.all ≡ count) × (N.before ≡ 0) × (0 < count) }
 {
-    let alloc = rt.alloc();
-    let Station {
-        house,
-        mut acceptor,
-        dir,
-        rules,
-    } = station;
-    let yard = Yard::<L, _, _>::with_address_limit(
+    let (site, callers) = site_of::<L, N, D>(
+        rt.alloc(),
+        rules.0,
+        rules.1,
+        limits,
+        places,
+        count,
+        parts,
+    )?;
+    serve_site(rt, house, acceptor, &site, callers, wrapping)
+}
+
+// A site, with so many callers, over a yard of this folder.
+fn site_of<L: Premises, N: Callers, D: Dir + Drop>(
+    alloc: Global,
+    dir: D,
+    rules: Option<(Name, Missing)>,
+    limits: Limits,
+    places: Blank,
+    count: u64,
+    parts: Blank,
+) -> Result<(Site<L, N, D, Counts>, Vec<Caller<N>>), ServerFault>
+    requires places { (places.name ≡ L.name) × (places.parts ≡ L.parts) × (places.parts ≡ limits.connections) }
+    requires met { L.met ≡ false }
+    requires parts { (parts.name ≡ N.name) × (parts.parts ≡ N.parts) × (parts.parts ≡ count) }
+    requires callers { (N.all ≡ count) × (N.before ≡ 0) × (0 < count) }
+{
+    let (connections, per_address) = (limits.connections, limits.per_address);
+    let yard = Yard::<L, D, Counts>::with_address_limit(
         alloc,
         places,
         dir,
         rules,
-        limits.connections,
-        limits.per_address,
+        connections,
+        per_address,
         Counts::new(),
     );
     let Ok(yard) = yard else {
         return Err(ServerFault::OutOfMemory);
     };
-    let Ok((site, callers)) = Site::<L, N, _, _>::new(alloc, parts, yard, count) else {
-        return Err(ServerFault::OutOfMemory);
-    };
+    match Site::<L, N, D, Counts>::new(alloc, parts, yard, count) {
+        Ok(made) => Ok(made),
+        Err(_) => Err(ServerFault::OutOfMemory),
+    }
+}
+
+// Serves at a site, with a worker for each caller.
+fn serve_site<L, N, D, R, E, T>(
+    rt: &R,
+    house: &House<E>,
+    acceptor: &mut TcpAcceptor<T>,
+    site: &Site<L, N, D, Counts>,
+    callers: Vec<Caller<N>>,
+    wrapping: &Wrapping,
+) -> Result<(), ServerFault>
+where
+    L: Premises + Send + Sync,
+    N: Callers + Send + Sync,
+    D: Dir + Send + Drop,
+    D::File: Send,
+    R: AllocGlobal + Processes + Threads + Wait + Clock + Sync,
+    R: Net<Stream = TcpStream>,
+    R::Listener: Send + Sync,
+    T: OpenListener<Stream = TcpStream> + Drop,
+    E: Write + Send,
+    R::Started: OpenProcess<Stdin = ChildStdin> + Send,
+    <R::Started as OpenProcess>::Stdout: Send,
+    <R::Started as OpenProcess>::Stderr: Send,
+{
+    let alloc = rt.alloc();
     let workers = workers_of(alloc, callers, wrapping)?;
     let launcher = ServiceLauncher::new(rt);
-    let end = serve(
+    end_of(serve(
         rt,
         alloc,
-        &mut acceptor,
-        &site,
+        acceptor,
+        site,
         workers.as_slice(),
         &launcher,
         &house.plan,
         &house.service,
         &house.log,
-    );
-    end_of(end)
+    ))
 }
 
 // How the tool ends.

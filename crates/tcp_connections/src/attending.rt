@@ -1,9 +1,6 @@
 //! The streams of a connection, and its child from its start to its end.
-ghost use Rattle.std.specs.Thread.{IsSend, IsSync};
-
 use crate::accepting::Shut;
 use crate::rounds::wait_in_rounds;
-use crate::threads::connection_thread;
 use byte_pump::{NoTap, Recorder, Tap, pump};
 use child_jobs::{Job, Running};
 use child_table::Place;
@@ -13,8 +10,6 @@ use std::alloc::Global;
 use std::io::{Read, Write};
 use std::sync::ledger::Ledger;
 use std::sync::{Mutex, Wait};
-use std::thread;
-use std::thread::Threads;
 use stream_tools::SharedWriter;
 use wrapper_chain::{Chain, LineStage, Way};
 
@@ -36,15 +31,6 @@ pub struct Line<I, O, X> {
     pub shut: X,
 }
 
-/// The line wrappers of a connection.
-#[derive(Drop)]
-pub struct Chains<'a, G> {
-    /// Those of what the client sends.
-    pub input: &'a Mutex<Chain<G>>,
-    /// Those of what is sent to it.
-    pub output: &'a Mutex<Chain<G>>,
-}
-
 /// Who is told how the child of a connection ended.
 pub trait Endings<L: Ledger, C: Job> {
     /// The place that a child gives back: a `Place<L>`.
@@ -60,6 +46,39 @@ pub trait Endings<L: Ledger, C: Job> {
     fn retired(&mut self, child: Self::Child, serial: u64);
 }
 
+/// What a client sends, on its way to the child.
+#[derive(Drop)]
+pub struct Upward<I, P> {
+    port: u16,
+    reader: I,
+    to: P,
+}
+
+/// A child that runs. One that is let go stays counted for good.
+struct Held<L: Ledger, C: Job + Drop> {
+    running: Option<Running<L, C>>,
+}
+
+impl<L: Ledger, C: Job + Drop> Drop for Held<L, C> {
+    fn drop(self) {
+        let Held { running } = self;
+        if let Some(running) = running {
+            running.strand();
+        }
+    }
+}
+
+/// A connection whose child runs, and what the child says, on its way to the client.
+#[derive(Drop)]
+pub struct Talk<L: Ledger, C: Job + Drop, F, O, X> {
+    held: Held<L, C>,
+    serial: u64,
+    port: u16,
+    from: F,
+    writer: O,
+    shut: X,
+}
+
 /// What passes on the streams of connections.
 #[derive(Drop)]
 pub struct Attendant<'a, R, W> {
@@ -73,130 +92,130 @@ pub struct Attendant<'a, R, W> {
     pub recording: bool,
 }
 
-impl<'a, R, W> Attendant<'a, R, W> {
-    /// The same once more, for another thread.
-    pub fn again(&self) -> Attendant<'a, R, W> {
-        Attendant {
-            rt: self.rt,
-            alloc: self.alloc,
-            log: self.log,
-            recording: self.recording,
-        }
-    }
-}
-
-impl<R: Threads + Wait + Sync, W: Write + Send> Attendant<'_, R, W> {
-    /// Passes on what a client and its child say, until the child says no more; then ends the child, and the connection. A child without
-    /// pipe ends is ended by force.
-    pub fn attend<L, C, E, I, O, X, G>(
+impl<R: Wait, W: Write> Attendant<'_, R, W> {
+    /// Takes the pipe ends of a child that runs: what the client sends goes to it by `pass_up`, and what it says goes to the client by
+    /// `pass_down`. A child without pipe ends is ended by force, and the connection with it: there is nothing to pass on then.
+    pub fn begin<L, C, E, I, O, X>(
         &self,
         endings: &mut E,
         mut running: Running<L, C>,
         line: Line<I, O, X>,
-        chains: &Chains<'_, G>,
+    ) -> Option<(Upward<I, C::Input>, Talk<L, C, C::Output, O, X>)>
+    where
+        L: Ledger,
+        C: Job + Drop,
+        C::Input: Drop,
+        C::Output: Drop,
+        E: Endings<L, C, Place = Place<L>, Child = Running<L, C>>,
+        I: Drop,
+        O: Drop,
+        X: Shut + Drop,
+    {
+        let Line {
+            serial,
+            port,
+            reader,
+            writer,
+            shut,
+        } = line;
+        let Ok((to, from)) = running.ends() else {
+            let _ = self.log.lock(self.rt).no_pipe_ends(serial);
+            end_child(endings, running, serial, true);
+            shut.shut();
+            return None;
+        };
+        let talk = Talk {
+            held: Held {
+                running: Some(running),
+            },
+            serial,
+            port,
+            from,
+            writer,
+            shut,
+        };
+        Some((Upward { port, reader, to }, talk))
+    }
+
+    /// Passes on what the client sends, through a chain of line wrappers, until it ends or the child takes no more.
+    pub fn pass_up<I, P, G>(&self, upward: Upward<I, P>, chain: &Mutex<Chain<G>>)
+    where
+        I: Read + Drop,
+        P: Write + Drop,
+        G: LineStage,
+    {
+        let Upward { port, reader, to } = upward;
+        if self.recording {
+            let tap = self.recorder(port, Way::Input);
+            pump_stream(self.rt, self.alloc, reader, to, chain, tap);
+        } else {
+            pump_stream(self.rt, self.alloc, reader, to, chain, NoTap);
+        }
+    }
+
+    /// Passes on what the child says, through a chain of line wrappers, until it says no more; then ends the child, and the connection. A
+    /// child that nobody passes anything to (`is_fed` is false: there was no thread for `pass_up`) is ended by force, and nothing is passed on.
+    pub fn pass_down<L, C, E, F, O, X, G>(
+        &self,
+        endings: &mut E,
+        talk: Talk<L, C, F, O, X>,
+        chain: &Mutex<Chain<G>>,
+        is_fed: bool,
     )
     where
         L: Ledger,
         C: Job + Drop,
-        C::Input: Send + Drop,
-        C::Output: Drop,
         E: Endings<L, C, Place = Place<L>, Child = Running<L, C>>,
-        I: Read + Send + Drop,
+        F: Read + Drop,
         O: Write + Drop,
         X: Shut + Drop,
-        G: LineStage + Send + Drop,
+        G: LineStage,
     {
-        let Ok((to, from)) = running.ends() else {
-            let _ = self.log.lock(self.rt).no_pipe_ends(line.serial);
-            end_child(endings, running, line.serial, true);
-            line.shut.shut();
-            return;
-        };
-        if self.recording {
-            let number = u64::from(line.port);
-            let (input, output) = (
-                self.recorder(number, Way::Input),
-                self.recorder(number, Way::Output),
-            );
-            self.pump_both(endings, running, line, chains, to, from, input, output);
+        let Talk {
+            mut held,
+            serial,
+            port,
+            from,
+            writer,
+            shut,
+        } = talk;
+        if is_fed {
+            self.pump_down(port, from, writer, chain);
         } else {
-            self.pump_both(endings, running, line, chains, to, from, NoTap, NoTap);
+            drop(from);
+            let _ = self.log.lock(self.rt).no_pipe_ends(serial);
+        }
+        if let Some(running) = held.running.take() {
+            end_child(endings, running, serial, !is_fed);
+        }
+        shut.shut();
+    }
+
+    // Pumps what a child says to its client; both ends are let go.
+    fn pump_down<F: Read + Drop, O: Write + Drop, G: LineStage>(
+        &self,
+        port: u16,
+        from: F,
+        writer: O,
+        chain: &Mutex<Chain<G>>,
+    ) {
+        if self.recording {
+            let tap = self.recorder(port, Way::Output);
+            pump_stream(self.rt, self.alloc, from, writer, chain, tap);
+        } else {
+            pump_stream(self.rt, self.alloc, from, writer, chain, NoTap);
         }
     }
 
     // What records one way of a connection on the log.
-    fn recorder(&self, number: u64, way: Way) -> Recorder<SharedWriter<'_, R, Log<W>>> {
+    fn recorder(&self, port: u16, way: Way) -> Recorder<SharedWriter<'_, R, Log<W>>> {
+        let number = u64::from(port);
         Recorder::new(
             self.alloc,
             number,
             way,
             SharedWriter::new(self.rt, self.log),
         )
-    }
-
-    // Pumps both ways, what the client sends in a thread of its own, until the child says no more; then ends the child and shuts the
-    // connection, so that the other pump ends too. A child whose input gets no thread is ended by force.
-    fn pump_both<L, C, E, I, O, X, G, T, P, F>(
-        &self,
-        endings: &mut E,
-        running: Running<L, C>,
-        line: Line<I, O, X>,
-        chains: &Chains<'_, G>,
-        to: P,
-        from: F,
-        input: T,
-        output: T,
-    )
-    where
-        L: Ledger,
-        C: Job + Drop,
-        E: Endings<L, C, Place = Place<L>, Child = Running<L, C>>,
-        I: Read + Send + Drop,
-        O: Write + Drop,
-        X: Shut + Drop,
-        G: LineStage + Send + Drop,
-        T: Tap + Send + Drop,
-        P: Write + Send + Drop,
-        F: Read + Drop,
-    {
-        let Line {
-            serial,
-            port: _,
-            reader,
-            writer,
-            shut,
-        } = line;
-        let (rt, alloc, log) = (self.rt, self.alloc, self.log);
-        let (first, second) = (chains.input, chains.output);
-        let mut held = Some(running);
-        let slot = &mut held;
-        thread::scope(
-            thread::scope_env(),
-            rt,
-            move |scope|
-                requires { IsSync R.row × IsSend I.row × IsSend P.row × IsSend G.row × IsSend T.row }
-            {
-                let has_thread = connection_thread()
-                    .spawn_scoped(
-                        scope,
-                        move || pump_stream(rt, alloc, reader, to, first, input),
-                    )
-                    .is_ok();
-                if has_thread {
-                    pump_stream(rt, alloc, from, writer, second, output);
-                } else {
-                    drop(from);
-                    let _ = log.lock(rt).no_pipe_ends(serial);
-                }
-                if let Some(running) = slot.take() {
-                    end_child(endings, running, serial, !has_thread);
-                }
-                shut.shut();
-            },
-        );
-        if let Some(running) = held {
-            running.strand();
-        }
     }
 }
 
@@ -213,7 +232,7 @@ where
     H: Wait,
     E: Read + Drop,
     F: Write + Drop,
-    G: LineStage + Drop,
+    G: LineStage,
     T: Tap + Drop,
 {
     let (mut reader, mut writer, mut tap) = (reader, writer, tap);

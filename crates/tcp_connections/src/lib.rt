@@ -9,7 +9,7 @@ pub mod rounds;
 mod threads;
 
 pub use accepting::{AcceptFault, Accepted, Acceptor, Shut};
-pub use attending::{Attendant, Chains, Endings, Line};
+pub use attending::{Attendant, Endings, Line, Talk, Upward};
 pub use names::Names;
 pub use rounds::wait_in_rounds;
 pub use server_log::Log;

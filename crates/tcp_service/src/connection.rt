@@ -2,6 +2,7 @@
 use crate::service::Worker;
 use child_jobs::{Job, Launcher, Plan};
 use child_table::Place;
+use connection_gate::Serving;
 use dir_calls::Dir;
 use event_journals::Journal;
 use logged_desk::LoggedDesk;
@@ -9,12 +10,11 @@ use one_connection::{Desk, Served, serve_one};
 use rule_lookup::{DropCause, Peer};
 use server_yard::Premises;
 use site_desk::SiteDesk;
-use site_lock::{Callers, Site};
+use site_lock::{Caller, Callers, Site};
 use std::io::{Read, Write};
+use std::sync::Wait;
 use std::sync::ledger::Ledger;
-use std::sync::{Mutex, Wait};
-use std::thread::Threads;
-use tcp_connections::{Attendant, Line, Shut};
+use tcp_connections::{Attendant, Line, Shut, Talk, Upward};
 use wrapper_chain::LineStage;
 
 /// The place of a connection whose thread has not taken it yet. One that is let go stays counted for good.
@@ -42,71 +42,88 @@ pub(crate) struct Work<L: Ledger, I, O, X> {
 
 /// What the threads of all connections share.
 #[derive(Drop)]
-pub(crate) struct Server<'a, L: Premises, N: Callers, D: Dir + Drop, J: Journal, S, R, W> {
+pub(crate) struct Server<'a, L: Premises, N: Callers, D: Dir + Drop, J: Journal, S, R, W, G> {
     pub site: &'a Site<L, N, D, J>,
+    pub workers: &'a [Worker<N, G>],
     pub launcher: &'a S,
     pub attendant: Attendant<'a, R, W>,
 }
 
-impl<'a, L: Premises, N: Callers, D: Dir + Drop, J: Journal, S, R, W> Server<
-    'a,
-    L,
-    N,
-    D,
-    J,
-    S,
-    R,
-    W,
-> {
-    /// The same once more, for another thread.
-    pub fn again(&self) -> Server<'a, L, N, D, J, S, R, W> {
-        Server {
-            site: self.site,
-            launcher: self.launcher,
-            attendant: self.attendant.again(),
-        }
-    }
+/// A connection whose child runs, with the plan that it was begun by.
+#[derive(Drop)]
+pub(crate) struct Begun<L: Premises, C: Job + Drop, F, O, X> {
+    plan: Plan,
+    serial: u64,
+    talk: Talk<L, C, F, O, X>,
 }
 
-impl<L, N, D, J, S, R, W> Server<'_, L, N, D, J, S, R, W>
+impl<L, N, D, J, S, R, W, G> Server<'_, L, N, D, J, S, R, W, G>
 where
     L: Premises,
     N: Callers,
     D: Dir + Drop,
     J: Journal,
     S: Launcher,
-    R: Threads + Wait + Sync,
-    W: Write + Send,
+    S::Job: Drop,
+    R: Wait,
+    W: Write,
 {
-    /// Serves the connection that a seat has, by a worker, to its end.
-    pub fn serve<I, O, X, G>(&self, seat: &Mutex<Option<Work<L, I, O, X>>>, worker: &Worker<N, G>)
+    // Begins to serve a connection by this worker.
+    fn begin_by<I: Drop, O: Write + Drop, X: Shut + Drop>(
+        &self,
+        worker: &Worker<N, G>,
+        mut work: Work<L, I, O, X>,
+    ) -> Option<
+        (
+            Upward<I, <S::Job as Job>::Input>,
+            Begun<L, S::Job, <S::Job as Job>::Output, O, X>,
+        ),
+    >
     where
-        I: Read + Send + Drop,
-        O: Write + Drop,
-        X: Shut + Drop,
-        G: LineStage + Send + Drop,
-        S::Job: Drop,
-        <S::Job as Job>::Input: Send + Drop,
+        G: LineStage,
+        <S::Job as Job>::Input: Drop,
         <S::Job as Job>::Output: Drop,
     {
-        let rt = self.attendant.rt;
-        let Some(work) = seat.lock(rt).take() else {
-            return;
-        };
+        let place = work.reserved.place.take()?;
         let Work {
-            mut reserved,
+            reserved: _reserved,
             peer,
             plan,
-            mut line,
+            line,
         } = work;
-        let Some(place) = reserved.place.take() else {
-            return;
-        };
-        worker.renew(rt);
-        let mut caller = worker.caller.lock(rt);
+        worker.renew(self.attendant.rt);
+        let serial = line.serial;
+        let (upward, talk) = self.decide(
+            &mut worker.caller.lock(self.attendant.rt),
+            place,
+            &peer,
+            &plan,
+            line,
+        )?;
+        Some((upward, Begun { plan, serial, talk }))
+    }
+
+    // Decides a connection, and starts its child where it is allowed.
+    fn decide<I: Drop, O: Write + Drop, X: Shut + Drop>(
+        &self,
+        caller: &mut Caller<N>,
+        place: Place<L>,
+        peer: &Peer,
+        plan: &Plan,
+        mut line: Line<I, O, X>,
+    ) -> Option<
+        (
+            Upward<I, <S::Job as Job>::Input>,
+            Talk<L, S::Job, <S::Job as Job>::Output, O, X>,
+        ),
+    >
+    where
+        <S::Job as Job>::Input: Drop,
+        <S::Job as Job>::Output: Drop,
+    {
         let mut desk = LoggedDesk {
-            rt,
-            desk: SiteDesk::new(rt, self.site, &mut caller),
+            rt: self.attendant.rt,
+            desk: SiteDesk::new(self.attendant.rt, self.site, caller),
             log: self.attendant.log,
             serial: line.serial,
             local: plan.local(),
@@ -116,31 +133,51 @@ where
             &mut desk,
             place,
             line.serial,
-            &peer,
-            &plan,
+            peer,
+            plan,
             self.launcher,
             &mut line.writer,
         );
         match served {
-            Served::Running(running) => {
-                self.attendant
-                    .attend(&mut desk, running, line, &worker.chains());
+            Served::Running(running) => self.attendant.begin(&mut desk, running, line),
+            Served::Denied | Served::StartFailed(_) | Served::Dropped(_) => {
+                line.shut.shut();
+                None
             }
-            Served::Denied | Served::StartFailed(_) | Served::Dropped(_) => line.shut.shut(),
         }
     }
 
-    /// Gives up a connection whose thread could not be had.
-    pub fn give_up<I, O, X, G>(&self, seat: &Mutex<Option<Work<L, I, O, X>>>, worker: &Worker<N, G>)
+    // Passes on what the child of a connection says, to the end of both.
+    fn end_by<F: Read + Drop, O: Write + Drop, X: Shut + Drop>(
+        &self,
+        worker: &Worker<N, G>,
+        begun: Begun<L, S::Job, F, O, X>,
+        is_fed: bool,
+    )
     where
-        I: Drop,
-        O: Drop,
-        X: Shut + Drop,
+        G: LineStage,
     {
+        let Begun { plan, serial, talk } = begun;
         let rt = self.attendant.rt;
-        let Some(mut work) = seat.lock(rt).take() else {
-            return;
+        let mut caller = worker.caller.lock(rt);
+        let mut desk = LoggedDesk {
+            rt,
+            desk: SiteDesk::new(rt, self.site, &mut caller),
+            log: self.attendant.log,
+            serial,
+            local: plan.local(),
         };
+        self.attendant
+            .pass_down(&mut desk, talk, &worker.output, is_fed);
+    }
+
+    // Gives up a connection that was this worker's.
+    fn give_up_by<I: Drop, O: Drop, X: Shut + Drop>(
+        &self,
+        worker: &Worker<N, G>,
+        mut work: Work<L, I, O, X>,
+    ) {
+        let rt = self.attendant.rt;
         let Some(place) = work.reserved.place.take() else {
             return;
         };
@@ -154,5 +191,64 @@ where
         };
         desk.dropped(place, work.line.serial, &work.peer, DropCause::NoThread);
         work.line.shut.shut();
+    }
+}
+
+impl<L, N, D, J, S, R, W, G, I, O, X> Serving<Work<L, I, O, X>>
+    for Server<'_, L, N, D, J, S, R, W, G>
+where
+    L: Premises + Send + Sync,
+    N: Callers,
+    D: Dir + Drop,
+    J: Journal,
+    S: Launcher,
+    S::Job: Send + Drop,
+    <S::Job as Job>::Input: Send + Drop,
+    <S::Job as Job>::Output: Send + Drop,
+    R: Wait,
+    W: Write,
+    G: LineStage,
+    I: Read + Send + Drop,
+    O: Write + Send + Drop,
+    X: Shut + Send + Drop,
+{
+    type Upward = Upward<I, <S::Job as Job>::Input>;
+
+    type Talk = Begun<L, S::Job, <S::Job as Job>::Output, O, X>;
+
+    fn begin(
+        &self,
+        worker: usize,
+        work: Work<L, I, O, X>,
+    ) -> Option<
+        (
+            Upward<I, <S::Job as Job>::Input>,
+            Begun<L, S::Job, <S::Job as Job>::Output, O, X>,
+        ),
+    > {
+        self.begin_by(self.workers.get(worker)?, work)
+    }
+
+    fn pass_up(&self, worker: usize, upward: Upward<I, <S::Job as Job>::Input>) {
+        if let Some(worker) = self.workers.get(worker) {
+            self.attendant.pass_up(upward, &worker.input);
+        }
+    }
+
+    fn pass_down(
+        &self,
+        worker: usize,
+        begun: Begun<L, S::Job, <S::Job as Job>::Output, O, X>,
+        is_fed: bool,
+    ) {
+        if let Some(worker) = self.workers.get(worker) {
+            self.end_by(worker, begun, is_fed);
+        }
+    }
+
+    fn give_up(&self, worker: usize, work: Work<L, I, O, X>) {
+        if let Some(worker) = self.workers.get(worker) {
+            self.give_up_by(worker, work);
+        }
     }
 }

@@ -3,13 +3,13 @@
 #![tactic(auto)]
 
 mod connection;
-mod gate;
-mod places;
+mod entrance;
 pub mod service;
 pub mod serving;
 
+pub use connection_gate::ServeEnd;
 pub use server_log::Log;
 pub use server_words::Level;
 pub use service::{Service, Worker};
-pub use serving::{ServeEnd, serve};
+pub use serving::serve;
 pub use tcp_connections::{AcceptFault, Accepted, Acceptor, Names, Shut};

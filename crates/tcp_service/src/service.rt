@@ -1,7 +1,7 @@
 //! What a server does for all of its connections.
 use site_lock::{Caller, Callers};
 use std::sync::{Mutex, Wait};
-use tcp_connections::{Chains, Names};
+use tcp_connections::Names;
 use wrapper_chain::{Chain, LineStage};
 
 /// What a server does for all of its connections.
@@ -31,14 +31,6 @@ impl<N: Callers, G: LineStage> Worker<N, G> {
             caller: Mutex::new(caller),
             input: Mutex::new(input),
             output: Mutex::new(output),
-        }
-    }
-
-    // Its line wrappers.
-    pub(crate) fn chains(&self) -> Chains<'_, G> {
-        Chains {
-            input: &self.input,
-            output: &self.output,
         }
     }
 

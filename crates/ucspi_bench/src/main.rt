@@ -168,15 +168,22 @@ fn addresses(alloc: Global, lines: usize) -> Result<String, AllocError> {
     Ok(text)
 }
 
+/// The names `rules` and `tmp`.
+fn names_of(alloc: Global) -> Option<Names> {
+    let cdb = Name::new(alloc, b"rules").ok()?;
+    let tmp = Name::new(alloc, b"tmp").ok()?;
+    Names::new(cdb, tmp).ok()
+}
+
 /// Installs a text of so many lines in a folder, as the file `rules`.
 fn install_in<R: Files>(rt: &R, alloc: Global, text: &str, folder: &str) -> Result<(), InstallFault>
 where
     R::File: FileExt,
 {
-    let (Ok(cdb), Ok(tmp)) = (Name::new(alloc, b"rules"), Name::new(alloc, b"tmp")) else {
+    let Some(names) = names_of(alloc) else {
         return Err(InstallFault::OutOfMemory);
     };
-    let (Ok(names), Ok(mut dir)) = (Names::new(cdb, tmp), OsDir::new(alloc, rt, folder)) else {
+    let Ok(mut dir) = OsDir::new(alloc, rt, folder) else {
         return Err(InstallFault::OutOfMemory);
     };
     install(alloc, &mut dir, names, &Limits::profile(), text.as_bytes())
@@ -197,7 +204,7 @@ where
 }
 
 /// The address with a number.
-fn address(n: usize) -> [u8; 4] {
+pub(crate) fn address(n: usize) -> [u8; 4] {
     [
         10,
         (n / 65536 % 256) as u8,

@@ -29,13 +29,22 @@ pub fn time_places<R: Print + Clock, L: Ledger>(
     for n in 0..limit.saturating_sub(TURNS) {
         take_for_good(alloc, &mut table, n);
     }
+    time_last(rt, alloc, &mut table)
+}
+
+/// Prints how many nanoseconds it takes to give one of the last places of a table.
+fn time_last<R: Print + Clock, L: Ledger>(
+    rt: &R,
+    alloc: Global,
+    table: &mut Table<L>,
+) -> io::Result<()> {
     let Ok(peer) = Peer::new(alloc, [10, 0, 0, 1], 4000, None, None) else {
         return Err(io::Error::from(io::ErrorKind::OutOfMemory));
     };
     let began = Instant::now(rt)?;
     let mut given = 0u64;
     for _ in 0..TURNS {
-        given = given.saturating_add(u64::from(give(&mut table, &peer)));
+        given = given.saturating_add(u64::from(give(table, &peer)));
     }
     let taken = began.elapsed(rt)?;
     println!(rt;

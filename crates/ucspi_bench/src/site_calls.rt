@@ -73,12 +73,30 @@ fn time_callers<
     let Ok((site, all)) = Site::<L, N, MemDir, Counts>::new(alloc, parts, yard, callers) else {
         return Err(io::Error::from(io::ErrorKind::OutOfMemory));
     };
+    time_site_of(rt, alloc, &site, all, callers, calls)
+}
+
+/// The same of this site, with as many callers.
+fn time_site_of<
+    L: Premises + Send + Sync,
+    N: Callers + Send + Sync,
+    R: Threads + Wait + Sync + Clock,
+>(
+    rt: &R,
+    alloc: Global,
+    site: &Site<L, N, MemDir, Counts>,
+    all: Vec<Caller<N>>,
+    callers: u64,
+    calls: u64,
+) -> io::Result<u64>
+    requires { 0 < callers }
+{
     let Ok(peer) = Peer::new(alloc, [10, 0, 0, 1], 4000, None, None) else {
         return Err(io::Error::from(io::ErrorKind::OutOfMemory));
     };
     let connections = calls / 2 / callers;
     let began = Instant::now(rt)?;
-    let events = call_in_threads(rt, &site, all, &peer, connections)?;
+    let events = call_in_threads(rt, site, all, &peer, connections)?;
     let taken = began.elapsed(rt)?;
     if events != connections.saturating_mul(2).saturating_mul(callers) {
         return Err(io::Error::from(io::ErrorKind::InvalidData));

@@ -1,6 +1,7 @@
 //! How long a yard takes for a connection.
 ghost use Rattle.std.specs.Prelude.{◌≡◌, false};
 
+use crate::address;
 use dir_calls::MemDir;
 use rule_lines::Verdict;
 use rule_lookup::{Peer, Status};
@@ -35,14 +36,21 @@ pub fn time_yard<R: Print + Clock, L: Premises>(
 {
     let dir = with_rules(alloc, text)?;
     let mut yard = yard_over::<L, MemDir, Counts>(alloc, blank, dir, limit, Counts::new())?;
+    time_connections(rt, alloc, &mut yard, limit)
+}
+
+/// Prints how long a yard without connections takes for one, while one fewer than the limit are alive beside it.
+fn time_connections<R: Print + Clock, L: Premises>(
+    rt: &R,
+    alloc: Global,
+    yard: &mut Yard<L, MemDir, Counts>,
+    limit: u64,
+) -> io::Result<()> {
     for number in 1..limit {
-        begin(alloc, &mut yard, number)?.strand();
+        begin(alloc, yard, number)?.strand();
     }
     let began = Instant::now(rt)?;
-    for number in 0..TURNS {
-        let running = begin(alloc, &mut yard, number)?;
-        finish_for(&mut yard, running);
-    }
+    serve_turns(alloc, yard)?;
     let nanoseconds = began.elapsed(rt)?.as_nanos() / u128::from(TURNS);
     println!(rt;
         "{}.{} microseconds, {} alive",
@@ -52,15 +60,18 @@ pub fn time_yard<R: Print + Clock, L: Premises>(
     )
 }
 
+/// Serves the connections that are timed.
+fn serve_turns<L: Premises>(alloc: Global, yard: &mut Yard<L, MemDir, Counts>) -> io::Result<()> {
+    for number in 0..TURNS {
+        let running = begin(alloc, yard, number)?;
+        finish_for(yard, running);
+    }
+    Ok(())
+}
+
 /// A peer with one of the addresses that the rules name.
 fn peer_of(alloc: Global, number: u64) -> io::Result<Peer> {
-    let n = number.wrapping_mul(7919) % ADDRESSES;
-    let ip = [
-        10,
-        (n / 65536) as u8,
-        (n / 256 % 256) as u8,
-        (n % 256) as u8,
-    ];
+    let ip = address((number.wrapping_mul(7919) % ADDRESSES) as usize);
     match Peer::new(alloc, ip, 4_000, None, None) {
         Ok(peer) => Ok(peer),
         Err(_) => Err(stuck()),

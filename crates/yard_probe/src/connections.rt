@@ -46,7 +46,17 @@ pub fn print_stored<R: Print, L: Premises>(
 {
     let dir = with_rules(alloc, RULES)?;
     let mut yard = yard_over::<L, MemDir, Full>(alloc, blank, dir, connections, Full::new(alloc))?;
-    print_all(rt, alloc, &mut yard, connections)?;
+    print_with_events(rt, alloc, &mut yard, connections)
+}
+
+/// Serves the connections, and prints their report, their number and the events.
+fn print_with_events<R: Print, L: Premises>(
+    rt: &R,
+    alloc: Global,
+    yard: &mut Yard<L, MemDir, Full>,
+    connections: u64,
+) -> io::Result<()> {
+    print_all(rt, alloc, yard, connections)?;
     print_events(rt, alloc, yard.journal())
 }
 

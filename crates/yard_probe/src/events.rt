@@ -4,15 +4,24 @@ use script_words::{Command, read_command};
 use server_core::{Counts, Event, Full, Journal, replay};
 use std::alloc::Global;
 use std::io;
-use std::io::{BufRead, BufReader};
+use std::io::Read;
 use yard_steps::stuck;
 
 /// The events on standard input.
 fn read_events<R: Input>(rt: &R, alloc: Global) -> io::Result<Vec<Event>> {
+    let mut input = Vec::new(alloc);
+    rt.reader().read_to_end(&mut input)?;
+    events_in(alloc, &input)
+}
+
+/// The events in lines.
+fn events_in(alloc: Global, lines: &[u8]) -> io::Result<Vec<Event>> {
     let mut events = Vec::new(alloc);
-    for line in BufReader::new(alloc, rt.reader())?.lines(alloc) {
-        let line = line?;
-        match read_command(alloc, line.as_str().as_bytes()) {
+    for line in lines.split(|byte| *byte == b'\n') {
+        if line.is_empty() {
+            continue;
+        }
+        match read_command(alloc, line) {
             Ok(Command::Event(event)) => events.push(event)?,
             _ => return Err(stuck()),
         }

@@ -29,7 +29,16 @@ pub fn print_installation<R: Print, L: Premises>(
 {
     let dir = FuseDir::new(with_rules(alloc, b":allow\n")?, call);
     let mut yard = yard_over::<L, FuseDir<MemDir>, Full>(alloc, blank, dir, 1, Full::new(alloc))?;
-    let mut answer = begin(alloc, &mut yard)?;
+    print_steps(rt, alloc, &mut yard)
+}
+
+/// Installs `:deny` by a yard, and prints each answer and the events.
+fn print_steps<R: Print, L: Premises>(
+    rt: &R,
+    alloc: Global,
+    yard: &mut Yard<L, FuseDir<MemDir>, Full>,
+) -> io::Result<()> {
+    let mut answer = begin(alloc, yard)?;
     for _ in 0..STEPS {
         print_step(rt, alloc, yard.directory().inner(), &answer)?;
         if matches!(answer, Ok(Phase::Done) | Err(_)) {
@@ -61,11 +70,12 @@ fn print_step<R: Print>(
     dir: &MemDir,
     answer: &Result<Phase, InstallFault>,
 ) -> io::Result<()> {
+    let kept = decided_after(alloc, dir, Choice::Kept)?;
+    let empty = decided_after(alloc, dir, Choice::Empty)?;
+    let junk = decided_after(alloc, dir, Choice::Junk)?;
+    let answer = answer_of(alloc, answer)?;
     println!(rt;
-        "{}: kept {}, empty {}, junk {}",
-        answer_of(alloc, answer)?.as_str(),
-        decided_after(alloc, dir, Choice::Kept)?,
-        decided_after(alloc, dir, Choice::Empty)?,
-        decided_after(alloc, dir, Choice::Junk)?
+        "{}: kept {kept}, empty {empty}, junk {junk}",
+        answer.as_str()
     )
 }

@@ -134,19 +134,32 @@ fn wait_for<L: Ledger>(
         "place {index}, no ends {no_ends}, kills {first:?} {second:?}"
     );
     for _ in 0..WAITS {
-        match finish(running) {
-            Ok((place, status)) => {
-                let _ = writeln!(lines, "{status:?}");
-                return leave(table, place, lines);
-            }
-            Err((again, fault)) => {
-                let index = again.place().index();
-                let _ = writeln!(lines, "{fault:?}, place {index}, live {}", table.live());
-                running = again;
-            }
-        }
+        let Some(again) = wait_once(table, running, lines) else {
+            return;
+        };
+        running = again;
     }
     running.strand();
+}
+
+/// Waits for a child once: it is back where that failed.
+fn wait_once<L: Ledger>(
+    table: &mut Table<L>,
+    running: Running<L, Stubborn>,
+    lines: &mut String,
+) -> Option<Running<L, Stubborn>> {
+    match finish(running) {
+        Ok((place, status)) => {
+            let _ = writeln!(lines, "{status:?}");
+            leave(table, place, lines);
+            None
+        }
+        Err((again, fault)) => {
+            let index = again.place().index();
+            let _ = writeln!(lines, "{fault:?}, place {index}, live {}", table.live());
+            Some(again)
+        }
+    }
 }
 
 /// Gives a place back that is in use.

@@ -21,13 +21,20 @@ pub fn print_limit<R: Print, L: Premises>(
 {
     let dir = MemDir::new(alloc);
     match Yard::<L, MemDir, Counts>::new(alloc, blank, dir, None, limit, Counts::new()) {
-        Ok(mut yard) => {
-            print_admission(rt, alloc, &mut yard)?;
-            print_admission(rt, alloc, &mut yard)?;
-            println!(rt; "live {}", yard.live())
-        }
+        Ok(mut yard) => print_admissions(rt, alloc, &mut yard),
         Err(fault) => println!(rt; "{fault}"),
     }
+}
+
+/// Prints what two connections get, and how many are alive then.
+fn print_admissions<R: Print, L: Premises>(
+    rt: &R,
+    alloc: Global,
+    yard: &mut Yard<L, MemDir, Counts>,
+) -> io::Result<()> {
+    print_admission(rt, alloc, yard)?;
+    print_admission(rt, alloc, yard)?;
+    println!(rt; "live {}", yard.live())
 }
 
 /// Lets a connection in, and prints its serial or why it isn't let in. It stays in for good.

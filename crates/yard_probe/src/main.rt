@@ -1,14 +1,20 @@
-//! Makes calls of a yard over directories in memory, of journals and of jobs, and prints what each answers. The words are the name of a case
-//! and its number, for some a second one; with none it does nothing.
+//! Makes calls of a yard over directories in memory, of journals and of jobs, or serves connections by a yard, and prints what each answers. The
+//! words are the name of a case and its number, for some a second one; the cases of connections that are served have no number. With no words it
+//! does nothing.
 #![tactic(auto)]
 
+mod cases;
 mod connections;
 mod events;
 mod installations;
 mod jobs;
 mod limits;
+mod parts;
+mod served;
 mod shown;
+mod unread;
 
+use cases::{case_of, print_case};
 use rule_lookup::StartFault;
 use std::alloc::Global;
 use std::env::Args;
@@ -17,8 +23,8 @@ use std::process::ExitCode;
 use std::sync::ledger::Blank;
 use std::{env, io};
 
-/// Runs a case.
-fn run<R: Input + Print>(
+/// Runs a case that has a number.
+fn run_numbered<R: Input + Print>(
     rt: &R,
     alloc: Global,
     name: &str,
@@ -50,6 +56,18 @@ fn next_number(words: &mut Args) -> Option<u64> {
     words.next()?.as_str().parse().ok()
 }
 
+/// Runs the case with a name.
+fn run<R: Input + Print>(rt: &R, alloc: Global, name: &str, words: &mut Args) -> io::Result<()> {
+    if let Some(case) = case_of(name) {
+        return print_case(rt, alloc, case);
+    }
+    let Some(number) = next_number(words) else {
+        return Err(io::Error::from(io::ErrorKind::InvalidInput));
+    };
+    let second = next_number(words).unwrap_or(number);
+    run_numbered(rt, alloc, name, number, second)
+}
+
 fn main(rt: HostRuntime) -> ExitCode {
     let Ok(mut words) = env::args(&rt) else {
         return ExitCode::FAILURE;
@@ -58,11 +76,7 @@ fn main(rt: HostRuntime) -> ExitCode {
     let Some(name) = words.next() else {
         return ExitCode::SUCCESS;
     };
-    let Some(number) = next_number(&mut words) else {
-        return ExitCode::FAILURE;
-    };
-    let second = next_number(&mut words).unwrap_or(number);
-    match run(&rt, rt.alloc(), name.as_str(), number, second) {
+    match run(&rt, rt.alloc(), name.as_str(), &mut words) {
         Ok(()) => ExitCode::SUCCESS,
         Err(_) => ExitCode::FAILURE,
     }

@@ -1,6 +1,6 @@
 //! What is printed of answers, events and decisions.
 use cdb_read::CdbFile;
-use dir_calls::{Choice, Dir, MemDir};
+use dir_calls::{Choice, Dir, MemDir, MemFile};
 use rule_lines::Verdict;
 use rule_lookup::{Missing, Peer, Status, decide};
 use rules_install::{InstallFault, Phase};
@@ -27,15 +27,20 @@ fn verdict_word(verdict: Verdict) -> &'static str {
 
 /// What the rules file decides of a peer after a stop.
 pub fn decided_after(alloc: Global, dir: &MemDir, choice: Choice) -> io::Result<&'static str> {
+    let (name, peer) = (rules_name(alloc)?, peer_of(alloc, 0)?);
     let mut left = dir.crash(alloc, choice)?;
-    let file = match left.open(alloc, &rules_name(alloc)?) {
-        Ok(Some(file)) => CdbFile::new(file),
-        Ok(None) => return Ok("no file"),
-        Err(_) => return Err(stuck()),
-    };
-    match decide(alloc, Some(&file), Missing::Drop, &peer_of(alloc, 0)?) {
-        Ok(decision) => Ok(verdict_word(decision.verdict)),
-        Err(_) => Ok("fault"),
+    match left.open(alloc, &name) {
+        Ok(Some(file)) => Ok(decided_by(alloc, &CdbFile::new(file), &peer)),
+        Ok(None) => Ok("no file"),
+        Err(_) => Err(stuck()),
+    }
+}
+
+/// What a rules file decides of a peer.
+fn decided_by(alloc: Global, file: &CdbFile<MemFile>, peer: &Peer) -> &'static str {
+    match decide(alloc, Some(file), Missing::Drop, peer) {
+        Ok(decision) => verdict_word(decision.verdict),
+        Err(_) => "fault",
     }
 }
 

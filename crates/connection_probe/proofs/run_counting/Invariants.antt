@@ -1,8 +1,0 @@
-use Rattle.std.proofs.Common.{false}
-use Rattle.connection_probe.proofs.run_counting.Given as goal
-
-abbrev pub ghosts-serve_case-L-Ledger : goal.ghosts-serve_case-L-Ledger
-ghosts-serve_case-L-Ledger g a = record { name = a.blank.name; parts = a.blank.parts }
-
-abbrev pub ghosts-serve_case-L-Premises : goal.ghosts-serve_case-L-Premises
-ghosts-serve_case-L-Premises g a = record { met = false }

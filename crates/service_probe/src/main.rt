@@ -1,0 +1,88 @@
+//! Serves connections by clients and jobs of its own, runs such a job between two pumps, or tells a log of events, and prints what came of it.
+//! `serve` takes a limit, how many connections find no memory, how many come then, how many are let in before the server ends (any other word for
+//! no such number), and the scripts of the jobs; `between`, `served` and `unserved` take a job's script; `log` takes a level and how many bytes can
+//! be written. With no words it does nothing.
+#![tactic(auto)]
+
+mod between;
+mod log_lines;
+mod scripts;
+mod served;
+
+use between::{print_between, print_end};
+use log_lines::print_log;
+use served::{Asked, print_served};
+use std::alloc::Global;
+use std::process::ExitCode;
+use std::sync::Wait;
+use std::thread::Threads;
+use std::time::Clock;
+use std::{env, io};
+
+/// The greatest limit.
+const MOST: u64 = 10_000;
+
+/// The word at a place, which is empty where there is none.
+fn word(words: &[String], at: usize) -> &str {
+    match words.get(at) {
+        Some(word) => word.as_str(),
+        None => "",
+    }
+}
+
+/// The number at a place, 0 where there is none.
+fn number(words: &[String], at: usize) -> u64 {
+    word(words, at).parse().unwrap_or(0)
+}
+
+/// Serves connections as the words ask for.
+fn serve<R: Print + Threads + Wait + Clock + Sync>(
+    rt: &R,
+    alloc: Global,
+    words: &[String],
+) -> io::Result<()> {
+    let asked = Asked {
+        limit: number(words, 1),
+        lost: number(words, 2),
+        clients: number(words, 3),
+        count: word(words, 4).parse().ok(),
+    };
+    if asked.limit == 0 || asked.limit > MOST {
+        return Err(io::Error::from(io::ErrorKind::InvalidInput));
+    }
+    print_served(rt, alloc, asked, words.get(5..).unwrap_or_default())
+}
+
+/// Makes the call that the words ask for.
+fn run<R: Print + Threads + Wait + Clock + Sync>(
+    rt: &R,
+    alloc: Global,
+    words: &[String],
+) -> io::Result<()> {
+    let scripts = words.get(1..).unwrap_or_default();
+    match word(words, 0) {
+        "log" => print_log(rt, alloc, word(words, 1), number(words, 2) as usize),
+        "between" => print_between(rt, alloc, scripts),
+        "served" => print_end(rt, alloc, scripts, true),
+        "unserved" => print_end(rt, alloc, scripts, false),
+        _ => serve(rt, alloc, words),
+    }
+}
+
+fn main(rt: HostRuntime) -> ExitCode {
+    let alloc = rt.alloc();
+    let (Ok(mut given), mut words) = (env::args(&rt), Vec::new(alloc)) else {
+        return ExitCode::FAILURE;
+    };
+    let _program = given.next();
+    for word in given {
+        if words.push(word).is_err() {
+            return ExitCode::FAILURE;
+        }
+    }
+    if words.is_empty() || run(&rt, alloc, &words).is_ok() {
+        ExitCode::SUCCESS
+    } else {
+        ExitCode::FAILURE
+    }
+}

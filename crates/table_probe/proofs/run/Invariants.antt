@@ -1,4 +1,0 @@
-use Rattle.table_probe.proofs.run.Given as goal
-
-abbrev pub ghosts-run_commands : goal.ghosts-run_commands
-ghosts-run_commands g a = record { name = a.blank.name; parts = a.blank.parts }
