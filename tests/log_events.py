@@ -3,8 +3,9 @@
 
 Usage: tests/log_events.py [PER] < log | ucspi rulesim
 
-The log is that of one run of `ucspi tcpserver -v`, from its first line on; other lines may stand between, as those of its programs. PER is the
-number of `-m`; without it there is no limit per address but that of `-c`, which the log tells. The answer is
+The log is that of one run of `ucspi tcpserver -v`, from its first line on; other lines may stand between, as those of its programs, and in front of
+a line of the server what a program has begun to write, as a shell does that tells a fault in three pieces. PER is the number of `-m`; without it
+there is no limit per address but that of `-c`, which the log tells. The answer is
 `admitted A live L retired R most M`, or `illegal I`, where event I is the first that may not happen where it stands.
 
 What no line tells is put where it has to be: a verdict says that the rules were opened, an end that the program was started. The end of a
@@ -34,6 +35,8 @@ FORMS = [
     ("memory", re.compile(rb"out of memory")),
     ("ending", re.compile(rb"accept fault|no places left")),
 ]
+# what is recorded of a client or a program may look like a line of the server
+RECORDED = re.compile(rb"\d+ [<>] ")
 # the last line of these events is a status
 WITH_STATUS = ("pid", "end", "retired", "drop", "start")
 
@@ -56,20 +59,22 @@ class Connection:
         self.denied = None
 
 
+def line_of(number, text):
+    """The server's own line in a line of its log, if there is one: all of it, or what stands behind the beginning of a program's line."""
+    begins = text.find(NAME)
+    if begins < 0 or RECORDED.match(text):
+        return None
+    for kind, form in FORMS:
+        match = form.fullmatch(text, begins + len(NAME))
+        if match:
+            return Line(number, kind, [field.decode() for field in match.groups()])
+    return None if begins else Line(number, "unknown", [text.decode("utf-8", "replace")])
+
+
 def lines_of(log):
     """The server's own lines in a log."""
-    lines = []
-    for number, text in enumerate(log.split(b"\n"), 1):
-        if not text.startswith(NAME):
-            continue
-        for kind, form in FORMS:
-            match = form.fullmatch(text[len(NAME):])
-            if match:
-                lines.append(Line(number, kind, [field.decode() for field in match.groups()]))
-                break
-        else:
-            lines.append(Line(number, "unknown", [text.decode("utf-8", "replace")]))
-    return lines
+    lines = (line_of(number, text) for number, text in enumerate(log.split(b"\n"), 1))
+    return [line for line in lines if line]
 
 
 class Events:

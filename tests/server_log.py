@@ -272,6 +272,10 @@ def audits(suite):
         (head + ok + b"tcpserver: end 1 status 0\n", "admitted 1 live 0 retired 0 most 1", 0),
         (head + ok + b"tcpserver: end 1 status 0\ntcpserver: pid 2 from 1.1.1.1\n", "admitted 2 live 1 retired 0 most 1", 1),
         (head + second.replace(b"pid 2", b"pid 3"), "illegal 2", 1),
+        # a shell tells a fault in pieces, and the server's lines may stand between them
+        (head + ok + b"sh: 1: tcpserver: end 1 status 0\n" + free + b"echo: fault\n", "admitted 1 live 0 retired 0 most 1", 0),
+        (head + ok + b"tcpserver: end 1 status 0\n" + free + b"sh: 1: " + second + b"echo: fault\n", "admitted 2 live 1 retired 0 most 1", 0),
+        (head + ok + b"12 > tcpserver: end 1 status 0\n1 of tcpserver: all\n", "admitted 1 live 1 retired 0 most 1", 0),
     ]
     script = os.path.join(server_runs.TOP, "tests", "log_events.py")
     for log, wanted, code in cases:
