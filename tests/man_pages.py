@@ -189,7 +189,7 @@ def codes_of(source, function, enum, variants):
 def tool_texts(tool):
     """The texts of a tool, with their exit codes."""
     path, enum, variant = FAULTS[tool]
-    source = read("tool_words/src/fault.rt")
+    source = read("ucspi_tools/src/fault.rt")
     by = {name: value for pattern, value in arms(source, "exit_code") for name in re.findall(r"ToolFault::(\w+)", pattern)}
     texts = texts_of(path, enum)
     function = re.match(r"(\w+)\(", by[variant])
@@ -204,7 +204,7 @@ def tool_texts(tool):
 
 def usages():
     """The tools of the program: the usage text of each."""
-    source = read("tool_words/src/tool.rt")
+    source = read("ucspi_tools/src/tool.rt")
     names, usage = words_of(source, "name"), words_of(source, "usage")
     return {names[variant]: usage[variant] for variant in names}
 
@@ -229,7 +229,7 @@ def server_texts():
     texts = texts_of(SERVER_FAULT, "ServerFault")
     found = word_texts()
     codes = {}
-    for path in ("tool_words/src/fault.rt", SERVER_FAULT):
+    for path in ("ucspi_tools/src/fault.rt", SERVER_FAULT):
         for function in re.findall(r"fn (\w+)\((?:self|\w+: ServerFault)\) -> u8", read(path)):
             codes.update({key: code for key, code in codes_of(read(path), function, "ServerFault", texts).items() if code})
     for variant, text in texts.items():

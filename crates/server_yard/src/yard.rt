@@ -1,9 +1,10 @@
 //! The yard.
-ghost use Rattle.std.specs.Prelude.{◌≡◌, ◌≢◌, ◌+◌, ◌<◌, ◌∷◌, ◌↔◌, ℕ, List, [], true, false, Err, Ok, Some, None, IsTrue, IfOk, IfErr, IfSome, OnOk, OnErr, Contains, is_some, length, option_map};
+ghost use Rattle.std.specs.Prelude.{◌≡◌, ◌≢◌, ◌+◌, ◌<◌, ◌∷◌, ◌↔◌, ℕ, List, [], true, false, Err, Ok, Some, None, IsTrue, IfOk, IfErr, IfNone, IfSome, OnOk, OnErr, Contains, is_some, length, option_map};
 ghost use Rattle.child_jobs.specs.Runs.{place_of};
 ghost use Rattle.child_table.specs.Seats.{RefusesLimits};
 ghost use Rattle.dir_calls.specs.Moments.{CountsFault};
 ghost use Rattle.rules_install.specs.Installs.{installing};
+ghost use Rattle.rules_install.specs.Installing.{Installing};
 ghost use Rattle.rules_install.specs.declared.Phase.TheVariants.{Done};
 ghost use Rattle.rules_install.specs.declared.fault.InstallFault.TheVariants.{Over};
 ghost use Rattle.server_events.specs.ServerState.{is_allowed, is_unstarted, may_happen, stage_of};
@@ -454,7 +455,7 @@ impl<L: Premises, D: Dir + Drop, J: Journal> Yard<L, D, J> {
     pub fn is_under_way(&self, number: u64) -> bool
         ensures { result ≡ is_some (kept_under self.now number) }
     {
-        number == self.begun && matches!(self.installation, Installation::UnderWay(..))
+        number == self.begun && self.installation.is_under_way()
     }
 
     /// Begins an installation by its first step, and keeps it, in place of any other, until it is done or meets a fault of the
@@ -548,16 +549,34 @@ impl<L: Premises, D: Dir + Drop, J: Journal> Yard<L, D, J> {
 }
 
 impl Installation {
+    fn is_under_way(&self) -> bool
+        ensures { result ≡ is_some (installing_of self.now) }
+    {
+        matches!(self, Installation::UnderWay(..))
+    }
+
     // What becomes of an installation that was stepped.
     fn after(install: Install, answer: Result<Phase, InstallFault>) -> Installation
         ensures installing { installing_of result ≡ kept_then (installing install) answer }
         ensures kept { is_kept result ≡ is_kept_after answer }
     {
-        match answer {
-            Ok(Phase::Done) => Installation::AtDone,
-            Err(InstallFault::Disk(..)) => Installation::Idle,
-            _ => Installation::UnderWay(install),
+        match ended_by(answer) {
+            Some(ended) => ended,
+            None => Installation::UnderWay(install),
         }
+    }
+}
+
+// What is left where an answer ends an installation; `None` where it goes on.
+fn ended_by(answer: Result<Phase, InstallFault>) -> Option<Installation>
+    ensures ended { IfSome result (λ left. (installing_of left ≡ None) × (is_kept left ≡ is_kept_after answer)
+        × ((s : Installing) → kept_then s answer ≡ None)) }
+    ensures goes_on { IfNone result ((is_kept_after answer ≡ true) × ((s : Installing) → kept_then s answer ≡ Some s)) }
+{
+    match answer {
+        Ok(Phase::Done) => Some(Installation::AtDone),
+        Err(InstallFault::Disk(..)) => Some(Installation::Idle),
+        _ => None,
     }
 }
 

@@ -4,7 +4,7 @@ use Rattle.std.proofs.lemmas.Bool.{cases_lt}
 use Rattle.std.proofs.lemmas.List.{map-append}
 use Rattle.std.proofs.lemmas.List.Sums.{sum_by-append}
 use Rattle.event_journals.specs.Journals.{one_more}
-use Rattle.std.specs.Prelude.{Option, Some, None, is_some}
+use Rattle.std.specs.Prelude.{IfSome, Option, Some, None, is_some}
 use Rattle.site_lock.specs.Receipts.{CountsFor, IsReceiptFor, more_if}
 use Rattle.site_lock.specs.declared.receipt.Receipt.{Receipt}
 use Rattle.site_lock.specs.Callers.{AddsFor, AreNew, IsOneMore, caller_number, caller_share, numbers_to}
@@ -39,3 +39,8 @@ counts_if (Some r) n m counts = counts
 pub adds_for : (r : Option Receipt) (who n old new : ℕ) → n < 2 ^ 64 → IsReceiptFor n who r → new + n ≡ old + more_if (is_some r) n → AddsFor r old new
 adds_for None who n old new fits is grows = omega (arith, grows)
 adds_for (Some r) who n old new fits is grows = one_more_from n r.at old new fits is.1 grows
+
+-- a receipt that is the caller's has its number
+pub is_own : (r : Option Receipt) (who n : ℕ) → IsReceiptFor n who r → IfSome r (λ r. r.caller ≡ who)
+is_own None who n is = tt
+is_own (Some r) who n is = is.0

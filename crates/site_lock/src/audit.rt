@@ -6,8 +6,7 @@ ghost use Rattle.site_lock.specs.Audits.{AreRight, AreRightBefore, IsAbove, IsFi
 
 use crate::receipt::Receipt;
 use dir_calls::Dir;
-use event_journals::Full;
-use same_events::is_same_event;
+use event_journals::{Full, is_same_event};
 use server_yard::{Premises, Yard};
 use thiserror::Error;
 

@@ -1,16 +1,18 @@
-//! One TCP connection, whoever is told of it: where connections come from, the names of the two ends, the streams of a connection and the
-//! end of its child. A line that can't be written to the log is left out.
+//! TCP connections, whoever is told of them and whatever serves them: where they come from, the names of the two ends, the gate that gives
+//! each a thread and a worker, the streams of a connection and the end of its child. A line that can't be written to the log is left out.
 #![tactic(auto)]
 
 pub mod accepting;
 pub mod attending;
+pub mod gate;
+mod hall;
 pub mod names;
 pub mod rounds;
 mod threads;
 
 pub use accepting::{AcceptFault, Accepted, Acceptor, Shut};
 pub use attending::{Attendant, Endings, Line, Talk, Upward};
+pub use gate::{Door, Entry, ServeEnd, Serving, serve_through};
 pub use names::Names;
 pub use rounds::wait_in_rounds;
 pub use server_log::Log;
-pub use threads::connection_thread;

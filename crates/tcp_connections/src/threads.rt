@@ -6,6 +6,6 @@ use std::thread::Builder;
 const STACK: usize = 512 * 1024;
 
 /// What starts a thread of a connection.
-pub fn connection_thread() -> Builder {
+pub(crate) fn connection_thread() -> Builder {
     Builder::new().stack_size(STACK)
 }

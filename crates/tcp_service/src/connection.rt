@@ -1,20 +1,19 @@
 //! The thread of one connection.
+use crate::logged_desk::LoggedDesk;
 use crate::service::Worker;
+use crate::site_desk::SiteDesk;
 use child_jobs::{Job, Launcher, Plan};
 use child_table::Place;
-use connection_gate::Serving;
 use dir_calls::Dir;
 use event_journals::Journal;
-use logged_desk::LoggedDesk;
 use one_connection::{Desk, Served, serve_one};
 use rule_lookup::{DropCause, Peer};
 use server_yard::Premises;
-use site_desk::SiteDesk;
 use site_lock::{Caller, Callers, Site};
 use std::io::{Read, Write};
 use std::sync::Wait;
 use std::sync::ledger::Ledger;
-use tcp_connections::{Attendant, Line, Shut, Talk, Upward};
+use tcp_connections::{Attendant, Line, Serving, Shut, Talk, Upward};
 use wrapper_chain::LineStage;
 
 /// The place of a connection whose thread has not taken it yet. One that is let go stays counted for good.

@@ -2,7 +2,6 @@
 use crate::connection::{Reserved, Work};
 use child_jobs::Plan;
 use child_table::Place;
-use connection_gate::{Door, Entry};
 use dir_calls::Dir;
 use event_journals::Journal;
 use rule_lookup::Peer;
@@ -12,7 +11,7 @@ use site_lock::{Caller, Callers, Room, Site};
 use std::alloc::{AllocError, Global};
 use std::io::Write;
 use std::sync::{Mutex, Wait};
-use tcp_connections::{AcceptFault, Accepted, Acceptor, Line, Names};
+use tcp_connections::{AcceptFault, Accepted, Acceptor, Door, Entry, Line, Names};
 use ucspi_env::Local;
 
 /// Lets the connections of an acceptor in, by a caller of a site.

@@ -1,15 +1,18 @@
-//! The service of TCP connections: who is let in, the thread of each connection, and when the lines of the log are written. A line that can't
-//! be written is left out.
+//! The service of TCP connections: who is let in, the calls of each connection by one caller of a site, and when the lines of the log are
+//! written. A line that can't be written is left out.
 #![tactic(auto)]
 
 mod connection;
 mod entrance;
+pub mod logged_desk;
 pub mod service;
 pub mod serving;
+pub mod site_desk;
 
-pub use connection_gate::ServeEnd;
+pub use logged_desk::{Living, LoggedDesk};
 pub use server_log::Log;
 pub use server_words::Level;
 pub use service::{Service, Worker};
 pub use serving::serve;
-pub use tcp_connections::{AcceptFault, Accepted, Acceptor, Names, Shut};
+pub use site_desk::SiteDesk;
+pub use tcp_connections::{AcceptFault, Accepted, Acceptor, Names, ServeEnd, Shut};

@@ -3,7 +3,6 @@ use crate::connection::Server;
 use crate::entrance::Entrance;
 use crate::service::{Service, Worker};
 use child_jobs::{Job, Launcher, Plan};
-use connection_gate::{ServeEnd, serve_through};
 use dir_calls::Dir;
 use event_journals::Journal;
 use server_log::Log;
@@ -14,7 +13,7 @@ use std::io::Write;
 use std::sync::{Mutex, Wait};
 use std::thread::Threads;
 use std::time::Clock;
-use tcp_connections::{Acceptor, Attendant};
+use tcp_connections::{Acceptor, Attendant, ServeEnd, serve_through};
 use wrapper_chain::LineStage;
 
 /// Serves connections until it comes to an end, and then waits until all that were let in are over.

@@ -1,7 +1,11 @@
-//! The tools of `ucspi` as library functions, and the program that its words ask for.
+//! The tools of `ucspi` as library functions, and the program that its words ask for: which tool that is, why a run of it fails, and the code
+//! with which it exits then.
 #![tactic(auto)]
 
+pub mod choice;
+pub mod fault;
 pub mod program;
+pub mod tool;
 
 pub use program::run_program;
 pub use rules_tools::{CheckFault, TcprulesFault, run_tcprules, run_tcprulescheck};
@@ -9,4 +13,3 @@ pub use script_tool::{SimFault, run_rulesim};
 pub use stream_tools::{
     BetweenFault, FilterFault, Lane, OsJob, OsLauncher, SharedWriter, run_between, run_filter,
 };
-pub use tool_words::{choice, fault, tool};

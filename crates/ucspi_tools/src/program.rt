@@ -1,4 +1,6 @@
 //! The program `ucspi`: its words, and the tool that they ask for.
+use crate::choice::{Choice, choose};
+use crate::fault::{ToolFault, end, status_code};
 use patient_streams::Patient;
 use rules_tools::{run_tcprules, run_tcprulescheck};
 use script_tool::run_script;
@@ -14,7 +16,6 @@ use std::thread::Threads;
 use std::time::Clock;
 use stream_tools::started::{command_words, program_path};
 use stream_tools::{run_addcr, run_delcr, run_fixcrio, run_recordio};
-use tool_words::{Choice, ToolFault, choose, end, status_code};
 
 /// The program's name.
 const PROGRAM: &str = "ucspi";

@@ -1,4 +1,4 @@
-use Rattle.std.proofs.Common.{◌++◌, ◌∷◌, [], Some, inr, ap, ◌∙◌}
+use Rattle.std.proofs.Common.{◌++◌, ◌∷◌, [], Some, inr, refl, ap, ◌∙◌}
 use Rattle.std.specs.Prelude.{option_map}
 use Rattle.event_journals.specs.Journals.{without_last}
 use Rattle.server_events.specs.declared.event.Event.TheVariants as event
@@ -33,3 +33,51 @@ returns-in-Err-clause-err g c =
 
 pub returns-in-Err-clause-seats : goal.returns-in-Err-clause-seats
 returns-in-Err-clause-seats g c = λ i. c.forget_list.ensures.seats i ∙ c.in-Err.ensures.seats i ∙ c.in_ok-keep_list.ensures.seats i
+
+pub returns-in-Ok-clause-goes : goal.returns-in-Ok-clause-goes
+returns-in-Ok-clause-goes g c = c.in-Ok.ensures.goes
+
+pub returns-in-Ok-clause-same : goal.returns-in-Ok-clause-same
+returns-in-Ok-clause-same g c = c.in-Ok.ensures.same
+
+pub returns-in-Ok-clause-leads : goal.returns-in-Ok-clause-leads
+returns-in-Ok-clause-leads g c = c.in-Ok.ensures.leads
+
+pub returns-in-Ok-clause-stops : goal.returns-in-Ok-clause-stops
+returns-in-Ok-clause-stops g c = c.in-Ok.ensures.stops
+
+pub returns-in-Ok-clause-fits : goal.returns-in-Ok-clause-fits
+returns-in-Ok-clause-fits g c = c.in-Ok.ensures.fits
+
+pub returns-in-Err-clause-goes : goal.returns-in-Err-clause-goes
+returns-in-Err-clause-goes g c = c.in-Err.ensures.goes
+
+pub returns-in-Err-clause-same : goal.returns-in-Err-clause-same
+returns-in-Err-clause-same g c = c.in-Err.ensures.same
+
+pub returns-in-Err-clause-leads : goal.returns-in-Err-clause-leads
+returns-in-Err-clause-leads g c = c.in-Err.ensures.leads
+
+pub returns-in-Err-clause-stops : goal.returns-in-Err-clause-stops
+returns-in-Err-clause-stops g c = c.in-Err.ensures.stops
+
+pub returns-in-Err-clause-fits : goal.returns-in-Err-clause-fits
+returns-in-Err-clause-fits g c = c.in-Err.ensures.fits
+
+pub returns-in-Err-clause-still : goal.returns-in-Err-clause-still
+returns-in-Err-clause-still g c = c.in-Err.ensures.still
+
+pub returns-in-Err-clause-device : goal.returns-in-Err-clause-device
+returns-in-Err-clause-device g c = c.in-Err.ensures.device
+
+pub returns-in_err-keep_list-clause-seats : goal.returns-in_err-keep_list-clause-seats
+returns-in_err-keep_list-clause-seats g c = c.in_err-keep_list.ensures.seats
+
+pub returns-in_err-keep_list-clause-same : goal.returns-in_err-keep_list-clause-same
+returns-in_err-keep_list-clause-same g c = record { rules = refl; names = refl }
+
+pub returns-in_err-keep_list-clause-still : goal.returns-in_err-keep_list-clause-still
+returns-in_err-keep_list-clause-still g c = λ honest none. refl
+
+pub step_noted-requires-clause-is_open : goal.step_noted-requires-clause-is_open
+step_noted-requires-clause-is_open g c = c.requires.is_open

@@ -1,4 +1,4 @@
-use Rattle.std.proofs.Common.{inr, ap, ◌∙◌}
+use Rattle.std.proofs.Common.{inr, refl, ap, ◌∙◌}
 use Rattle.rules_install.specs.Installs.{installing}
 use Rattle.rules_install.specs.Installing.{next_phase}
 use Rattle.rules_install.specs.declared.Phase.{Phase}
@@ -46,3 +46,66 @@ pub returns-in-Err-clause-still : goal.returns-in-Err-clause-still
 returns-in-Err-clause-still g c = λ honest none.
     let s = installing c.args.install.now in
     still_then s (next_phase s) (g.D.Dir.state c.args.dir.now) (g.D.Dir.state c.make_step.new.dir) c.in-Err.fault (c.in-Err.ensures.changes honest) none
+
+pub returns-in-Ok-clause-lists : goal.returns-in-Ok-clause-lists
+returns-in-Ok-clause-lists g c = c.note_step.ensures.lists ∙ c.in_ok-reserve.ensures.lists
+
+pub returns-in-Ok-clause-goes : goal.returns-in-Ok-clause-goes
+returns-in-Ok-clause-goes g c = c.in-Ok.ensures.goes
+
+pub returns-in-Ok-clause-same : goal.returns-in-Ok-clause-same
+returns-in-Ok-clause-same g c = c.in-Ok.ensures.same
+
+pub returns-in-Ok-clause-leads : goal.returns-in-Ok-clause-leads
+returns-in-Ok-clause-leads g c = c.in-Ok.ensures.leads
+
+pub returns-in-Ok-clause-stops : goal.returns-in-Ok-clause-stops
+returns-in-Ok-clause-stops g c = c.in-Ok.ensures.stops
+
+pub returns-in-Ok-clause-fits : goal.returns-in-Ok-clause-fits
+returns-in-Ok-clause-fits g c = c.in-Ok.ensures.fits
+
+pub returns-in-Err-clause-lists : goal.returns-in-Err-clause-lists
+returns-in-Err-clause-lists g c = c.note_fault.ensures.lists ∙ c.in_ok-reserve.ensures.lists
+
+pub returns-in-Err-clause-goes : goal.returns-in-Err-clause-goes
+returns-in-Err-clause-goes g c = c.in-Err.ensures.goes
+
+pub returns-in-Err-clause-same : goal.returns-in-Err-clause-same
+returns-in-Err-clause-same g c = c.in-Err.ensures.same
+
+pub returns-in-Err-clause-leads : goal.returns-in-Err-clause-leads
+returns-in-Err-clause-leads g c = c.in-Err.ensures.leads
+
+pub returns-in-Err-clause-stops : goal.returns-in-Err-clause-stops
+returns-in-Err-clause-stops g c = c.in-Err.ensures.stops
+
+pub returns-in-Err-clause-fits : goal.returns-in-Err-clause-fits
+returns-in-Err-clause-fits g c = c.in-Err.ensures.fits
+
+pub returns-in-Err-clause-device : goal.returns-in-Err-clause-device
+returns-in-Err-clause-device g c = c.in-Err.ensures.device
+
+pub returns-in_err-reserve-clause-lists : goal.returns-in_err-reserve-clause-lists
+returns-in_err-reserve-clause-lists g c = c.in_err-reserve.ensures.lists
+
+pub returns-in_err-reserve-clause-seats : goal.returns-in_err-reserve-clause-seats
+returns-in_err-reserve-clause-seats g c = c.in_err-reserve.ensures.seats
+
+pub returns-in_err-reserve-clause-same : goal.returns-in_err-reserve-clause-same
+returns-in_err-reserve-clause-same g c = record { rules = refl; names = refl }
+
+pub returns-in_err-reserve-clause-fits : goal.returns-in_err-reserve-clause-fits
+returns-in_err-reserve-clause-fits g c = c.requires.fits
+
+pub returns-in_err-reserve-clause-still : goal.returns-in_err-reserve-clause-still
+returns-in_err-reserve-clause-still g c = λ honest none. refl
+
+pub make_step-requires-clause-is_open : goal.make_step-requires-clause-is_open
+make_step-requires-clause-is_open g c = c.requires.is_open
+
+pub make_step-requires-clause-undone : goal.make_step-requires-clause-undone
+make_step-requires-clause-undone g c = c.requires.undone
+
+pub make_step-requires-clause-fits : goal.make_step-requires-clause-fits
+make_step-requires-clause-fits g c = c.requires.fits

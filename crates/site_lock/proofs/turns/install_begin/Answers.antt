@@ -1,8 +1,8 @@
-use Rattle.std.proofs.Common.{sym, subst, ◌∙◌}
+use Rattle.std.proofs.Common.{sym, ap, subst, ◌∙◌}
 use Rattle.rules_install.specs.Installs.{installing}
 use Rattle.server_yard.specs.Rolls.{NotesSome, Roll}
 use Rattle.server_yard.specs.Standing.{LeadsSome, LeavesNothingElse, YardState}
-use Rattle.server_yard.specs.Stepping.{begin_event}
+use Rattle.server_yard.specs.Stepping.{begin_event, kept_after_begin, last_begun_after, lists_after_begin}
 use Rattle.server_yard.specs.Yards.{yard_directory, yard_roll, yard_state}
 use Rattle.site_lock.proofs.Spoken.{may_begin_from, noted_receipt, spoken_state}
 use Rattle.site_lock.proofs.turns.install_begin.Goals as goal
@@ -49,3 +49,19 @@ returns-clause-stops g c = λ honest.
 
 pub returns-clause-seats : goal.returns-clause-seats
 returns-clause-seats g c = λ i. c.install_begin-answer.ensures.seats i ∙ c.speaker.ensures.seats i
+
+pub returns-clause-begun : goal.returns-clause-begun
+returns-clause-begun g c = c.install_begin-answer.ensures.begun ∙ ap (last_begun_after c.install_begin-answer.result) c.speaker.ensures.same.begun
+
+pub returns-clause-kept : goal.returns-clause-kept
+returns-clause-kept g c = c.install_begin-answer.ensures.kept ∙ ap (kept_after_begin c.install_begin-answer.result) c.speaker.ensures.same.kept
+
+pub returns-clause-rules : goal.returns-clause-rules
+returns-clause-rules g c = c.install_begin-answer.ensures.rules ∙ c.speaker.ensures.same.rules
+
+pub returns-clause-lists : goal.returns-clause-lists
+returns-clause-lists g c =
+    c.install_begin-answer.ensures.lists ∙ ap (lists_after_begin c.install_begin-answer.result (installing c.args.install).rules) c.speaker.ensures.same.lists_same
+
+pub returns-clause-back : goal.returns-clause-back
+returns-clause-back g c = c.install_begin-answer.ensures.back

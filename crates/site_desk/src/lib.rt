@@ -1,6 +1,0 @@
-//! The calls of one connection, by one caller of a site.
-#![tactic(auto)]
-
-pub mod desk;
-
-pub use desk::SiteDesk;

@@ -1,0 +1,155 @@
+//! The calls of one connection, by one caller of a site.
+use crate::logged_desk::Living;
+use child_jobs::{Job, Running};
+use child_table::Place;
+use dir_calls::Dir;
+use event_journals::Journal;
+use one_connection::{Desk, OpenFault, decide_by_pass};
+use rule_lookup::{DecideFault, Decision, DropCause, Peer, StartFault, Status};
+use server_yard::{Pass, Premises};
+use site_lock::{Caller, Callers, Site, turns};
+use std::alloc::Global;
+use std::sync::Wait;
+use tcp_connections::Endings;
+
+/// A caller of a site, as the desk of one connection at a time: each call is the site's of its name, made by this caller.
+///
+/// Others use the site too, so nothing is known here of where a connection stands: what `serve_one` says over it holds of the file that was
+/// opened, whichever it was. That each call is made in its turn the site itself sees to.
+#[derive(Drop)]
+pub struct SiteDesk<'a, L: Premises, N: Callers, D: Dir + Drop, J: Journal, R> {
+    rt: &'a R,
+    site: &'a Site<L, N, D, J>,
+    caller: &'a mut Caller<N>,
+}
+
+impl<'a, L: Premises, N: Callers, D: Dir + Drop, J: Journal, R: Wait> SiteDesk<'a, L, N, D, J, R> {
+    /// The desk of this caller.
+    pub fn new(
+        rt: &'a R,
+        site: &'a Site<L, N, D, J>,
+        caller: &'a mut Caller<N>,
+    ) -> SiteDesk<'a, L, N, D, J, R> {
+        SiteDesk { rt, site, caller }
+    }
+}
+
+impl<L: Premises, N: Callers, D: Dir + Drop, J: Journal, R: Wait> Living
+    for SiteDesk<'_, L, N, D, J, R> {
+    fn live(&self) -> u64 {
+        self.site.live(self.rt)
+    }
+}
+
+impl<L, N, D, J, R, C> Endings<L, C> for SiteDesk<'_, L, N, D, J, R>
+where
+    L: Premises,
+    N: Callers,
+    D: Dir + Drop,
+    J: Journal,
+    R: Wait,
+    C: Job + Drop,
+{
+    type Place = Place<L>;
+
+    type Child = Running<L, C>;
+
+    fn ended(&mut self, place: Place<L>, _serial: u64, status: Status) {
+        self.site.ended(self.rt, self.caller, place, status);
+    }
+
+    fn retired(&mut self, running: Running<L, C>, _serial: u64) {
+        self.site.retired(self.rt, self.caller, running);
+    }
+}
+
+impl<L: Premises, N: Callers, D: Dir + Drop, J: Journal, R: Wait> Desk<L>
+    for SiteDesk<'_, L, N, D, J, R> {
+    ghost use Rattle.std.specs.Prelude.{◌≡◌, ◌-◌, ◌^◌, ⊤, true, IfOk, IfErr, OnOk, OnErr, IsTrue};
+    ghost use Rattle.one_connection.specs.Openings.{Decides, FailsToDecide, opening_of};
+    ghost use Rattle.server_yard.specs.Passes.{IsDecidedBy, pass_serial};
+
+    type Place = Place<L>;
+
+    type Pass = Pass<L, D::File>;
+
+    ghost index = { λ place. place };
+
+    ghost opening = { λ pass. opening_of D.File.bytes pass };
+
+    ghost serial = { λ pass. pass_serial pass };
+
+    ghost honest = { D.File.honest };
+
+    ghost sound = { D.File.sound };
+
+    ghost stands = { λ _ _ _ _ _. ⊤ };
+
+    ghost is_gone = { λ _ _. ⊤ };
+
+    ghost finds = { λ _ _. ⊤ };
+
+    ghost is_missing = { λ _ _. ⊤ };
+
+    ghost failures = { λ _. 2 ^ 64 - 1 };
+
+    ghost is_shared = { true };
+
+    fn open(
+        &mut self,
+        alloc: Global,
+        _place: &Place<L>,
+        serial: u64,
+        _peer: &Peer,
+    ) -> Result<Pass<L, D::File>, OpenFault> {
+        match self.site.open(self.rt, self.caller, alloc, serial) {
+            Ok((pass, _)) => Ok(pass),
+            Err(turns::OpenFault::OutOfTurn) => Err(OpenFault::OutOfTurn),
+            Err(turns::OpenFault::Device) => Err(OpenFault::Directory),
+            Err(turns::OpenFault::OutOfMemory) => Err(OpenFault::OutOfMemory),
+        }
+    }
+
+    fn decide(alloc: Global, pass: &Pass<L, D::File>, peer: &Peer) -> Result<Decision, DecideFault>
+        ensures decided { IfOk result (Decides D.File.honest D.File.sound (opening_of D.File.bytes pass.now) peer.now) }
+        ensures refused { IfErr result
+            (FailsToDecide D.File.honest D.File.sound (opening_of D.File.bytes pass.now) peer.now) }
+    {
+        decide_by_pass(alloc, pass, peer)
+    }
+
+    fn decided(
+        &mut self,
+        alloc: Global,
+        _place: &Place<L>,
+        pass: Pass<L, D::File>,
+        peer: &Peer,
+        decision: Decision,
+    ) -> Result<(), (Pass<L, D::File>, Decision)>
+        requires decides { IsDecidedBy D.File.honest D.File.sound D.File.bytes pass peer.now decision }
+        ensures decided { OnOk result ⊤ }
+        ensures refused { OnErr result ⊤ }
+        ensures at_once { OnErr result (IsTrue true) }
+        ensures failures { 2 ^ 64 - 1 ≡ 2 ^ 64 - 1 }
+    {
+        match self
+            .site
+            .decided(self.rt, self.caller, alloc, pass, peer, decision)
+        {
+            Ok(_) => Ok(()),
+            Err(back) => Err(back),
+        }
+    }
+
+    fn started<C: Job>(&mut self, running: &Running<L, C>, _serial: u64, _peer: &Peer) {
+        self.site.started(self.rt, self.caller, running);
+    }
+
+    fn start_failed(&mut self, place: Place<L>, _serial: u64, _peer: &Peer, fault: StartFault) {
+        self.site.start_failed(self.rt, self.caller, place, fault);
+    }
+
+    fn dropped(&mut self, place: Place<L>, _serial: u64, _peer: &Peer, cause: DropCause) {
+        self.site.dropped(self.rt, self.caller, place, cause);
+    }
+}

@@ -1,0 +1,151 @@
+-- Which tool words ask for.
+use Rattle.std.specs.Prelude.{◌≡◌, ◌+◌, ℕ, ◌&&◌, drop, List, [], ◌∷◌, Option, Some, None, codes, bytes_eq, if◌then◌else◌}
+use Rattle.std.specs.List.{list_all}
+use Rattle.std.specs.Str.{is_utf8}
+use Rattle.memchr.specs.Find.{IsLastByte, is_byte}
+use Rattle.stream_tools.specs.Programs.{texts_of}
+use Rattle.ucspi_tools.specs.declared.choice.Choice.{Choice}
+use Rattle.ucspi_tools.specs.declared.choice.Choice.TheVariants as choice
+use Rattle.ucspi_tools.specs.declared.tool.Tool.{Tool}
+use Rattle.ucspi_tools.specs.declared.tool.Tool.TheVariants.{Tcpserver, Rulesim, Tcprules, Tcprulescheck, Addcr, Delcr, Fixcrio, Recordio}
+
+-- a run of `tcpserver` with its words; of `rulesim`; of `tcprules` with the paths of the rules file and of the scratch file; of `tcprulescheck` with that of the rules
+-- file; of `addcr`; of `delcr`; of `fixcrio` and of `recordio` with a program and its arguments; the usage line of a tool; or that of
+-- `ucspi`
+pub data Wanted : Type 0 where
+  serves : List (List ℕ) → Wanted
+  simulates : Wanted
+  installs : List ℕ → List ℕ → Wanted
+  checks : List ℕ → Wanted
+  adds : Wanted
+  deletes : Wanted
+  fixes : List (List ℕ) → Wanted
+  records : List (List ℕ) → Wanted
+  usage_of : Tool → Wanted
+  usage : Wanted
+
+-- what a choice that was read is
+abbrev pub wanted : Choice → Wanted
+wanted (choice.Tcpserver words) = serves (texts_of words.now)
+wanted choice.Rulesim = simulates
+wanted (choice.Tcprules cdb tmp) = installs cdb.now tmp.now
+wanted (choice.Tcprulescheck cdb) = checks cdb.now
+wanted choice.Addcr = adds
+wanted choice.Delcr = deletes
+wanted (choice.Fixcrio words) = fixes (texts_of words.now)
+wanted (choice.Recordio words) = records (texts_of words.now)
+wanted (choice.UsageOf tool) = usage_of tool
+wanted choice.Usage = usage
+
+-- a tool that has no words of its own
+abbrev pub alone : Wanted → Tool → List (List ℕ) → Wanted
+alone run tool [] = run
+alone run tool (word ∷ words) = usage_of tool
+
+-- the words of `tcpserver` are text; what they have to be beside that `read_server_words` tells
+abbrev pub tcpserver_by : List (List ℕ) → Wanted
+tcpserver_by words = if list_all is_utf8 words then serves words else usage_of Tcpserver
+
+-- `tcprules` has two paths, which are text
+abbrev pub tcprules_by : List (List ℕ) → Wanted
+tcprules_by (cdb ∷ tmp ∷ []) = if is_utf8 cdb && is_utf8 tmp then installs cdb tmp else usage_of Tcprules
+tcprules_by words = usage_of Tcprules
+
+-- `tcprulescheck` has one
+abbrev pub tcprulescheck_by : List (List ℕ) → Wanted
+tcprulescheck_by (cdb ∷ []) = if is_utf8 cdb then checks cdb else usage_of Tcprulescheck
+tcprulescheck_by words = usage_of Tcprulescheck
+
+-- a tool whose words are a program and its arguments, which are text
+abbrev pub with_program : Wanted → Tool → List (List ℕ) → Wanted
+with_program run tool [] = usage_of tool
+with_program run tool (word ∷ words) = if list_all is_utf8 (word ∷ words) then run else usage_of tool
+
+abbrev pub run_of : Tool → List (List ℕ) → Wanted
+run_of Tcpserver words = tcpserver_by words
+run_of Rulesim words = alone simulates Rulesim words
+run_of Tcprules words = tcprules_by words
+run_of Tcprulescheck words = tcprulescheck_by words
+run_of Addcr words = alone adds Addcr words
+run_of Delcr words = alone deletes Delcr words
+run_of Fixcrio words = with_program (fixes words) Fixcrio words
+run_of Recordio words = with_program (records words) Recordio words
+
+-- the name of a tool
+abbrev pub name_of : Tool → List ℕ
+name_of Tcpserver = codes "tcpserver"
+name_of Rulesim = codes "rulesim"
+name_of Tcprules = codes "tcprules"
+name_of Tcprulescheck = codes "tcprulescheck"
+name_of Addcr = codes "addcr"
+name_of Delcr = codes "delcr"
+name_of Fixcrio = codes "fixcrio"
+name_of Recordio = codes "recordio"
+
+-- its name, and what it takes
+abbrev pub usage_text : Tool → List ℕ
+usage_text Tcpserver = codes "tcpserver [options] host port prog [args]"
+usage_text Rulesim = codes "rulesim"
+usage_text Tcprules = codes "tcprules cdb tmp"
+usage_text Tcprulescheck = codes "tcprulescheck cdb"
+usage_text Addcr = codes "addcr"
+usage_text Delcr = codes "delcr"
+usage_text Fixcrio = codes "fixcrio prog [args]"
+usage_text Recordio = codes "recordio prog [args]"
+
+-- the tool with a name
+abbrev pub tool_of : List ℕ → Option Tool
+tool_of name =
+    if bytes_eq name (name_of Tcpserver) then Some Tcpserver
+    else (if bytes_eq name (name_of Rulesim) then Some Rulesim
+    else (if bytes_eq name (name_of Tcprules) then Some Tcprules
+    else (if bytes_eq name (name_of Tcprulescheck) then Some Tcprulescheck
+    else (if bytes_eq name (name_of Addcr) then Some Addcr
+    else (if bytes_eq name (name_of Delcr) then Some Delcr
+    else (if bytes_eq name (name_of Fixcrio) then Some Fixcrio
+    else (if bytes_eq name (name_of Recordio) then Some Recordio else None)))))))
+
+-- the first word names the tool
+abbrev pub run_by : Option Tool → List (List ℕ) → Wanted
+run_by (Some tool) words = run_of tool words
+run_by None words = usage
+
+-- with no words it is `rulesim`
+abbrev pub choice_by_word : List (List ℕ) → Wanted
+choice_by_word [] = simulates
+choice_by_word (tool ∷ words) = run_by (tool_of tool) words
+
+-- the tool by whose name the program was called, with all words; else the one that the first word names
+abbrev pub choice_called : Option Tool → List (List ℕ) → Wanted
+choice_called (Some tool) words = run_of tool words
+choice_called None words = choice_by_word words
+
+-- what stands after a slash of a path
+abbrev pub part_after : List ℕ → Option ℕ → List ℕ
+part_after path None = path
+part_after path (Some slash) = drop (slash + 1) path
+
+-- the last part of a path: what stands after its last slash
+pub record IsLastPart (path part : List ℕ) : Type 0 where
+  pub slash : Option ℕ
+  pub last : IsLastByte (is_byte 47) path slash
+  pub after : part ≡ part_after path slash
+
+-- what is asked for by the path by which the program was called, and by words
+pub record CallsFor (path : List ℕ) (words : List (List ℕ)) (asked : Wanted) : Type 0 where
+  pub part : List ℕ
+  pub last : IsLastPart path part
+  pub by_part : asked ≡ choice_called (tool_of part) words
+
+-- the tool that is asked for, if it is one
+abbrev pub tool_in : Wanted → Option Tool
+tool_in (serves words) = Some Tcpserver
+tool_in simulates = Some Rulesim
+tool_in (installs cdb tmp) = Some Tcprules
+tool_in (checks cdb) = Some Tcprulescheck
+tool_in adds = Some Addcr
+tool_in deletes = Some Delcr
+tool_in (fixes words) = Some Fixcrio
+tool_in (records words) = Some Recordio
+tool_in (usage_of tool) = Some tool
+tool_in usage = None

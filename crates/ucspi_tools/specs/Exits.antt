@@ -1,0 +1,63 @@
+-- With which code a run of a tool exits.
+use Rattle.std.specs.Prelude.{ℕ, Result, Ok, Err}
+use Rattle.rule_lookup.specs.declared.outcome.Status.{Status}
+use Rattle.rule_lookup.specs.declared.outcome.Status.TheVariants.{Code, Signal}
+use Rattle.rules_tools.specs.declared.tcprules.TcprulesFault.{TcprulesFault}
+use Rattle.rules_tools.specs.declared.tcprules.TcprulesFault.TheVariants as rules
+use Rattle.rules_tools.specs.declared.tcprulescheck.CheckFault.{CheckFault}
+use Rattle.rules_tools.specs.declared.tcprulescheck.CheckFault.TheVariants as check
+use Rattle.server_parts.specs.declared.fault.ServerFault.{ServerFault}
+use Rattle.server_parts.specs.declared.fault.ServerFault.TheVariants as server
+use Rattle.server_words.specs.Faults as words
+use Rattle.script_tool.specs.declared.sim.SimFault.{SimFault}
+use Rattle.script_tool.specs.declared.sim.SimFault.TheVariants.{BadCommand, ReadFault, WriteFault, OutOfMemory}
+use Rattle.ucspi_tools.specs.declared.fault.ToolFault.{ToolFault}
+use Rattle.ucspi_tools.specs.declared.fault.ToolFault.TheVariants as tool
+
+-- 100 for a bad command, and 111 for a fault of the system
+abbrev pub script_exit : SimFault → ℕ
+script_exit (BadCommand n) = 100
+script_exit ReadFault = 111
+script_exit WriteFault = 111
+script_exit OutOfMemory = 111
+
+-- 100 for wrong paths or a refused text, and 111 for a fault of the system
+abbrev pub rules_exit : TcprulesFault → ℕ
+rules_exit rules.ReadFault = 111
+rules_exit (rules.Device phase) = 111
+rules_exit rules.OutOfMemory = 111
+rules_exit fault = 100
+
+-- 100 for a wrong variable, and 111 for all that is amiss with the file or the system
+abbrev pub check_exit : CheckFault → ℕ
+check_exit check.BadIp = 100
+check_exit check.BadHost = 100
+check_exit check.BadInfo = 100
+check_exit fault = 111
+
+-- that of wrong words; 100 for a line of the host table, and 111 for a fault of the system
+abbrev pub server_exit : ServerFault → ℕ
+server_exit (server.Words fault) = words.exit_of fault
+server_exit (server.BadHosts line) = 100
+server_exit fault = 111
+
+-- 100 for wrong words; a stream that fails, a program that can't be run, and want of memory are faults of the system
+abbrev pub exit_of : ToolFault → ℕ
+exit_of (tool.Usage words) = 100
+exit_of (tool.Server fault) = server_exit fault
+exit_of (tool.Script fault) = script_exit fault
+exit_of (tool.Rules fault) = rules_exit fault
+exit_of (tool.Check fault) = check_exit fault
+exit_of (tool.Filter fault) = 111
+exit_of (tool.Between fault) = 111
+exit_of tool.OutOfMemory = 111
+
+-- the code of a program that was run, and 111 after a signal
+abbrev pub status_exit : Status → ℕ
+status_exit (Code code) = code
+status_exit Signal = 111
+
+-- the code that a run answers, or that of its fault
+abbrev pub end_code : Result ℕ ToolFault → ℕ
+end_code (Ok code) = code
+end_code (Err fault) = exit_of fault

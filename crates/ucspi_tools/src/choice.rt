@@ -1,0 +1,200 @@
+//! Which tool the words of a command line ask for.
+ghost use Rattle.std.specs.Prelude.{◌≡◌};
+ghost use Rattle.std.specs.List.{list_all};
+ghost use Rattle.std.specs.Str.{is_utf8};
+ghost use Rattle.stream_tools.specs.Programs.{texts_of};
+ghost use Rattle.ucspi_tools.specs.Choices.{CallsFor, IsLastPart, alone, choice_by_word, run_of, tcprules_by, tcprulescheck_by, tcpserver_by, tool_in, wanted, with_program};
+
+use crate::tool::Tool;
+use memchr::memrchr;
+
+/// What words ask for.
+#[derive(Clone, Copy, PartialEq, Eq, Debug)]
+pub enum Choice<'a> {
+    /// A run of `tcpserver`.
+    Tcpserver {
+        /// Its words, each UTF-8.
+        words: &'a [Vec<u8>],
+    },
+    /// A run of `rulesim`.
+    Rulesim,
+    /// A run of `tcprules` with the paths of the rules file and of the scratch file.
+    Tcprules {
+        /// The path of the rules file.
+        cdb: &'a str,
+        /// The path of the scratch file.
+        tmp: &'a str,
+    },
+    /// A run of `tcprulescheck` with the path of the rules file.
+    Tcprulescheck {
+        /// That path.
+        cdb: &'a str,
+    },
+    /// A run of `addcr`.
+    Addcr,
+    /// A run of `delcr`.
+    Delcr,
+    /// A run of `fixcrio` with a program.
+    Fixcrio {
+        /// Its path and arguments: at least the path, and each is UTF-8.
+        words: &'a [Vec<u8>],
+    },
+    /// A run of `recordio` with a program.
+    Recordio {
+        /// Its path and arguments: at least the path, and each is UTF-8.
+        words: &'a [Vec<u8>],
+    },
+    /// The usage line of a tool.
+    UsageOf(Tool),
+    /// The usage line of `ucspi`.
+    Usage,
+}
+
+impl Choice<'_> {
+    /// The tool that is asked for, if it is one.
+    pub fn tool(&self) -> Option<Tool>
+        ensures { result ≡ tool_in (wanted self.now) }
+    {
+        match self {
+            Choice::Tcpserver { .. } => Some(Tool::Tcpserver),
+            Choice::Rulesim => Some(Tool::Rulesim),
+            Choice::Tcprules { .. } => Some(Tool::Tcprules),
+            Choice::Tcprulescheck { .. } => Some(Tool::Tcprulescheck),
+            Choice::Addcr => Some(Tool::Addcr),
+            Choice::Delcr => Some(Tool::Delcr),
+            Choice::Fixcrio { .. } => Some(Tool::Fixcrio),
+            Choice::Recordio { .. } => Some(Tool::Recordio),
+            Choice::UsageOf(tool) => Some(*tool),
+            Choice::Usage => None,
+        }
+    }
+}
+
+/// What a command line asks for: the path by which the program was called, and the words after it. Where the last part of that path is a
+/// tool's name, that is the tool, and all words are its own; else the first word names the tool.
+pub fn choose<'a>(path: &[u8], words: &'a [Vec<u8>]) -> Choice<'a>
+    ensures { CallsFor path.now (texts_of words.now) (wanted result) }
+{
+    match Tool::named(last_part(path)) {
+        Some(tool) => choose_tool(tool, words),
+        None => choose_by_word(words),
+    }
+}
+
+/// What stands after the last slash of a path: all of it where there is none.
+fn last_part(path: &[u8]) -> &[u8]
+    ensures { IsLastPart path.now result.now }
+{
+    match memrchr(b'/', path) {
+        Some(slash) => &path[slash + 1..],
+        None => path,
+    }
+}
+
+/// What words ask for of which the first names the tool.
+fn choose_by_word(words: &[Vec<u8>]) -> Choice<'_>
+    ensures { wanted result ≡ choice_by_word (texts_of words.now) }
+{
+    let Some((tool, words)) = words.split_first() else {
+        return Choice::Rulesim;
+    };
+    match Tool::named(tool) {
+        Some(tool) => choose_tool(tool, words),
+        None => Choice::Usage,
+    }
+}
+
+/// What the words of a tool ask for.
+fn choose_tool(tool: Tool, words: &[Vec<u8>]) -> Choice<'_>
+    ensures { wanted result ≡ run_of tool (texts_of words.now) }
+{
+    match tool {
+        Tool::Tcpserver => choose_texts(words),
+        Tool::Rulesim => choose_alone(Choice::Rulesim, tool, words),
+        Tool::Addcr => choose_alone(Choice::Addcr, tool, words),
+        Tool::Delcr => choose_alone(Choice::Delcr, tool, words),
+        Tool::Tcprules => choose_tcprules(words),
+        Tool::Tcprulescheck => choose_tcprulescheck(words),
+        Tool::Fixcrio => choose_program(Choice::Fixcrio { words }, tool, words),
+        Tool::Recordio => choose_program(Choice::Recordio { words }, tool, words),
+    }
+}
+
+/// The run of a tool that has no words of its own.
+fn choose_alone<'a>(run: Choice<'a>, tool: Tool, words: &[Vec<u8>]) -> Choice<'a>
+    ensures { wanted result ≡ alone (wanted run.entry) tool (texts_of words.now) }
+{
+    if words.is_empty() {
+        run
+    } else {
+        Choice::UsageOf(tool)
+    }
+}
+
+/// The run of `tcpserver`, whose words have to be text.
+fn choose_texts(words: &[Vec<u8>]) -> Choice<'_>
+    ensures { wanted result ≡ tcpserver_by (texts_of words.now) }
+{
+    if are_texts(words) {
+        Choice::Tcpserver { words }
+    } else {
+        Choice::UsageOf(Tool::Tcpserver)
+    }
+}
+
+/// The run of a tool whose words are a program's.
+fn choose_program<'a>(run: Choice<'a>, tool: Tool, words: &[Vec<u8>]) -> Choice<'a>
+    ensures { wanted result ≡ with_program (wanted run.entry) tool (texts_of words.now) }
+{
+    if !words.is_empty() && are_texts(words) {
+        run
+    } else {
+        Choice::UsageOf(tool)
+    }
+}
+
+/// Whether all words are UTF-8.
+fn are_texts(words: &[Vec<u8>]) -> bool
+    ensures { result ≡ list_all is_utf8 (texts_of words.now) }
+{
+    for word in words {
+        if !is_text(word) {
+            return false;
+        }
+    }
+    true
+}
+
+/// Whether a word is UTF-8.
+fn is_text(word: &[u8]) -> bool
+    ensures { result ≡ is_utf8 word.now }
+{
+    match str::from_utf8(word) {
+        Ok(_) => true,
+        Err(_) => false,
+    }
+}
+
+fn choose_tcprules(words: &[Vec<u8>]) -> Choice<'_>
+    ensures { wanted result ≡ tcprules_by (texts_of words.now) }
+{
+    match words {
+        [cdb, tmp] => match (str::from_utf8(cdb), str::from_utf8(tmp)) {
+            (Ok(cdb), Ok(tmp)) => Choice::Tcprules { cdb, tmp },
+            _ => Choice::UsageOf(Tool::Tcprules),
+        },
+        _ => Choice::UsageOf(Tool::Tcprules),
+    }
+}
+
+fn choose_tcprulescheck(words: &[Vec<u8>]) -> Choice<'_>
+    ensures { wanted result ≡ tcprulescheck_by (texts_of words.now) }
+{
+    match words {
+        [cdb] => match str::from_utf8(cdb) {
+            Ok(cdb) => Choice::Tcprulescheck { cdb },
+            Err(_) => Choice::UsageOf(Tool::Tcprulescheck),
+        },
+        _ => Choice::UsageOf(Tool::Tcprulescheck),
+    }
+}

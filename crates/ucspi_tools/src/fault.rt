@@ -1,0 +1,122 @@
+//! Why a run of a tool fails, and the code with which the program exits then.
+ghost use Rattle.std.specs.Prelude.{◌≡◌};
+ghost use Rattle.ucspi_tools.specs.Exits.{check_exit, end_code, exit_of, rules_exit, script_exit, server_exit, status_exit};
+
+use rule_lookup::Status;
+use rules_tools::{CheckFault, TcprulesFault};
+use script_tool::SimFault;
+use server_parts::ServerFault;
+use stream_tools::{BetweenFault, FilterFault};
+use thiserror::Error;
+
+/// The exit code of wrong words and bad input.
+pub const BAD_INPUT: u8 = 100;
+
+/// The exit code of faults of the system, want of memory among them.
+pub const SYSTEM_FAULT: u8 = 111;
+
+/// Why a run of a tool fails. It prints as what stands behind the tool's name.
+#[derive(Clone, Copy, PartialEq, Eq, Debug, Error)]
+pub enum ToolFault {
+    /// The words are not those that this line tells.
+    #[error("usage: {0}")]
+    Usage(&'static str),
+    /// The server could not be started, or it ended by itself.
+    #[error("{0}")]
+    Server(#[from] ServerFault),
+    /// A script was not run to its end.
+    #[error("{0}")]
+    Script(#[from] SimFault),
+    /// Rules were not installed.
+    #[error("{0}")]
+    Rules(#[from] TcprulesFault),
+    /// No decision is told.
+    #[error("{0}")]
+    Check(#[from] CheckFault),
+    /// A stream was not passed on to its end.
+    #[error("{0}")]
+    Filter(#[from] FilterFault),
+    /// A program could not be run between two streams.
+    #[error("{0}")]
+    Between(#[from] BetweenFault),
+    /// There was no memory for the words.
+    #[error("out of memory")]
+    OutOfMemory,
+}
+
+impl ToolFault {
+    /// The code with which the program exits.
+    pub fn exit_code(self) -> u8
+        ensures { result ≡ exit_of self }
+    {
+        match self {
+            ToolFault::Usage(_) => BAD_INPUT,
+            ToolFault::Server(fault) => server_code(fault),
+            ToolFault::Script(fault) => script_code(fault),
+            ToolFault::Rules(fault) => rules_code(fault),
+            ToolFault::Check(fault) => check_code(fault),
+            ToolFault::Filter(_) | ToolFault::Between(_) | ToolFault::OutOfMemory => SYSTEM_FAULT,
+        }
+    }
+}
+
+fn server_code(fault: ServerFault) -> u8
+    ensures { result ≡ server_exit fault }
+{
+    match fault {
+        ServerFault::Words(fault) => fault.exit_code(),
+        ServerFault::BadHosts(_) => BAD_INPUT,
+        _ => SYSTEM_FAULT,
+    }
+}
+
+fn script_code(fault: SimFault) -> u8
+    ensures { result ≡ script_exit fault }
+{
+    match fault {
+        SimFault::BadCommand(_) => BAD_INPUT,
+        SimFault::ReadFault | SimFault::WriteFault | SimFault::OutOfMemory => SYSTEM_FAULT,
+    }
+}
+
+fn rules_code(fault: TcprulesFault) -> u8
+    ensures { result ≡ rules_exit fault }
+{
+    match fault {
+        TcprulesFault::ReadFault | TcprulesFault::Device(_) => SYSTEM_FAULT,
+        TcprulesFault::OutOfMemory => SYSTEM_FAULT,
+        _ => BAD_INPUT,
+    }
+}
+
+fn check_code(fault: CheckFault) -> u8
+    ensures { result ≡ check_exit fault }
+{
+    match fault {
+        CheckFault::BadIp | CheckFault::BadHost | CheckFault::BadInfo => BAD_INPUT,
+        _ => SYSTEM_FAULT,
+    }
+}
+
+/// The exit code of a program that was run, as the tool's own.
+pub fn status_code(status: Status) -> u8
+    ensures { result ≡ status_exit status }
+{
+    match status {
+        Status::Code(code) => code,
+        Status::Signal => SYSTEM_FAULT,
+    }
+}
+
+/// Prints why a tool failed, if it did, and answers the exit code.
+pub fn end<R: Eprint>(rt: &R, name: &str, end: Result<u8, ToolFault>) -> u8
+    ensures { result ≡ end_code end }
+{
+    match end {
+        Ok(code) => code,
+        Err(fault) => {
+            let _ = eprintln!(rt; "{name}: {fault}");
+            fault.exit_code()
+        }
+    }
+}

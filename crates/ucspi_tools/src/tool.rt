@@ -1,0 +1,90 @@
+//! The tools: their names, and the words that they take.
+ghost use Rattle.std.specs.Prelude.{◌≡◌, bytes_eq};
+ghost use Rattle.ucspi_tools.specs.Choices.{name_of, tool_of, usage_text};
+
+/// A tool.
+#[derive(Clone, Copy, PartialEq, Eq, Debug)]
+pub enum Tool {
+    /// Serves TCP connections by a program.
+    Tcpserver,
+    /// Runs scripts.
+    Rulesim,
+    /// Installs rules.
+    Tcprules,
+    /// Tells which rule decides.
+    Tcprulescheck,
+    /// Puts a carriage return before each line feed.
+    Addcr,
+    /// Takes one carriage return away at the end of each line.
+    Delcr,
+    /// Runs a program and puts a carriage return before each line feed that has none, both ways.
+    Fixcrio,
+    /// Runs a program and records what goes both ways.
+    Recordio,
+}
+
+impl Tool {
+    /// The tool with a name, if there is one.
+    pub fn named(name: &[u8]) -> Option<Tool>
+        ensures { result ≡ tool_of name.now }
+    {
+        if Tool::Tcpserver.has_name(name) {
+            Some(Tool::Tcpserver)
+        } else if Tool::Rulesim.has_name(name) {
+            Some(Tool::Rulesim)
+        } else if Tool::Tcprules.has_name(name) {
+            Some(Tool::Tcprules)
+        } else if Tool::Tcprulescheck.has_name(name) {
+            Some(Tool::Tcprulescheck)
+        } else if Tool::Addcr.has_name(name) {
+            Some(Tool::Addcr)
+        } else if Tool::Delcr.has_name(name) {
+            Some(Tool::Delcr)
+        } else if Tool::Fixcrio.has_name(name) {
+            Some(Tool::Fixcrio)
+        } else if Tool::Recordio.has_name(name) {
+            Some(Tool::Recordio)
+        } else {
+            None
+        }
+    }
+
+    /// Whether this is its name.
+    fn has_name(self, name: &[u8]) -> bool
+        ensures { result ≡ bytes_eq name.now (name_of self) }
+    {
+        name == self.name().as_bytes()
+    }
+
+    /// Its name, which is the first word.
+    pub fn name(self) -> &'static str
+        ensures { result.now ≡ name_of self }
+    {
+        match self {
+            Tool::Tcpserver => "tcpserver",
+            Tool::Rulesim => "rulesim",
+            Tool::Tcprules => "tcprules",
+            Tool::Tcprulescheck => "tcprulescheck",
+            Tool::Addcr => "addcr",
+            Tool::Delcr => "delcr",
+            Tool::Fixcrio => "fixcrio",
+            Tool::Recordio => "recordio",
+        }
+    }
+
+    /// Its name and the words that it takes, as its usage line tells them.
+    pub fn usage(self) -> &'static str
+        ensures { result.now ≡ usage_text self }
+    {
+        match self {
+            Tool::Tcpserver => "tcpserver [options] host port prog [args]",
+            Tool::Rulesim => "rulesim",
+            Tool::Tcprules => "tcprules cdb tmp",
+            Tool::Tcprulescheck => "tcprulescheck cdb",
+            Tool::Addcr => "addcr",
+            Tool::Delcr => "delcr",
+            Tool::Fixcrio => "fixcrio prog [args]",
+            Tool::Recordio => "recordio prog [args]",
+        }
+    }
+}
