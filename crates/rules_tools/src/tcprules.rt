@@ -102,9 +102,8 @@ pub fn run_tcprules<R: Read, F: Files<File = File> + Drop>(
     tmp: &str,
 ) -> Result<(), TcprulesFault> {
     let (folder, names) = read_places(alloc, cdb, tmp)?;
-    let install = compile(alloc, reader, names)?;
-    let dir = open_folder(alloc, files, folder)?;
-    install_in(alloc, dir, install, cdb, tmp)
+    let mut install = compile(alloc, reader, names)?;
+    install_at(alloc, files, folder, &mut install, cdb, tmp)
 }
 
 /// Reads a rule text and compiles it, for an installation under these names.
@@ -137,27 +136,41 @@ fn open_folder<F: Files<File = File> + Drop>(
     }
 }
 
-/// Installs what was compiled, under the lock of the folder.
-fn install_in<F: Files<File = File> + Drop>(
+/// Installs what was compiled in the folder of the rules file.
+fn install_at<F: Files<File = File> + Drop>(
     alloc: Global,
-    mut dir: OsDir<F>,
-    mut install: Install,
+    files: F,
+    folder: &str,
+    install: &mut Install,
     cdb: &str,
     tmp: &str,
 ) -> Result<(), TcprulesFault>
-    requires { (installing install).over ≡ false }
+    requires { (installing install.old).over ≡ false }
 {
+    let mut dir = open_folder(alloc, files, folder)?;
     if dir.lock().is_err() {
         return Err(TcprulesFault::Device(Phase::Fresh));
     }
-    let outcome = finish(alloc, &mut dir, &mut install);
+    install_in(alloc, &mut dir, install, cdb, tmp)
+}
+
+/// Installs what was compiled in a folder whose lock is held. After a fault of the disk what stands under the scratch name is taken away.
+fn install_in<F: Files<File = File> + Drop>(
+    alloc: Global,
+    dir: &mut OsDir<F>,
+    install: &mut Install,
+    cdb: &str,
+    tmp: &str,
+) -> Result<(), TcprulesFault>
+    requires { (installing install.old).over ≡ false }
+{
+    let outcome = finish(alloc, dir, install);
     if matches!(outcome, Err(InstallFault::Disk(_, _))) {
         if let Ok((_folder, names)) = read_places(alloc, cdb, tmp) {
-            remove_scratch(&mut dir, &names);
+            remove_scratch(dir, &names);
         }
     }
-    outcome?;
-    Ok(())
+    Ok(outcome?)
 }
 
 /// Takes what stands under the scratch name away, as well as that can be done: a fault of that is told to nobody. What lasts under the name of

@@ -77,14 +77,22 @@ pub fn run_tcprulescheck<E: Env + AllocGlobal, F: Files + Drop, W: Write>(
 where
     F::File: FileExt,
 {
-    let alloc = env.alloc();
     let peer = read_peer(env)?;
-    let decision = decide_in(alloc, files, cdb, &peer)?;
+    let decision = decide_in(env.alloc(), files, cdb, &peer)?;
+    write_decision(env.alloc(), writer, &decision)
+}
+
+/// Writes what a compiled file decides, unless there is none.
+fn write_decision<W: Write>(
+    alloc: Global,
+    writer: &mut W,
+    decision: &Decision,
+) -> Result<(), CheckFault> {
     if matches!(decision.found, Found::NoFile) {
         return Err(CheckFault::NoFile);
     }
     let mut answer = Vec::new(alloc);
-    append_answer(&mut answer, &decision)?;
+    append_answer(&mut answer, decision)?;
     write_answer(writer, answer.as_slice())
 }
 
@@ -93,13 +101,28 @@ where
 /// # Errors
 /// `BadIp`, else `BadHost`, else `BadInfo`, where the variable is no address, or no name that a peer may have; `OutOfMemory`.
 pub fn read_peer<E: Env + AllocGlobal>(env: &E) -> Result<Peer, CheckFault> {
-    let ip = match read_variable(env, "TCPREMOTEIP")? {
-        None => NO_ADDRESS,
-        Some(text) => parse_address(text.as_str()).ok_or(CheckFault::BadIp)?,
-    };
+    let ip = read_address(env)?;
     let host = read_variable(env, "TCPREMOTEHOST")?;
     let info = read_variable(env, "TCPREMOTEINFO")?;
-    match Peer::new(env.alloc(), ip, 0, host.as_deref(), info.as_deref()) {
+    make_peer(env.alloc(), ip, host.as_deref(), info.as_deref())
+}
+
+/// The address of `TCPREMOTEIP`.
+fn read_address<E: Env + AllocGlobal>(env: &E) -> Result<[u8; 4], CheckFault> {
+    match read_variable(env, "TCPREMOTEIP")? {
+        None => Ok(NO_ADDRESS),
+        Some(text) => parse_address(text.as_str()).ok_or(CheckFault::BadIp),
+    }
+}
+
+/// The peer of what is known of it.
+fn make_peer(
+    alloc: Global,
+    ip: [u8; 4],
+    host: Option<&str>,
+    info: Option<&str>,
+) -> Result<Peer, CheckFault> {
+    match Peer::new(alloc, ip, 0, host, info) {
         Ok(peer) => Ok(peer),
         Err(PeerFault::BadHost) => Err(CheckFault::BadHost),
         Err(PeerFault::BadInfo) => Err(CheckFault::BadInfo),
@@ -129,18 +152,35 @@ where
     F::File: FileExt,
 {
     let (folder, name) = split_path(cdb);
-    let name = match Name::new(alloc, name.as_bytes()) {
-        Ok(name) => name,
-        Err(NameFault::OutOfMemory) => return Err(CheckFault::OutOfMemory),
-        Err(_) => return Err(CheckFault::NoFile),
-    };
-    let mut dir = match OsDir::new(alloc, files, folder_path(folder)) {
-        Ok(dir) => dir,
-        Err(FolderFault::NoFolder) => return Err(CheckFault::NoFile),
-        Err(FolderFault::Device) => return Err(CheckFault::Device),
-        Err(FolderFault::OutOfMemory) => return Err(CheckFault::OutOfMemory),
-    };
+    let name = read_name(alloc, name)?;
+    let mut dir = open_folder(alloc, files, folder)?;
     decide_at(alloc, &mut dir, &name, peer)
+}
+
+/// The name of the compiled file.
+fn read_name(alloc: Global, text: &str) -> Result<Name, CheckFault> {
+    match Name::new(alloc, text.as_bytes()) {
+        Ok(name) => Ok(name),
+        Err(NameFault::OutOfMemory) => Err(CheckFault::OutOfMemory),
+        Err(_) => Err(CheckFault::NoFile),
+    }
+}
+
+/// The folder of the compiled file.
+fn open_folder<F: Files + Drop>(
+    alloc: Global,
+    files: F,
+    folder: &str,
+) -> Result<OsDir<F>, CheckFault>
+where
+    F::File: FileExt,
+{
+    match OsDir::new(alloc, files, folder_path(folder)) {
+        Ok(dir) => Ok(dir),
+        Err(FolderFault::NoFolder) => Err(CheckFault::NoFile),
+        Err(FolderFault::Device) => Err(CheckFault::Device),
+        Err(FolderFault::OutOfMemory) => Err(CheckFault::OutOfMemory),
+    }
 }
 
 /// What the compiled file under a name decides, or that there is none.
