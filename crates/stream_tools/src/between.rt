@@ -80,23 +80,55 @@ where
     T: Tap + Send + Drop,
     requires { F.IsAlwaysCallable watch }
 {
-    let (program, environment) = run;
-    let (input, output) = lanes;
-    let mut job = match launcher.start(alloc, program, environment) {
-        Ok(job) => job,
-        Err(StartFault::OutOfMemory) => return Err(BetweenFault::OutOfMemory),
-        Err(_) => return Err(BetweenFault::CannotStart),
-    };
+    let mut job = start_job(alloc, launcher, run)?;
+    let served = serve(rt, alloc, &mut job, lanes, watch);
+    end_of(job, served)
+}
+
+/// Starts a program.
+fn start_job<L: Launcher>(
+    alloc: Global,
+    launcher: &L,
+    (program, environment): (&Program, &Environment),
+) -> Result<L::Job, BetweenFault> {
+    match launcher.start(alloc, program, environment) {
+        Ok(job) => Ok(job),
+        Err(StartFault::OutOfMemory) => Err(BetweenFault::OutOfMemory),
+        Err(_) => Err(BetweenFault::CannotStart),
+    }
+}
+
+/// Pumps both ways until both pumps have ended. It answers whether it could: not without the program's pipe ends and a thread for its
+/// input.
+fn serve<H, J, I, O, S, T, F>(
+    rt: &H,
+    alloc: Global,
+    job: &mut J,
+    lanes: (Lane<I, S, T>, Lane<O, S, T>),
+    watch: F,
+) -> bool
+where
+    H: Threads + Wait + Sync,
+    F: FnOnce(&J::Input) -> Option<Watch>,
+    J: Job,
+    J::Input: Send + Drop,
+    J::Output: Drop,
+    I: Read + Send + Drop,
+    O: Write + Drop,
+    S: LineStage + Send + Drop,
+    T: Tap + Send + Drop,
+    requires { F.IsAlwaysCallable watch }
+{
     let Ok((to, from)) = job.ends() else {
-        return Err(give_up(job));
+        return false;
     };
+    let (input, output) = lanes;
     let input = Lane {
         stream: Watched::new(input.stream, watch(&to)),
         chain: input.chain,
         tap: input.tap,
     };
-    let served = pump_both(rt, alloc, (input, to), (from, output));
-    end_of(job, served)
+    pump_both(rt, alloc, (input, to), (from, output))
 }
 
 /// The end of a program, which is waited for once. One that was not served, since its input got no thread, is given up.

@@ -44,7 +44,6 @@ impl<'a, P: Processes> Launcher for OsLauncher<'a, P> {
         let Ok(mut command) = command_of(alloc, program, environment) else {
             return Err(StartFault::OutOfMemory);
         };
-        command.stdin(Stdio::piped()).stdout(Stdio::piped());
         match command.spawn(self.processes) {
             Ok(child) => Ok(job_of(child, program, environment)),
             Err(error) => Err(start_fault(&error)),
@@ -70,13 +69,24 @@ fn job_of<P: OpenProcess>(
     }
 }
 
-/// The command that starts a program with these variables and no others.
+/// The command that starts a program with these variables and no others, with pipes for its input and its output.
 fn command_of(
     alloc: Global,
     program: &Program,
     environment: &Environment,
 ) -> Result<Command, AllocError> {
     let mut command = Command::new(alloc, program.path())?;
+    fill_command(&mut command, program, environment)?;
+    command.stdin(Stdio::piped()).stdout(Stdio::piped());
+    Ok(command)
+}
+
+/// Gives a command a program's arguments, and these variables and no others.
+fn fill_command(
+    command: &mut Command,
+    program: &Program,
+    environment: &Environment,
+) -> Result<(), AllocError> {
     for arg in program.args() {
         command.arg(arg.as_str())?;
     }
@@ -84,7 +94,7 @@ fn command_of(
     for (name, value) in environment.iter() {
         command.env(name.as_str(), value.as_str())?;
     }
-    Ok(command)
+    Ok(())
 }
 
 /// What the system's fault is for a program that should start.

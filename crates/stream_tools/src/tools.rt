@@ -9,7 +9,8 @@ use crate::filter::{FilterFault, run_filter};
 use crate::launcher::OsLauncher;
 use crate::shared::SharedWriter;
 use crate::started::{inherited_variables, program_of};
-use byte_pump::{NoTap, Recorder};
+use byte_pump::{NoTap, Recorder, Tap};
+use child_jobs::Program;
 use patient_streams::{Patient, Watch};
 use rule_lookup::Status;
 use std::alloc::{AllocError, Global};
@@ -22,6 +23,7 @@ use std::rt::Env;
 use std::sync::{Mutex, Wait};
 use std::thread::Threads;
 use std::time::Clock;
+use ucspi_env::Environment;
 use ucspi_words::number_in;
 use wrapper_chain::{AddCr, Chain, DelCr, FixCr, LineStage, Way};
 
@@ -77,21 +79,54 @@ where
     <R::Started as OpenProcess>::Stdin: Send + AsRawFd,
 {
     let alloc = rt.alloc();
+    let (program, variables) = told_run(alloc, rt, words)?;
+    let (input, output) = fix_chains(alloc)?;
+    run_streams(rt, (&program, &variables), (input, NoTap), (output, NoTap))
+}
+
+/// The chains of `fixcrio`, for the input and the output.
+fn fix_chains(alloc: Global) -> Result<(Chain<FixCr>, Chain<FixCr>), AllocError> {
+    let input = chain_of(alloc, FixCr::new())?;
+    Ok((input, chain_of(alloc, FixCr::new())?))
+}
+
+/// The program that words name, and the variables that this process was given.
+fn told_run<E: Env>(
+    alloc: Global,
+    env: &E,
+    words: &[Vec<u8>],
+) -> Result<(Program, Environment), AllocError> {
     let program = program_of(alloc, words)?;
-    let variables = inherited_variables(alloc, rt)?;
+    Ok((program, inherited_variables(alloc, env)?))
+}
+
+/// Runs a program between the standard streams, each of which passes these stages and is watched by this tap.
+fn run_streams<R, S, T>(
+    rt: &R,
+    run: (&Program, &Environment),
+    (input_chain, input_tap): (Chain<S>, T),
+    (output_chain, output_tap): (Chain<S>, T),
+) -> Result<Status, BetweenFault>
+where
+    R: Input + Print + AllocGlobal + Processes + Threads + Wait + Sync + Clock + Net,
+    R::Reader: Send,
+    <R::Started as OpenProcess>::Stdin: Send + AsRawFd,
+    S: LineStage + Send + Drop,
+    T: Tap + Send + Drop,
+{
+    let alloc = rt.alloc();
     let input = Lane {
         stream: Patient::new(rt, rt.reader()),
-        chain: chain_of(alloc, FixCr::new())?,
-        tap: NoTap,
+        chain: input_chain,
+        tap: input_tap,
     };
     let output = Lane {
         stream: Patient::new(rt, io::writer(rt)),
-        chain: chain_of(alloc, FixCr::new())?,
-        tap: NoTap,
+        chain: output_chain,
+        tap: output_tap,
     };
     let launcher = OsLauncher::new(rt);
-    let ends = (input, output);
-    run_between(rt, alloc, &launcher, (&program, &variables), ends, |pipe| {
+    run_between(rt, alloc, &launcher, run, (input, output), |pipe| {
         Watch::new(alloc, rt, STANDARD_INPUT, pipe.as_raw_fd())
     })
 }
@@ -108,25 +143,17 @@ where
     E: Write + Send + Drop,
 {
     let alloc = rt.alloc();
-    let program = program_of(alloc, words)?;
-    let variables = inherited_variables(alloc, rt)?;
+    let (program, variables) = told_run(alloc, rt, words)?;
     let number = recorder_number(variables.get("TCPREMOTEPORT"));
     let errors = Mutex::new(errors);
-    let input = Lane {
-        stream: Patient::new(rt, rt.reader()),
-        chain: Chain::<FixCr>::new(alloc, Vec::new(alloc)),
-        tap: Recorder::new(alloc, number, Way::Input, SharedWriter::new(rt, &errors)),
-    };
-    let output = Lane {
-        stream: Patient::new(rt, io::writer(rt)),
-        chain: Chain::<FixCr>::new(alloc, Vec::new(alloc)),
-        tap: Recorder::new(alloc, number, Way::Output, SharedWriter::new(rt, &errors)),
-    };
-    let launcher = OsLauncher::new(rt);
-    let ends = (input, output);
-    run_between(rt, alloc, &launcher, (&program, &variables), ends, |pipe| {
-        Watch::new(alloc, rt, STANDARD_INPUT, pipe.as_raw_fd())
-    })
+    let input = Recorder::new(alloc, number, Way::Input, SharedWriter::new(rt, &errors));
+    let output = Recorder::new(alloc, number, Way::Output, SharedWriter::new(rt, &errors));
+    run_streams(
+        rt,
+        (&program, &variables),
+        (Chain::<FixCr>::new(alloc, Vec::new(alloc)), input),
+        (Chain::<FixCr>::new(alloc, Vec::new(alloc)), output),
+    )
 }
 
 /// The number of a recorder, by the text of the peer's port: 0 where that is no port.
