@@ -1,2 +1,3 @@
 -- Lemmas on fields.
+pub mod CutParts
 pub mod FieldTexts

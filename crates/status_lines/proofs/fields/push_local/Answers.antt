@@ -3,7 +3,17 @@ use Rattle.std.specs.Net.Text.{ipv4_text}
 use Rattle.rule_lookup.specs.Peers.{given}
 use Rattle.status_lines.specs.Texts.{field, local_text}
 use Rattle.byte_text.proofs.Appends.{first, next, last, renamed}
+use Rattle.status_lines.proofs.CutParts.{cut_first, cut_later}
 use Rattle.status_lines.proofs.fields.push_local.Goals as goal
+
+pub returns-in_err-push_host : goal.returns-in_err-push_host
+returns-in_err-push_host c =
+    cut_first _ c.args.out.now.items c.push_host.new.out.items c.from_residual.result c.from_residual.ensures.0 c.in_err-push_host.ensures
+
+pub returns-in_err-push_text : goal.returns-in_err-push_text
+returns-in_err-push_text c =
+    let so_far_1 = first c.args.out.now.items _ c.in_ok-push_host.ensures in
+    cut_later _ c.push_text.new.out.items c.from_residual-in_err-push_text.result c.from_residual-in_err-push_text.ensures.0 so_far_1 c.in_err-push_text.ensures
 
 pub returns : goal.returns
 returns c =
