@@ -1,5 +1,5 @@
 -- Words, options and peers of a script.
-use Rattle.std.proofs.Common.{◌≡◌, ◌≢◌, ℕ, Bool, true, false, ◌&&◌, cond, eqb, List, [], ◌∷◌, ◌++◌, map, length, drop, Option, Some, None, MatchOption, refl, sym, ap, ◌∙◌}
+use Rattle.std.proofs.Common.{◌≡◌, ◌≢◌, ℕ, Bool, true, false, ◌&&◌, cond, eqb, List, [], ◌∷◌, ◌++◌, map, length, drop, Option, Some, None, MatchOption, refl, sym, ap, subst, ◌∙◌}
 use Rattle.std.specs.Borrow.{Bor}
 use Rattle.std.specs.List.{starts_with}
 use Rattle.std.specs.Option.{option_map}
@@ -8,12 +8,13 @@ use Rattle.std.proofs.lemmas.Bool.{eq-eqb, eqb-true, false≢true}
 use Rattle.rule_lookup.specs.Peers.{Client, given, lowered, may_be_name}
 use Rattle.rule_lookup.specs.Addresses.{ipv4_in}
 use Rattle.std.specs.Str.{is_utf8}
-use Rattle.std.specs.Prelude.{IsUtf8, IfErr, Result, Ok, Err, not}
+use Rattle.std.specs.Prelude.{IsUtf8, IfOk, IfErr, Result, Ok, Err, not}
 use Rattle.std.proofs.lemmas.Str.{is_utf8-from_IsUtf8, IsUtf8-from_is_utf8}
 use Rattle.script_words.specs.declared.script.LineEnd.{LineEnd}
 use Rattle.script_words.specs.declared.script.LineEnd.TheVariants.{Bad, OutOfMemory}
-use Rattle.script_words.specs.Readings.{RefusesLine}
-use Rattle.script_words.specs.Scripts.{Skip, Add, command_in, command_of, has_words, words_of, option_in, fits, peer_at, peer_of}
+use Rattle.script_words.specs.declared.script.Command.{Command as Read}
+use Rattle.script_words.specs.Readings.{RefusesAs, RefusesLine, meaning}
+use Rattle.script_words.specs.Scripts.{Command, Skip, Add, command_in, command_of, has_words, words_of, option_in, fits, peer_at, peer_of}
 
 -- a text begins with what it was made to begin with
 starts_with-append : (mark rest : List ℕ) → starts_with eqb (mark ++ rest) mark ≡ true
@@ -116,3 +117,11 @@ module _ (first : ℕ) (line rest : List ℕ) (is : line ≡ first ∷ rest) (no
     none : (b : Bool) → is_utf8 line ≡ b → cond b (command_in (words_of line)) None ≡ None
     none true text = absurd (no_text (IsUtf8-from_is_utf8 line text))
     none false text = refl
+
+-- a command that is read, or words that are refused, under another name of what is wanted
+pub reads_as : (wanted named : Option Command) (r : Result Read LineEnd) → wanted ≡ named → IfOk r (λ (command : Read). wanted ≡ Some (meaning command)) → IfOk r (λ (command : Read). named ≡ Some (meaning command))
+reads_as wanted named r same read =
+    subst (λ (o : Option Command). IfOk r (λ (command : Read). o ≡ Some (meaning command))) same read
+
+pub refuses_as : (wanted named : Option Command) (r : Result Read LineEnd) → wanted ≡ named → IfErr r (RefusesAs wanted) → IfErr r (RefusesAs named)
+refuses_as wanted named r same refused = subst (λ (o : Option Command). IfErr r (RefusesAs o)) same refused

@@ -78,6 +78,17 @@ abbrev pub alone : {T : Type 0} → T → List (List ℕ) → Option T
 alone x [] = Some x
 alone x (word ∷ words) = None
 
+-- a decision with a verdict alone, as an event
+abbrev pub decided_as : ℕ → Verdict → Event
+decided_as n verdict = Decided n (decision_with verdict)
+
+-- a start that failed otherwise, and a drop since the directory failed
+abbrev pub start_failed_otherwise : ℕ → Event
+start_failed_otherwise n = StartFailed n fault.Other
+
+abbrev pub dropped_by_directory : ℕ → Event
+dropped_by_directory n = Dropped n cause.Directory
+
 -- the events other than an admission. A fault is that the start failed otherwise, a cause that the directory did
 abbrev pub other_event : List ℕ → List (List ℕ) → Option Event
 other_event name words =

@@ -105,6 +105,10 @@ abbrev pub question_in : List (List ℕ) → Option Command
 question_in [] = None
 question_in (name ∷ words) = question_of (reader_in name) (peer_in words)
 
+-- a list of events under these limits
+abbrev pub events_under : ℕ × ℕ → Command
+events_under p = BeginEvents p.0 p.1
+
 -- the command with a name, and the words after that
 abbrev pub command_named : List ℕ → List (List ℕ) → Option Command
 command_named name words =

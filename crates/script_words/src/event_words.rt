@@ -2,8 +2,9 @@
 ghost use Rattle.std.specs.Borrow.{Bor};
 ghost use Rattle.std.specs.Prelude.{◌≡◌, ℕ, List, Some, IfOk, IfErr, codes, option_map};
 ghost use Rattle.rule_lookup.specs.Peers.{given};
+ghost use Rattle.server_events.specs.declared.event.Event.TheVariants.{Ended, Opened, Retired, Started, StepFailed, Stepped, Stop};
 ghost use Rattle.script_words.specs.Readings.{RefusesAs, texts};
-ghost use Rattle.script_words.specs.Events.{decision_with, event_in, event_named, limit_in, only_phase, only_serial, other_event, phase_in, serial_and_word, serial_in, status_in, there_in, verdict_in};
+ghost use Rattle.script_words.specs.Events.{alone, decided_as, decision_with, dropped_by_directory, event_in, event_named, limit_in, only_phase, only_serial, other_event, phase_in, serial_and, serial_and_word, serial_in, start_failed_otherwise, status_in, there_in, verdict_in};
 
 use crate::script::LineEnd;
 use rule_lines::{Settings, Verdict};
@@ -64,44 +65,113 @@ fn other_event(alloc: Global, name: &str, words: &[&str]) -> Option<Event>
     ensures { result ≡ other_event name.now (texts words.now) }
 {
     match name {
-        "opened" => {
-            let (serial, word) = serial_and_word(words)?;
-            let there = there_in(word)?;
-            Some(Event::Opened { serial, there })
-        }
-        "decided" => {
-            let (serial, word) = serial_and_word(words)?;
-            let decision = decision_with(alloc, verdict_in(word)?);
-            Some(Event::Decided { serial, decision })
-        }
-        "ended" => {
-            let (serial, word) = serial_and_word(words)?;
-            let status = status_in(word)?;
-            Some(Event::Ended { serial, status })
-        }
-        "started" => Some(Event::Started {
-            serial: only_serial(words)?,
-        }),
-        "startfailed" => Some(Event::StartFailed {
-            serial: only_serial(words)?,
-            fault: StartFault::Other,
-        }),
-        "retired" => Some(Event::Retired {
-            serial: only_serial(words)?,
-        }),
-        "dropped" => Some(Event::Dropped {
-            serial: only_serial(words)?,
-            cause: DropCause::Directory,
-        }),
-        "phase" => Some(Event::Stepped {
-            phase: only_phase(words)?,
-        }),
-        "failed" => Some(Event::StepFailed {
-            phase: only_phase(words)?,
-        }),
-        "stop" => words.is_empty().then_some(Event::Stop),
+        "opened" => opened(words),
+        "decided" => decided(alloc, words),
+        "started" => started(words),
+        "startfailed" => start_failed(words),
+        "ended" => ended(words),
+        "retired" => retired(words),
+        "dropped" => dropped(words),
+        "phase" => stepped(words),
+        "failed" => step_failed(words),
+        "stop" => stop(words),
         _ => None,
     }
+}
+
+/// That a connection's rules were opened, or were not there.
+fn opened(words: &[&str]) -> Option<Event>
+    ensures { result ≡ serial_and there_in Opened (texts words.now) }
+{
+    let (serial, word) = serial_and_word(words)?;
+    let there = there_in(word)?;
+    Some(Event::Opened { serial, there })
+}
+
+/// That a connection was decided.
+fn decided(alloc: Global, words: &[&str]) -> Option<Event>
+    ensures { result ≡ serial_and verdict_in decided_as (texts words.now) }
+{
+    let (serial, word) = serial_and_word(words)?;
+    let verdict = verdict_in(word)?;
+    Some(Event::Decided {
+        serial,
+        decision: decision_with(alloc, verdict),
+    })
+}
+
+/// That a connection's child ended.
+fn ended(words: &[&str]) -> Option<Event>
+    ensures { result ≡ serial_and status_in Ended (texts words.now) }
+{
+    let (serial, word) = serial_and_word(words)?;
+    let status = status_in(word)?;
+    Some(Event::Ended { serial, status })
+}
+
+/// That an installation reached a phase.
+fn stepped(words: &[&str]) -> Option<Event>
+    ensures { result ≡ option_map Stepped (only_phase (texts words.now)) }
+{
+    let phase = only_phase(words)?;
+    Some(Event::Stepped { phase })
+}
+
+/// That an installation failed on the way to a phase.
+fn step_failed(words: &[&str]) -> Option<Event>
+    ensures { result ≡ option_map StepFailed (only_phase (texts words.now)) }
+{
+    let phase = only_phase(words)?;
+    Some(Event::StepFailed { phase })
+}
+
+/// The stop of the server, which has no more words.
+fn stop(words: &[&str]) -> Option<Event>
+    ensures { result ≡ alone Stop (texts words.now) }
+{
+    if words.is_empty() {
+        Some(Event::Stop)
+    } else {
+        None
+    }
+}
+
+/// That a connection's child was started.
+fn started(words: &[&str]) -> Option<Event>
+    ensures { result ≡ option_map Started (only_serial (texts words.now)) }
+{
+    let serial = only_serial(words)?;
+    Some(Event::Started { serial })
+}
+
+/// That the start of a connection's child failed, otherwise than in a way that has a name.
+fn start_failed(words: &[&str]) -> Option<Event>
+    ensures { result ≡ option_map start_failed_otherwise (only_serial (texts words.now)) }
+{
+    let serial = only_serial(words)?;
+    Some(Event::StartFailed {
+        serial,
+        fault: StartFault::Other,
+    })
+}
+
+/// That a connection's place was given up.
+fn retired(words: &[&str]) -> Option<Event>
+    ensures { result ≡ option_map Retired (only_serial (texts words.now)) }
+{
+    let serial = only_serial(words)?;
+    Some(Event::Retired { serial })
+}
+
+/// That a connection was dropped, since the directory failed.
+fn dropped(words: &[&str]) -> Option<Event>
+    ensures { result ≡ option_map dropped_by_directory (only_serial (texts words.now)) }
+{
+    let serial = only_serial(words)?;
+    Some(Event::Dropped {
+        serial,
+        cause: DropCause::Directory,
+    })
 }
 
 /// A decision with a verdict alone.

@@ -1,10 +1,10 @@
 //! The lines of a script of `rulesim`.
-ghost use Rattle.std.specs.Prelude.{◌≡◌, ◌==◌, length, Some, IfOk, IfErr};
+ghost use Rattle.std.specs.Prelude.{◌≡◌, ◌==◌, length, Some, IfOk, IfErr, option_map};
 ghost use Rattle.std.specs.List.{slice_split};
 ghost use Rattle.rule_lookup.specs.Peers.{given};
 ghost use Rattle.script_words.specs.Readings.{meaning, RefusesAs, RefusesLine, texts};
-ghost use Rattle.script_words.specs.Events.{alone, limits_in};
-ghost use Rattle.script_words.specs.Scripts.{command_of, command_in, command_named, words_of, option_in, peer_of, peer_in, choice_in, only_choice, reader_in, only_reader, question_in};
+ghost use Rattle.script_words.specs.Events.{alone, event_in, limits_in, only_phase};
+ghost use Rattle.script_words.specs.Scripts.{AddEvent, Ask, Open, Stop, To, events_under, command_of, command_in, command_named, words_of, option_in, peer_of, peer_in, peer_with, peer_with_both, choice_in, only_choice, reader_in, only_reader, question_in};
 ghost use Rattle.script_words.specs.declared.script.LineEnd.TheVariants.{OutOfMemory};
 
 use crate::event_words::{limit_in, only_phase, read_event};
@@ -124,19 +124,76 @@ fn command_named<'a>(alloc: Global, name: &str, words: &[&'a str]) -> Result<Com
     match name {
         "install" => alone(Command::Install, words),
         "begin" => alone(Command::Begin, words),
-        "to" => Ok(Command::To(only_phase(words).ok_or(LineEnd::Bad)?)),
-        "stop" => Ok(Command::Stop(only_choice(words).ok_or(LineEnd::Bad)?)),
-        "ask" => Ok(Command::Ask(read_peer(alloc, words)?)),
-        "reader" => Ok(Command::Reader(only_reader(words).ok_or(LineEnd::Bad)?)),
+        "to" => read_target(words),
+        "stop" => read_stop(words),
+        "ask" => read_ask(alloc, words),
+        "reader" => read_reader(words),
         "askby" => read_question(alloc, words),
-        "events" => {
-            let (limit, per_address) = read_limits(words).ok_or(LineEnd::Bad)?;
-            Ok(Command::Events { limit, per_address })
-        }
-        "event" => Ok(Command::Event(read_event(alloc, words)?)),
+        "events" => read_events(words),
+        "event" => read_addition(alloc, words),
         "replay" => alone(Command::Replay, words),
         _ => Err(LineEnd::Bad),
     }
+}
+
+/// The phase that an installation is to go on to.
+fn read_target<'a>(words: &[&str]) -> Result<Command<'a>, LineEnd>
+    ensures read { IfOk result (λ command.
+        option_map To (only_phase (texts words.now)) ≡ Some (meaning command)) }
+    ensures refused { IfErr result (RefusesAs (option_map To (only_phase (texts words.now)))) }
+{
+    let target = only_phase(words).ok_or(LineEnd::Bad)?;
+    Ok(Command::To(target))
+}
+
+/// The choice of a stop.
+fn read_stop<'a>(words: &[&str]) -> Result<Command<'a>, LineEnd>
+    ensures read { IfOk result (λ command.
+        option_map Stop (only_choice (texts words.now)) ≡ Some (meaning command)) }
+    ensures refused { IfErr result (RefusesAs (option_map Stop (only_choice (texts words.now)))) }
+{
+    let choice = only_choice(words).ok_or(LineEnd::Bad)?;
+    Ok(Command::Stop(choice))
+}
+
+/// The peer of a question.
+fn read_ask<'a>(alloc: Global, words: &[&str]) -> Result<Command<'a>, LineEnd>
+    ensures read { IfOk result (λ command.
+        option_map Ask (peer_in (texts words.now)) ≡ Some (meaning command)) }
+    ensures refused { IfErr result (RefusesAs (option_map Ask (peer_in (texts words.now)))) }
+{
+    let peer = read_peer(alloc, words)?;
+    Ok(Command::Ask(peer))
+}
+
+/// The name of a reader that is to be opened.
+fn read_reader<'a>(words: &[&'a str]) -> Result<Command<'a>, LineEnd>
+    ensures read { IfOk result (λ command.
+        option_map Open (only_reader (texts words.now)) ≡ Some (meaning command)) }
+    ensures refused { IfErr result (RefusesAs (option_map Open (only_reader (texts words.now)))) }
+{
+    let name = only_reader(words).ok_or(LineEnd::Bad)?;
+    Ok(Command::Reader(name))
+}
+
+/// The limits of a list of events.
+fn read_events<'a>(words: &[&str]) -> Result<Command<'a>, LineEnd>
+    ensures read { IfOk result (λ command.
+        option_map events_under (limits_in (texts words.now)) ≡ Some (meaning command)) }
+    ensures refused { IfErr result (RefusesAs (option_map events_under (limits_in (texts words.now)))) }
+{
+    let (limit, per_address) = read_limits(words).ok_or(LineEnd::Bad)?;
+    Ok(Command::Events { limit, per_address })
+}
+
+/// The event that is to be added to the list.
+fn read_addition<'a>(alloc: Global, words: &[&str]) -> Result<Command<'a>, LineEnd>
+    ensures read { IfOk result (λ command.
+        option_map AddEvent (event_in (texts words.now)) ≡ Some (meaning command)) }
+    ensures refused { IfErr result (RefusesAs (option_map AddEvent (event_in (texts words.now)))) }
+{
+    let event = read_event(alloc, words)?;
+    Ok(Command::Event(event))
 }
 
 /// The choice that the only word is.
@@ -223,15 +280,55 @@ fn read_peer(alloc: Global, words: &[&str]) -> Result<Peer, LineEnd>
 {
     match words {
         [ip] => make_peer(alloc, ip, None, None),
-        [ip, word] => match (option_in("info=", word), option_in("host=", word)) {
-            (Some(info), _) => make_peer(alloc, ip, Some(info), None),
-            (None, Some(host)) => make_peer(alloc, ip, None, Some(host)),
-            (None, None) => Err(LineEnd::Bad),
-        },
-        [ip, first, second] => match (option_in("info=", first), option_in("host=", second)) {
-            (Some(info), Some(host)) => make_peer(alloc, ip, Some(info), Some(host)),
-            _ => Err(LineEnd::Bad),
-        },
+        [ip, word] => peer_with(
+            alloc,
+            ip,
+            option_in("info=", word),
+            option_in("host=", word),
+        ),
+        [ip, first, second] => peer_with_both(
+            alloc,
+            ip,
+            option_in("info=", first),
+            option_in("host=", second),
+        ),
+        _ => Err(LineEnd::Bad),
+    }
+}
+
+/// The peer with one option: of a word that is either, the user's.
+fn peer_with(
+    alloc: Global,
+    ip: &str,
+    info: Option<&str>,
+    host: Option<&str>,
+) -> Result<Peer, LineEnd>
+    ensures read { IfOk result (λ peer.
+        peer_with ip.now (given info.entry) (given host.entry) ≡ Some peer) }
+    ensures refused { IfErr result
+        (RefusesAs (peer_with ip.now (given info.entry) (given host.entry))) }
+{
+    match (info, host) {
+        (Some(info), _) => make_peer(alloc, ip, Some(info), None),
+        (None, Some(host)) => make_peer(alloc, ip, None, Some(host)),
+        (None, None) => Err(LineEnd::Bad),
+    }
+}
+
+/// The peer with both options.
+fn peer_with_both(
+    alloc: Global,
+    ip: &str,
+    info: Option<&str>,
+    host: Option<&str>,
+) -> Result<Peer, LineEnd>
+    ensures read { IfOk result (λ peer.
+        peer_with_both ip.now (given info.entry) (given host.entry) ≡ Some peer) }
+    ensures refused { IfErr result
+        (RefusesAs (peer_with_both ip.now (given info.entry) (given host.entry))) }
+{
+    match (info, host) {
+        (Some(info), Some(host)) => make_peer(alloc, ip, Some(info), Some(host)),
         _ => Err(LineEnd::Bad),
     }
 }
