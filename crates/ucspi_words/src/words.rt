@@ -42,18 +42,33 @@ fn read_options<'a>(
     ensures refused { IfErr result (Refuses (reading letters.now (map string_bytes words.now))) }
 {
     let mut options = Options::new(alloc);
+    let rest = fill_options(&mut options, letters, words)?;
+    Ok((options, rest))
+}
+
+/// Adds the options at the start of `words` to those of none, and gives the words that follow.
+fn fill_options<'a>(
+    options: &mut Options<'a>,
+    letters: &str,
+    words: &'a [String],
+) -> Result<&'a [String], WordFault>
+    requires { options.old ≡ [] }
+    ensures read { IfOk result (λ rest. reading letters.now (map string_bytes words.now)
+        ≡ Ok (record { options = options.new; rest = map string_bytes rest.now })) }
+    ensures refused { IfErr result (Refuses (reading letters.now (map string_bytes words.now))) }
+{
     let mut rest = words;
     while let Some((word, after)) = rest.split_first() {
         match Word::of(word.as_str()) {
-            Word::EndMark => return Ok((options, after)),
-            Word::Ordinary => return Ok((options, rest)),
+            Word::EndMark => return Ok(after),
+            Word::Ordinary => return Ok(rest),
             Word::Letters(text) => {
-                let wanting = read_letters(&mut options, letters, text)?;
-                rest = take_value(&mut options, wanting, after)?;
+                let wanting = read_letters(options, letters, text)?;
+                rest = take_value(options, wanting, after)?;
             }
         }
     }
-    Ok((options, rest))
+    Ok(rest)
 }
 
 /// What a word is.

@@ -2,7 +2,7 @@ use Rattle.std.proofs.Common.{◌∙◌, ℕ, List, map, string_bytes, ap, rules
 use Rattle.ucspi_words.specs.Words.{kind_of}
 use Rattle.std.specs.Str.{chars}
 use Rattle.ucspi_words.proofs.WordLemmas.{Refuses-later}
-use Rattle.ucspi_words.proofs.words.read_options.Goals as goal
+use Rattle.ucspi_words.proofs.words.fill_options.Goals as goal
 
 pub returns-in_err-rest-in-Letters-clause-refused : goal.returns-in_err-rest-in-Letters-clause-refused
 returns-in_err-rest-in-Letters-clause-refused c =

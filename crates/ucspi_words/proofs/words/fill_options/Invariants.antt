@@ -1,7 +1,7 @@
 use Rattle.std.proofs.Common.{◌≡◌, length, map, None, string_bytes}
 use Rattle.std.specs.Str.{chars}
 use Rattle.ucspi_words.specs.Words.{before, reading_from}
-use Rattle.ucspi_words.proofs.words.read_options.Given as goal
+use Rattle.ucspi_words.proofs.words.fill_options.Given as goal
 
 abbrev pub invariant-loop-word : goal.invariant-loop-word
 invariant-loop-word l =
