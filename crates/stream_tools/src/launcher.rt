@@ -44,10 +44,19 @@ impl<'a, P: Processes> Launcher for OsLauncher<'a, P> {
         let Ok(mut command) = command_of(alloc, program, environment) else {
             return Err(StartFault::OutOfMemory);
         };
-        match command.spawn(self.processes) {
-            Ok(child) => Ok(job_of(child, program, environment)),
-            Err(error) => Err(start_fault(&error)),
-        }
+        let child = spawn(self.processes, &mut command)?;
+        Ok(job_of(child, program, environment))
+    }
+}
+
+/// Starts a command.
+fn spawn<P: Processes>(
+    processes: &P,
+    command: &mut Command,
+) -> Result<Child<P::Started>, StartFault> {
+    match command.spawn(processes) {
+        Ok(child) => Ok(child),
+        Err(error) => Err(start_fault(&error)),
     }
 }
 
