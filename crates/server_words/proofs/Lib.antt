@@ -1,3 +1,4 @@
+pub mod CutParts
 pub mod Cases
 pub mod CheckLemmas
 pub mod StageLemmas
