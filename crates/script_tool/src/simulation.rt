@@ -1,5 +1,6 @@
 //! What a script of `rulesim` leads to, command by command.
 ghost use Rattle.std.specs.Prelude.{◌≡◌, ◌≢◌, ◌++◌, ◌<◌, None, Some, OnOk, IfOk, List, [], ℕ};
+ghost use Rattle.answer_lines.specs.Answers.{answer_lines};
 ghost use Rattle.dir_calls.specs.MemDir.{mem_state};
 ghost use Rattle.dir_calls.specs.Names.{name_fault};
 ghost use Rattle.rule_lines.specs.Pairs.{pairs_of};
@@ -225,7 +226,7 @@ impl Simulation {
     {
         match self.open(alloc)? {
             None => out.extend_from_slice(b"no file\n"),
-            Some(file) => append_answer(out, &decide_by(alloc, &file, peer)?),
+            Some(file) => append_decision(alloc, &file, peer, out),
         }
     }
 
@@ -260,7 +261,7 @@ impl Simulation {
     {
         match self.readers.get(name) {
             None => out.extend_from_slice(b"no reader\n"),
-            Some(file) => append_answer(out, &decide_by(alloc, file, peer)?),
+            Some(file) => append_decision(alloc, file, peer, out),
         }
     }
 
@@ -413,6 +414,21 @@ fn decide_by(alloc: Global, file: &CdbFile<MemFile>, peer: &Peer) -> Result<Deci
         Err(DecideFault::Find(_)) => unreachable!(),
         Err(DecideFault::Code(_)) => unreachable!(),
     }
+}
+
+/// Adds the decision by a file that is compiled of a text.
+fn append_decision(
+    alloc: Global,
+    file: &CdbFile<MemFile>,
+    peer: &Peer,
+    out: &mut Vec<u8>,
+) -> Result<(), AllocError>
+    requires { (text : List ℕ) × IsFileOf text file.now }
+    ensures { (text : List ℕ) → IsFileOf text file.now
+        → OnOk result (out.new.items ≡ out.old.items ++ answer_lines (decision_of text peer.now)) }
+{
+    let decision = decide_by(alloc, file, peer)?;
+    append_answer(out, &decision)
 }
 
 /// Adds what a list of events comes to.
