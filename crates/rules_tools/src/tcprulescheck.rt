@@ -14,46 +14,63 @@ use rule_lines::FindFault;
 use rule_lookup::{DecideFault, Decision, Found, Missing, Peer, PeerFault, decide, parse_address};
 use std::alloc::{AllocError, Global};
 use std::env::{self, VarError};
+use std::error::Error;
+use std::fmt;
 use std::fs::Files;
 use std::io::Write;
 use std::os::unix::fs::FileExt;
 use std::rt::Env;
-use thiserror::Error;
 
 /// The address of a peer of which none is known.
 const NO_ADDRESS: [u8; 4] = [0; 4];
 
 /// Why `tcprulescheck` tells no decision. Of several the first in this order is told.
-#[derive(Clone, Copy, PartialEq, Eq, Debug, Error)]
+#[derive(Clone, Copy, PartialEq, Eq, Debug)]
 pub enum CheckFault {
     /// `TCPREMOTEIP` is no IPv4 address.
-    #[error("bad TCPREMOTEIP")]
     BadIp,
     /// `TCPREMOTEHOST` is over 255 bytes.
-    #[error("bad TCPREMOTEHOST")]
     BadHost,
     /// `TCPREMOTEINFO` is over 255 bytes.
-    #[error("bad TCPREMOTEINFO")]
     BadInfo,
     /// The compiled file is not there.
-    #[error("no such file")]
     NoFile,
     /// It could not be opened.
-    #[error("device fault")]
     Device,
     /// It could not be read.
-    #[error("read fault")]
     ReadFault,
     /// It is no compiled file, or its value is no instruction.
-    #[error("damaged file")]
     Damaged,
     /// The answer could not be written.
-    #[error("write fault")]
     WriteFault,
     /// There was no memory.
-    #[error("out of memory")]
     OutOfMemory,
 }
+
+impl CheckFault {
+    // What is printed of it.
+    fn text(self) -> &'static str {
+        match self {
+            CheckFault::BadIp => "bad TCPREMOTEIP",
+            CheckFault::BadHost => "bad TCPREMOTEHOST",
+            CheckFault::BadInfo => "bad TCPREMOTEINFO",
+            CheckFault::NoFile => "no such file",
+            CheckFault::Device => "device fault",
+            CheckFault::ReadFault => "read fault",
+            CheckFault::Damaged => "damaged file",
+            CheckFault::WriteFault => "write fault",
+            CheckFault::OutOfMemory => "out of memory",
+        }
+    }
+}
+
+impl fmt::Display for CheckFault {
+    fn fmt<W: fmt::Write>(&self, f: &mut fmt::Formatter<W>) -> fmt::Result {
+        f.write_str(self.text())
+    }
+}
+
+impl Error for CheckFault {}
 
 impl From<AllocError> for CheckFault {
     ghost from_gives = { λ _ fault. fault ≡ OutOfMemory };
