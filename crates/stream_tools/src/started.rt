@@ -76,7 +76,7 @@ fn text_of(alloc: Global, word: &[u8]) -> Result<String, AllocError>
 }
 
 /// What a program is told, by its place.
-#[derive(Clone, Copy, PartialEq, Eq, Debug)]
+#[derive(Clone, Copy)]
 enum Entry {
     /// A word of the command line, from 0, which is the program's name.
     Word(usize),
