@@ -84,8 +84,7 @@ impl<D: Disk + Drop> DiskDir<D> {
         requires { IsTrue D.honest → (D.state disk).scratch ≡ None }
         ensures { IfOk result (λ dir. os_disk dir ≡ disk) }
     {
-        let path = disk.room(alloc)?;
-        let onto = disk.room(alloc)?;
+        let (path, onto) = rooms(alloc, &disk)?;
         Ok(DiskDir {
             disk,
             folder: None,
@@ -143,24 +142,28 @@ where
     /// `NoFolder` where nothing stands there, or no folder; `Device` where the system does not say what stands there, as where it may
     /// not be looked at; `OutOfMemory`.
     pub fn new(alloc: Global, files: R, folder: &str) -> Result<Self, FolderFault> {
-        for _ in 0..TRIES {
-            match files.metadata(folder) {
-                Ok(found) if found.is_dir() => {
-                    let disk = SystemDisk::new(files, String::from_str(alloc, folder)?);
-                    return Ok(DiskDir::over(alloc, disk)?);
-                }
-                Ok(_) => return Err(FolderFault::NoFolder),
-                Err(error) => match error.kind() {
-                    ErrorKind::NotFound | ErrorKind::NotADirectory => {
-                        return Err(FolderFault::NoFolder);
-                    }
-                    ErrorKind::Interrupted => {}
-                    _ => return Err(FolderFault::Device),
-                },
-            }
-        }
-        Err(FolderFault::Device)
+        find_folder(&files, folder)?;
+        let folder = String::from_str(alloc, folder)?;
+        Ok(DiskDir::over(alloc, SystemDisk::new(files, folder))?)
     }
+}
+
+// Sees that a folder stands at a path.
+fn find_folder<R: Files>(files: &R, folder: &str) -> Result<(), FolderFault> {
+    for _ in 0..TRIES {
+        match files.metadata(folder) {
+            Ok(found) if found.is_dir() => return Ok(()),
+            Ok(_) => return Err(FolderFault::NoFolder),
+            Err(error) => match error.kind() {
+                ErrorKind::NotFound | ErrorKind::NotADirectory => {
+                    return Err(FolderFault::NoFolder);
+                }
+                ErrorKind::Interrupted => {}
+                _ => return Err(FolderFault::Device),
+            },
+        }
+    }
+    Err(FolderFault::Device)
 }
 
 impl<R: Files<File = File> + Drop> DiskDir<SystemDisk<R>> {
@@ -205,6 +208,12 @@ fn told<T>(failures: &mut u64, answer: io::Result<T>) -> Result<T, DirFault>
             Err(DirFault::Device)
         }
     }
+}
+
+// Room for the two paths of a call.
+fn rooms<D: Disk>(alloc: Global, disk: &D) -> Result<(D::Path, D::Path), AllocError> {
+    let path = disk.room(alloc)?;
+    Ok((path, disk.room(alloc)?))
 }
 
 // The folder itself, which is opened if it is not open yet.

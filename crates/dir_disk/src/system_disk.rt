@@ -29,11 +29,12 @@ pub struct SystemPath {
 }
 
 impl SystemPath {
-    fn text(&self) -> io::Result<&str> {
+    // its text, if there was room
+    fn text(&self) -> Option<&str> {
         if self.whole {
-            Ok(self.text.as_str())
+            Some(self.text.as_str())
         } else {
-            Err(io::Error::from(ErrorKind::OutOfMemory))
+            None
         }
     }
 
@@ -43,6 +44,11 @@ impl SystemPath {
         self.text.push_str("/")?;
         self.text.push_str(name)
     }
+}
+
+// What a call answers whose path there was no room for.
+fn no_room() -> io::Error {
+    io::Error::from(ErrorKind::OutOfMemory)
 }
 
 /// A file of the system that is read.
@@ -126,15 +132,21 @@ where
     }
 
     fn unlink(&mut self, _folder: &R::File, path: &SystemPath) -> io::Result<()> {
-        self.files.remove_file(path.text()?)
+        match path.text() {
+            Some(path) => self.files.remove_file(path),
+            None => Err(no_room()),
+        }
     }
 
     fn create(&mut self, _folder: &R::File, path: &SystemPath, mode: u32) -> io::Result<R::File> {
-        OpenOptions::new()
-            .write(true)
-            .create_new(true)
-            .mode(mode)
-            .open(&self.files, path.text()?)
+        match path.text() {
+            Some(path) => OpenOptions::new()
+                .write(true)
+                .create_new(true)
+                .mode(mode)
+                .open(&self.files, path),
+            None => Err(no_room()),
+        }
     }
 
     fn write_at(&mut self, file: &R::File, place: u64, bytes: &[u8]) -> io::Result<usize> {
@@ -150,17 +162,24 @@ where
     }
 
     fn rename(&mut self, _folder: &R::File, from: &SystemPath, to: &SystemPath) -> io::Result<()> {
-        self.files.rename(from.text()?, to.text()?)
+        match (from.text(), to.text()) {
+            (Some(from), Some(to)) => self.files.rename(from, to),
+            _ => Err(no_room()),
+        }
     }
 
     fn is_file(&self, path: &SystemPath) -> io::Result<bool> {
-        Ok(self.files.metadata(path.text()?)?.is_file())
+        match path.text() {
+            Some(path) => Ok(self.files.metadata(path)?.is_file()),
+            None => Err(no_room()),
+        }
     }
 
     fn open(&self, path: &SystemPath) -> io::Result<R::File> {
-        OpenOptions::new()
-            .read(true)
-            .open(&self.files, path.text()?)
+        match path.text() {
+            Some(path) => OpenOptions::new().read(true).open(&self.files, path),
+            None => Err(no_room()),
+        }
     }
 
     fn look(&self, file: &R::File) -> io::Result<Look> {
