@@ -80,7 +80,7 @@ pub moved_scratch : (d : Directory) (from to : List ℕ) (o : Option ℕ) → (m
 moved_scratch d from to None = refl
 moved_scratch d from to (Some n) = picked (same_name from to) d (push d.names (moves from to n))
 
-number_with : (f : FileState → FileState) (s : Option ℕ) (d : Directory) (name : List ℕ) → number_of (with_scratch f s d) name ≡ number_of d name
+pub number_with : (f : FileState → FileState) (s : Option ℕ) (d : Directory) (name : List ℕ) → number_of (with_scratch f s d) name ≡ number_of d name
 number_with f None d name = refl
 number_with f (Some n) d name = refl
 

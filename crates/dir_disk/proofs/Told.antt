@@ -71,13 +71,39 @@ pub among_writes : {T : Type 0} (r : Result T DirFault) → IfErr r (λ f. f ≡
 among_writes (Ok x) is = _
 among_writes (Err f) is = subst (λ (x : DirFault). Contains (NoScratch ∷ Device ∷ OutOfMemory ∷ []) x) (sym is) (1, omega arith, refl)
 
+pub among_opens : {T : Type 0} (r : Result T DirFault) → IfErr r (λ f. f ≡ Device) → IfErr r (Contains (Device ∷ OutOfMemory ∷ []))
+among_opens (Ok x) is = _
+among_opens (Err f) is = subst (λ (x : DirFault). Contains (Device ∷ OutOfMemory ∷ []) x) (sym is) (0, omega arith, refl)
+
 pub among_memory : {T : Type 0} (r : Result T DirFault) → IfErr r (λ f. f ≡ OutOfMemory) → IfErr r (Contains (NoScratch ∷ Device ∷ OutOfMemory ∷ []))
 among_memory (Ok x) is = _
 among_memory (Err f) is = subst (λ (x : DirFault). Contains (NoScratch ∷ Device ∷ OutOfMemory ∷ []) x) (sym is) (2, omega arith, refl)
 
-pub among_renames : {T : Type 0} (r : Result T DirFault) → IfErr r (λ f. f ≡ Device) → IfErr r (Contains (NoName ∷ Device ∷ OutOfMemory ∷ []))
+pub among_renames : {T : Type 0} (r : Result T DirFault) → IfErr r (λ f. (f ≡ NoName) ⊎ (f ≡ Device)) → IfErr r (Contains (NoName ∷ Device ∷ OutOfMemory ∷ []))
 among_renames (Ok x) is = _
-among_renames (Err f) is = subst (λ (x : DirFault). Contains (NoName ∷ Device ∷ OutOfMemory ∷ []) x) (sym is) (1, omega arith, refl)
+among_renames (Err f) is = ⊎_elim (λ name. subst (λ (x : DirFault). Contains (NoName ∷ Device ∷ OutOfMemory ∷ []) x) (sym name) (0, omega arith, refl))
+    (λ device. subst (λ (x : DirFault). Contains (NoName ∷ Device ∷ OutOfMemory ∷ []) x) (sym device) (1, omega arith, refl)) is
+
+-- a move is not told to want memory
+pub no_memory_told : {T : Type 0} (r : Result T DirFault) (P : Type 0) → IfErr r (λ f. (f ≡ NoName) ⊎ (f ≡ Device)) → r ≡ Err OutOfMemory → P
+no_memory_told (Ok x) P is memory = absurd (cc)
+no_memory_told (Err f) P is memory = ⊎_elim (λ name. absurd (cc)) (λ device. absurd (cc)) is
+
+-- what holds where the answer is that there is no such name
+pub absent_told : {T E : Type 0} (answer : Result T E) (told : Result T DirFault) (K : E → Type 0) (P : Type 0) → OnErr told (IsErr answer) → (told ≡ Err NoName → IfErr answer K) → told ≡ Err NoName
+    → IfErr answer (λ e. K e → P) → P
+absent_told (Ok x) (Ok v) K P failed absent is has = absurd (cc)
+absent_told (Ok x) (Err f) K P failed absent is has = absurd (cc)
+absent_told (Err e) told K P failed absent is has = has (absent is)
+
+-- a move that did all of its work, found no name and did nothing, or failed
+pub does_move : {T E : Type 0} (call : Call) (d e : Directory) (answer : Result T E) (told : Result T DirFault) (K : E → Type 0) → IfErr told (λ f. (f ≡ NoName) ⊎ (f ≡ Device)) → OnErr told (IsErr answer)
+    → (told ≡ Err NoName → IfErr answer K) → OnOk told (e ≡ after call d) → OnErr told (Fails call d e) → IfErr answer (λ x. K x → e ≡ d) → Does (λ _. call) call d e told
+does_move call d e answer (Ok v) K faults failed absent done fails same = done
+does_move call d e answer (Err Device) K faults failed absent done fails same = fails
+does_move call d e answer (Err NoName) K faults failed absent done fails same = absent_told answer (Err NoName) K (e ≡ d) failed absent refl same
+does_move call d e answer (Err NoScratch) K faults failed absent done fails same = ⊎_elim (λ name. absurd (cc)) (λ device. absurd (cc)) faults
+does_move call d e answer (Err OutOfMemory) K faults failed absent done fails same = ⊎_elim (λ name. absurd (cc)) (λ device. absurd (cc)) faults
 
 -- a device fault that is passed on
 pub does_residual : {T : Type 0} (done : T → Call) (whole : Call) (d e : Directory) (r : Result T DirFault) → IsErr r → IfErr r (λ f. f ≡ Device) → Fails whole d e → Does done whole d e r

@@ -1,6 +1,7 @@
 //! Folders of a disk, and so of the system.
-ghost use Rattle.std.specs.Prelude.{◌≡◌, ◌≢◌, false, None, Option, Some, IsTrue, IfErr, IfOk, IsErr, OnOk, OnErr, Ok, List, ℕ};
+ghost use Rattle.std.specs.Prelude.{◌≡◌, ◌≢◌, ◌⊎◌, Err, false, None, Option, Some, IsTrue, IfErr, IfOk, IsErr, OnOk, OnErr, Ok, List, ℕ};
 ghost use Rattle.std.specs.Option.{option_map, ForSome};
+ghost use Rattle.std.specs.IoError.{error_kind};
 ghost use Rattle.dir_calls.specs.Directory.{content, number_of};
 ghost use Rattle.dir_calls.specs.Lasting.{LastsAmong};
 ghost use Rattle.dir_calls.specs.Replacing.{Stays};
@@ -12,7 +13,7 @@ ghost use Rattle.std.proofs.Common.{subst, sym};
 
 use crate::disk::Disk;
 use crate::os_file::OsFile;
-use crate::patient::{TRIES, is_file, rename, sync_folder, unlink};
+use crate::patient::{TRIES, is_file, move_name, not_opened, opened, remove_name, settle};
 use crate::scratch::{BUFFER, give_up, make_room, overwrite, renew, sync_kept};
 use crate::system_disk::SystemDisk;
 use dir_calls::{Dir, DirFault, Name};
@@ -125,9 +126,7 @@ impl<D: Disk + Drop> DiskDir<D> {
         give_up(&mut self.disk, scratch);
         self.pending.clear();
         self.disk.put_path(&mut self.path, name);
-        let folder = opened(&self.disk, self.folder.take(), &mut self.failures)?;
-        let outcome = unlink(&mut self.disk, &folder, &self.path);
-        self.folder = Some(folder);
+        let outcome = remove_name(&mut self.disk, &mut self.folder, &self.path);
         told(&mut self.failures, outcome)
     }
 }
@@ -176,9 +175,10 @@ impl<R: Files<File = File> + Drop> DiskDir<SystemDisk<R>> {
     pub fn lock(&mut self) -> Result<(), DirFault>
         ensures faults { IfErr result (λ fault. fault ≡ DirFault.Device) }
     {
-        let folder = opened(&self.disk, self.folder.take(), &mut self.failures)?;
-        let outcome = locked(&folder);
-        self.folder = Some(folder);
+        let outcome = match opened(&self.disk, &mut self.folder) {
+            Some(folder) => locked(folder),
+            None => Err(not_opened()),
+        };
         told(&mut self.failures, outcome)
     }
 }
@@ -216,19 +216,30 @@ fn rooms<D: Disk>(alloc: Global, disk: &D) -> Result<(D::Path, D::Path), AllocEr
     Ok((path, disk.room(alloc)?))
 }
 
-// The folder itself, which is opened if it is not open yet.
-fn opened<D: Disk>(
+// What the disk answered of a name that is moved: that no such name stands is no fault of the device.
+fn told_move(failures: &mut u64, answer: io::Result<()>) -> Result<(), DirFault>
+    ensures passed { IfOk result (λ value. answer ≡ Ok value) }
+    ensures failed { OnErr result (IsErr answer) }
+    ensures absent { result ≡ Err DirFault.NoName → IfErr answer (λ e. error_kind e ≡ ErrorKind.NotFound) }
+    ensures faults { IfErr result (λ fault. (fault ≡ DirFault.NoName) ⊎ (fault ≡ DirFault.Device)) }
+    ensures counted { CountsFault failures.old failures.new result }
+{
+    match answer {
+        Err(error) if error.kind() == ErrorKind::NotFound => Err(DirFault::NoName),
+        answer => told(failures, answer),
+    }
+}
+
+// The folder itself, which is opened if it is not open yet. That it can't be is a fault of the device.
+fn folder_of<'a, D: Disk>(
     disk: &D,
-    folder: Option<D::Folder>,
+    folder: &'a mut Option<D::Folder>,
     failures: &mut u64,
-) -> Result<D::Folder, DirFault>
+) -> Result<&'a D::Folder, DirFault>
     ensures fault { IfErr result (λ fault. fault ≡ DirFault.Device) }
     ensures counted { CountsFault failures.old failures.new result }
 {
-    match folder {
-        Some(folder) => Ok(folder),
-        None => told(failures, disk.open_folder()),
-    }
+    told(failures, opened(disk, folder).ok_or(not_opened()))
 }
 
 // Whether an opened file is the scratch file.
@@ -300,18 +311,17 @@ impl<D: Disk + Drop> Dir for DiskDir<D> {
     fn fresh(&mut self, alloc: Global, name: &Name) -> Result<(), DirFault> {
         self.pending.try_reserve(BUFFER)?;
         self.disk.put_path(&mut self.path, name);
-        let folder = opened(&self.disk, self.folder.take(), &mut self.failures)?;
+        let folder = folder_of(&self.disk, &mut self.folder, &mut self.failures)?;
         let scratch = self.scratch.take();
         let (written, pending) = (self.written, &mut self.pending);
         let outcome = renew(
             &mut self.disk,
-            &folder,
+            folder,
             &self.path,
             scratch,
             written,
             pending,
         );
-        self.folder = Some(folder);
         let file = told(&mut self.failures, outcome)?;
         self.scratch = Some(file);
         self.written = 0;
@@ -360,19 +370,12 @@ impl<D: Disk + Drop> Dir for DiskDir<D> {
     fn rename(&mut self, alloc: Global, from: &Name, to: &Name) -> Result<(), DirFault> {
         self.disk.put_path(&mut self.path, from);
         self.disk.put_path(&mut self.onto, to);
-        let folder = opened(&self.disk, self.folder.take(), &mut self.failures)?;
-        let outcome = rename(&mut self.disk, &folder, &self.path, &self.onto);
-        self.folder = Some(folder);
-        match outcome {
-            Err(error) if error.kind() == ErrorKind::NotFound => Err(DirFault::NoName),
-            outcome => told(&mut self.failures, outcome),
-        }
+        let outcome = move_name(&mut self.disk, &mut self.folder, &self.path, &self.onto);
+        told_move(&mut self.failures, outcome)
     }
 
     fn settle(&mut self) -> Result<(), DirFault> {
-        let folder = opened(&self.disk, self.folder.take(), &mut self.failures)?;
-        let outcome = sync_folder(&mut self.disk, &folder);
-        self.folder = Some(folder);
+        let outcome = settle(&mut self.disk, &mut self.folder);
         told(&mut self.failures, outcome)
     }
 

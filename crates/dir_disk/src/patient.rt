@@ -19,6 +19,24 @@ fn interrupted() -> io::Error
     io::Error::from(ErrorKind::Interrupted)
 }
 
+/// The fault of a call in a folder that can't be opened.
+pub(crate) fn not_opened() -> io::Error
+    ensures { error_kind result ≡ ErrorKind.Other }
+{
+    io::Error::from(ErrorKind::Other)
+}
+
+/// The folder itself, which is opened if it is not open yet.
+pub(crate) fn opened<'a, D: Disk>(
+    disk: &D,
+    folder: &'a mut Option<D::Folder>,
+) -> Option<&'a D::Folder> {
+    if folder.is_none() {
+        *folder = disk.open_folder().ok();
+    }
+    folder.as_ref()
+}
+
 /// Takes a name away, if it stands.
 pub(crate) fn unlink<D: Disk>(disk: &mut D, folder: &D::Folder, path: &D::Path) -> io::Result<()>
     ensures done { IsTrue D.honest → OnOk result (D.state disk.new ≡ without (D.state disk.old) (D.named path.now)) }
@@ -36,13 +54,8 @@ pub(crate) fn unlink<D: Disk>(disk: &mut D, folder: &D::Folder, path: &D::Path) 
     Err(interrupted())
 }
 
-/// Moves one name onto another.
-pub(crate) fn rename<D: Disk>(
-    disk: &mut D,
-    folder: &D::Folder,
-    from: &D::Path,
-    to: &D::Path,
-) -> io::Result<()>
+// Moves one name onto another.
+fn rename<D: Disk>(disk: &mut D, folder: &D::Folder, from: &D::Path, to: &D::Path) -> io::Result<()>
     ensures found { IsTrue D.honest → OnOk result (IsSome (number_of (D.state disk.old) (D.named from.now))) }
     ensures done { IsTrue D.honest → OnOk result
         (D.state disk.new ≡ after (renames (D.named from.now) (D.named to.now)) (D.state disk.old)) }
@@ -61,8 +74,8 @@ pub(crate) fn rename<D: Disk>(
     Err(interrupted())
 }
 
-/// Makes all changes of names lasting.
-pub(crate) fn sync_folder<D: Disk>(disk: &mut D, folder: &D::Folder) -> io::Result<()>
+// Makes all changes of names lasting.
+fn sync_folder<D: Disk>(disk: &mut D, folder: &D::Folder) -> io::Result<()>
     ensures done { IsTrue D.honest → OnOk result (D.state disk.new ≡ after settles (D.state disk.old)) }
     ensures failed { IsTrue D.honest → OnErr result (SettlesPart (D.state disk.old) (D.state disk.new)) }
     ensures time { IsTrue D.honest → StepElapses D.state D.moment D.left_since disk.old disk.new }
@@ -74,6 +87,57 @@ pub(crate) fn sync_folder<D: Disk>(disk: &mut D, folder: &D::Folder) -> io::Resu
         }
     }
     Err(interrupted())
+}
+
+/// Takes a name away, if it stands, in a folder that is opened if it is not open yet.
+pub(crate) fn remove_name<D: Disk>(
+    disk: &mut D,
+    folder: &mut Option<D::Folder>,
+    path: &D::Path,
+) -> io::Result<()>
+    ensures done { IsTrue D.honest → OnOk result (D.state disk.new ≡ without (D.state disk.old) (D.named path.now)) }
+    ensures failed { IsTrue D.honest → OnErr result
+        (AllOrNone (D.state disk.old) (without (D.state disk.old) (D.named path.now)) (D.state disk.new)) }
+    ensures time { IsTrue D.honest → StepElapses D.state D.moment D.left_since disk.old disk.new }
+{
+    match opened(disk, folder) {
+        Some(folder) => unlink(disk, folder, path),
+        None => Err(not_opened()),
+    }
+}
+
+/// Moves one name onto another in a folder that is opened if it is not open yet.
+pub(crate) fn move_name<D: Disk>(
+    disk: &mut D,
+    folder: &mut Option<D::Folder>,
+    from: &D::Path,
+    to: &D::Path,
+) -> io::Result<()>
+    ensures found { IsTrue D.honest → OnOk result (IsSome (number_of (D.state disk.old) (D.named from.now))) }
+    ensures done { IsTrue D.honest → OnOk result
+        (D.state disk.new ≡ after (renames (D.named from.now) (D.named to.now)) (D.state disk.old)) }
+    ensures absent { IsTrue D.honest → IfErr result (λ e. error_kind e ≡ ErrorKind.NotFound
+        → (number_of (D.state disk.old) (D.named from.now) ≡ None) × (D.state disk.new ≡ D.state disk.old)) }
+    ensures failed { IsTrue D.honest → OnErr result (AllOrNone (D.state disk.old)
+        (after (renames (D.named from.now) (D.named to.now)) (D.state disk.old)) (D.state disk.new)) }
+    ensures time { IsTrue D.honest → StepElapses D.state D.moment D.left_since disk.old disk.new }
+{
+    match opened(disk, folder) {
+        Some(folder) => rename(disk, folder, from, to),
+        None => Err(not_opened()),
+    }
+}
+
+/// Makes all changes of names lasting in a folder that is opened if it is not open yet.
+pub(crate) fn settle<D: Disk>(disk: &mut D, folder: &mut Option<D::Folder>) -> io::Result<()>
+    ensures done { IsTrue D.honest → OnOk result (D.state disk.new ≡ after settles (D.state disk.old)) }
+    ensures failed { IsTrue D.honest → OnErr result (SettlesPart (D.state disk.old) (D.state disk.new)) }
+    ensures time { IsTrue D.honest → StepElapses D.state D.moment D.left_since disk.old disk.new }
+{
+    match opened(disk, folder) {
+        Some(folder) => sync_folder(disk, folder),
+        None => Err(not_opened()),
+    }
 }
 
 /// Makes all that was written to the file that was made last lasting.

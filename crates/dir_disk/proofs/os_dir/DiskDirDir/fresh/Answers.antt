@@ -8,7 +8,7 @@ use Rattle.dir_disk.specs.OsDir.{kept_back}
 use Rattle.dir_calls.specs.declared.fault.DirFault.TheVariants.{Device}
 use Rattle.dir_calls.proofs.FuseLemmas.{fails_idle}
 use Rattle.dir_disk.proofs.KeptWrites.{kept_nowhere, kept_none}
-use Rattle.dir_disk.proofs.Told.{on_ok_take, on_err_take, does_residual}
+use Rattle.dir_disk.proofs.Told.{among_opens, on_ok_take, on_err_take, does_residual}
 use Rattle.dir_disk.proofs.os_dir.DiskDirDir.fresh.Given.{Over}
 use Rattle.dir_disk.proofs.os_dir.DiskDirDir.fresh.Goals as goal
 
@@ -106,3 +106,13 @@ returns-clause-within g c = λ honest.
     let includes : Holding path r e = on_ok_take c.renew-outcome.result c.in_ok-file.file (Holding path r e) c.in_ok-file.ensures.passed (c.renew-outcome.ensures.within honest) in
     subst (λ (x : Directory). Holding c.args.name.now p x) (sym (ap (λ (l : List ℕ). kept_back l e) none ∙ kept_none e))
     (subst (λ (l : List ℕ). Holding c.args.name.now l e) (sym same) (subst (λ (n : List ℕ). Holding n r e) named includes))
+
+pub returns-in_err-folder-clause-faults : goal.returns-in_err-folder-clause-faults
+returns-in_err-folder-clause-faults g c =
+    let device : IfErr c.from_residual-in_err-folder.result (λ f. f ≡ Device) = search rules in
+    among_opens c.from_residual-in_err-folder.result device
+
+pub returns-in_err-file-clause-faults : goal.returns-in_err-file-clause-faults
+returns-in_err-file-clause-faults g c =
+    let device : IfErr c.from_residual-in_err-file.result (λ f. f ≡ Device) = search rules in
+    among_opens c.from_residual-in_err-file.result device

@@ -6,7 +6,7 @@ use Rattle.dir_disk.specs.KeptImages.{kept_image, disk_image}
 use Rattle.dir_calls.specs.declared.fault.DirFault.TheVariants.{Device}
 use Rattle.dir_disk.proofs.KeptWrites.{writable_image, writable_disk}
 use Rattle.dir_disk.proofs.OsCalls.{fails_given, kept_room}
-use Rattle.dir_disk.proofs.Told.{on_ok_take, on_err_take, if_ok_take, does_residual, call_elapses, call_includes}
+use Rattle.dir_disk.proofs.Told.{on_ok_take, on_err_take, if_ok_take, does_residual, among_writes, call_elapses, call_includes}
 use Rattle.dir_disk.proofs.os_dir.DiskDirDir.patch.Goals as goal
 
 pub overwrite-outcome-requires-clause-inside : goal.overwrite-outcome-requires-clause-inside
@@ -26,6 +26,11 @@ returns-in_err-file-clause-does g c = λ honest.
     let is : IsErr c.from_residual.result = search rules in
     does_residual (λ _. call) call (kept_back s.pending.items d) (kept_back q e) c.from_residual.result is device
     (fails_given g.D.Disk.number call d e s.scratch s.written s.pending.items q (s.holds honest) (on_err_take c.overwrite-outcome.result (GivesUp d e) c.in_err-file.ensures.failed (c.overwrite-outcome.ensures.failed honest)))
+
+pub returns-in_err-file-clause-faults : goal.returns-in_err-file-clause-faults
+returns-in_err-file-clause-faults g c =
+    let device : IfErr c.from_residual.result (λ f. f ≡ Device) = search rules in
+    among_writes c.from_residual.result device
 
 pub returns-clause-time : goal.returns-clause-time
 returns-clause-time g c = λ honest.

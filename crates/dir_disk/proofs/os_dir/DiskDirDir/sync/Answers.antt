@@ -8,7 +8,7 @@ use Rattle.dir_disk.specs.OsDir.{GivesUp, kept_back}
 use Rattle.dir_disk.specs.KeptImages.{disk_image}
 use Rattle.dir_disk.proofs.KeptWrites.{kept_nowhere}
 use Rattle.dir_disk.proofs.OsCalls.{fails_given}
-use Rattle.dir_disk.proofs.Told.{on_ok_then, on_err_then, told_ok, told_err, does_told, call_includes}
+use Rattle.dir_disk.proofs.Told.{among_writes, on_ok_then, on_err_then, told_ok, told_err, does_told, call_includes}
 use Rattle.dir_disk.proofs.os_dir.DiskDirDir.sync.Goals as goal
 
 pub returns-clause-does : goal.returns-clause-does
@@ -40,3 +40,6 @@ returns-clause-within g c = λ honest.
     (c.sync_kept-outcome.ensures.time honest) (λ image is. disk_image g.D.Disk.number d s.scratch s.written p image (s.holds honest) is)
     (λ image is. subst (λ (x : Directory). IsImage x image) nowhere is) (λ at passes. ⊎_elim (λ first. inl first) (λ last. inr (last ∙ sym (nowhere ∙ done))) passes))
     (told_ok c.sync_kept-outcome.result c.told.result (e ≡ after syncs (kept_back p d)) c.told.ensures.passed (c.sync_kept-outcome.ensures.done honest))
+
+pub returns-clause-faults : goal.returns-clause-faults
+returns-clause-faults g c = among_writes c.told.result c.told.ensures.fault
