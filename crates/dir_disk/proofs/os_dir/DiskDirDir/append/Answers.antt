@@ -1,5 +1,5 @@
-use Rattle.std.proofs.Common.{rules, ◌≡◌, inl, ⊎_elim, ◌++◌, List, ℕ, take, sym, ◌∙◌, subst, ap}
-use Rattle.std.specs.Prelude.{IfErr, IsErr}
+use Rattle.std.proofs.Common.{rules, ◌≡◌, inl, ⊎_elim, ◌++◌, List, ℕ, take, sym, ◌∙◌, subst, ap, arith}
+use Rattle.std.specs.Prelude.{IfErr, IsErr, ◌<◌, vec_len}
 use Rattle.dir_calls.specs.Directory.{Directory}
 use Rattle.dir_calls.specs.Images.{IsImage}
 use Rattle.dir_calls.specs.Calls.{appends, after}
@@ -80,3 +80,8 @@ returns-clause-within g c = λ honest.
     (λ first. disk_image g.D.Disk.number d s.scratch s.written p image (s.holds honest) (subst (λ (x : Directory). IsImage x image) first is))
     (λ last. disk_image g.D.Disk.number d s.scratch s.written (p ++ piece) image (s.holds honest) (subst (λ (x : Directory). IsImage x image) (last ∙ kept_appended d p piece) is)) passes))
     (λ image is. writable_disk e (g.D.Disk.number c.in_ok-file.file) c.in_ok-file.written q image now is)
+
+pub returns-clause-some : goal.returns-clause-some
+returns-clause-some g c = λ more.
+    let room : vec_len c.make_room-outcome.new.pending < 65536 = on_ok_take c.make_room-outcome.result (c.in_ok-file.file, c.in_ok-file.written) (vec_len c.make_room-outcome.new.pending < 65536) c.in_ok-file.ensures.passed c.make_room-outcome.ensures.room in
+    omega arith
