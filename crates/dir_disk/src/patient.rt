@@ -1,5 +1,5 @@
 //! Calls of a disk, tried again where a signal interrupts them.
-ghost use Rattle.std.specs.Prelude.{◌≡◌, ◌≤◌, ◌<◌, ◌+◌, ◌^◌, false, IsTrue, None, Some, IsSome, length, IfErr, IfOk, OnOk, OnErr};
+ghost use Rattle.std.specs.Prelude.{◌≡◌, ◌≤◌, ◌<◌, ◌+◌, ◌^◌, false, IsTrue, None, Some, IsSome, IsErr, IsErrAnd, length, IfErr, IfOk, OnOk, OnErr};
 ghost use Rattle.std.specs.Option.{ForSome};
 ghost use Rattle.std.specs.IoError.{error_kind};
 ghost use Rattle.dir_calls.specs.Directory.{number_of, scratch_of};
@@ -17,6 +17,27 @@ fn interrupted() -> io::Error
     ensures { error_kind result ≡ ErrorKind.Interrupted }
 {
     io::Error::from(ErrorKind::Interrupted)
+}
+
+// Whether a signal interrupted a call.
+fn was_interrupted<T>(outcome: &io::Result<T>) -> bool
+    ensures { IsTrue result → IsErrAnd outcome.now (λ e. error_kind e ≡ ErrorKind.Interrupted) }
+{
+    match outcome {
+        Ok(_) => false,
+        Err(error) => error.kind() == ErrorKind::Interrupted,
+    }
+}
+
+// What is answered of a name that is taken away: that it does not stand is no fault.
+fn unless_absent(outcome: io::Result<()>) -> io::Result<()>
+    ensures gone { OnOk result (IfErr outcome (λ e. error_kind e ≡ ErrorKind.NotFound)) }
+    ensures failed { OnErr result (IsErr outcome) }
+{
+    match outcome {
+        Err(error) if error.kind() == ErrorKind::NotFound => Ok(()),
+        outcome => outcome,
+    }
 }
 
 /// The fault of a call in a folder that can't be opened.
@@ -45,10 +66,9 @@ pub(crate) fn unlink<D: Disk>(disk: &mut D, folder: &D::Folder, path: &D::Path) 
     ensures time { IsTrue D.honest → StepElapses D.state D.moment D.left_since disk.old disk.new }
 {
     for _ in 0..TRIES {
-        match disk.unlink(folder, path) {
-            Err(error) if error.kind() == ErrorKind::Interrupted => {}
-            Err(error) if error.kind() == ErrorKind::NotFound => return Ok(()),
-            outcome => return outcome,
+        let outcome = disk.unlink(folder, path);
+        if !was_interrupted(&outcome) {
+            return unless_absent(outcome);
         }
     }
     Err(interrupted())
@@ -66,9 +86,9 @@ fn rename<D: Disk>(disk: &mut D, folder: &D::Folder, from: &D::Path, to: &D::Pat
     ensures time { IsTrue D.honest → StepElapses D.state D.moment D.left_since disk.old disk.new }
 {
     for _ in 0..TRIES {
-        match disk.rename(folder, from, to) {
-            Err(error) if error.kind() == ErrorKind::Interrupted => {}
-            outcome => return outcome,
+        let outcome = disk.rename(folder, from, to);
+        if !was_interrupted(&outcome) {
+            return outcome;
         }
     }
     Err(interrupted())
@@ -81,9 +101,9 @@ fn sync_folder<D: Disk>(disk: &mut D, folder: &D::Folder) -> io::Result<()>
     ensures time { IsTrue D.honest → StepElapses D.state D.moment D.left_since disk.old disk.new }
 {
     for _ in 0..TRIES {
-        match disk.sync_folder(folder) {
-            Err(error) if error.kind() == ErrorKind::Interrupted => {}
-            outcome => return outcome,
+        let outcome = disk.sync_folder(folder);
+        if !was_interrupted(&outcome) {
+            return outcome;
         }
     }
     Err(interrupted())
@@ -148,9 +168,9 @@ pub(crate) fn sync<D: Disk>(disk: &mut D, file: &D::Handle) -> io::Result<()>
     ensures time { IsTrue D.honest → StepElapses D.state D.moment D.left_since disk.old disk.new }
 {
     for _ in 0..TRIES {
-        match disk.sync(file) {
-            Err(error) if error.kind() == ErrorKind::Interrupted => {}
-            outcome => return outcome,
+        let outcome = disk.sync(file);
+        if !was_interrupted(&outcome) {
+            return outcome;
         }
     }
     Err(interrupted())

@@ -1,10 +1,11 @@
 use Rattle.std.proofs.Common.{◌≡◌, ◌⊎◌, inl, inr, ⊎_elim, refl}
+use Rattle.std.specs.Prelude.{None}
 use Rattle.dir_calls.specs.Images.{IsImage}
 use Rattle.dir_calls.specs.Calls.{makes, closed, without}
 use Rattle.dir_calls.specs.Outcomes.{LeftBy, Fails}
 use Rattle.dir_disk.specs.DiskSteps.{AllOrNone, created}
 use Rattle.dir_disk.proofs.Steps.{elapses_join}
-use Rattle.dir_disk.proofs.KeptWrites.{fails_named, fails_made, made_handle}
+use Rattle.dir_disk.proofs.KeptWrites.{created_closed, without_closed, fails_named, fails_made, made_handle}
 use Rattle.dir_disk.proofs.Told.{on_err_then, on_err_give}
 use Rattle.dir_disk.proofs.scratch.make_file.Goals as goal
 
@@ -38,3 +39,16 @@ returns-clause-time g c = λ honest.
     (λ image. IsImage d image ⊎ IsImage e image) (λ image. IsImage e image ⊎ IsImage f image) (LeftBy (makes name) d f) (c.unlink.ensures.time honest) (c.create.ensures.time honest)
     (λ image. λ is. ⊎_elim (λ first. inl (d, inl refl, first)) (λ mid. inl (e, inr (inl gone), mid)) is)
     (λ image. λ is. ⊎_elim (λ mid. inl (e, inr (inl gone), mid)) (λ last. inr last) is)
+
+pub returns-in_err-unlink-clause-closed : goal.returns-in_err-unlink-clause-closed
+returns-in_err-unlink-clause-closed g c = λ honest.
+    let name = g.D.Disk.named c.args.path.now in
+    let e = g.D.Disk.state c.unlink.new.disk in
+    on_err_give c.from_residual.result (e.scratch ≡ None) (without_closed name (g.D.Disk.state c.args.disk.now) e (c.requires honest) (c.in_err-unlink.ensures.failed honest))
+
+pub returns-clause-closed : goal.returns-clause-closed
+returns-clause-closed g c = λ honest.
+    let name = g.D.Disk.named c.args.path.now in
+    let e = g.D.Disk.state c.unlink.new.disk in
+    let f = g.D.Disk.state c.create.new.self in
+    on_err_then c.create.result (AllOrNone e (closed (created e name)) f) (f.scratch ≡ None) (λ left. created_closed name (g.D.Disk.state c.args.disk.now) e f (c.requires honest) (c.in_ok-unlink.ensures.done honest) left) (c.create.ensures.failed honest)

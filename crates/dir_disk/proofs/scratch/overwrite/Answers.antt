@@ -2,8 +2,25 @@ use Rattle.std.proofs.Common.{◌≤◌, ◌+◌, length, sym, ◌∙◌, subst,
 use Rattle.dir_calls.specs.Directory.{Directory}
 use Rattle.dir_disk.specs.OsDir.{IsWritable, kept_back}
 use Rattle.dir_disk.proofs.Steps.{step_after, step_before}
-use Rattle.dir_disk.proofs.KeptWrites.{kept_patched, writable_inside, is_closed, written_image}
+use Rattle.dir_disk.proofs.KeptWrites.{gives_up, may_write, writable_unsynced, kept_patched, writable_inside, is_closed, written_image}
+use Rattle.dir_disk.proofs.DiskWrites.{spoils_more}
 use Rattle.dir_disk.proofs.scratch.overwrite.Goals as goal
+
+pub write_all-requires-clause-may : goal.write_all-requires-clause-may
+write_all-requires-clause-may g c = λ honest.
+    let inside : c.args.place ≤ c.in_ok-file.written = omega (arith, c.requires.inside honest, c.in_ok-file.ensures.end honest) in
+    may_write (g.D.Disk.state c.write_kept.new.disk) (g.D.Disk.number c.in_ok-file.file) c.in_ok-file.written c.args.place (c.in_ok-file.ensures.writable honest) inside
+
+pub write_all-requires-clause-unsynced : goal.write_all-requires-clause-unsynced
+write_all-requires-clause-unsynced g c = λ honest.
+    writable_unsynced (g.D.Disk.state c.write_kept.new.disk) (g.D.Disk.number c.in_ok-file.file) c.in_ok-file.written (c.in_ok-file.ensures.writable honest)
+
+pub returns-in-Err-clause-failed : goal.returns-in-Err-clause-failed
+returns-in-Err-clause-failed g c = λ honest.
+    let d = g.D.Disk.state c.args.disk.now in
+    let e = g.D.Disk.state c.write_kept.new.disk in
+    let s = g.D.Disk.state c.write_all.new.disk in
+    gives_up d s (g.D.Disk.state c.close.new.self) (spoils_more d e s (c.in_ok-file.ensures.spares honest) (c.in-Err.ensures.failed honest)) (c.close.ensures.done honest)
 
 pub returns-in-Ok-clause-done : goal.returns-in-Ok-clause-done
 returns-in-Ok-clause-done g c = λ honest.

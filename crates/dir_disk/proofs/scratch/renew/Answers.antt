@@ -1,4 +1,5 @@
-use Rattle.std.proofs.Common.{◌≡◌, ◌⊎◌, inl, ⊎_elim, ◌≤◌, refl, sym, subst, arith}
+use Rattle.std.proofs.Common.{◌≡◌, ◌⊎◌, inl, ⊎_elim, ◌≤◌, ap, refl, sym, subst, arith}
+use Rattle.std.specs.Prelude.{None}
 use Rattle.dir_calls.specs.Directory.{Directory}
 use Rattle.dir_calls.specs.Images.{IsImage}
 use Rattle.dir_calls.specs.Calls.{makes, closed}
@@ -9,7 +10,7 @@ use Rattle.dir_disk.specs.KeptImages.{kept_image, disk_image}
 use Rattle.dir_disk.proofs.Steps.{elapses_join}
 use Rattle.dir_disk.proofs.KeptWrites.{closed_from}
 use Rattle.dir_disk.proofs.OsCalls.{fails_gone, fails_closed, left_closed, closed_left}
-use Rattle.dir_disk.proofs.Told.{on_ok_then, on_err_then, on_err_give}
+use Rattle.dir_disk.proofs.Told.{call_elapses, on_ok_then, on_err_then, on_err_give}
 use Rattle.dir_disk.proofs.scratch.renew.Goals as goal
 
 pub returns-in_err-let_go-clause-failed : goal.returns-in_err-let_go-clause-failed
@@ -66,3 +67,17 @@ returns-clause-within g c = λ honest.
     (λ other. includes earlier image later (subst (λ (x : Directory). LeftBy (makes name) x f image) (sym is) other))
     (closed_left name (kept_back p d) f image left))
     (c.make_file.ensures.within honest)
+
+pub make_file-requires : goal.make_file-requires
+make_file-requires g c = λ honest. ap (λ (x : Directory). x.scratch) (c.in_ok-let_go.ensures.done honest)
+
+pub returns-in_err-let_go-clause-closed : goal.returns-in_err-let_go-clause-closed
+returns-in_err-let_go-clause-closed g c = λ honest.
+    on_err_give c.from_residual.result ((g.D.Disk.state c.let_go.new.disk).scratch ≡ None) (c.in_err-let_go.ensures.failed honest).scratch
+
+pub returns-in_err-let_go-clause-time : goal.returns-in_err-let_go-clause-time
+returns-in_err-let_go-clause-time g c = λ honest.
+    let d = g.D.Disk.state c.args.disk.now in
+    let p = c.args.pending.now.items in
+    call_elapses g.D.Disk.state g.D.Disk.moment g.D.Disk.left_since c.args.disk.now c.let_go.new.disk (makes (g.D.Disk.named c.args.path.now)) (kept_back p d) (g.D.Disk.state c.let_go.new.disk) (c.let_go.ensures.time honest)
+    (λ image is. kept_image g.D.Disk.number d c.args.scratch c.args.written p image (c.requires.holds honest) is) (λ image is. is)

@@ -1,4 +1,4 @@
-use Rattle.std.proofs.Common.{◌≡◌, inl, sym, ◌∙◌, subst, ap}
+use Rattle.std.proofs.Common.{◌≡◌, sym, ◌∙◌, subst, ap}
 use Rattle.std.specs.Prelude.{None}
 use Rattle.dir_calls.specs.Directory.{Directory, number_of}
 use Rattle.dir_calls.specs.Images.{IsImage}
