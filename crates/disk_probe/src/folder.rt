@@ -1,9 +1,14 @@
 //! Calls of a directory on a folder of the system. The words are the folder and then, for each call, its name and its arguments, as in
 //! `disk_probe folder FOLDER fresh tmp append abc sync rename tmp file settle open file`.
-use dir_calls::{Dir, DirFault, Name, RulesFile};
+ghost use Rattle.std.specs.Prelude.{◌≡◌, false};
+
+use crate::commands::{
+    Answer, Fault, Words, append, failures, fresh, no_such, none, open_name, print_answer, rename,
+    settle, sync,
+};
+use dir_calls::{Dir, DirFault, RulesFile};
 use dir_disk::OsDir;
 use std::alloc::Global;
-use std::env::Args;
 use std::fs::Files;
 use std::io;
 use std::os::unix::fs::FileExt;
@@ -11,45 +16,66 @@ use std::os::unix::fs::FileExt;
 /// How many bytes a call of `append` is given of a long row of zeros.
 const PIECE: usize = 4_096;
 
-/// A call by its words.
-#[derive(Drop)]
-enum Call {
-    Fresh(Name),
-    Append(String),
-    /// So many zero bytes, in pieces.
-    Zeros(u64),
-    Patch(u64, String),
-    Sync,
-    Rename(Name, Name),
-    Settle,
-    Open(Name),
-    Failures,
-}
-
-/// The next name among the words.
-fn next_name(alloc: Global, words: &mut Args) -> Option<Name> {
-    Name::new(alloc, words.next()?.as_str().as_bytes()).ok()
-}
-
-/// The next number among the words.
-fn next_number(words: &mut Args) -> Option<u64> {
-    words.next()?.as_str().parse().ok()
-}
-
-/// The next call among the words.
-fn next_call(alloc: Global, word: &str, words: &mut Args) -> Option<Call> {
-    match word {
-        "fresh" => Some(Call::Fresh(next_name(alloc, words)?)),
-        "append" => Some(Call::Append(words.next()?)),
-        "zeros" => Some(Call::Zeros(next_number(words)?)),
-        "patch" => Some(Call::Patch(next_number(words)?, words.next()?)),
-        "sync" => Some(Call::Sync),
-        "rename" => Some(Call::Rename(next_name(alloc, words)?, next_name(alloc, words)?)),
-        "settle" => Some(Call::Settle),
-        "open" => Some(Call::Open(next_name(alloc, words)?)),
-        "failures" => Some(Call::Failures),
-        _ => None,
+/// The answer to a call of a directory of which nothing is known.
+fn answer<D: Dir>(alloc: Global, dir: &mut D, words: &Words<'_>) -> Answer
+    requires { D.honest ≡ false }
+{
+    match words.call {
+        "fresh" => fresh(alloc, dir, words),
+        "append" => append(alloc, dir, words),
+        "zeros" => zeros(alloc, dir, words),
+        "patch" => patch(alloc, dir, words),
+        "sync" => sync(alloc, dir),
+        "rename" => rename(alloc, dir, words),
+        "settle" => settle(dir),
+        "open" => open(alloc, dir, words),
+        "failures" => failures(alloc, dir),
+        _ => Err(Fault::Words),
     }
+}
+
+/// How many words a call has.
+fn count_of(call: &str) -> usize {
+    match call {
+        "patch" | "rename" => 2,
+        "sync" | "settle" | "failures" => 0,
+        _ => 1,
+    }
+}
+
+/// The word at a place, or an empty one.
+fn word_at(words: &[String], place: usize) -> &str {
+    match words.get(place) {
+        Some(word) => word.as_str(),
+        None => "",
+    }
+}
+
+/// The words of the first call, and those of the calls behind it. It may lack words.
+fn first_call(words: &[String]) -> Option<(Words<'_>, &[String])> {
+    let (call, others) = words.split_first()?;
+    let rest = others.get(count_of(call.as_str())..)?;
+    let call = Words {
+        call: call.as_str(),
+        first: word_at(others, 0),
+        second: word_at(others, 1),
+        third: "",
+    };
+    Some((call, rest))
+}
+
+/// A number by its word.
+fn number_of(word: &str) -> Result<u64, Fault> {
+    match word.parse() {
+        Ok(number) => Ok(number),
+        Err(_) => Err(Fault::Words),
+    }
+}
+
+/// `zeros COUNT` appends so many zero bytes, in pieces.
+fn zeros<D: Dir>(alloc: Global, dir: &mut D, words: &Words<'_>) -> Answer {
+    let calls = append_zeros(alloc, dir, number_of(words.first)?)?;
+    Ok(Some(format!(in alloc; "in {calls}")?))
 }
 
 /// Appends zero bytes, and answers how many calls of `append` it took.
@@ -66,84 +92,67 @@ fn append_zeros<D: Dir>(alloc: Global, dir: &mut D, count: u64) -> Result<u64, D
     Ok(calls)
 }
 
+/// `patch PLACE TEXT` overwrites bytes.
+fn patch<D: Dir>(alloc: Global, dir: &mut D, words: &Words<'_>) -> Answer
+    requires { D.honest ≡ false }
+{
+    let place = number_of(words.first)?;
+    dir.patch(alloc, place, words.second.as_bytes())?;
+    Ok(None)
+}
+
+/// `open NAME` shows what stands under a name.
+fn open<D: Dir>(alloc: Global, dir: &mut D, words: &Words<'_>) -> Answer {
+    match open_name(alloc, dir, words.first)? {
+        Some(file) => show(alloc, &file),
+        None => none(alloc),
+    }
+}
+
 /// The first bytes of a file, and how many it has.
-fn show<F: RulesFile>(alloc: Global, file: &F) -> Result<String, DirFault> {
+fn show<F: RulesFile>(alloc: Global, file: &F) -> Answer {
     let mut start = [0; 16];
     let Ok(count) = file.read_at(0, &mut start) else {
-        return Err(DirFault::Device);
+        return Err(Fault::Call(DirFault::Device));
     };
     let text = start
         .get(..count)
         .and_then(|bytes| str::from_utf8(bytes).ok());
-    Ok(format!(in alloc; "{} bytes, {:?}", file.len(), text.unwrap_or("no text"))?)
+    let text = format!(in alloc; "{} bytes, {:?}", file.len(), text.unwrap_or("no text"))?;
+    Ok(Some(text))
 }
 
-/// What a call answers.
-fn answer<R: Files + Drop>(
-    alloc: Global,
-    dir: &mut OsDir<R>,
-    call: &Call,
-) -> Result<String, DirFault>
-where
-    R::File: FileExt,
-{
-    match call {
-        Call::Fresh(name) => dir.fresh(alloc, name)?,
-        Call::Append(piece) => {
-            let taken = dir.append(alloc, piece.as_str().as_bytes())?;
-            return Ok(format!(in alloc; "{taken}")?);
-        }
-        Call::Zeros(count) => {
-            let calls = append_zeros(alloc, dir, *count)?;
-            return Ok(format!(in alloc; "in {calls}")?);
-        }
-        Call::Patch(place, bytes) => dir.patch(alloc, *place, bytes.as_str().as_bytes())?,
-        Call::Sync => dir.sync(alloc)?,
-        Call::Rename(from, to) => dir.rename(alloc, from, to)?,
-        Call::Settle => dir.settle()?,
-        Call::Open(name) => {
-            return match dir.open(alloc, name)? {
-                Some(file) => show(alloc, &file),
-                None => Ok(String::from_str(alloc, "none")?),
-            };
-        }
-        Call::Failures => return Ok(format!(in alloc; "{}", dir.failures())?),
-    }
-    Ok(String::from_str(alloc, "done")?)
-}
-
-/// Runs the calls that the words ask for on a folder, and prints what each answers. They stop at a word that is none, which is answered `false`.
-pub fn run_calls_on<R>(rt: &R, alloc: Global, folder: &str, words: &mut Args) -> io::Result<bool>
+/// Makes the calls that the words ask for on a folder, and prints what each answers. They stop at a word that is none, which is a fault.
+pub fn run_calls_on<R>(rt: &R, alloc: Global, folder: &str, calls: &[String]) -> io::Result<()>
 where
     R: Files + Print,
     R::File: FileExt,
 {
     match OsDir::new(alloc, rt, folder) {
-        Ok(mut dir) => run_calls(rt, alloc, &mut dir, words),
-        Err(fault) => {
-            println!(rt; "{fault}")?;
-            Ok(true)
-        }
+        Ok(mut dir) => run_calls(rt, alloc, &mut dir, calls),
+        Err(fault) => println!(rt; "{fault}"),
     }
 }
 
-/// Runs the calls on a directory.
-fn run_calls<R>(rt: &R, alloc: Global, dir: &mut OsDir<&R>, words: &mut Args) -> io::Result<bool>
-where
-    R: Files + Print,
-    R::File: FileExt,
+/// Makes the calls on a directory.
+fn run_calls<R: Print, D: Dir>(
+    rt: &R,
+    alloc: Global,
+    dir: &mut D,
+    calls: &[String],
+) -> io::Result<()>
+    requires { D.honest ≡ false }
 {
-    for _ in 0..u64::MAX {
-        let Some(word) = words.next() else {
+    let mut rest = calls;
+    for _ in calls {
+        if rest.is_empty() {
             break;
-        };
-        let Some(call) = next_call(alloc, word.as_str(), words) else {
-            return Ok(false);
-        };
-        match answer(alloc, dir, &call) {
-            Ok(text) => println!(rt; "{}", text.as_str())?,
-            Err(fault) => println!(rt; "{fault}")?,
         }
+        let Some((call, others)) = first_call(rest) else {
+            return Err(no_such());
+        };
+        print_answer(rt, answer(alloc, dir, &call))?;
+        rest = others;
     }
-    Ok(true)
+    Ok(())
 }

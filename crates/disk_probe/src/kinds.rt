@@ -1,6 +1,6 @@
 //! The commands that directories of one kind take: `crash CHOICE NAME` shows what a stop leaves under a name, `stop CHOICE` goes on with what
 //! a stop leaves; a directory over a disk takes `remove NAME` and `calls` too.
-use crate::commands::{Answer, Fault, OwnCommands, Words, done, name_of, show_name};
+use crate::commands::{Answer, Fault, OwnCommands, Words, name_of, show_name};
 use crate::test_disk::TestDisk;
 use dir_calls::{Choice, Dir, FuseDir, MemDir};
 use dir_disk::DiskDir;
@@ -33,7 +33,7 @@ impl OwnCommands for MemDir {
             "crash" => show_stopped(alloc, self, words),
             "stop" => {
                 *self = stopped(alloc, self, words)?;
-                done(alloc)
+                Ok(None)
             }
             _ => Err(Fault::Words),
         }
@@ -60,10 +60,10 @@ impl OwnCommands for DiskDir<TestDisk> {
     fn own(&mut self, alloc: Global, words: &Words<'_>) -> Answer {
         match words.call {
             "crash" => show_left(alloc, self.disk(), words),
-            "calls" => Ok(format!(in alloc; "{}", self.disk().calls())?),
+            "calls" => Ok(Some(format!(in alloc; "{}", self.disk().calls())?)),
             "remove" => {
                 self.remove(&name_of(alloc, words.first)?)?;
-                done(alloc)
+                Ok(None)
             }
             _ => Err(Fault::Words),
         }

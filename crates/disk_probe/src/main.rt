@@ -10,10 +10,10 @@ mod kinds;
 mod single;
 mod test_disk;
 
-use commands::{Fault, OwnCommands, Words, answer};
+use commands::{OwnCommands, Words, answer, no_such, print_answer};
 use dir_calls::{Dir, FuseDir, MemDir};
 use dir_disk::DiskDir;
-use std::alloc::Global;
+use std::alloc::{AllocError, Global};
 use std::env::Args;
 use std::fs::Files;
 use std::io::{ErrorKind, Read};
@@ -30,26 +30,6 @@ fn words_of(line: &str) -> Words<'_> {
         first: words.next().unwrap_or(""),
         second: words.next().unwrap_or(""),
         third: words.next().unwrap_or(""),
-    }
-}
-
-/// What is answered to words that ask for nothing.
-fn no_such() -> io::Error {
-    io::Error::from(ErrorKind::InvalidInput)
-}
-
-/// Runs a command, and prints its answer.
-fn obey<R: Print, D: Dir + OwnCommands>(
-    rt: &R,
-    alloc: Global,
-    dir: &mut D,
-    kept: &mut Vec<D::File>,
-    line: &str,
-) -> io::Result<()> {
-    match answer(alloc, dir, kept, &words_of(line)) {
-        Ok(text) => println!(rt; "{}", text.as_str()),
-        Err(Fault::Call(fault)) => println!(rt; "{fault}"),
-        Err(Fault::Words) => Err(no_such()),
     }
 }
 
@@ -73,7 +53,8 @@ fn obey_all<R: Print + AllocGlobal, D: Dir + OwnCommands>(
     let text = str::from_utf8(given).map_err(|_| no_such())?;
     for line in text.split('\n') {
         if !line.is_empty() {
-            obey(rt, rt.alloc(), dir, kept, line)?;
+            let answer = answer(rt.alloc(), dir, kept, &words_of(line));
+            print_answer(rt, answer)?;
         }
     }
     Ok(())
@@ -129,11 +110,20 @@ where
     R::File: FileExt,
 {
     let folder = words.next().ok_or(no_such())?;
-    if folder::run_calls_on(rt, rt.alloc(), folder.as_str(), words)? {
-        Ok(())
-    } else {
-        Err(no_such())
+    let calls = rest_of(rt.alloc(), words)?;
+    folder::run_calls_on(rt, rt.alloc(), folder.as_str(), &calls)
+}
+
+/// All further words.
+fn rest_of(alloc: Global, words: &mut Args) -> Result<Vec<String>, AllocError> {
+    let mut rest = Vec::new(alloc);
+    for _ in 0..u64::MAX {
+        match words.next() {
+            Some(word) => rest.push(word)?,
+            None => break,
+        }
     }
+    Ok(rest)
 }
 
 /// Runs what the first word names.
