@@ -50,7 +50,9 @@ fn obey_all<R: Print + AllocGlobal, D: Dir + OwnCommands>(
     kept: &mut Vec<D::File>,
     given: &[u8],
 ) -> io::Result<()> {
-    let text = str::from_utf8(given).map_err(|_| no_such())?;
+    let Ok(text) = str::from_utf8(given) else {
+        return Err(no_such());
+    };
     for line in text.split('\n') {
         if !line.is_empty() {
             let answer = answer(rt.alloc(), dir, kept, &words_of(line));
@@ -62,15 +64,20 @@ fn obey_all<R: Print + AllocGlobal, D: Dir + OwnCommands>(
 
 /// The next number among the words.
 fn next_number(words: &mut Args) -> io::Result<u64> {
-    match words.next() {
-        Some(word) => word.as_str().parse().map_err(|_| no_such()),
-        None => Err(no_such()),
+    let Some(word) = words.next() else {
+        return Err(no_such());
+    };
+    match word.as_str().parse() {
+        Ok(number) => Ok(number),
+        Err(_) => Err(no_such()),
     }
 }
 
 /// The mishap that the next word names.
 fn next_mishap(words: &mut Args) -> io::Result<Mishap> {
-    let word = words.next().ok_or(no_such())?;
+    let Some(word) = words.next() else {
+        return Err(no_such());
+    };
     match word.as_str() {
         "fails" => Ok(Mishap::Fails),
         "fails_after" => Ok(Mishap::FailsAfter),
@@ -79,6 +86,12 @@ fn next_mishap(words: &mut Args) -> io::Result<Mishap> {
         "stop" => Ok(Mishap::Stop),
         _ => Err(no_such()),
     }
+}
+
+/// Runs the commands on a directory of which one call fails.
+fn run_fuse<R: Input + Print + AllocGlobal>(rt: &R, words: &mut Args) -> io::Result<()> {
+    let call = next_number(words)?;
+    run_commands(rt, FuseDir::new(MemDir::new(rt.alloc()), call))
 }
 
 /// Runs the commands on a folder of a disk.
@@ -109,7 +122,9 @@ fn run_folder<R: Print + AllocGlobal + Files>(rt: &R, words: &mut Args) -> io::R
 where
     R::File: FileExt,
 {
-    let folder = words.next().ok_or(no_such())?;
+    let Some(folder) = words.next() else {
+        return Err(no_such());
+    };
     let calls = rest_of(rt.alloc(), words)?;
     folder::run_calls_on(rt, rt.alloc(), folder.as_str(), &calls)
 }
@@ -126,23 +141,12 @@ fn rest_of(alloc: Global, words: &mut Args) -> Result<Vec<String>, AllocError> {
     Ok(rest)
 }
 
-/// Runs what the first word names.
-fn run<R: Input + Print + AllocGlobal + Files>(
-    rt: &R,
-    first: &str,
-    words: &mut Args,
-) -> io::Result<()>
-where
-    R::File: FileExt,
-{
+/// Runs what the first word names, which is no folder of the system.
+fn run<R: Input + Print + AllocGlobal>(rt: &R, first: &str, words: &mut Args) -> io::Result<()> {
     match first {
         "memory" => run_commands(rt, MemDir::new(rt.alloc())),
-        "fuse" => {
-            let call = next_number(words)?;
-            run_commands(rt, FuseDir::new(MemDir::new(rt.alloc()), call))
-        }
+        "fuse" => run_fuse(rt, words),
         "disk" => run_disk(rt, words),
-        "folder" => run_folder(rt, words),
         "name" => single::print_name(rt, rt.alloc(), &input(rt)?),
         "read" => run_read(rt, words),
         "faults" => single::print_faults(rt),
@@ -158,7 +162,12 @@ fn main(rt: HostRuntime) -> ExitCode {
     let Some(first) = words.next() else {
         return ExitCode::SUCCESS;
     };
-    match run(&rt, first.as_str(), &mut words) {
+    let ended = if first.as_str() == "folder" {
+        run_folder(&rt, &mut words)
+    } else {
+        run(&rt, first.as_str(), &mut words)
+    };
+    match ended {
         Ok(()) => ExitCode::SUCCESS,
         Err(_) => ExitCode::FAILURE,
     }

@@ -162,11 +162,30 @@ impl TestDisk {
         }
     }
 
+    // Puts bytes into a file from a place on, or at its end.
+    fn overwrite(&mut self, number: usize, place: usize, bytes: &[u8]) -> io::Result<()> {
+        let Some(held) = self.files.get_mut(number) else {
+            return Err(fault(ErrorKind::Other));
+        };
+        held.synced = false;
+        held.bytes = overwritten(self.alloc, &held.bytes, place, bytes)?;
+        Ok(())
+    }
+
+    // Puts a name for a file.
+    fn name(&mut self, name: &str, number: usize) -> Result<(), AllocError> {
+        let name = String::from_str(self.alloc, name)?;
+        self.names.push((name, number))?;
+        Ok(())
+    }
+
     fn number_of(&self, name: &str) -> io::Result<usize> {
-        match self.place_of(name).and_then(|place| self.names.get(place)) {
-            Some(entry) => Ok(entry.1),
-            None => Err(fault(ErrorKind::NotFound)),
+        for entry in &self.names {
+            if entry.0.as_str() == name {
+                return Ok(entry.1);
+            }
         }
+        Err(fault(ErrorKind::NotFound))
     }
 }
 
@@ -249,12 +268,11 @@ impl Disk for TestDisk {
             return Err(fault(ErrorKind::AlreadyExists));
         }
         let number = self.files.len();
-        let name = String::from_str(self.alloc, path.as_str())?;
         self.files.push(Held {
             bytes: Vec::new(self.alloc),
             synced: false,
         })?;
-        self.names.push((name, number))?;
+        self.name(path.as_str(), number)?;
         let bytes = Vec::new(self.alloc);
         self.answered(met, TestHandle { number, bytes })
     }
@@ -267,11 +285,7 @@ impl Disk for TestDisk {
         } else {
             bytes.len()
         };
-        let Some(held) = self.files.get_mut(file.number) else {
-            return Err(fault(ErrorKind::Other));
-        };
-        held.synced = false;
-        held.bytes = overwritten(self.alloc, &held.bytes, place as usize, &bytes[..count])?;
+        self.overwrite(file.number, place as usize, &bytes[..count])?;
         self.answered(met, count)
     }
 
