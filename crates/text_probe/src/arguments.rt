@@ -5,33 +5,41 @@ use ucspi_env::{Environment, Local};
 
 /// The arguments of a call by their names, variables, and its standard input.
 #[derive(Drop)]
-pub struct Arguments {
+pub struct Arguments<'a> {
     named: Environment,
     variables: Environment,
-    input: Vec<u8>,
+    input: &'a [u8],
 }
 
-impl Arguments {
-    /// The arguments of words like `port=25`, and the variables of words like `+HOME=/`, put in turn.
-    pub fn new(alloc: Global, words: &[String], input: Vec<u8>) -> Result<Arguments, AllocError> {
-        let mut named = Environment::new(alloc);
-        let mut variables = Environment::new(alloc);
-        for word in words {
-            match word.strip_prefix('+') {
-                Some(variable) => put(alloc, &mut variables, variable)?,
-                None => put(alloc, &mut named, word.as_str())?,
-            }
-        }
-        Ok(Arguments {
-            named,
-            variables,
+impl<'a> Arguments<'a> {
+    /// No arguments and no variables.
+    pub fn new(alloc: Global, input: &'a [u8]) -> Arguments<'a> {
+        Arguments {
+            named: Environment::new(alloc),
+            variables: Environment::new(alloc),
             input,
-        })
+        }
+    }
+
+    /// Adds the arguments of words like `port=25`, and the variables of words like `+HOME=/`, put in turn.
+    pub fn add_all(&mut self, alloc: Global, words: &[String]) -> Result<(), AllocError> {
+        for word in words {
+            self.add(alloc, word.as_str())?;
+        }
+        Ok(())
+    }
+
+    /// Adds the argument or the variable of a word.
+    fn add(&mut self, alloc: Global, word: &str) -> Result<(), AllocError> {
+        match word.strip_prefix('+') {
+            Some(variable) => put(alloc, &mut self.variables, variable),
+            None => put(alloc, &mut self.named, word),
+        }
     }
 
     /// The standard input.
     pub fn input(&self) -> &[u8] {
-        self.input.as_slice()
+        self.input
     }
 
     /// The variables.
@@ -42,7 +50,7 @@ impl Arguments {
     /// The text of an argument, if it is given. `@` stands for the standard input.
     pub fn known(&self, name: &str) -> Option<&str> {
         match self.named.get(name) {
-            Some("@") => Some(shown(self.input.as_slice())),
+            Some("@") => Some(shown(self.input)),
             text => text,
         }
     }
@@ -81,20 +89,18 @@ impl Arguments {
 
     /// A copy of the server's end `local_ip`, `local_port` and `local_host`.
     pub fn local(&self, alloc: Global) -> Result<Local, AllocError> {
-        let host = match self.known("local_host") {
-            Some(host) => Some(String::from_str(alloc, host)?),
-            None => None,
-        };
-        Local::new(self.address("local_ip"), self.port("local_port"), host).copy(alloc)
+        let (ip, port) = (self.address("local_ip"), self.port("local_port"));
+        match self.known("local_host") {
+            Some(host) => Local::new(ip, port, Some(String::from_str(alloc, host)?)).copy(alloc),
+            None => Local::new(ip, port, None).copy(alloc),
+        }
     }
 }
 
 /// Puts the variable of a text like `NAME=VALUE`.
 pub fn put(alloc: Global, variables: &mut Environment, text: &str) -> Result<(), AllocError> {
-    match text.split_once('=') {
-        Some((name, value)) => variables.put(alloc, name, value),
-        None => variables.put(alloc, text, ""),
-    }
+    let (name, value) = text.split_once('=').unwrap_or((text, ""));
+    variables.put(alloc, name, value)
 }
 
 /// Bytes as a text.

@@ -1,4 +1,5 @@
 //! The lines of the log.
+use crate::answer::Answer;
 use crate::arguments::{Arguments, shown};
 use byte_text::{push_number, push_text, whole_or_none};
 use rule_lines::Verdict;
@@ -10,19 +11,15 @@ use status_lines::{
 use std::alloc::{AllocError, Global};
 
 /// Adds the standard input with a line behind it.
-pub fn push_line(
-    alloc: Global,
-    call: &str,
-    given: &Arguments,
-    out: &mut String,
-) -> Result<(), AllocError> {
-    let mut lines = Vec::from_slice(alloc, given.input())?;
-    append(call, given, &mut lines)?;
-    out.push_str(shown(&lines))
+pub fn push_line(alloc: Global, call: &str, given: &Arguments<'_>, out: &mut Answer) {
+    let mut lines = Vec::new(alloc);
+    out.note(lines.extend_from_slice(given.input()));
+    out.note(append(call, given, &mut lines));
+    out.text(shown(&lines));
 }
 
 /// Appends a line to others.
-fn append(call: &str, given: &Arguments, lines: &mut Vec<u8>) -> Result<(), AllocError> {
+fn append(call: &str, given: &Arguments<'_>, lines: &mut Vec<u8>) -> Result<(), AllocError> {
     let serial = given.number("serial");
     match call {
         "status" => status(given.number("live"), given.number("limit"), lines),
@@ -38,19 +35,23 @@ fn append(call: &str, given: &Arguments, lines: &mut Vec<u8>) -> Result<(), Allo
 /// Adds the standard input with the line of a verdict behind it.
 pub fn push_verdict(
     alloc: Global,
-    given: &Arguments,
+    given: &Arguments<'_>,
     verdict: Verdict,
     peer: &Peer,
-    out: &mut String,
-) -> Result<(), AllocError> {
-    let local = given.local(alloc)?;
-    let mut lines = Vec::from_slice(alloc, given.input())?;
-    verdict_line(verdict, given.number("serial"), &local, peer, &mut lines)?;
-    out.push_str(shown(&lines))
+    out: &mut Answer,
+) {
+    let Ok(local) = given.local(alloc) else {
+        return out.fail();
+    };
+    let mut lines = Vec::new(alloc);
+    out.note(lines.extend_from_slice(given.input()));
+    let serial = given.number("serial");
+    out.note(verdict_line(verdict, serial, &local, peer, &mut lines));
+    out.text(shown(&lines));
 }
 
 /// How a child ended: by its code, or by a signal.
-fn status_of(given: &Arguments) -> Status {
+fn status_of(given: &Arguments<'_>) -> Status {
     match given.text("code").parse() {
         Ok(code) => Status::Code(code),
         Err(_) => Status::Signal,
@@ -58,7 +59,7 @@ fn status_of(given: &Arguments) -> Status {
 }
 
 /// The cause with a name.
-fn cause_of(given: &Arguments) -> DropCause {
+fn cause_of(given: &Arguments<'_>) -> DropCause {
     match given.text("cause") {
         "banner" => DropCause::Banner,
         "directory" => DropCause::Directory,
@@ -71,7 +72,7 @@ fn cause_of(given: &Arguments) -> DropCause {
 }
 
 /// The fault of a start with a name, or none where the child has no pipe ends.
-fn start_fault_of(given: &Arguments) -> Option<StartFault> {
+fn start_fault_of(given: &Arguments<'_>) -> Option<StartFault> {
     match given.text("fault") {
         "not found" => Some(StartFault::NotFound),
         "refused" => Some(StartFault::Refused),
@@ -83,13 +84,15 @@ fn start_fault_of(given: &Arguments) -> Option<StartFault> {
 
 /// Adds the standard input with a whole of a text and a number behind it, and then what is left of this when the whole is taken back, as for want
 /// of memory.
-pub fn push_whole(alloc: Global, given: &Arguments, out: &mut String) -> Result<(), AllocError> {
-    let mut lines = Vec::from_slice(alloc, given.input())?;
+pub fn push_whole(alloc: Global, given: &Arguments<'_>, out: &mut Answer) {
+    let mut lines = Vec::new(alloc);
+    out.note(lines.extend_from_slice(given.input()));
     let whole = lines.len();
-    push_text(&mut lines, given.text("text"))?;
-    push_number(&mut lines, given.number("number"))?;
-    whole_or_none(&mut lines, whole, Ok(()))?;
-    writeln!(out, "{}", shown(&lines))?;
-    let done = whole_or_none(&mut lines, whole, Err(AllocError));
-    writeln!(out, "{done:?} {}", shown(&lines))
+    out.note(push_text(&mut lines, given.text("text")));
+    out.note(push_number(&mut lines, given.number("number")));
+    out.note(whole_or_none(&mut lines, whole, Ok(())));
+    out.line(shown(&lines));
+    out.debug(&whole_or_none(&mut lines, whole, Err(AllocError)));
+    out.text(" ");
+    out.line(shown(&lines));
 }

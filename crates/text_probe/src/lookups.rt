@@ -1,37 +1,27 @@
 //! Peers, their forms, and decisions.
+use crate::answer::Answer;
 use crate::arguments::Arguments;
 use crate::environments::push_built;
 use crate::log_lines::push_verdict;
 use crate::sources::{Faulty, fault_of};
-use rule_lines::{Limits, ListPairs, Settings, Verdict, parse};
+use rule_lines::{Limits, ListPairs, Setting, Settings, Verdict, parse};
 use rule_lookup::{DecideFault, Decision, Found, Missing, Peer, decide, forms, parse_address};
-use std::alloc::{AllocError, Global};
+use std::alloc::Global;
 
 /// Adds the address that a text is.
-pub fn push_address(given: &Arguments, out: &mut String) -> Result<(), AllocError> {
-    writeln!(out, "{:?}", parse_address(given.text("text")))
+pub fn push_address(given: &Arguments<'_>, out: &mut Answer) {
+    out.debug_line(&parse_address(given.text("text")));
 }
 
 /// Adds what a call says of a peer, or why it is none.
-pub fn push_lookup(
-    alloc: Global,
-    call: &str,
-    given: &Arguments,
-    out: &mut String,
-) -> Result<(), AllocError> {
+pub fn push_lookup(alloc: Global, call: &str, given: &Arguments<'_>, out: &mut Answer) {
     match given.peer(alloc) {
         Ok(peer) => push_about(alloc, call, given, &peer, out),
-        Err(fault) => writeln!(out, "{fault}"),
+        Err(fault) => out.show_line(&fault),
     }
 }
 
-fn push_about(
-    alloc: Global,
-    call: &str,
-    given: &Arguments,
-    peer: &Peer,
-    out: &mut String,
-) -> Result<(), AllocError> {
+fn push_about(alloc: Global, call: &str, given: &Arguments<'_>, peer: &Peer, out: &mut Answer) {
     match call {
         "peer" => push_peer(peer, out),
         "forms" => push_forms(alloc, peer, out),
@@ -42,37 +32,35 @@ fn push_about(
 }
 
 /// Adds a peer.
-fn push_peer(peer: &Peer, out: &mut String) -> Result<(), AllocError> {
-    writeln!(out, "{:?} {}", peer.ip(), peer.port())?;
-    writeln!(out, "{:?} {:?}", peer.host(), peer.info())
+fn push_peer(peer: &Peer, out: &mut Answer) {
+    out.debug(&peer.ip());
+    out.text(" ");
+    out.number(peer.port() as u64);
+    out.text("\n");
+    out.debug(&peer.host());
+    out.text(" ");
+    out.debug_line(&peer.info());
 }
 
 /// Adds the lookup forms of a peer.
-fn push_forms(alloc: Global, peer: &Peer, out: &mut String) -> Result<(), AllocError> {
-    let forms = forms(alloc, peer)?;
-    for form in &forms {
-        writeln!(out, "{form}")?;
+fn push_forms(alloc: Global, peer: &Peer, out: &mut Answer) {
+    match forms(alloc, peer) {
+        Ok(forms) => out.lines(&forms),
+        Err(_) => out.fail(),
     }
-    Ok(())
 }
 
 /// Adds what is decided of a peer, or the environment of its child.
-fn push_decided(
-    alloc: Global,
-    call: &str,
-    given: &Arguments,
-    peer: &Peer,
-    out: &mut String,
-) -> Result<(), AllocError> {
+fn push_decided(alloc: Global, call: &str, given: &Arguments<'_>, peer: &Peer, out: &mut Answer) {
     match decided(alloc, given, peer) {
         Ok(decision) if call == "build" => push_built(alloc, given, peer, &decision, out),
         Ok(decision) => push_decisions(alloc, &decision, out),
-        Err(fault) => writeln!(out, "{fault:?}"),
+        Err(fault) => out.debug_line(&fault),
     }
 }
 
 /// What the rules of the standard input decide of a peer, or a source with a fault, or none.
-fn decided(alloc: Global, given: &Arguments, peer: &Peer) -> Result<Decision, DecideFault> {
+fn decided(alloc: Global, given: &Arguments<'_>, peer: &Peer) -> Result<Decision, DecideFault> {
     let Ok(list) = parse(alloc, given.input(), &Limits::profile()) else {
         return Err(DecideFault::OutOfMemory);
     };
@@ -95,33 +83,44 @@ fn decided(alloc: Global, given: &Arguments, peer: &Peer) -> Result<Decision, De
 }
 
 /// Adds a decision and its copy.
-fn push_decisions(alloc: Global, decision: &Decision, out: &mut String) -> Result<(), AllocError> {
-    push_decision(decision, out)?;
-    push_decision(&decision.copy(alloc)?, out)
+fn push_decisions(alloc: Global, decision: &Decision, out: &mut Answer) {
+    push_decision(decision, out);
+    match decision.copy(alloc) {
+        Ok(copy) => push_decision(&copy, out),
+        Err(_) => out.fail(),
+    }
 }
 
 /// Adds a decision in words: by what it was made, its verdict, and its settings.
-fn push_decision(decision: &Decision, out: &mut String) -> Result<(), AllocError> {
+fn push_decision(decision: &Decision, out: &mut Answer) {
     match &decision.found {
-        Found::Address(address) => write!(out, "rule {}: ", address.as_str())?,
-        Found::Default => out.push_str("default: ")?,
-        Found::NoFile => out.push_str("no file: ")?,
+        Found::Address(address) => {
+            out.text("rule ");
+            out.text(address.as_str());
+            out.text(": ");
+        }
+        Found::Default => out.text("default: "),
+        Found::NoFile => out.text("no file: "),
     }
-    push_words(decision.verdict, &decision.settings, out)
+    push_words(decision.verdict, &decision.settings, out);
 }
 
 /// Adds a verdict and settings in words.
-pub fn push_words(
-    verdict: Verdict,
-    settings: &Settings,
-    out: &mut String,
-) -> Result<(), AllocError> {
-    out.push_str(match verdict {
+pub fn push_words(verdict: Verdict, settings: &Settings, out: &mut Answer) {
+    out.text(match verdict {
         Verdict::Allow => "allow",
         Verdict::Deny => "deny",
-    })?;
+    });
     for setting in settings.as_slice() {
-        write!(out, " {}={}", setting.name(), setting.value())?;
+        push_setting(setting, out);
     }
-    out.push('\n')
+    out.text("\n");
+}
+
+/// Adds a setting behind a space.
+fn push_setting(setting: &Setting, out: &mut Answer) {
+    out.text(" ");
+    out.text(setting.name());
+    out.text("=");
+    out.text(setting.value());
 }

@@ -3,6 +3,7 @@
 //! then option words, and those of `encode` settings. With no words it does nothing.
 #![tactic(auto)]
 
+mod answer;
 mod arguments;
 mod environments;
 mod log_lines;
@@ -11,47 +12,58 @@ mod option_words;
 mod rules;
 mod sources;
 
+use answer::Answer;
 use arguments::Arguments;
-use std::alloc::{AllocError, Global};
+use std::alloc::Global;
 use std::env::Args;
-use std::io::Read;
+use std::io::{Error, ErrorKind, Read};
 use std::process::ExitCode;
 use std::{env, io};
 
 /// Adds the answer of a call.
-fn answer(
-    alloc: Global,
-    call: &str,
-    words: &[String],
-    input: Vec<u8>,
-    out: &mut String,
-) -> Result<(), AllocError> {
+fn answer_call(alloc: Global, call: &str, words: &[String], input: &[u8], out: &mut Answer) {
     match call {
         "options" => option_words::push_options(alloc, words, out),
         "letters" => option_words::push_letters(alloc, words, out),
         "encode" => rules::push_encoded(alloc, words, out),
-        _ => answer_named(alloc, call, &Arguments::new(alloc, words, input)?, out),
+        _ => answer_words(alloc, call, words, input, out),
     }
 }
 
-/// Adds the answer of a call that has named arguments.
-fn answer_named(
-    alloc: Global,
-    call: &str,
-    given: &Arguments,
-    out: &mut String,
-) -> Result<(), AllocError> {
+/// Adds the answer of a call whose words are named arguments.
+fn answer_words(alloc: Global, call: &str, words: &[String], input: &[u8], out: &mut Answer) {
+    let mut given = Arguments::new(alloc, input);
+    out.note(given.add_all(alloc, words));
+    answer_rules(alloc, call, &given, out);
+}
+
+/// Adds the answer of a call of rules, or else of another one.
+fn answer_rules(alloc: Global, call: &str, given: &Arguments<'_>, out: &mut Answer) {
     match call {
         "addresses" | "codes" | "pair" | "find" => rules::push_lists(alloc, call, given, out),
         "decode" => rules::push_decoded(alloc, given, out),
         "limits" => rules::push_limits(out),
         "address" => lookups::push_address(given, out),
+        _ => answer_ends(alloc, call, given, out),
+    }
+}
+
+/// Adds the answer of a call of the ends of a connection, or else of another one.
+fn answer_ends(alloc: Global, call: &str, given: &Arguments<'_>, out: &mut Answer) {
+    match call {
         "peer" | "forms" | "decide" | "build" | "ok" | "deny" => {
-            lookups::push_lookup(alloc, call, given, out)
+            lookups::push_lookup(alloc, call, given, out);
         }
         "variables" => environments::push_variables(alloc, given, out),
         "local" => environments::push_local(alloc, given, out),
         "hosts" => environments::push_hosts(alloc, given, out),
+        _ => answer_texts(alloc, call, given, out),
+    }
+}
+
+/// Adds the answer of a call of option words or of lines of the log.
+fn answer_texts(alloc: Global, call: &str, given: &Arguments<'_>, out: &mut Answer) {
+    match call {
         "meanings" => option_words::push_meanings(given, out),
         "number" => option_words::push_number(given, out),
         "memory" => option_words::push_faults(out),
@@ -60,17 +72,36 @@ fn answer_named(
     }
 }
 
-/// Makes the call with a name and the words that follow, and prints its answer.
-fn run<R: Input + Print>(rt: &R, alloc: Global, call: &str, more: &mut Args) -> io::Result<()> {
-    let mut words = Vec::new(alloc);
+/// Takes the words that follow, and the standard input.
+fn take_all<R: Input>(
+    rt: &R,
+    more: &mut Args,
+    words: &mut Vec<String>,
+    input: &mut Vec<u8>,
+) -> io::Result<()> {
     for word in more {
         words.push(word)?;
     }
+    rt.reader().read_to_end(input)?;
+    Ok(())
+}
+
+/// Prints an answer.
+fn print_whole<R: Print>(rt: &R, out: &Answer) -> io::Result<()> {
+    match out.whole() {
+        Some(text) => print!(rt; "{text}"),
+        None => Err(Error::from(ErrorKind::OutOfMemory)),
+    }
+}
+
+/// Makes the call with a name and the words that follow, and prints its answer.
+fn run<R: Input + Print>(rt: &R, alloc: Global, call: &str, more: &mut Args) -> io::Result<()> {
+    let mut words = Vec::new(alloc);
     let mut input = Vec::new(alloc);
-    rt.reader().read_to_end(&mut input)?;
-    let mut out = String::new(alloc);
-    answer(alloc, call, &words, input, &mut out)?;
-    print!(rt; "{out}")
+    let mut out = Answer::new(alloc);
+    take_all(rt, more, &mut words, &mut input)?;
+    answer_call(alloc, call, &words, &input, &mut out);
+    print_whole(rt, &out)
 }
 
 fn main(rt: HostRuntime) -> ExitCode {
