@@ -108,6 +108,17 @@ fn gather<N: Callers>(
     Ok((callers, receipts))
 }
 
+// The same, after eight callers in threads have all ended.
+fn gathered<L: Premises + Send + Sync, N: Callers + Send + Sync, R: Threads + Abort + Wait + Sync>(
+    rt: &R,
+    alloc: Global,
+    site: &Site<L, N, MemDir, Full>,
+    callers: Vec<Caller<N>>,
+) -> (Vec<Caller<N>>, Vec<Receipt>) {
+    let all = run_all(rt, alloc, site, callers).expect(rt, "memory");
+    gather(alloc, all).expect(rt, "memory")
+}
+
 // The events of receipts, by their places.
 fn in_order(alloc: Global, mut receipts: Vec<Receipt>) -> Result<Vec<Event>, AllocError> {
     receipts.sort_unstable_by_key(|receipt| receipt.at);
@@ -144,8 +155,7 @@ fn eight<
     let alloc = rt.alloc();
     let rules = Some((rules_name(rt, alloc), Missing::Drop));
     let (site, callers) = new_site::<L, N, R>(rt, alloc, places, parts, rules, LIMIT, CALLERS);
-    let all = run_all(rt, alloc, &site, callers).expect(rt, "memory");
-    let (callers, receipts) = gather(alloc, all).expect(rt, "memory");
+    let (callers, receipts) = gathered(rt, alloc, &site, callers);
     let yard = close(rt, site, callers, &receipts);
     check_report(rt, alloc, &yard, receipts);
 }

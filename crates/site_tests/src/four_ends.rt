@@ -68,6 +68,21 @@ fn four_by_site<L: Premises, N: Callers, R: Abort + Wait>(
     keep(rt, receipts, site.retired(rt, caller, running));
 }
 
+// The same by the one caller of a site, in which there is no room for more then.
+fn four_by_caller<L: Premises, N: Callers, R: Abort + Wait>(
+    rt: &R,
+    alloc: Global,
+    site: &Site<L, N, MemDir, Full>,
+    callers: &mut [Caller<N>],
+    receipts: &mut Vec<Receipt>,
+) {
+    match callers {
+        [caller] => four_by_site(rt, alloc, site, caller, receipts),
+        _ => panic!(rt; "there is one caller"),
+    }
+    assert_eq!(rt; site.room(rt), Room::AllRetired);
+}
+
 // The receipts of all these events, and what the history comes to.
 fn check_report<L: Premises, R: Abort>(rt: &R, yard: &Yard<L, MemDir, Full>, receipts: &[Receipt]) {
     assert_eq!(rt; receipts.len(), EVENTS);
@@ -86,11 +101,8 @@ fn by_site<L: Premises, N: Callers, R: Abort + Wait + AllocGlobal>(
 {
     let alloc = rt.alloc();
     let (site, mut callers) = new_site::<L, N, R>(rt, alloc, places, parts, None, 1, 1);
-    let mut caller = callers.pop().expect(rt, "there is one caller");
     let mut receipts = Vec::new(alloc);
-    four_by_site(rt, alloc, &site, &mut caller, &mut receipts);
-    assert_eq!(rt; site.room(rt), Room::AllRetired);
-    callers.push(caller).expect(rt, "memory");
+    four_by_caller(rt, alloc, &site, &mut callers, &mut receipts);
     let yard = close(rt, site, callers, &receipts);
     check_report(rt, &yard, &receipts);
 }
@@ -98,6 +110,22 @@ fn by_site<L: Premises, N: Callers, R: Abort + Wait + AllocGlobal>(
 #[test]
 fn four_ends_by_a_site(rt: HostRuntime) {
     by_site::<Brand, Brand, _>(&rt, Blank::new(1), Blank::new(1));
+}
+
+// Lets a connection in.
+fn admitted_in_turn<L: Premises, R: Abort>(
+    rt: &R,
+    yard: &mut Yard<L, MemDir, Full>,
+    peer: &Peer,
+    receipts: &mut Vec<Receipt>,
+) -> (u64, Place<L>) {
+    match turns::admit(yard, 1, peer) {
+        Ok((serial, place, receipt)) => {
+            keep(rt, receipts, Some(receipt));
+            (serial, place)
+        }
+        Err(_) => panic!(rt; "a place is left"),
+    }
 }
 
 // Lets a connection in and decides it.
@@ -108,10 +136,7 @@ fn allowed_in_turn<L: Premises, R: Abort>(
     peer: &Peer,
     receipts: &mut Vec<Receipt>,
 ) -> Place<L> {
-    let Ok((serial, place, receipt)) = turns::admit(yard, 1, peer) else {
-        panic!(rt; "a place is left")
-    };
-    keep(rt, receipts, Some(receipt));
+    let (serial, place) = admitted_in_turn(rt, yard, peer, receipts);
     let Ok((pass, receipt)) = turns::open(yard, 1, alloc, serial) else {
         place.strand();
         panic!(rt; "the rules open")
@@ -139,10 +164,7 @@ fn four_in_turn<L: Premises, R: Abort>(
         receipts,
         turns::start_failed(yard, 1, place, StartFault::NotFound),
     );
-    let Ok((_, place, receipt)) = turns::admit(yard, 1, &peer) else {
-        panic!(rt; "a place is left")
-    };
-    keep(rt, receipts, Some(receipt));
+    let (_, place) = admitted_in_turn(rt, yard, &peer, receipts);
     keep(
         rt,
         receipts,
@@ -165,10 +187,14 @@ fn in_turn<L: Premises, R: Abort + AllocGlobal>(rt: &R, places: Blank)
     let dir = MemDir::new(alloc);
     let made = Yard::<L, MemDir, Full>::new(alloc, places, dir, None, 1, Full::new(alloc));
     let mut yard = made.expect(rt, "the limit is above 0");
+    check_four(rt, alloc, &mut yard);
+}
+
+fn check_four<L: Premises, R: Abort>(rt: &R, alloc: Global, yard: &mut Yard<L, MemDir, Full>) {
     let mut receipts = Vec::new(alloc);
-    four_in_turn(rt, alloc, &mut yard, &mut receipts);
-    check(rt, &yard, &receipts);
-    check_report(rt, &yard, &receipts);
+    four_in_turn(rt, alloc, yard, &mut receipts);
+    check(rt, yard, &receipts);
+    check_report(rt, yard, &receipts);
 }
 
 #[test]

@@ -7,7 +7,7 @@ use crate::sites::{close, new_site};
 use dir_calls::MemDir;
 use event_journals::Full;
 use server_events::Event;
-use server_yard::Premises;
+use server_yard::{Premises, Yard};
 use site_lock::audit::{Mismatch, audit};
 use site_lock::turns::OpenFault;
 use site_lock::{Caller, Callers, Receipt, Site};
@@ -26,11 +26,32 @@ fn let_each_in<L: Premises, N: Callers, R: Abort + Wait>(
     receipts: &mut Vec<Receipt>,
 ) {
     for caller in callers {
-        let peer = peer_for(rt, alloc, caller);
-        let (_, place) = let_in(rt, site, caller, &peer, receipts);
-        place.strand();
-        assert!(rt; matches!(site.open(rt, caller, alloc, 9), Err(OpenFault::OutOfTurn)));
+        let_one_in(rt, alloc, site, caller, receipts);
+        assert!(rt; is_out_of_turn(rt, alloc, site, caller));
     }
+}
+
+// Lets a connection in, which stays.
+fn let_one_in<L: Premises, N: Callers, R: Abort + Wait>(
+    rt: &R,
+    alloc: Global,
+    site: &Site<L, N, MemDir, Full>,
+    caller: &mut Caller<N>,
+    receipts: &mut Vec<Receipt>,
+) {
+    let peer = peer_for(rt, alloc, caller);
+    let (_, place) = let_in(rt, site, caller, &peer, receipts);
+    place.strand();
+}
+
+// Whether the rules of a connection that is not alive are refused as out of turn.
+fn is_out_of_turn<L: Premises, N: Callers, R: Wait>(
+    rt: &R,
+    alloc: Global,
+    site: &Site<L, N, MemDir, Full>,
+    caller: &mut Caller<N>,
+) -> bool {
+    matches!(site.open(rt, caller, alloc, 9), Err(OpenFault::OutOfTurn))
 }
 
 // Closing is refused while a caller is away, and all is handed back.
@@ -61,12 +82,29 @@ fn two<L: Premises, N: Callers, R: Abort + Wait + AllocGlobal>(rt: &R, places: B
     let (site, mut callers) = new_site::<L, N, R>(rt, alloc, places, parts, None, 2, 2);
     let mut receipts = Vec::new(alloc);
     let_each_in(rt, alloc, &site, &mut callers, &mut receipts);
+    let yard = close_at_last(rt, site, callers, &receipts);
+    check_twice(rt, alloc, &yard);
+}
+
+// Closing is refused while the second caller is away, and not once it is back.
+fn close_at_last<L: Premises, N: Callers, R: Abort>(
+    rt: &R,
+    site: Site<L, N, MemDir, Full>,
+    mut callers: Vec<Caller<N>>,
+    receipts: &[Receipt],
+) -> Yard<L, MemDir, Full>
+    requires { N.all ≡ N.parts }
+{
     let last = callers.pop().expect(rt, "there are two callers");
     let (site, mut callers) = close_early(rt, site, callers);
     callers.push(last).expect(rt, "memory");
-    let yard = close(rt, site, callers, &receipts);
+    close(rt, site, callers, receipts)
+}
+
+// One receipt twice is not right the second time.
+fn check_twice<L: Premises, R: Abort>(rt: &R, alloc: Global, yard: &Yard<L, MemDir, Full>) {
     let twice = [first_receipt(rt, alloc), first_receipt(rt, alloc)];
-    assert_eq!(rt; audit(&yard, &twice), Err(Mismatch(1)));
+    assert_eq!(rt; audit(yard, &twice), Err(Mismatch(1)));
 }
 
 // The receipt of the first connection.

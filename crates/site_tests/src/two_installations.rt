@@ -67,10 +67,36 @@ fn decide_both<L: Premises, N: Callers, R: Abort + Wait>(
 ) {
     let first = install_and_open(rt, alloc, site, one, b":allow,T=\"1\"\n", receipts);
     let second = install_and_open(rt, alloc, site, two, b":deny\n", receipts);
-    let first = decided(rt, alloc, site, one, first.pass, &first.peer, receipts);
-    let second = decided(rt, alloc, site, two, second.pass, &second.peer, receipts);
-    assert!(rt; is_allowed_with_t(&first));
-    assert_eq!(rt; second.verdict, Verdict::Deny);
+    let is_allowed = is_allowed_with_t(&decide_opened(rt, alloc, site, one, first, receipts));
+    let verdict = decide_opened(rt, alloc, site, two, second, receipts).verdict;
+    assert!(rt; is_allowed);
+    assert_eq!(rt; verdict, Verdict::Deny);
+}
+
+// Decides a connection by what was opened for it.
+fn decide_opened<L: Premises, N: Callers, R: Abort + Wait>(
+    rt: &R,
+    alloc: Global,
+    site: &Site<L, N, MemDir, Full>,
+    caller: &mut Caller<N>,
+    opened: Opened<L>,
+    receipts: &mut Vec<Receipt>,
+) -> Decision {
+    decided(rt, alloc, site, caller, opened.pass, &opened.peer, receipts)
+}
+
+// The same, by the two callers of a site.
+fn decide_by_callers<L: Premises, N: Callers, R: Abort + Wait>(
+    rt: &R,
+    alloc: Global,
+    site: &Site<L, N, MemDir, Full>,
+    callers: &mut [Caller<N>],
+    receipts: &mut Vec<Receipt>,
+) {
+    match callers {
+        [one, two] => decide_both(rt, alloc, site, one, two, receipts),
+        _ => panic!(rt; "there are two callers"),
+    }
 }
 
 fn two<L: Premises, N: Callers, R: Abort + Wait + AllocGlobal>(rt: &R, places: Blank, parts: Blank)
@@ -82,12 +108,8 @@ fn two<L: Premises, N: Callers, R: Abort + Wait + AllocGlobal>(rt: &R, places: B
     let alloc = rt.alloc();
     let rules = Some((rules_name(rt, alloc), Missing::Drop));
     let (site, mut callers) = new_site::<L, N, R>(rt, alloc, places, parts, rules, 2, 2);
-    let mut two = callers.pop().expect(rt, "there are two callers");
-    let mut one = callers.pop().expect(rt, "there are two callers");
     let mut receipts = Vec::new(alloc);
-    decide_both(rt, alloc, &site, &mut one, &mut two, &mut receipts);
-    callers.push(one).expect(rt, "memory");
-    callers.push(two).expect(rt, "memory");
+    decide_by_callers(rt, alloc, &site, &mut callers, &mut receipts);
     let _yard = close(rt, site, callers, &receipts);
     // eight steps of each installation, and three calls for each connection
     assert_eq!(rt; receipts.len(), 22);
