@@ -2,24 +2,45 @@
 //! answers. The words behind that one say which calls. With no words it does nothing.
 #![tactic(auto)]
 
+mod answer;
 mod files;
 mod streams;
 mod tables;
 mod words;
 
+use answer::Answer;
+use std::alloc::Global;
 use std::env::Args;
+use std::io::{Error, ErrorKind, Read, Write};
 use std::process::ExitCode;
 use std::{env, io};
-use words::bad_word;
 
 /// Makes the calls that the words ask for.
-fn run<R: Input + Print + AllocGlobal>(rt: &R, first: &str, words: &mut Args) -> io::Result<()> {
+fn make_calls(alloc: Global, first: &str, words: &mut Args, given: &[u8], out: &mut Answer) {
     match first {
-        "stream" => streams::run(rt, words),
-        "table" => tables::run(rt, words),
-        "file" => files::run(rt, words),
-        _ => Err(bad_word()),
+        "stream" => streams::run(alloc, words, given, out),
+        "table" => tables::run(alloc, words, given, out),
+        "file" => files::run(alloc, words, given, out),
+        _ => out.fail(),
     }
+}
+
+/// Prints what the calls answered. It fails where one of them failed.
+fn print_all<R: Print>(rt: &R, out: &Answer) -> io::Result<()> {
+    io::writer(rt).write_all(out.bytes())?;
+    if out.has_failed() {
+        return Err(Error::from(ErrorKind::InvalidInput));
+    }
+    Ok(())
+}
+
+/// Makes the calls that the words ask for, with the standard input, and prints what they answer.
+fn run<R: Input + Print>(rt: &R, alloc: Global, first: &str, words: &mut Args) -> io::Result<()> {
+    let mut given = Vec::new(alloc);
+    let mut out = Answer::new(alloc);
+    rt.reader().read_to_end(&mut given)?;
+    make_calls(alloc, first, words, &given, &mut out);
+    print_all(rt, &out)
 }
 
 fn main(rt: HostRuntime) -> ExitCode {
@@ -30,7 +51,7 @@ fn main(rt: HostRuntime) -> ExitCode {
     let Some(first) = words.next() else {
         return ExitCode::SUCCESS;
     };
-    match run(&rt, first.as_str(), &mut words) {
+    match run(&rt, rt.alloc(), first.as_str(), &mut words) {
         Ok(()) => ExitCode::SUCCESS,
         Err(_) => ExitCode::FAILURE,
     }

@@ -1,4 +1,4 @@
-//! Makes calls of line stages, chains, pumps and records on the text on standard input, and prints what each answers, bytes as a list of
+//! Makes calls of line stages, chains, pumps and records on the text on standard input, and adds what each answers, bytes as a list of
 //! numbers. The words are `stage NAME SIZE ..`, `chain COUNT NAME .. CALL ..`, `record WAY NUMBER` or `record_end WAY NUMBER`.
 
 mod chains;
@@ -7,39 +7,40 @@ mod pumps;
 mod stages;
 mod words;
 
-use crate::streams::words::{bad_word, next_number, next_way, next_word};
+use crate::answer::Answer;
+use crate::streams::words::next_way;
+use crate::words::next_number;
+use std::alloc::Global;
 use std::env::Args;
-use std::io;
-use std::io::Read;
 use wrapper_chain::{record, record_end};
 
-/// Prints the lines that record the text, or its end.
-fn print_record<R: Print + AllocGlobal>(
-    rt: &R,
-    name: &str,
-    text: &[u8],
-    words: &mut Args,
-) -> io::Result<()> {
-    let way = next_way(words)?;
-    let number = next_number(words)? as u64;
-    let mut out = Vec::new(rt.alloc());
-    if name == "record" {
-        record(number, way, text, &mut out)?;
-    } else {
-        record_end(number, way, &mut out)?;
+/// Adds the lines that record the text, or its end.
+fn add_record(alloc: Global, name: &str, text: &[u8], words: &mut Args, out: &mut Answer) {
+    let (Some(way), Some(number)) = (next_way(words), next_number(words)) else {
+        return out.fail();
+    };
+    let mut lines = Vec::new(alloc);
+    match name {
+        "record" => out.note(record(number, way, text, &mut lines)),
+        _ => out.note(record_end(number, way, &mut lines)),
     }
-    println!(rt; "{out:?}")
+    out.list_line(&lines);
+}
+
+/// Makes the calls of a name.
+fn run_named(alloc: Global, name: &str, words: &mut Args, text: &[u8], out: &mut Answer) {
+    match name {
+        "stage" => stages::add_staged(alloc, text, words, out),
+        "chain" => chains::run_calls(alloc, text, words, out),
+        "record" | "record_end" => add_record(alloc, name, text, words, out),
+        _ => out.fail(),
+    }
 }
 
 /// Makes the calls that the words ask for.
-pub fn run<R: Input + Print + AllocGlobal>(rt: &R, words: &mut Args) -> io::Result<()> {
-    let name = next_word(words)?;
-    let mut text = Vec::new(rt.alloc());
-    rt.reader().read_to_end(&mut text)?;
-    match name.as_str() {
-        "stage" => stages::print_staged(rt, &text, words),
-        "chain" => chains::run_calls(rt, &text, words),
-        "record" | "record_end" => print_record(rt, name.as_str(), &text, words),
-        _ => Err(bad_word()),
+pub fn run(alloc: Global, words: &mut Args, text: &[u8], out: &mut Answer) {
+    match words.next() {
+        Some(name) => run_named(alloc, name.as_str(), words, text, out),
+        None => out.fail(),
     }
 }

@@ -1,14 +1,7 @@
 //! The words of a call.
 use std::env::Args;
-use std::io;
-use std::io::{Error, ErrorKind};
 
-/// A word is missing, or none of those that may stand there.
-pub fn bad_word() -> Error {
-    Error::from(ErrorKind::InvalidInput)
-}
-
-/// The next word.
-pub fn next_word(words: &mut Args) -> io::Result<String> {
-    words.next().ok_or(bad_word())
+/// The next word, a number.
+pub fn next_number(words: &mut Args) -> Option<u64> {
+    words.next()?.as_str().parse().ok()
 }

@@ -1,14 +1,14 @@
 //! Look-ups in a compiled file.
 ghost use Rattle.std.specs.Prelude.{[], false};
 
-use crate::files::words::{append_line, append_text, next_number, next_word};
+use crate::answer::Answer;
+use crate::words::next_number;
 use cdb_read::CdbFile;
 use dir_calls::{DeviceFault, MemFile, RulesFile};
 use rule_lines::{FindFault, PairSource};
 use std::alloc::Global;
 use std::cell::Cell;
 use std::env::Args;
-use std::io;
 
 /// What a file was asked, and gave.
 #[derive(Drop)]
@@ -80,68 +80,61 @@ fn look_up(
     source.find(alloc, key.as_bytes())
 }
 
-/// Appends what was found.
-fn append_value(
-    alloc: Global,
-    found: Result<Option<Vec<u8>>, FindFault>,
-    out: &mut Vec<u8>,
-) -> io::Result<()> {
+/// Adds what was found.
+fn append_value(found: Result<Option<Vec<u8>>, FindFault>, out: &mut Answer) {
     match found {
         Ok(Some(value)) => {
-            out.extend_from_slice(b"value ")?;
-            append_line(&value, out)
+            out.text("value ");
+            out.raw(&value);
+            out.text("\n");
         }
-        Ok(None) => append_line(b"none", out),
-        Err(fault) => append_text(format!(in alloc; "{fault}"), out),
+        Ok(None) => out.line("none"),
+        Err(fault) => out.show_line(&fault),
     }
+}
+
+/// How many bytes a read gives at most, and which one fails, as the next words say.
+fn next_limits(words: &mut Args) -> Option<(usize, u64)> {
+    let most = next_number(words)?;
+    let failing = next_number(words)?;
+    Some((usize::try_from(most).unwrap_or(usize::MAX), failing))
 }
 
 /// What is found under a key, by reads of at most so many bytes, of which one may fail.
-pub fn append_found(
-    alloc: Global,
-    words: &mut Args,
-    given: &[u8],
-    out: &mut Vec<u8>,
-) -> io::Result<()> {
-    let key = next_word(words)?;
-    let most = usize::try_from(next_number(words)?).unwrap_or(usize::MAX);
-    let failing = next_number(words)?;
-    let found = look_up(alloc, &Log::new(), given, most, failing, key.as_str());
-    append_value(alloc, found, out)
+pub fn append_found(alloc: Global, words: &mut Args, given: &[u8], out: &mut Answer) {
+    match (words.next(), next_limits(words)) {
+        (Some(key), Some((most, failing))) => {
+            let found = look_up(alloc, &Log::new(), given, most, failing, key.as_str());
+            append_value(found, out);
+        }
+        _ => out.fail(),
+    }
 }
 
 /// How many reads a look-up makes, and how many bytes they give.
-pub fn append_reads(
-    alloc: Global,
-    words: &mut Args,
-    given: &[u8],
-    out: &mut Vec<u8>,
-) -> io::Result<()> {
-    let key = next_word(words)?;
+pub fn append_reads(alloc: Global, words: &mut Args, given: &[u8], out: &mut Answer) {
+    let Some(key) = words.next() else {
+        return out.fail();
+    };
     let log = Log::new();
     let _found = look_up(alloc, &log, given, usize::MAX, 0, key.as_str());
-    let (reads, bytes) = (log.reads.get(), log.bytes.get());
-    append_text(format!(in alloc; "{reads} reads of {bytes} bytes"), out)
+    out.number(log.reads.get());
+    out.text(" reads of ");
+    out.number(log.bytes.get() as u64);
+    out.line(" bytes");
 }
 
 /// What is found under a key in each file that has only the first bytes of this one, from none on.
-pub fn append_cuts(
-    alloc: Global,
-    words: &mut Args,
-    given: &[u8],
-    out: &mut Vec<u8>,
-) -> io::Result<()> {
-    let key = next_word(words)?;
-    for len in 0..given.len() {
-        let found = look_up(
-            alloc,
-            &Log::new(),
-            &given[..len],
-            usize::MAX,
-            0,
-            key.as_str(),
-        );
-        append_value(alloc, found, out)?;
+pub fn append_cuts(alloc: Global, words: &mut Args, given: &[u8], out: &mut Answer) {
+    match words.next() {
+        Some(key) => append_all_cuts(alloc, key.as_str(), given, out),
+        None => out.fail(),
     }
-    Ok(())
+}
+
+fn append_all_cuts(alloc: Global, key: &str, given: &[u8], out: &mut Answer) {
+    for len in 0..given.len() {
+        let found = look_up(alloc, &Log::new(), &given[..len], usize::MAX, 0, key);
+        append_value(found, out);
+    }
 }

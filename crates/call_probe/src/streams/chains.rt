@@ -1,9 +1,12 @@
-//! Calls of one chain: a number feeds so many of the next bytes; `finish`, `renew` and `is_empty` are the chain's own; `show` prints what was
+//! Calls of one chain: a number feeds so many of the next bytes; `finish`, `renew` and `is_empty` are the chain's own; `show` adds what was
 //! written; `back` goes back to the text's beginning, with nothing written; and `pump` is of the module `pumps`.
+use crate::answer::Answer;
 use crate::streams::pumps::pump_next;
-use crate::streams::words::{bad_word, next_number, next_word, number_of};
+use crate::streams::words::next_size;
+use std::alloc::Global;
 use std::env::Args;
 use std::io;
+use std::io::{Error, ErrorKind};
 use wrapper_chain::{AddCr, Chain, ChainFault, DelCr, FixCr, Stage};
 
 /// A chain, a text, what is left of it, and what was written.
@@ -15,16 +18,34 @@ pub struct Stream<'a> {
     pub out: Vec<u8>,
 }
 
+/// A kind of stage.
+#[derive(Clone, Copy)]
+enum Kind {
+    AddCr,
+    DelCr,
+    FixCr,
+}
+
+/// A word is missing, or none of those that may stand there.
+fn bad_word() -> Error {
+    Error::from(ErrorKind::InvalidInput)
+}
+
 /// Makes all calls, on a chain of so many stages as the next word says, which the words after it name.
-pub fn run_calls<R: Print + AllocGlobal>(rt: &R, text: &[u8], words: &mut Args) -> io::Result<()> {
-    let alloc = rt.alloc();
+pub fn run_calls(alloc: Global, text: &[u8], words: &mut Args, out: &mut Answer) {
+    if call_chain(alloc, text, words, out).is_err() {
+        out.fail();
+    }
+}
+
+/// Makes the chain, and all calls on it. It hands no boxed stage out, so that its contract holds whatever a stage is.
+fn call_chain(alloc: Global, text: &[u8], words: &mut Args, out: &mut Answer) -> io::Result<()> {
     let mut stages: Vec<Stage> = Vec::new(alloc);
-    for _ in 0..next_number(words)? {
-        match next_word(words)?.as_str() {
-            "addcr" => stages.push(Box::new(alloc, AddCr)?)?,
-            "delcr" => stages.push(Box::new(alloc, DelCr::new())?)?,
-            "fixcrio" => stages.push(Box::new(alloc, FixCr::new())?)?,
-            _ => return Err(bad_word()),
+    for _ in 0..next_size(words).ok_or(bad_word())? {
+        match next_kind(words).ok_or(bad_word())? {
+            Kind::AddCr => stages.push(Box::new(alloc, AddCr)?)?,
+            Kind::DelCr => stages.push(Box::new(alloc, DelCr::new())?)?,
+            Kind::FixCr => stages.push(Box::new(alloc, FixCr::new())?)?,
         }
     }
     let mut stream = Stream {
@@ -33,57 +54,71 @@ pub fn run_calls<R: Print + AllocGlobal>(rt: &R, text: &[u8], words: &mut Args) 
         left: text,
         out: Vec::new(alloc),
     };
-    call_all(rt, &mut stream, words)
+    call_all(alloc, &mut stream, words, out);
+    Ok(())
 }
 
-/// Makes the calls that the words that are left ask for.
-fn call_all<R: Print + AllocGlobal>(
-    rt: &R,
-    stream: &mut Stream<'_>,
-    words: &mut Args,
-) -> io::Result<()> {
+/// The kind of stage that the next word names.
+fn next_kind(words: &mut Args) -> Option<Kind> {
+    match words.next()?.as_str() {
+        "addcr" => Some(Kind::AddCr),
+        "delcr" => Some(Kind::DelCr),
+        "fixcrio" => Some(Kind::FixCr),
+        _ => None,
+    }
+}
+
+/// Makes the calls that the words that are left ask for, up to one that fails.
+fn call_all(alloc: Global, stream: &mut Stream<'_>, words: &mut Args, out: &mut Answer) {
     for _ in 0..u64::MAX {
         let Some(word) = words.next() else {
             break;
         };
-        call(rt, stream, word.as_str(), words)?;
+        call(alloc, stream, word.as_str(), words, out);
+        if out.has_failed() {
+            break;
+        }
     }
-    Ok(())
 }
 
-/// Makes a call, and prints its answer.
-fn call<R: Print + AllocGlobal>(
-    rt: &R,
-    stream: &mut Stream<'_>,
-    word: &str,
-    words: &mut Args,
-) -> io::Result<()> {
+/// Makes a call, and adds its answer.
+fn call(alloc: Global, stream: &mut Stream<'_>, word: &str, words: &mut Args, out: &mut Answer) {
     match word {
-        "finish" => return print_done(rt, stream.chain.finish(&mut stream.out)),
-        "is_empty" => return println!(rt; "{}", stream.chain.is_empty()),
-        "show" => return println!(rt; "{:?}", stream.out),
-        "pump" => return pump_next(rt, stream, words),
-        "renew" => stream.chain.renew(),
+        "finish" => add_done(stream.chain.finish(&mut stream.out), out),
+        "is_empty" => out.line(if stream.chain.is_empty() {
+            "true"
+        } else {
+            "false"
+        }),
+        "show" => out.list_line(&stream.out),
+        "pump" => pump_next(alloc, stream, words, out),
+        "renew" => {
+            stream.chain.renew();
+            out.line("done");
+        }
         "back" => {
             stream.left = stream.text;
             stream.out.clear();
+            out.line("done");
         }
-        size => return feed(rt, stream, number_of(size)?),
+        size => feed(stream, size, out),
     }
-    print_done(rt, Ok(()))
 }
 
 /// Feeds so many of the bytes that are left.
-fn feed<R: Print>(rt: &R, stream: &mut Stream<'_>, size: usize) -> io::Result<()> {
+fn feed(stream: &mut Stream<'_>, size: &str, out: &mut Answer) {
+    let Ok(size) = size.parse::<usize>() else {
+        return out.fail();
+    };
     let (piece, left) = stream.left.split_at(size.min(stream.left.len()));
     stream.left = left;
-    print_done(rt, stream.chain.feed(piece, &mut stream.out))
+    add_done(stream.chain.feed(piece, &mut stream.out), out);
 }
 
-/// Prints that a call is done, or why it took nothing.
-fn print_done<R: Print>(rt: &R, done: Result<(), ChainFault>) -> io::Result<()> {
+/// Adds that a call is done, or why it took nothing.
+fn add_done(done: Result<(), ChainFault>, out: &mut Answer) {
     match done {
-        Ok(()) => println!(rt; "done"),
-        Err(fault) => println!(rt; "{fault}"),
+        Ok(()) => out.line("done"),
+        Err(fault) => out.show_line(&fault),
     }
 }

@@ -1,7 +1,7 @@
 //! A reader and a writer that give and take pieces of a size, and stop at a call.
 ghost use Rattle.std.specs.Prelude.{◌≤◌, IfOk};
 
-use crate::streams::words::{bad_word, next_number, next_word};
+use crate::streams::words::next_size;
 use std::env::Args;
 use std::io;
 use std::io::{Error, ErrorKind, Read, Write};
@@ -16,20 +16,26 @@ pub struct Pieces {
 }
 
 /// The next words: how many bytes, how a call stops, and which one.
-pub fn next_pieces(words: &mut Args) -> io::Result<Pieces> {
-    let most = next_number(words)?;
-    let stop = match next_word(words)?.as_str() {
-        "fails" => Some(ErrorKind::Other),
-        "interrupted" => Some(ErrorKind::Interrupted),
-        "nothing" => None,
-        _ => return Err(bad_word()),
-    };
-    Ok(Pieces {
+pub fn next_pieces(words: &mut Args) -> Option<Pieces> {
+    let most = next_size(words)?;
+    let stop = next_stop(words)?;
+    let stop_at = next_size(words)?;
+    Some(Pieces {
         most,
         calls: 0,
         stop,
-        stop_at: next_number(words)?,
+        stop_at,
     })
+}
+
+/// The next word, how a call stops.
+fn next_stop(words: &mut Args) -> Option<Option<ErrorKind>> {
+    match words.next()?.as_str() {
+        "fails" => Some(Some(ErrorKind::Other)),
+        "interrupted" => Some(Some(ErrorKind::Interrupted)),
+        "nothing" => Some(None),
+        _ => None,
+    }
 }
 
 impl Pieces {

@@ -2,13 +2,14 @@
 //! (`fails`, `interrupted` or `nothing`) and which one; the tap is `none`, `keeper WAY`, or `recorder WAY NUMBER WRITER`.
 ghost use Rattle.std.specs.Prelude.{⊤};
 
+use crate::answer::Answer;
 use crate::streams::chains::Stream;
 use crate::streams::pieces::{Source, Target, next_pieces};
-use crate::streams::words::{bad_word, next_number, next_way, next_word};
+use crate::streams::words::next_way;
+use crate::words::next_number;
 use byte_pump::{NoTap, Recorder, Tap, pump};
 use std::alloc::Global;
 use std::env::Args;
-use std::io;
 use wrapper_chain::Way;
 
 /// A tap that keeps what it is told: each piece with a bar behind it, and a point at the end.
@@ -39,73 +40,144 @@ impl Tap for Keeper {
     }
 }
 
-/// Runs the pump that the next words describe, and prints how it ended and what its tap has.
-pub fn pump_next<R: Print + AllocGlobal>(
-    rt: &R,
-    stream: &mut Stream<'_>,
-    words: &mut Args,
-) -> io::Result<()> {
-    let alloc = rt.alloc();
-    let turns = next_number(words)? as u64;
-    let source = Source {
-        text: stream.left,
-        pieces: next_pieces(words)?,
+/// How many turns a pump has, what it reads, and where it writes.
+#[derive(Drop)]
+struct Run<'a> {
+    turns: u64,
+    source: Source<'a>,
+    target: Target,
+}
+
+/// Runs the pump that the next words describe, and adds how it ended and what its tap has.
+pub fn pump_next(alloc: Global, stream: &mut Stream<'_>, words: &mut Args, out: &mut Answer) {
+    let Some(mut run) = next_run(alloc, stream.left, words) else {
+        return out.fail();
     };
-    let target = next_target(alloc, words)?;
-    match next_word(words)?.as_str() {
-        "none" => {
-            pump_with(rt, stream, turns, source, target, &mut NoTap)?;
-            println!(rt; "")
-        }
-        "keeper" => {
-            let mut tap = Keeper {
-                way: next_way(words)?,
-                log: Vec::new(alloc),
-            };
-            pump_with(rt, stream, turns, source, target, &mut tap)?;
-            println!(rt; ", kept {:?}", tap.log)
-        }
-        "recorder" => {
-            let way = next_way(words)?;
-            let number = next_number(words)? as u64;
-            let mut tap = Recorder::new(alloc, number, way, next_target(alloc, words)?);
-            pump_with(rt, stream, turns, source, target, &mut tap)?;
-            let lines = tap.into_writer();
-            println!(rt;
-                ", recorded {:?} in {} writes",
-                lines.bytes, lines.pieces.calls
-            )
-        }
-        _ => Err(bad_word()),
+    match words.next() {
+        Some(tap) => pump_tapped(alloc, stream, &mut run, tap.as_str(), words, out),
+        None => out.fail(),
     }
 }
 
-/// The writer that the next words describe.
-fn next_target(alloc: Global, words: &mut Args) -> io::Result<Target> {
-    Ok(Target {
-        bytes: Vec::new(alloc),
-        pieces: next_pieces(words)?,
+/// The turns, the reader and the writer that the next words describe.
+fn next_run<'a>(alloc: Global, text: &'a [u8], words: &mut Args) -> Option<Run<'a>> {
+    let turns = next_number(words)?;
+    let pieces = next_pieces(words)?;
+    let target = next_target(alloc, words)?;
+    Some(Run {
+        turns,
+        source: Source { text, pieces },
+        target,
     })
 }
 
-/// Runs a pump, and prints how it ended.
-fn pump_with<'a, R: Print + AllocGlobal, T: Tap>(
-    rt: &R,
+/// The writer that the next words describe.
+fn next_target(alloc: Global, words: &mut Args) -> Option<Target> {
+    let pieces = next_pieces(words)?;
+    Some(Target {
+        bytes: Vec::new(alloc),
+        pieces,
+    })
+}
+
+/// Runs a pump with the tap that a word and those after it describe.
+fn pump_tapped<'a>(
+    alloc: Global,
     stream: &mut Stream<'a>,
-    turns: u64,
-    mut source: Source<'a>,
-    mut target: Target,
+    run: &mut Run<'a>,
+    tap: &str,
+    words: &mut Args,
+    out: &mut Answer,
+) {
+    match tap {
+        "none" => {
+            pump_with(alloc, stream, run, &mut NoTap, out);
+            out.text("\n");
+        }
+        "keeper" => pump_kept(alloc, stream, run, words, out),
+        "recorder" => pump_recorded(alloc, stream, run, words, out),
+        _ => out.fail(),
+    }
+}
+
+/// Runs a pump with a tap that keeps what it is told, of the way that the next word says.
+fn pump_kept<'a>(
+    alloc: Global,
+    stream: &mut Stream<'a>,
+    run: &mut Run<'a>,
+    words: &mut Args,
+    out: &mut Answer,
+) {
+    let Some(way) = next_way(words) else {
+        return out.fail();
+    };
+    let mut tap = Keeper {
+        way,
+        log: Vec::new(alloc),
+    };
+    pump_with(alloc, stream, run, &mut tap, out);
+    out.text(", kept ");
+    out.list_line(&tap.log);
+}
+
+/// Runs a pump with a recorder, of the way, with the number and to the writer that the next words describe.
+fn pump_recorded<'a>(
+    alloc: Global,
+    stream: &mut Stream<'a>,
+    run: &mut Run<'a>,
+    words: &mut Args,
+    out: &mut Answer,
+) {
+    let (Some(way), Some(number)) = (next_way(words), next_number(words)) else {
+        return out.fail();
+    };
+    let Some(target) = next_target(alloc, words) else {
+        return out.fail();
+    };
+    let mut tap = Recorder::new(alloc, number, way, target);
+    pump_with(alloc, stream, run, &mut tap, out);
+    add_recorded(&tap.into_writer(), out);
+}
+
+/// Adds what a recorder wrote.
+fn add_recorded(lines: &Target, out: &mut Answer) {
+    out.text(", recorded ");
+    out.debug(&lines.bytes.as_slice());
+    out.text(" in ");
+    out.number(lines.pieces.calls as u64);
+    out.text(" writes\n");
+}
+
+/// Runs a pump, and adds how it ended.
+fn pump_with<'a, T: Tap>(
+    alloc: Global,
+    stream: &mut Stream<'a>,
+    run: &mut Run<'a>,
     tap: &mut T,
-) -> io::Result<()> {
-    let alloc = rt.alloc();
+    out: &mut Answer,
+) {
     let chain = &mut stream.chain;
-    let end = pump(alloc, &mut source, &mut target, chain, tap, turns);
-    stream.left = source.text;
-    stream.out.extend_from_slice(&target.bytes)?;
-    let reads = source.pieces.calls;
-    let left = stream.left.len();
-    print!(rt;
-        "{end:?}, {reads} reads, {left} left, {} writes",
-        target.pieces.calls
-    )
+    let end = pump(
+        alloc,
+        &mut run.source,
+        &mut run.target,
+        chain,
+        tap,
+        run.turns,
+    );
+    stream.left = run.source.text;
+    out.note(stream.out.extend_from_slice(&run.target.bytes));
+    out.debug(&end);
+    add_counts(run, out);
+}
+
+/// Adds what a pump that has ended read, left and wrote.
+fn add_counts(run: &Run<'_>, out: &mut Answer) {
+    out.text(", ");
+    out.number(run.source.pieces.calls as u64);
+    out.text(" reads, ");
+    out.number(run.source.text.len() as u64);
+    out.text(" left, ");
+    out.number(run.target.pieces.calls as u64);
+    out.text(" writes");
 }

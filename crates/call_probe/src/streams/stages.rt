@@ -1,37 +1,50 @@
 //! Stages alone.
-use crate::streams::words::{bad_word, next_word, number_of};
+use crate::answer::Answer;
+use std::alloc::Global;
 use std::env::Args;
-use std::io;
 use wrapper_chain::{AddCr, DelCr, FixCr, LineStage};
 
-/// Prints what the stage that the next word names makes of the text, which comes in pieces of the sizes that follow.
-pub fn print_staged<R: Print + AllocGlobal>(
-    rt: &R,
-    text: &[u8],
-    words: &mut Args,
-) -> io::Result<()> {
-    match next_word(words)?.as_str() {
-        "addcr" => print_pieces(rt, &mut AddCr, text, words),
-        "delcr" => print_pieces(rt, &mut DelCr::new(), text, words),
-        "fixcrio" => print_pieces(rt, &mut FixCr::new(), text, words),
-        _ => Err(bad_word()),
+/// Adds what the stage that the next word names makes of the text, which comes in pieces of the sizes that follow.
+pub fn add_staged(alloc: Global, text: &[u8], words: &mut Args, out: &mut Answer) {
+    let Some(name) = words.next() else {
+        return out.fail();
+    };
+    match name.as_str() {
+        "addcr" => add_pieces(alloc, &mut AddCr, text, words, out),
+        "delcr" => add_pieces(alloc, &mut DelCr::new(), text, words, out),
+        "fixcrio" => add_pieces(alloc, &mut FixCr::new(), text, words, out),
+        _ => out.fail(),
     }
 }
 
-/// Prints what a stage makes of the text.
-fn print_pieces<R: Print + AllocGlobal, S: LineStage>(
-    rt: &R,
+/// Adds what a stage makes of the text.
+fn add_pieces<S: LineStage>(
+    alloc: Global,
     stage: &mut S,
     text: &[u8],
     words: &mut Args,
-) -> io::Result<()> {
-    let mut out = Vec::new(rt.alloc());
+    out: &mut Answer,
+) {
+    let mut made = Vec::new(alloc);
+    match feed_pieces(stage, text, words, &mut made) {
+        Some(()) => out.list_line(&made),
+        None => out.fail(),
+    }
+}
+
+/// Feeds a stage the pieces of the text, and ends it.
+fn feed_pieces<S: LineStage>(
+    stage: &mut S,
+    text: &[u8],
+    words: &mut Args,
+    made: &mut Vec<u8>,
+) -> Option<()> {
     let mut rest = text;
     for word in words {
-        let (piece, others) = rest.split_at(number_of(word.as_str())?.min(rest.len()));
-        stage.feed(piece, &mut out)?;
+        let size: usize = word.as_str().parse().ok()?;
+        let (piece, others) = rest.split_at(size.min(rest.len()));
+        stage.feed(piece, made).ok()?;
         rest = others;
     }
-    stage.finish(&mut out)?;
-    println!(rt; "{out:?}")
+    stage.finish(made).ok()
 }

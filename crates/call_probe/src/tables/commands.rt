@@ -3,34 +3,36 @@
 //! `live_at LAST` ask for a number.
 ghost use Rattle.std.specs.Prelude.{◌≡◌};
 
+use crate::answer::Answer;
 use child_table::{Place, Table, TableFault};
 use rule_lookup::Peer;
 use std::alloc::Global;
-use std::io;
-use std::io::{BufRead, BufReader, ErrorKind};
+use std::io::BufRead;
 use std::sync::ledger::{Blank, Ledger};
 
 /// The places that were given out, in their order, as long as they are out.
 type Places<L> = Vec<Option<Place<L>>>;
 
-/// Runs all commands on a new table, or prints why there is none.
-pub fn run_commands<R: Input + Print + AllocGlobal, L: Ledger>(
-    rt: &R,
+/// Runs all commands on a new table, or adds why there is none.
+pub fn run_commands<L: Ledger>(
+    alloc: Global,
     blank: Blank,
     limit: u64,
     per_address: Option<u64>,
-) -> io::Result<()>
+    given: &[u8],
+    out: &mut Answer,
+)
     requires name { blank.name ≡ L.name }
     requires parts { (blank.parts ≡ L.parts) × (blank.parts ≡ limit) }
 {
-    let mut table = match table_of::<L>(rt.alloc(), blank, limit, per_address) {
-        Ok(table) => table,
-        Err(fault) => return println!(rt; "{fault}"),
-    };
-    let mut places = Vec::new(rt.alloc());
-    let ended = obey_all(rt, &mut table, &mut places);
-    strand_all(places);
-    ended
+    match table_of::<L>(alloc, blank, limit, per_address) {
+        Ok(mut table) => {
+            let mut places = Vec::new(alloc);
+            obey_all(alloc, &mut table, &mut places, given, out);
+            strand_all(places);
+        }
+        Err(fault) => out.show_line(&fault),
+    }
 }
 
 fn table_of<L: Ledger>(
@@ -48,42 +50,65 @@ fn table_of<L: Ledger>(
     }
 }
 
-fn obey_all<R: Input + Print + AllocGlobal, L: Ledger>(
-    rt: &R,
+/// Runs all commands, up to one that fails.
+fn obey_all<L: Ledger>(
+    alloc: Global,
     table: &mut Table<L>,
     places: &mut Places<L>,
-) -> io::Result<()> {
-    for line in BufReader::new(rt.alloc(), rt.reader())?.lines(rt.alloc()) {
-        let line = line?;
-        let (name, number) = line
-            .as_str()
-            .split_once(' ')
-            .unwrap_or((line.as_str(), "0"));
-        match number.parse() {
-            Ok(number) => obey(rt, table, places, name, number)?,
-            Err(_) => return Err(io::Error::from(ErrorKind::InvalidInput)),
+    given: &[u8],
+    out: &mut Answer,
+) {
+    for line in given.lines(alloc) {
+        match line {
+            Ok(line) => obey_line(alloc, table, places, line.as_str(), out),
+            Err(_) => out.fail(),
+        }
+        if out.has_failed() {
+            break;
         }
     }
-    Ok(())
 }
 
-/// Runs a command, and prints its answer.
-fn obey<R: Print + AllocGlobal, L: Ledger>(
-    rt: &R,
+/// Runs the command of a line.
+fn obey_line<L: Ledger>(
+    alloc: Global,
+    table: &mut Table<L>,
+    places: &mut Places<L>,
+    line: &str,
+    out: &mut Answer,
+) {
+    let (name, number) = line.split_once(' ').unwrap_or((line, "0"));
+    match number.parse() {
+        Ok(number) => obey(alloc, table, places, name, number, out),
+        Err(_) => out.fail(),
+    }
+}
+
+/// Runs a command, and adds its answer.
+fn obey<L: Ledger>(
+    alloc: Global,
     table: &mut Table<L>,
     places: &mut Places<L>,
     name: &str,
     number: usize,
-) -> io::Result<()> {
+    out: &mut Answer,
+) {
     match name {
-        "admit" => admit(rt, table, places, number),
-        "leave" | "retire" | "strand" => end(rt, table, places, name, number),
-        "live" => println!(rt; "{}", table.live()),
-        "retired" => println!(rt; "{}", table.retired()),
-        "limit" => println!(rt; "{}", table.limit()),
-        "address_limit" => println!(rt; "{}", table.address_limit()),
-        "live_at" => println!(rt; "{}", table.live_at(address(number))),
-        _ => Err(io::Error::from(ErrorKind::InvalidInput)),
+        "admit" => admit(alloc, table, places, number, out),
+        "leave" | "retire" | "strand" => end(table, places, name, number, out),
+        _ => ask(table, name, number, out),
+    }
+}
+
+/// Adds the number that a command asks for.
+fn ask<L: Ledger>(table: &Table<L>, name: &str, number: usize, out: &mut Answer) {
+    match name {
+        "live" => out.number_line(table.live()),
+        "retired" => out.number_line(table.retired()),
+        "limit" => out.number_line(table.limit()),
+        "address_limit" => out.number_line(table.address_limit()),
+        "live_at" => out.number_line(table.live_at(address(number))),
+        _ => out.fail(),
     }
 }
 
@@ -91,57 +116,59 @@ fn address(number: usize) -> [u8; 4] {
     [10, 0, 0, (number % 256) as u8]
 }
 
-/// Lets a peer in, and prints the index of its place, or why it gets none.
-fn admit<R: Print + AllocGlobal, L: Ledger>(
-    rt: &R,
+/// Lets a peer in, and adds the index of its place, or why it gets none.
+fn admit<L: Ledger>(
+    alloc: Global,
     table: &mut Table<L>,
     places: &mut Places<L>,
     number: usize,
-) -> io::Result<()> {
-    let Ok(peer) = Peer::new(rt.alloc(), address(number), 4_000, None, None) else {
-        return Err(io::Error::from(ErrorKind::OutOfMemory));
+    out: &mut Answer,
+) {
+    let Ok(peer) = Peer::new(alloc, address(number), 4_000, None, None) else {
+        return out.fail();
     };
     match table.admit(&peer) {
-        Ok(place) => {
-            let index = place.index();
-            keep(places, place)?;
-            println!(rt; "index {index}")
-        }
-        Err(fault) => println!(rt; "{fault}"),
+        Ok(place) => keep(places, place, out),
+        Err(fault) => out.show_line(&fault),
     }
 }
 
-fn keep<L: Ledger>(places: &mut Places<L>, place: Place<L>) -> io::Result<()> {
-    match places.push(Some(place)) {
-        Ok(()) => Ok(()),
-        Err(failed) => {
-            strand(failed.value);
-            Err(io::Error::from(ErrorKind::OutOfMemory))
-        }
+/// Keeps a place, and adds its index.
+fn keep<L: Ledger>(places: &mut Places<L>, place: Place<L>, out: &mut Answer) {
+    out.text("index ");
+    out.number_line(place.index() as u64);
+    if let Err(failed) = places.push(Some(place)) {
+        strand(failed.value);
+        out.fail();
     }
 }
 
 /// Ends a place that is out.
-fn end<R: Print, L: Ledger>(
-    rt: &R,
+fn end<L: Ledger>(
     table: &mut Table<L>,
     places: &mut Places<L>,
     name: &str,
     number: usize,
-) -> io::Result<()> {
-    let Some(place) = places.get_mut(number).and_then(Option::take) else {
-        return println!(rt; "no such place");
-    };
+    out: &mut Answer,
+) {
+    match places.get_mut(number).and_then(Option::take) {
+        Some(place) => end_place(table, name, place, out),
+        None => out.line("no such place"),
+    }
+}
+
+/// Ends a place.
+fn end_place<L: Ledger>(table: &mut Table<L>, name: &str, place: Place<L>, out: &mut Answer) {
     if !table.is_used(place.index()) {
         place.strand();
-        return println!(rt; "its index is not in use");
+        return out.line("its index is not in use");
     }
     match name {
         "leave" => table.leave(place),
         "retire" => table.retire(place),
         _ => place.strand(),
     }
-    println!(rt; "done")
+    out.line("done");
 }
 
 fn strand<L: Ledger>(place: Option<Place<L>>) {
