@@ -4,7 +4,7 @@ use crate::arguments::Arguments;
 use crate::environments::push_built;
 use crate::log_lines::push_verdict;
 use crate::sources::{Faulty, fault_of};
-use rule_lines::{Limits, ListPairs, Setting, Settings, Verdict, parse};
+use rule_lines::{Limits, ListPairs, RuleList, Setting, Settings, Verdict, parse};
 use rule_lookup::{DecideFault, Decision, Found, Missing, Peer, decide, forms, parse_address};
 use std::alloc::Global;
 
@@ -53,27 +53,39 @@ fn push_forms(alloc: Global, peer: &Peer, out: &mut Answer) {
 /// Adds what is decided of a peer, or the environment of its child.
 fn push_decided(alloc: Global, call: &str, given: &Arguments<'_>, peer: &Peer, out: &mut Answer) {
     match decided(alloc, given, peer) {
-        Ok(decision) if call == "build" => push_built(alloc, given, peer, &decision, out),
-        Ok(decision) => push_decisions(alloc, &decision, out),
+        Ok(decision) => match call {
+            "build" => push_built(alloc, given, peer, &decision, out),
+            _ => push_decisions(alloc, &decision, out),
+        },
         Err(fault) => out.debug_line(&fault),
     }
 }
 
 /// What the rules of the standard input decide of a peer, or a source with a fault, or none.
 fn decided(alloc: Global, given: &Arguments<'_>, peer: &Peer) -> Result<Decision, DecideFault> {
-    let Ok(list) = parse(alloc, given.input(), &Limits::profile()) else {
-        return Err(DecideFault::OutOfMemory);
-    };
+    match parse(alloc, given.input(), &Limits::profile()) {
+        Ok(list) => decided_by(alloc, given, &list, peer),
+        Err(_) => Err(DecideFault::OutOfMemory),
+    }
+}
+
+/// What a list decides of a peer, or a source with a fault, or none.
+fn decided_by(
+    alloc: Global,
+    given: &Arguments<'_>,
+    list: &RuleList,
+    peer: &Peer,
+) -> Result<Decision, DecideFault> {
     let missing = match given.text("missing") {
         "allow" => Missing::Allow,
         _ => Missing::Drop,
     };
     match given.text("source") {
-        "" => decide(alloc, Some(&ListPairs::new(&list)), missing, peer),
+        "" => decide(alloc, Some(&ListPairs::new(list)), missing, peer),
         "none" => decide::<ListPairs<'_>>(alloc, None, missing, peer),
         fault => {
             let source = Faulty {
-                list: &list,
+                list,
                 key: given.known("key"),
                 fault: fault_of(fault),
             };
