@@ -75,10 +75,15 @@ fn next_number(words: &mut Args) -> io::Result<u64> {
 
 /// The mishap that the next word names.
 fn next_mishap(words: &mut Args) -> io::Result<Mishap> {
-    let Some(word) = words.next() else {
-        return Err(no_such());
-    };
-    match word.as_str() {
+    match words.next() {
+        Some(word) => mishap_of(word.as_str()),
+        None => Err(no_such()),
+    }
+}
+
+/// The mishap with a name.
+fn mishap_of(name: &str) -> io::Result<Mishap> {
+    match name {
         "fails" => Ok(Mishap::Fails),
         "fails_after" => Ok(Mishap::FailsAfter),
         "interrupted" => Ok(Mishap::Interrupted),

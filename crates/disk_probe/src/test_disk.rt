@@ -180,12 +180,13 @@ impl TestDisk {
     }
 
     fn number_of(&self, name: &str) -> io::Result<usize> {
-        for entry in &self.names {
-            if entry.0.as_str() == name {
-                return Ok(entry.1);
-            }
+        let Some(place) = self.place_of(name) else {
+            return Err(fault(ErrorKind::NotFound));
+        };
+        match self.names.get(place) {
+            Some(entry) => Ok(entry.1),
+            None => Err(fault(ErrorKind::NotFound)),
         }
-        Err(fault(ErrorKind::NotFound))
     }
 }
 
