@@ -1,5 +1,5 @@
 -- Words as texts.
-use Rattle.std.proofs.Common.{◌≡◌, ℕ, Bool, false, cond, List, [], ap}
+use Rattle.std.proofs.Common.{◌≡◌, ℕ, false, cond, List, [], ap}
 use Rattle.std.specs.Prelude.{IsUtf8}
 use Rattle.std.specs.Str.{is_utf8}
 use Rattle.std.proofs.lemmas.Bool.{false_from_ne_true}
