@@ -1,51 +1,54 @@
 -- Options in their places.
-use Rattle.std.proofs.Common.{◌≡◌, ℕ, Bool, true, false, cond, ◌||◌, List, [], ◌∷◌, ◌++◌, map, reverse, Option, Some, None, option_map, find, ◌==◌, refl, sym, ap, ◌∙◌}
+use Rattle.std.proofs.Common.{◌≡◌, ◌≢◌, ℕ, ◌+◌, ◌<◌, Bool, true, false, cond, ◌||◌, List, [], ◌∷◌, ◌++◌, map, reverse, length, take, get_or, Option, Some, option_map, find, ◌==◌, refl, sym, ap, ◌∙◌}
 use Rattle.std.specs.Borrow.{Bor}
 use Rattle.std.specs.List.{list_any}
-use Rattle.std.proofs.lemmas.List.{reverse-append, map-append}
+use Rattle.std.proofs.lemmas.Bool.{eq-eqb, eqb-true, false_from_ne_true}
+use Rattle.std.proofs.lemmas.List.{reverse-append, map_more}
 use Rattle.ucspi_words.specs.declared.options.Given.{Given}
-use Rattle.ucspi_words.specs.Options.{letter_of, last_of}
+use Rattle.ucspi_words.specs.Options.{letter_of, last_given, last_of}
 use Rattle.ucspi_words.specs.Words.{LetterGiven}
-
--- a list in reverse, mapped
-map-reverse : {A B : Type 0} (f : A → B) (xs : List A) → map f (reverse xs) ≡ reverse (map f xs)
-map-reverse f [] = refl
-map-reverse f (x ∷ xs) =
-    ap (map f) (reverse-append (x ∷ []) xs) ∙ map-append f (reverse xs) (x ∷ [])
-    ∙ ap (λ ys. ys ++ f x ∷ []) (map-reverse f xs) ∙ sym (reverse-append (f x ∷ []) (map f xs))
 
 -- a test of the letters
 pub list_any-letters : (p : LetterGiven → Bool) (gs : List Given) → list_any (λ g. p (letter_of g)) gs ≡ list_any p (map letter_of gs)
 list_any-letters p [] = refl
 list_any-letters p (g ∷ gs) = ap (λ t. p (letter_of g) || t) (list_any-letters p gs)
 
-found : (t : Bool) (g : Given) (o : Option Given) (r : Option LetterGiven) → option_map letter_of o ≡ r → option_map letter_of (cond t (Some g) o) ≡ cond t (Some (letter_of g)) r
-found true g o r is = refl
-found false g o r is = is
+-- the last that passes a test, with one option more
+find_last-more : (p : LetterGiven → Bool) (gs : List LetterGiven) (g : LetterGiven) → find p (reverse (gs ++ g ∷ [])) ≡ cond (p g) (Some g) (find p (reverse gs))
+find_last-more p gs g = ap (find p) (reverse-append gs (g ∷ []))
 
--- the first that passes a test of the letters
-pub find-letters : (p : LetterGiven → Bool) (gs : List Given) → option_map letter_of (find (λ g. p (letter_of g)) gs) ≡ find p (map letter_of gs)
-find-letters p [] = refl
-find-letters p (g ∷ gs) =
-    found (p (letter_of g)) g (find (λ h. p (letter_of h)) gs) (find p (map letter_of gs)) (find-letters p gs)
+letter_chosen : (b : Bool) (g : LetterGiven) (found : Option LetterGiven) → option_map (λ (g : LetterGiven). g.letter) (cond b (Some g) found) ≡ cond b (Some (g.letter)) (option_map (λ (g : LetterGiven). g.letter) found)
+letter_chosen true g found = refl
+letter_chosen false g found = refl
 
--- the last that passes it
-pub find-letters_reversed : (p : LetterGiven → Bool) (gs : List Given) → option_map letter_of (find (λ g. p (letter_of g)) (reverse gs)) ≡ find p (reverse (map letter_of gs))
-find-letters_reversed p gs = find-letters p (reverse gs) ∙ ap (find p) (map-reverse letter_of gs)
+module _ (gs : List Given) (i : ℕ) (d : Given) (within : i < length gs) where
+  last_given-more : (letter : ℕ) → last_given (map letter_of (take (i + 1) gs)) letter ≡ cond ((get_or gs i d).letter == letter) (Some (letter_of (get_or gs i d))) (last_given (map letter_of (take i gs)) letter)
+  last_given-more letter =
+      ap (λ (os : List LetterGiven). last_given os letter) (map_more letter_of gs i d within)
+      ∙ find_last-more (λ (g : LetterGiven). g.letter == letter) (map letter_of (take i gs)) (letter_of (get_or gs i d))
 
--- what is behind a reference
-pub option_map-letter_of : (found : Option (Bor Given)) → option_map (λ (g : Bor Given). letter_of g.now) found ≡ option_map letter_of (option_map (λ (g : Bor Given). g.now) found)
-option_map-letter_of None = refl
-option_map-letter_of (Some g) = refl
+  last_of-more : (letters : List ℕ) → last_of (map letter_of (take (i + 1) gs)) letters ≡ cond (list_any (λ letter. letter == (get_or gs i d).letter) letters) (Some ((get_or gs i d).letter)) (last_of (map letter_of (take i gs)) letters)
+  last_of-more letters =
+      ap (λ (os : List LetterGiven). last_of os letters) (map_more letter_of gs i d within)
+      ∙ ap (option_map (λ (g : LetterGiven). g.letter)) (find_last-more (λ (g : LetterGiven). list_any (λ letter. letter == g.letter) letters) (map letter_of (take i gs)) (letter_of (get_or gs i d)))
+      ∙ letter_chosen (list_any (λ letter. letter == (get_or gs i d).letter) letters) (letter_of (get_or gs i d)) (find (λ (g : LetterGiven). list_any (λ letter. letter == g.letter) letters) (reverse (map letter_of (take i gs))))
 
-option_map-letter : (found : Option (Bor Given)) → option_map (λ (g : Bor Given). g.now.letter) found ≡ option_map (λ (g : LetterGiven). g.letter) (option_map letter_of (option_map (λ (g : Bor Given). g.now) found))
-option_map-letter None = refl
-option_map-letter (Some g) = refl
+  -- an option with the letter, and one with another
+  pub last_given-this : (letter : ℕ) (now : Option (Bor Given)) (g : Bor Given) → now ≡ Some g → g.now ≡ get_or gs i d → (get_or gs i d).letter ≡ letter → option_map (λ (given : Bor Given). letter_of given.now) now ≡ last_given (map letter_of (take (i + 1) gs)) letter
+  last_given-this letter now g is here same =
+      ap (option_map (λ (given : Bor Given). letter_of given.now)) is ∙ ap (λ (given : Given). Some (letter_of given)) here
+      ∙ sym (last_given-more letter ∙ ap (λ b. cond b (Some (letter_of (get_or gs i d))) (last_given (map letter_of (take i gs)) letter)) (eq-eqb ((get_or gs i d).letter) letter same))
 
--- the last of the options with one of some letters
-pub last_of-found : (letters : List ℕ) (gs : List Given) (options : List LetterGiven) (found : Option (Bor Given)) → map letter_of gs ≡ options → option_map (λ (g : Bor Given). g.now) found ≡ find (λ (g : Given). list_any (λ letter. letter == g.letter) letters) (reverse gs) → option_map (λ (g : Bor Given). g.now.letter) found ≡ last_of options letters
-last_of-found letters gs options found view is =
-    option_map-letter found
-    ∙ (ap (λ o. option_map (λ (g : LetterGiven). g.letter) (option_map letter_of o)) is
-    ∙ (ap (option_map (λ (g : LetterGiven). g.letter)) (find-letters_reversed (λ (g : LetterGiven). list_any (λ letter. letter == g.letter) letters) gs)
-    ∙ ap (λ os. last_of os letters) view))
+  pub last_given-other : (letter : ℕ) (now before : Option (Bor Given)) → now ≡ before → option_map (λ (given : Bor Given). letter_of given.now) before ≡ last_given (map letter_of (take i gs)) letter → (get_or gs i d).letter ≢ letter → option_map (λ (given : Bor Given). letter_of given.now) now ≡ last_given (map letter_of (take (i + 1) gs)) letter
+  last_given-other letter now before is so_far other =
+      ap (option_map (λ (given : Bor Given). letter_of given.now)) is ∙ so_far
+      ∙ sym (last_given-more letter ∙ ap (λ b. cond b (Some (letter_of (get_or gs i d))) (last_given (map letter_of (take i gs)) letter)) (false_from_ne_true ((get_or gs i d).letter == letter) (λ same. other (eqb-true ((get_or gs i d).letter) letter same))))
+
+  -- an option with one of the letters, and one with none
+  pub last_of-this : (letters : List ℕ) (now : Option ℕ) → now ≡ Some ((get_or gs i d).letter) → list_any (λ letter. letter == (get_or gs i d).letter) letters ≡ true → now ≡ last_of (map letter_of (take (i + 1) gs)) letters
+  last_of-this letters now is any =
+      is ∙ sym (last_of-more letters ∙ ap (λ b. cond b (Some ((get_or gs i d).letter)) (last_of (map letter_of (take i gs)) letters)) any)
+
+  pub last_of-other : (letters : List ℕ) (now before : Option ℕ) → now ≡ before → before ≡ last_of (map letter_of (take i gs)) letters → list_any (λ letter. letter == (get_or gs i d).letter) letters ≡ false → now ≡ last_of (map letter_of (take (i + 1) gs)) letters
+  last_of-other letters now before is so_far none =
+      is ∙ so_far ∙ sym (last_of-more letters ∙ ap (λ b. cond b (Some ((get_or gs i d).letter)) (last_of (map letter_of (take i gs)) letters)) none)

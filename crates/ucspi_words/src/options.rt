@@ -78,12 +78,7 @@ impl<'a> Options<'a> {
     pub fn last_of(&self, letters: &[char]) -> Option<char>
         ensures { result ≡ last_of self.now letters.now }
     {
-        let last = self
-            .given
-            .iter()
-            .rev()
-            .find(|given| letters.contains(&given.letter))?;
-        Some(last.letter)
+        last_of(self.given.as_slice(), letters)
     }
 
     /// The number that a letter's value is, from `least` to `greatest`, or `default` where the letter has no value. A value that
@@ -109,5 +104,24 @@ fn last_given<'s, 'a>(options: &'s [Given<'a>], letter: char) -> Option<&'s Give
     ensures { option_map (λ (given : Bor Given). letter_of given.now) result
         ≡ last_given (map letter_of options.now) letter }
 {
-    options.iter().rev().find(|given| given.letter == letter)
+    let mut last = None;
+    for given in options {
+        if given.letter == letter {
+            last = Some(given);
+        }
+    }
+    last
+}
+
+/// The letter of the last of the options with one of these letters.
+fn last_of(options: &[Given<'_>], letters: &[char]) -> Option<char>
+    ensures { result ≡ last_of (map letter_of options.now) letters.now }
+{
+    let mut last = None;
+    for given in options {
+        if letters.contains(&given.letter) {
+            last = Some(given.letter);
+        }
+    }
+    last
 }
