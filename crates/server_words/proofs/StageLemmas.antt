@@ -1,11 +1,12 @@
 -- The stages of names, name by name.
-use Rattle.std.proofs.Common.{◌≡◌, ℕ, List, [], ◌∷◌, ◌++◌, Option, Some, None, option_map, refl, sym, ap, ◌∙◌, append_assoc}
+use Rattle.std.proofs.Common.{◌≡◌, ℕ, ◌+◌, ◌<◌, List, [], ◌∷◌, ◌++◌, drop, get_or, length, Option, Some, None, option_map, refl, sym, ap, ◌∙◌, append_assoc}
 use Rattle.std.specs.Option.{option_and_then}
-use Rattle.std.proofs.lemmas.List.{append-nil}
+use Rattle.std.specs.Borrow.{Bor}
+use Rattle.std.proofs.lemmas.List.{append-nil, drop_more}
 use Rattle.server_words.specs.declared.wrapping.StageName.{StageName}
 use Rattle.server_words.specs.declared.fault.ServerWordsFault.{ServerWordsFault}
 use Rattle.server_words.specs.declared.fault.ServerWordsFault.TheVariants as fault
-use Rattle.server_words.specs.Wrappings.{RefusesAs, stage_named, stages_in}
+use Rattle.server_words.specs.Wrappings.{RefusesAs, stage_named, stages_in, texts}
 
 -- stages before those that are still to come
 abbrev pub before : List StageName → Option (List StageName) → Option (List StageName)
@@ -35,6 +36,17 @@ module _ (stages : List StageName) (name : List ℕ) (names : List (List ℕ)) w
   -- one that is none's
   pub before-unnamed : stage_named name ≡ None → before stages (stages_in (name ∷ names)) ≡ None
   before-unnamed is = at_name None is
+
+-- the name at a place, where the names before it are read
+module _ (stages : List StageName) (names : List (Bor (List ℕ))) (i : ℕ) (d : Bor (List ℕ)) (within : i < length names) where
+  at_place : before stages (stages_in (texts (drop i names))) ≡ before stages (stages_in ((get_or names i d).now ∷ texts (drop (i + 1) names)))
+  at_place =
+      ap (λ (left : List (Bor (List ℕ))). before stages (stages_in (texts left))) (drop_more names i d within)
+
+  pub named_at : (stage : StageName) (more : List StageName) → stage_named ((get_or names i d).now) ≡ Some stage → more ≡ stages ++ stage ∷ [] → before more (stages_in (texts (drop (i + 1) names))) ≡ before stages (stages_in (texts (drop i names)))
+  named_at stage more is pushed =
+      ap (λ (read : List StageName). before read (stages_in (texts (drop (i + 1) names)))) pushed
+      ∙ sym (at_place ∙ before-named stages ((get_or names i d).now) (texts (drop (i + 1) names)) stage is)
 
 -- names that are refused as stages are so as wrappers
 pub RefusesAs-map : {A B : Type 0} (f : A → B) (part : Option A) (whole : Option B) (e : ServerWordsFault) → whole ≡ option_map f part → RefusesAs part e → RefusesAs whole e
