@@ -141,9 +141,9 @@ def block(text, head):
 
 
 def body_of(text, function):
-    """The body of a function, behind its contract."""
+    """The body of a function, behind its contract, if it has one."""
     rest = text[re.search(r"fn %s\b" % function, text).end():]
-    return block(rest[re.search(r"^\s*\{$", rest, re.M).start():], "")
+    return block(rest[re.search(r"\{$", rest, re.M).start():], "")
 
 
 def arms(text, function):
@@ -158,7 +158,7 @@ def words_of(text, function):
 
 
 def texts_of(path, enum):
-    """The text of each variant of a fault."""
+    """The text of each variant of a fault: by their attributes, or else by the match of its function `text`."""
     body = block(read(path), r"enum %s\b" % enum)
     form = r'#\[error\("([^"]*)"([^\]]*)\)\]\s*(?:///[^\n]*\s*)*(\w+)(?:\((?:#\[from\] )?([\w&\' ]+)\))?'
     kinds = words_of(read("rule_lines/src/fault.rt"), "as_str")
@@ -167,7 +167,7 @@ def texts_of(path, enum):
         named = re.search(r"LineKind::(\w+)", more)
         text = text.replace("{kind}", kinds[named.group(1)]) if named else text
         texts[variant] = text.replace("{0}", PLACES.get(carried, carried))
-    return texts
+    return texts or words_of(read(path), "text")
 
 
 def code_of(value):
