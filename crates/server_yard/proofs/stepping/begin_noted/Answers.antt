@@ -1,6 +1,12 @@
-use Rattle.std.proofs.Common.{◌++◌, ◌∷◌, [], Some, inr, refl, ap, ◌∙◌}
+use Rattle.std.proofs.Common.{◌++◌, ◌∷◌, [], Option, Some, inr, refl, sym, ap, subst, ◌∙◌}
+use Rattle.std.proofs.lemmas.Option.{none-some}
+use Rattle.std.proofs.lemmas.Result.{err_from_is_err_and}
 use Rattle.std.specs.Prelude.{option_map}
 use Rattle.event_journals.specs.Journals.{without_last}
+use Rattle.rules_install.specs.Installing.{FitsPhase}
+use Rattle.rules_install.specs.Installs.{installing}
+use Rattle.rules_install.specs.declared.Phase.{Phase}
+use Rattle.rules_install.specs.declared.Phase.TheVariants.{Done}
 use Rattle.server_events.specs.declared.event.Event.TheVariants as event
 use Rattle.server_yard.specs.Rosters.{roll_of}
 use Rattle.server_yard.specs.Stepping.{fault_event}
@@ -81,3 +87,57 @@ returns-in_err-keep_list-clause-still g c = λ honest none. refl
 
 pub step_noted-requires-clause-is_open : goal.step_noted-requires-clause-is_open
 step_noted-requires-clause-is_open g c = c.requires.is_open
+
+pub returns-in_err-keep_list-clause-noted : goal.returns-in_err-keep_list-clause-noted
+returns-in_err-keep_list-clause-noted g c =
+    let p = err_from_is_err_and c.from_residual.result c.from_residual.ensures.1 in
+    rw (p.1, p.2) c.in_err-keep_list.ensures.quiet
+
+pub returns-in_err-keep_list-clause-kept : goal.returns-in_err-keep_list-clause-kept
+returns-in_err-keep_list-clause-kept g c =
+    let p = err_from_is_err_and c.from_residual.result c.from_residual.ensures.1 in
+    rw p.1 tt
+
+pub returns-in_err-keep_list-clause-err : goal.returns-in_err-keep_list-clause-err
+returns-in_err-keep_list-clause-err g c =
+    let p = err_from_is_err_and c.from_residual.result c.from_residual.ensures.1 in
+    rw p.1 c.in_err-keep_list.ensures.err
+
+pub returns-in_err-keep_list-clause-goes : goal.returns-in_err-keep_list-clause-goes
+returns-in_err-keep_list-clause-goes g c =
+    let p = err_from_is_err_and c.from_residual.result c.from_residual.ensures.1 in
+    rw (p.1, p.2) refl
+
+pub returns-in_err-keep_list-clause-leads : goal.returns-in_err-keep_list-clause-leads
+returns-in_err-keep_list-clause-leads g c = λ honest w under.
+    let p = err_from_is_err_and c.from_residual.result c.from_residual.ensures.1 in
+    rw (p.1, p.2) under
+
+pub returns-in_err-keep_list-clause-device : goal.returns-in_err-keep_list-clause-device
+returns-in_err-keep_list-clause-device g c = λ honest.
+    let p = err_from_is_err_and c.from_residual.result c.from_residual.ensures.1 in
+    rw (p.1, p.2) tt
+
+pub returns-in_err-keep_list-clause-fits : goal.returns-in_err-keep_list-clause-fits
+returns-in_err-keep_list-clause-fits g c = λ honest is_open. subst (λ (o : Option Phase). FitsPhase (installing c.args.install.now) (g.D.Dir.state c.args.dir.now) o) (sym c.requires.unbegun) tt
+
+pub step_noted-requires-clause-undone : goal.step_noted-requires-clause-undone
+step_noted-requires-clause-undone g c = λ done. none-some Done (sym c.requires.unbegun ∙ done)
+
+pub step_noted-requires-clause-phase : goal.step_noted-requires-clause-phase
+step_noted-requires-clause-phase g c = λ begun. absurd (begun c.requires.unbegun)
+
+pub step_noted-requires-clause-fits : goal.step_noted-requires-clause-fits
+step_noted-requires-clause-fits g c = λ honest is_open. subst (λ (o : Option Phase). FitsPhase (installing c.args.install.now) (g.D.Dir.state c.args.dir.now) o) (sym c.requires.unbegun) tt
+
+pub returns-in-Ok-clause-err : goal.returns-in-Ok-clause-err
+returns-in-Ok-clause-err g c = tt
+
+pub returns-in-Ok-clause-still : goal.returns-in-Ok-clause-still
+returns-in-Ok-clause-still g c = λ honest none. absurd (none-some (event.Stepped c.in-Ok.phase) (sym none))
+
+pub returns-in-Ok-clause-device : goal.returns-in-Ok-clause-device
+returns-in-Ok-clause-device g c = c.in-Ok.ensures.device
+
+pub returns-in-Err-clause-kept : goal.returns-in-Err-clause-kept
+returns-in-Err-clause-kept g c = tt

@@ -1,4 +1,6 @@
-use Rattle.std.proofs.Common.{inr, refl, ap, ◌∙◌}
+use Rattle.std.proofs.Common.{inr, refl, sym, ap, ◌∙◌}
+use Rattle.std.proofs.lemmas.Option.{none-some}
+use Rattle.std.proofs.lemmas.Result.{err_from_is_err_and}
 use Rattle.rules_install.specs.Installs.{installing}
 use Rattle.rules_install.specs.Installing.{next_phase}
 use Rattle.rules_install.specs.declared.Phase.{Phase}
@@ -109,3 +111,38 @@ make_step-requires-clause-undone g c = c.requires.undone
 
 pub make_step-requires-clause-fits : goal.make_step-requires-clause-fits
 make_step-requires-clause-fits g c = c.requires.fits
+
+pub returns-in_err-reserve-clause-noted : goal.returns-in_err-reserve-clause-noted
+returns-in_err-reserve-clause-noted g c =
+    let p = err_from_is_err_and c.from_residual.result c.from_residual.ensures.1 in
+    rw (p.1, p.2) c.in_err-reserve.ensures.quiet
+
+pub returns-in_err-reserve-clause-goes : goal.returns-in_err-reserve-clause-goes
+returns-in_err-reserve-clause-goes g c =
+    let p = err_from_is_err_and c.from_residual.result c.from_residual.ensures.1 in
+    rw (p.1, p.2) refl
+
+pub returns-in_err-reserve-clause-leads : goal.returns-in_err-reserve-clause-leads
+returns-in_err-reserve-clause-leads g c = λ honest w under.
+    let p = err_from_is_err_and c.from_residual.result c.from_residual.ensures.1 in
+    rw (p.1, p.2) under
+
+pub returns-in_err-reserve-clause-device : goal.returns-in_err-reserve-clause-device
+returns-in_err-reserve-clause-device g c = λ honest.
+    let p = err_from_is_err_and c.from_residual.result c.from_residual.ensures.1 in
+    rw (p.1, p.2) tt
+
+pub note_step-requires-clause-kind : goal.note_step-requires-clause-kind
+note_step-requires-clause-kind g c = refl
+
+pub note_step-requires-clause-room : goal.note_step-requires-clause-room
+note_step-requires-clause-room g c = c.in_ok-reserve.ensures.room
+
+pub note_fault-requires-clause-room : goal.note_fault-requires-clause-room
+note_fault-requires-clause-room g c = c.in_ok-reserve.ensures.room
+
+pub returns-in-Ok-clause-still : goal.returns-in-Ok-clause-still
+returns-in-Ok-clause-still g c = λ honest none. absurd (none-some (event.Stepped c.in-Ok.phase) (sym none))
+
+pub returns-in-Ok-clause-device : goal.returns-in-Ok-clause-device
+returns-in-Ok-clause-device g c = c.in-Ok.ensures.device
