@@ -5,8 +5,8 @@ use Rattle.std.proofs.lemmas.List.{map-append}
 use Rattle.std.proofs.lemmas.List.Sums.{sum_by-append}
 use Rattle.event_journals.specs.Journals.{one_more}
 use Rattle.std.specs.Prelude.{IfSome, Option, Some, None, is_some}
-use Rattle.site_lock.specs.Receipts.{CountsFor, IsReceiptFor, more_if}
-use Rattle.site_lock.specs.declared.receipt.Receipt.{Receipt}
+use Rattle.site_turns.specs.Receipts.{CountsFor, IsReceiptFor, more_if}
+use Rattle.site_turns.specs.declared.receipt.Receipt.{Receipt}
 use Rattle.site_lock.specs.Callers.{AddsFor, AreNew, IsOneMore, caller_number, caller_share, numbers_to}
 use Rattle.site_lock.specs.declared.caller.Caller.{Caller}
 
