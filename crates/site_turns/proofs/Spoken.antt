@@ -14,7 +14,7 @@ use Rattle.server_events.specs.declared.report.Report.{Report}
 use Rattle.server_yard.specs.Rolls.{Notes, NotesSome, Roll}
 use Rattle.server_yard.specs.Standing.{LeadsOn, YardState}
 use Rattle.server_yard.specs.Stepping.{event_of_step, step_event}
-use Rattle.server_yard.specs.Yards.{IsSameBeside, MayBegin, kept_under, last_begun, name_of, yard_roll, yard_rules, yard_state}
+use Rattle.server_yard.specs.Yards.{IsSameBeside, IsSameButDirectory, MayBegin, kept_under, last_begun, name_of, yard_roll, yard_rules, yard_state}
 use Rattle.server_yard.specs.declared.yard.Yard.{Yard}
 use Rattle.site_turns.specs.Receipts.{receipt_after, receipt_at}
 use Rattle.site_turns.specs.Turns.{spoken_by}
@@ -35,6 +35,17 @@ pub notes_from : {J : Type 0} (told : J → Report) (count : J → ℕ) (stored 
     → Notes told count stored e y z → Notes told count stored f x z
 notes_from {J} told count stored e f y x z same from notes =
     subst (λ (g : Event). Notes told count stored g x z) (sym same) (subst (λ (s : Roll J). Notes told count stored e s z) from notes)
+
+-- what a call keeps is as it was before its caller spoke
+pub same_from : {L D J F : Type 0} {p : _} {l : _} {d : _} {j : _} (lists : J → Option (List (List Rule))) (old mid new : Yard L D J F p l d j)
+    → IsSameBeside lists old mid → IsSameButDirectory lists mid new → IsSameButDirectory lists old new
+same_from lists old mid new spoken same = record {
+  rules = same.rules ∙ spoken.rules;
+  installing = same.installing ∙ spoken.installing;
+  kept = same.kept ∙ spoken.kept;
+  begun = same.begun ∙ spoken.begun;
+  lists_same = same.lists_same ∙ spoken.lists_same;
+}
 
 -- what a test found
 pub found_is : {X : Type 0} (o : Option X) (P : Type 0) (v x : X) → o ≡ Some x → SomeIff o P v → x ≡ v

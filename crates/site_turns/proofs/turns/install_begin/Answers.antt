@@ -1,4 +1,5 @@
-use Rattle.std.proofs.Common.{sym, ap, subst, ◌∙◌}
+use Rattle.std.proofs.Common.{◌≡◌, ◌+◌, ℕ, sym, ap, subst, ◌∙◌}
+use Rattle.std.specs.Prelude.{IfOk}
 use Rattle.rules_install.specs.Installs.{installing}
 use Rattle.server_yard.specs.Rolls.{NotesSome, Roll}
 use Rattle.server_yard.specs.Standing.{LeadsSome, LeavesNothingElse, YardState}
@@ -65,3 +66,8 @@ returns-clause-lists g c =
 
 pub returns-clause-back : goal.returns-clause-back
 returns-clause-back g c = c.install_begin-answer.ensures.back
+
+pub returns-clause-number : goal.returns-clause-number
+returns-clause-number g c =
+    let answer = c.install_begin-answer.result in
+    subst (λ (last : ℕ). IfOk answer (λ number. number ≡ last + 1)) c.speaker.ensures.same.begun c.install_begin-answer.ensures.number
