@@ -35,6 +35,10 @@ pub counts_if : (r : Option Receipt) (n m : ℕ) → CountsFor r n m → m ≡ m
 counts_if None n m counts = counts
 counts_if (Some r) n m counts = counts
 
+-- what all of them made is the number of events after a call too
+pub still_counted : (r : Option Receipt) (before n m old new : ℕ) → before + old ≡ n → CountsFor r n m → new + n ≡ old + more_if (is_some r) n → before + new ≡ m
+still_counted r before n m old new was counts grows = omega (arith, was, counts_if r n m counts, grows)
+
 -- what a call adds to its caller's share
 pub adds_for : (r : Option Receipt) (who n old new : ℕ) → n < 2 ^ 64 → IsReceiptFor n who r → new + n ≡ old + more_if (is_some r) n → AddsFor r old new
 adds_for None who n old new fits is grows = omega (arith, grows)
