@@ -5,8 +5,8 @@ use Rattle.std.proofs.lemmas.List.{map-append}
 use Rattle.std.proofs.lemmas.List.Sums.{sum_by-append}
 use Rattle.event_journals.specs.Journals.{one_more}
 use Rattle.std.specs.Prelude.{IfSome, Option, Some, None, is_some}
-use Rattle.site_lock.specs.Receipts.{CountsFor, IsReceiptFor, more_if}
-use Rattle.site_lock.specs.declared.receipt.Receipt.{Receipt}
+use Rattle.site_turns.specs.Receipts.{CountsFor, IsReceiptFor, more_if}
+use Rattle.site_turns.specs.declared.receipt.Receipt.{Receipt}
 use Rattle.site_lock.specs.Callers.{AddsFor, AreNew, IsOneMore, caller_number, caller_share, numbers_to}
 use Rattle.site_lock.specs.declared.caller.Caller.{Caller}
 
@@ -34,6 +34,10 @@ new_more n callers caller new number idle =
 pub counts_if : (r : Option Receipt) (n m : ℕ) → CountsFor r n m → m ≡ more_if (is_some r) n
 counts_if None n m counts = counts
 counts_if (Some r) n m counts = counts
+
+-- what all of them made is the number of events after a call too
+pub still_counted : (r : Option Receipt) (before n m old new : ℕ) → before + old ≡ n → CountsFor r n m → new + n ≡ old + more_if (is_some r) n → before + new ≡ m
+still_counted r before n m old new was counts grows = omega (arith, was, counts_if r n m counts, grows)
 
 -- what a call adds to its caller's share
 pub adds_for : (r : Option Receipt) (who n old new : ℕ) → n < 2 ^ 64 → IsReceiptFor n who r → new + n ≡ old + more_if (is_some r) n → AddsFor r old new

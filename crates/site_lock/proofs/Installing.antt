@@ -9,9 +9,9 @@ use Rattle.server_events.specs.declared.event.Event.{Event}
 use Rattle.server_events.specs.declared.report.Report.{Report}
 use Rattle.server_yard.specs.Rolls.{NotesSome, Roll}
 use Rattle.server_yard.specs.Stepping.{event_of_step, step_event}
-use Rattle.site_lock.specs.Receipts.{CountsFor, IsReceiptFor, receipt_after}
-use Rattle.site_lock.specs.Turns.{spoken_by}
-use Rattle.site_lock.specs.declared.receipt.Receipt.{Receipt}
+use Rattle.site_turns.specs.Receipts.{CountsFor, IsReceiptFor, receipt_after}
+use Rattle.site_turns.specs.Turns.{spoken_by}
+use Rattle.site_turns.specs.declared.receipt.Receipt.{Receipt}
 
 -- one for a receipt, none without
 pub counts_for : {J : Type 0} (told : J → Report) (count : J → ℕ) (stored : J → Option (List Noted)) (who n : ℕ) (event : Option Event) (old new : Roll J) (r : Option Receipt)

@@ -2,7 +2,7 @@
 use Rattle.std.specs.Prelude.{◌≡◌, ◌+◌, ◌++◌, ◌∷◌, ◌-◌, ◌^◌, ◌⊎◌, ℕ, zero, suc, List, [], Option, Some, None, length, map}
 use Rattle.std.specs.List.{sum_by}
 use Rattle.site_lock.specs.declared.caller.Caller.{Caller}
-use Rattle.site_lock.specs.declared.receipt.Receipt.{Receipt}
+use Rattle.site_turns.specs.declared.receipt.Receipt.{Receipt}
 
 -- its number
 abbrev pub caller_number : {N : Type 0} {l : _} → Caller N l → ℕ

@@ -1,5 +1,5 @@
--- Turns under one lock: receipts for the events of a yard, and whether they are its history.
-pub mod Receipts
-pub mod Turns
+-- The callers of a site, and what receipts add to their shares.
 pub mod Callers
-pub mod Audits
+pub use Rattle.site_turns.specs.Receipts
+pub use Rattle.site_turns.specs.Turns
+pub use Rattle.site_turns.specs.Audits

@@ -7,12 +7,9 @@ ghost use Rattle.server_yard.specs.Passes.{IsDecidedBy, pass_file, pass_serial};
 ghost use Rattle.server_yard.specs.Stepping.{HandsBack, begin_event, step_event};
 ghost use Rattle.server_yard.specs.Yards.{yard_roll, yard_server};
 ghost use Rattle.site_lock.specs.Callers.{IsCountedFor, caller_number, caller_share};
-ghost use Rattle.site_lock.specs.Receipts.{CountsFor, IsReceiptFor, IsReceiptOf, event_serial, more_if};
+ghost use Rattle.site_turns.specs.Receipts.{CountsFor, IsReceiptFor, IsReceiptOf, event_serial, more_if};
 
 use crate::caller::{Caller, Callers};
-use crate::receipt::Receipt;
-use crate::turns;
-use crate::turns::OpenFault;
 use child_jobs::{Job, Running};
 use child_table::Place;
 use dir_calls::Dir;
@@ -20,6 +17,8 @@ use event_journals::Journal;
 use rule_lookup::{Decision, DropCause, Peer, StartFault, Status};
 use rules_install::{Install, InstallFault, Phase};
 use server_yard::{AdmitFault, Pass, Premises, Yard};
+use site_turns::turns::OpenFault;
+use site_turns::{Receipt, turns};
 use std::alloc::Global;
 use std::sync::ledger::Book;
 

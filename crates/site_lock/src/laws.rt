@@ -1,8 +1,8 @@
 //! Laws of receipts.
 ghost use Rattle.std.specs.Prelude.{◌≡◌, ◌+◌, ℕ, List, IsPermutation, drop, length, map};
 ghost use Rattle.event_journals.specs.declared.journal.Noted.{Noted};
-ghost use Rattle.site_lock.specs.Audits.{AreOthersUpTo, AreRight, note_of};
-ghost use Rattle.site_lock.specs.declared.receipt.Receipt.{Receipt as TheReceipt};
+ghost use Rattle.site_turns.specs.Audits.{AreOthersUpTo, AreRight, note_of};
+ghost use Rattle.site_turns.specs.declared.receipt.Receipt.{Receipt as TheReceipt};
 
 /// Receipts that are right, as many as the events since some place, before which no event has the number of one of their callers, are the
 /// history since then: each event with its caller, once.

@@ -1,14 +1,12 @@
-//! A yard that many threads call: one legal history under one lock, with a receipt for each event, and an audit of the receipts.
+//! A yard that many threads call: one legal history under one lock, and the count of each caller's events. It passes on what its callers do
+//! in turn: the turns, with a receipt for each event, and the audit of the receipts.
 #![tactic(auto)]
 
-pub mod audit;
 pub mod caller;
 mod guarded;
 pub mod laws;
-pub mod receipt;
 pub mod site;
-pub mod turns;
 
 pub use caller::{Caller, Callers};
-pub use receipt::Receipt;
 pub use site::{Room, Site};
+pub use site_turns::{Receipt, audit, receipt, turns};

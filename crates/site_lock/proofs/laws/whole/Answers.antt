@@ -1,4 +1,4 @@
-use Rattle.site_lock.proofs.Auditing.{whole_history}
+use Rattle.site_turns.proofs.Auditing.{whole_history}
 use Rattle.site_lock.proofs.laws.whole.Goals as goal
 
 pub returns : goal.returns

@@ -1,0 +1,73 @@
+use Rattle.std.proofs.Common.{◌≡◌, ◌+◌, ℕ, sym, ap, subst, ◌∙◌}
+use Rattle.std.specs.Prelude.{IfOk}
+use Rattle.rules_install.specs.Installs.{installing}
+use Rattle.server_yard.specs.Rolls.{NotesSome, Roll}
+use Rattle.server_yard.specs.Standing.{LeadsSome, LeavesNothingElse, YardState}
+use Rattle.server_yard.specs.Stepping.{begin_event, kept_after_begin, last_begun_after, lists_after_begin}
+use Rattle.server_yard.specs.Yards.{yard_directory, yard_roll, yard_state}
+use Rattle.site_turns.proofs.Spoken.{may_begin_from, noted_receipt, spoken_state}
+use Rattle.site_turns.proofs.turns.install_begin.Goals as goal
+
+pub returns-clause-receipt : goal.returns-clause-receipt
+returns-clause-receipt g c =
+    let j = g.J.Journal in
+    c.begin_receipt-receipt.ensures ∙ noted_receipt j.told j.count j.stored (begin_event c.install_begin-answer.result) c.args.caller
+    (yard_roll c.args.yard.now) (yard_roll c.speaker.new.self) (yard_roll c.install_begin-answer.new.self) c.speaker.ensures.speaks c.install_begin-answer.ensures.noted
+
+pub returns-clause-over : goal.returns-clause-over
+returns-clause-over g c =
+    let old = c.args.yard.now in
+    let mid = c.speaker.new.self in
+    let same = c.speaker.ensures.same in
+    let over = c.install_begin-answer.ensures.over in (
+      λ refused may. over.0 refused (may_begin_from old mid (installing c.args.install) same.rules same.begun may),
+      λ never. over.1 (λ may. never (may_begin_from mid old (installing c.args.install) (sym same.rules) (sym same.begun) may)),
+    )
+
+pub returns-clause-noted : goal.returns-clause-noted
+returns-clause-noted g c =
+    let j = g.J.Journal in
+    subst (λ (r : Roll _). NotesSome j.told j.count j.stored (begin_event c.install_begin-answer.result) r (yard_roll c.install_begin-answer.new.self))
+    c.speaker.ensures.speaks c.install_begin-answer.ensures.noted
+
+pub returns-clause-step : goal.returns-clause-step
+returns-clause-step g c = λ honest.
+    let old = c.args.yard.now in
+    let mid = c.speaker.new.self in
+    let state = g.D.Dir.state in
+    subst (λ (s : YardState). LeadsSome (begin_event c.install_begin-answer.result) s (yard_state state c.install_begin-answer.new.self))
+    (spoken_state state g.J.Journal.lists c.args.caller old mid c.speaker.ensures.speaks c.speaker.ensures.same) (c.install_begin-answer.ensures.step honest)
+
+pub returns-clause-stops : goal.returns-clause-stops
+returns-clause-stops g c = λ honest.
+    let old = c.args.yard.now in
+    let mid = c.speaker.new.self in
+    let state = g.D.Dir.state in
+    let new = c.install_begin-answer.new.self in
+    subst (λ (from : _). LeavesNothingElse g.D.Dir.moment g.D.Dir.left_since from (yard_directory new) (yard_state state old) (yard_state state new)) c.speaker.ensures.same.directory
+    (subst (λ (s : YardState). LeavesNothingElse g.D.Dir.moment g.D.Dir.left_since (yard_directory mid) (yard_directory new) s (yard_state state new))
+    (spoken_state state g.J.Journal.lists c.args.caller old mid c.speaker.ensures.speaks c.speaker.ensures.same) (c.install_begin-answer.ensures.stops honest))
+
+pub returns-clause-seats : goal.returns-clause-seats
+returns-clause-seats g c = λ i. c.install_begin-answer.ensures.seats i ∙ c.speaker.ensures.seats i
+
+pub returns-clause-begun : goal.returns-clause-begun
+returns-clause-begun g c = c.install_begin-answer.ensures.begun ∙ ap (last_begun_after c.install_begin-answer.result) c.speaker.ensures.same.begun
+
+pub returns-clause-kept : goal.returns-clause-kept
+returns-clause-kept g c = c.install_begin-answer.ensures.kept ∙ ap (kept_after_begin c.install_begin-answer.result) c.speaker.ensures.same.kept
+
+pub returns-clause-rules : goal.returns-clause-rules
+returns-clause-rules g c = c.install_begin-answer.ensures.rules ∙ c.speaker.ensures.same.rules
+
+pub returns-clause-lists : goal.returns-clause-lists
+returns-clause-lists g c =
+    c.install_begin-answer.ensures.lists ∙ ap (lists_after_begin c.install_begin-answer.result (installing c.args.install).rules) c.speaker.ensures.same.lists_same
+
+pub returns-clause-back : goal.returns-clause-back
+returns-clause-back g c = c.install_begin-answer.ensures.back
+
+pub returns-clause-number : goal.returns-clause-number
+returns-clause-number g c =
+    let answer = c.install_begin-answer.result in
+    subst (λ (last : ℕ). IfOk answer (λ number. number ≡ last + 1)) c.speaker.ensures.same.begun c.install_begin-answer.ensures.number

@@ -1,0 +1,69 @@
+use Rattle.std.proofs.Common.{◌≡◌, ◌≢◌, ◌↔◌, ap, subst, ◌∙◌}
+use Rattle.std.specs.Prelude.{Err, IfSome, None, Option, Some, if◌then◌else◌, option_map}
+use Rattle.rules_install.specs.Installing.{Installing}
+use Rattle.rules_install.specs.declared.fault.InstallFault.TheVariants.{Over}
+use Rattle.server_events.specs.declared.event.Event.{Event}
+use Rattle.server_yard.specs.Rolls.{NotesSome, Roll}
+use Rattle.server_yard.specs.Standing.{LeadsSome, LeavesNothingElse, YardState}
+use Rattle.server_yard.specs.Stepping.{GoesAsStep, event_of_step, step_event}
+use Rattle.server_yard.specs.Yards.{kept_under, yard_directory, yard_installing, yard_roll, yard_state}
+use Rattle.site_turns.specs.Receipts.{receipt_after, receipt_at}
+use Rattle.site_turns.specs.Turns.{spoken_by}
+use Rattle.site_turns.proofs.Spoken.{event_if, noted_receipt, spoken_kept, spoken_state}
+use Rattle.site_turns.proofs.turns.install_step.Goals as goal
+
+pub returns-clause-receipt : goal.returns-clause-receipt
+returns-clause-receipt g c =
+    let j = g.J.Journal in
+    let mid = c.speaker.new.self in
+    let new = c.install_step-answer.new.self in
+    let answer = c.install_step-answer.result in
+    let kept = kept_under mid c.args.number in
+    let event = ap (λ b. if b then step_event answer else None) c.is_under_way-under_way.ensures ∙ event_if kept answer in
+    c.step_receipt-receipt.ensures
+    ∙ ap (λ (e : Option Event). option_map (receipt_at (j.count (yard_roll new).journal) c.args.caller) e) event
+    ∙ noted_receipt j.told j.count j.stored (event_of_step kept answer) c.args.caller
+    (yard_roll c.args.yard.now) (yard_roll mid) (yard_roll new) c.speaker.ensures.speaks c.install_step-answer.ensures.noted
+    ∙ ap (λ (k : Option Installing). option_map (receipt_after (j.count (yard_roll c.args.yard.now).journal) c.args.caller) (event_of_step k answer)) (spoken_kept j.lists c.args.yard.now mid c.args.number c.speaker.ensures.same)
+
+pub returns-clause-over : goal.returns-clause-over
+returns-clause-over g c =
+    subst (λ k. (c.install_step-answer.result ≡ Err Over) ↔ (k ≢ Some c.args.number)) c.speaker.ensures.same.kept c.install_step-answer.ensures.over
+
+pub returns-clause-noted : goal.returns-clause-noted
+returns-clause-noted g c =
+    let j = g.J.Journal in
+    let old = c.args.yard.now in
+    let new = c.install_step-answer.new.self in
+    let answer = c.install_step-answer.result in
+    let kept = spoken_kept j.lists old c.speaker.new.self c.args.number c.speaker.ensures.same in
+    subst (λ (k : Option Installing). NotesSome j.told j.count j.stored (event_of_step k answer) (spoken_by c.args.caller (yard_roll old)) (yard_roll new)) kept
+    (subst (λ (r : Roll _). NotesSome j.told j.count j.stored (event_of_step (kept_under c.speaker.new.self c.args.number) answer) r (yard_roll new))
+    c.speaker.ensures.speaks c.install_step-answer.ensures.noted)
+
+pub returns-clause-step : goal.returns-clause-step
+returns-clause-step g c = λ honest.
+    let old = c.args.yard.now in
+    let mid = c.speaker.new.self in
+    let state = g.D.Dir.state in
+    let new = c.install_step-answer.new.self in
+    let answer = c.install_step-answer.result in
+    let kept = spoken_kept g.J.Journal.lists old mid c.args.number c.speaker.ensures.same in
+    subst (λ (k : Option Installing). LeadsSome (event_of_step k answer) (yard_state state old) (yard_state state new)) kept
+    (subst (λ (s : YardState). LeadsSome (event_of_step (kept_under mid c.args.number) answer) s (yard_state state new))
+    (spoken_state state g.J.Journal.lists c.args.caller old mid c.speaker.ensures.speaks c.speaker.ensures.same) (c.install_step-answer.ensures.step honest))
+
+pub returns-clause-stops : goal.returns-clause-stops
+returns-clause-stops g c = λ honest.
+    let old = c.args.yard.now in
+    let mid = c.speaker.new.self in
+    let state = g.D.Dir.state in
+    let new = c.install_step-answer.new.self in
+    subst (λ (from : _). LeavesNothingElse g.D.Dir.moment g.D.Dir.left_since from (yard_directory new) (yard_state state old) (yard_state state new)) c.speaker.ensures.same.directory
+    (subst (λ (s : YardState). LeavesNothingElse g.D.Dir.moment g.D.Dir.left_since (yard_directory mid) (yard_directory new) s (yard_state state new))
+    (spoken_state state g.J.Journal.lists c.args.caller old mid c.speaker.ensures.speaks c.speaker.ensures.same) (c.install_step-answer.ensures.stops honest))
+
+pub returns-clause-goes : goal.returns-clause-goes
+returns-clause-goes g c =
+    let kept = spoken_kept g.J.Journal.lists c.args.yard.now c.speaker.new.self c.args.number c.speaker.ensures.same in
+    subst (λ (k : Option Installing). IfSome k (λ s. GoesAsStep s (yard_installing c.install_step-answer.new.self) c.install_step-answer.result)) kept c.install_step-answer.ensures.goes

@@ -1,0 +1,71 @@
+use Rattle.std.proofs.Common.{refl, ap, subst, ◌∙◌}
+use Rattle.std.specs.Prelude.{is_some}
+use Rattle.server_events.specs.Worlds.{missing_by}
+use Rattle.server_events.specs.declared.event.Event.TheVariants as event
+use Rattle.server_yard.specs.Passes.{pass_bytes, pass_file}
+use Rattle.server_yard.specs.Standing.{LeadsOpened, YardState, standing_of}
+use Rattle.server_yard.specs.Yards.{yard_roll, yard_state}
+use Rattle.site_turns.specs.Turns.{spoken_by}
+use Rattle.site_turns.proofs.Spoken.{notes_from, same_from, spoken_state}
+use Rattle.site_turns.proofs.turns.open.Goals as goal
+
+pub returns-in-Ok-clause-its : goal.returns-in-Ok-clause-its
+returns-in-Ok-clause-its g c = c.in-Ok.ensures.its
+
+pub returns-in-Ok-clause-missing : goal.returns-in-Ok-clause-missing
+returns-in-Ok-clause-missing g c = c.in-Ok.ensures.missing ∙ ap missing_by c.speaker.ensures.same.rules
+
+pub returns-in-Ok-clause-found : goal.returns-in-Ok-clause-found
+returns-in-Ok-clause-found g c = λ honest.
+    let old = c.args.yard.now in
+    let mid = c.speaker.new.self in
+    c.in-Ok.ensures.found honest
+    ∙ ap standing_of (spoken_state g.D.Dir.state g.J.Journal.lists c.args.caller old mid c.speaker.ensures.speaks c.speaker.ensures.same)
+
+pub returns-in-Ok-clause-noted : goal.returns-in-Ok-clause-noted
+returns-in-Ok-clause-noted g c =
+    let j = g.J.Journal in
+    let e = event.Opened c.args.serial (is_some (pass_file c.in-Ok.pass)) in
+    notes_from j.told j.count j.stored e e (yard_roll c.speaker.new.self) (spoken_by c.args.caller (yard_roll c.args.yard.now)) (yard_roll c.open.new.self)
+    refl c.speaker.ensures.speaks c.in-Ok.ensures.noted
+
+pub returns-in-Ok-clause-step : goal.returns-in-Ok-clause-step
+returns-in-Ok-clause-step g c = λ honest.
+    let old = c.args.yard.now in
+    let mid = c.speaker.new.self in
+    let state = g.D.Dir.state in
+    subst (λ (s : YardState). LeadsOpened c.args.serial (pass_bytes g.D.File.RulesFile.bytes c.in-Ok.pass) s (yard_state state c.open.new.self))
+    (spoken_state state g.J.Journal.lists c.args.caller old mid c.speaker.ensures.speaks c.speaker.ensures.same) (c.in-Ok.ensures.step honest)
+
+pub returns-in-Ok-clause-without : goal.returns-in-Ok-clause-without
+returns-in-Ok-clause-without g c = λ unset. c.open.ensures.without (c.speaker.ensures.same.rules ∙ unset) ∙ c.speaker.ensures.same.directory
+
+pub returns-in-Ok-clause-same : goal.returns-in-Ok-clause-same
+returns-in-Ok-clause-same g c =
+    same_from g.J.Journal.lists c.args.yard.now c.speaker.new.self c.open.new.self c.speaker.ensures.same c.open.ensures.same
+
+pub returns-in-Ok-clause-seats : goal.returns-in-Ok-clause-seats
+returns-in-Ok-clause-seats g c = λ i. c.open.ensures.seats i ∙ c.speaker.ensures.seats i
+
+pub returns-in-Err-OutOfMemory-clause-without : goal.returns-in-Err-OutOfMemory-clause-without
+returns-in-Err-OutOfMemory-clause-without g c = λ unset. c.open.ensures.without (c.speaker.ensures.same.rules ∙ unset) ∙ c.speaker.ensures.same.directory
+
+pub returns-in-Err-OutOfMemory-clause-same : goal.returns-in-Err-OutOfMemory-clause-same
+returns-in-Err-OutOfMemory-clause-same g c =
+    same_from g.J.Journal.lists c.args.yard.now c.speaker.new.self c.open.new.self c.speaker.ensures.same c.open.ensures.same
+
+pub returns-in-Err-OutOfMemory-clause-seats : goal.returns-in-Err-OutOfMemory-clause-seats
+returns-in-Err-OutOfMemory-clause-seats g c = λ i. c.open.ensures.seats i ∙ c.speaker.ensures.seats i
+
+pub returns-in-Err-clause-without : goal.returns-in-Err-clause-without
+returns-in-Err-clause-without g c = λ unset. c.open.ensures.without (c.speaker.ensures.same.rules ∙ unset) ∙ c.speaker.ensures.same.directory
+
+pub returns-in-Err-clause-same : goal.returns-in-Err-clause-same
+returns-in-Err-clause-same g c =
+    same_from g.J.Journal.lists c.args.yard.now c.speaker.new.self c.open.new.self c.speaker.ensures.same c.open.ensures.same
+
+pub returns-in-Err-clause-seats : goal.returns-in-Err-clause-seats
+returns-in-Err-clause-seats g c = λ i. c.open.ensures.seats i ∙ c.speaker.ensures.seats i
+
+pub returns-then-ne-clause-seats : goal.returns-then-ne-clause-seats
+returns-then-ne-clause-seats g c = c.speaker.ensures.seats

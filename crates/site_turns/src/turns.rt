@@ -1,0 +1,511 @@
+//! One event call of a yard each, for a caller who can't know whether it is its turn. Each says who calls, tests whether the table of events
+//! allows the event, and either makes the yard's call of its name, with a receipt where that was an event, or changes nothing but who
+//! speaks. None of them waits.
+ghost use Rattle.std.specs.Prelude.{◌≡◌, ◌≢◌, ◌+◌, ◌↔◌, true, false, Err, None, Some, IsTrue, IsSome, IfOk, IfErr, IfNone, IfSome, OnErr, OnSome, SomeIff, Ok, is_some, length, option_map, if◌then◌else◌};
+ghost use Rattle.child_jobs.specs.Runs.{place_of};
+ghost use Rattle.rules_install.specs.Installs.{installing};
+ghost use Rattle.rules_install.specs.declared.Phase.TheVariants.{Done};
+ghost use Rattle.rules_install.specs.declared.fault.InstallFault.TheVariants.{Over};
+ghost use Rattle.server_events.specs.ServerState.{is_admitted, is_allowed, is_unstarted, stage_of};
+ghost use Rattle.server_events.specs.Worlds.{missing_by};
+ghost use Rattle.server_events.specs.declared.event.Event.TheVariants.{Admitted, Opened, Decided, Started, StartFailed, Ended, Retired, Dropped};
+ghost use Rattle.server_events.specs.declared.event.Stage.TheVariants as stage;
+ghost use Rattle.server_yard.specs.Passes.{IsDecidedBy, pass_bytes, pass_file, pass_missing, pass_serial};
+ghost use Rattle.server_yard.specs.Rolls.{IsQuiet, NotesSome};
+ghost use Rattle.server_yard.specs.Seating.{GivesSeat, IsAddressFull, IsSpent, KeepsSeats, KeepsSerials};
+ghost use Rattle.server_yard.specs.Standing.{LeadsDecided, LeadsOn, LeadsOpened, LeadsSome, LeavesNothingElse, standing_of};
+ghost use Rattle.server_yard.specs.Stepping.{GoesAsStep, HandsBack, IsRefusedAs, begin_event, event_of_step, fault_event, kept_after_begin, kept_after_step, last_begun_after, lists_after_begin, step_event};
+ghost use Rattle.server_yard.specs.Yards.{IsSameBeside, IsSameButDirectory, MayBegin, kept_number, kept_under, last_begun, number_of, stage_of_place, yard_directory, yard_installing, yard_roll, yard_rules, yard_seat, yard_server, yard_state};
+ghost use Rattle.server_yard.specs.declared.roster.AdmitFault.TheVariants.{Full, FullForAddress, OutOfMemory, Spent};
+ghost use Rattle.site_turns.specs.Receipts.{receipt_after, receipt_at};
+ghost use Rattle.site_turns.specs.Turns.{IsInTurn, IsPassedOver, MayBeDecided, NotesBy, spoken_by};
+ghost use Rattle.site_turns.specs.declared.turns.OpenFault.TheVariants as open_fault;
+
+use crate::receipt::Receipt;
+use child_jobs::{Job, Running};
+use child_table::Place;
+use dir_calls::{Dir, DirFault};
+use event_journals::Journal;
+use rule_lines::Verdict;
+use rule_lookup::{Decision, DropCause, Peer, StartFault, Status};
+use rules_install::{Install, InstallFault, Phase};
+use server_events::{Event, Stage};
+use server_yard::{AdmitFault, Pass, Premises, Yard};
+use std::alloc::Global;
+use thiserror::Error;
+
+/// Why the rules aren't opened. Nothing changed but who speaks.
+#[derive(Clone, Copy, PartialEq, Eq, Debug, Error)]
+pub enum OpenFault {
+    /// The connection isn't alive, or has opened them before.
+    #[error("out of turn")]
+    OutOfTurn,
+    /// The directory's device failed.
+    #[error("device fault")]
+    Device,
+    /// There was no memory.
+    #[error("out of memory")]
+    OutOfMemory,
+}
+
+/// Lets a connection in, as `Yard::admit` does.
+///
+/// # Errors
+/// Those of `Yard::admit`. `OutOfMemory` also comes where there is none for the receipt's copy of the peer, whatever else holds.
+pub fn admit<L: Premises, D: Dir + Drop, J: Journal>(
+    yard: &mut Yard<L, D, J>,
+    caller: u64,
+    peer: &Peer,
+) -> Result<(u64, Place<L>, Receipt), AdmitFault>
+    ensures full { result ≢ Err OutOfMemory → ((result ≡ Err Full)
+        ↔ (length (yard_server yard.old).connections ≡ (yard_server yard.old).limit)) }
+    ensures spent { result ≢ Err OutOfMemory → ((result ≡ Err Spent) ↔ IsSpent (yard_server yard.old)) }
+    ensures full_for_address { result ≢ Err OutOfMemory → ((result ≡ Err FullForAddress)
+        ↔ IsAddressFull peer.now.ip (yard_server yard.old)) }
+    ensures receipt { IfOk result (λ r.
+        r.2 ≡ receipt_after (J.count (yard_roll yard.old).journal) caller (Admitted r.0 peer.now)) }
+    ensures noted { IfOk result (λ r. NotesBy J.told J.count J.stored
+        caller (Admitted r.0 peer.now) (yard_roll yard.old) (yard_roll yard.new)) }
+    ensures step { IsTrue D.honest → IfOk result (λ r. LeadsOn
+        (Admitted r.0 peer.now) (yard_state D.state yard.old) (yard_state D.state yard.new)) }
+    ensures seat { IfOk result (λ r. GivesSeat r.1 r.0 (yard_seat yard.old) (yard_seat yard.new)) }
+    ensures same { IsSameBeside J.lists yard.old yard.new }
+    ensures refused { OnErr result (IsQuiet J.told J.count J.stored
+        (spoken_by caller (yard_roll yard.old)) (yard_roll yard.new)) }
+    ensures same_seats { OnErr result (KeepsSerials (yard_server yard.old) (yard_seat yard.old) (yard_seat yard.new)) }
+{
+    yard.speaker(caller);
+    let copy = peer.copy()?;
+    let (serial, place) = yard.admit(peer)?;
+    let event = Event::Admitted { serial, peer: copy };
+    Ok((serial, place, receipt(yard, caller, event)))
+}
+
+/// Opens the rules for a connection, as `Yard::open` does.
+///
+/// # Errors
+/// `OutOfTurn` exactly where no connection of this serial was let in and has not opened them; else those of `Yard::open`, which are `Device`
+/// and `OutOfMemory`.
+pub fn open<L: Premises, D: Dir + Drop, J: Journal>(
+    yard: &mut Yard<L, D, J>,
+    caller: u64,
+    alloc: Global,
+    serial: u64,
+) -> Result<(Pass<L, D::File>, Receipt), OpenFault>
+    ensures in_turn { (result ≡ Err open_fault.OutOfTurn)
+        ↔ (is_admitted (stage_of serial (yard_server yard.old).connections) ≡ false) }
+    ensures its { IfOk result (λ r. pass_serial r.0 ≡ serial) }
+    ensures missing { IfOk result (λ r. pass_missing r.0 ≡ missing_by (yard_rules yard.old)) }
+    ensures found { IsTrue D.honest → IfOk result (λ r.
+        pass_bytes D.File.bytes r.0 ≡ standing_of (yard_state D.state yard.old)) }
+    ensures receipt { IfOk result (λ r. r.1
+        ≡ receipt_after (J.count (yard_roll yard.old).journal) caller (Opened serial (is_some (pass_file r.0)))) }
+    ensures noted { IfOk result (λ r. NotesBy J.told J.count J.stored
+        caller (Opened serial (is_some (pass_file r.0))) (yard_roll yard.old) (yard_roll yard.new)) }
+    ensures step { IsTrue D.honest → IfOk result (λ r. LeadsOpened serial
+        (pass_bytes D.File.bytes r.0) (yard_state D.state yard.old) (yard_state D.state yard.new)) }
+    ensures out { result ≡ Err open_fault.OutOfTurn → IsPassedOver J.lists caller yard.old yard.new }
+    ensures refused { OnErr result (IsQuiet J.told J.count J.stored
+        (spoken_by caller (yard_roll yard.old)) (yard_roll yard.new)) }
+    ensures err_state { IsTrue D.honest
+        → OnErr result (yard_state D.state yard.new ≡ yard_state D.state yard.old) }
+    ensures without { yard_rules yard.old ≡ None → yard_directory yard.new ≡ yard_directory yard.old }
+    ensures same { IsSameButDirectory J.lists yard.old yard.new }
+    ensures seats { KeepsSeats (yard_seat yard.old) (yard_seat yard.new) }
+{
+    yard.speaker(caller);
+    if yard.stage(serial) != Some(Stage::Admitted) {
+        return Err(OpenFault::OutOfTurn);
+    }
+    match yard.open(alloc, serial) {
+        Ok(pass) => {
+            let there = pass.source().is_some();
+            let receipt = receipt(yard, caller, Event::Opened { serial, there });
+            Ok((pass, receipt))
+        }
+        Err(DirFault::OutOfMemory) => Err(OpenFault::OutOfMemory),
+        Err(_) => Err(OpenFault::Device),
+    }
+}
+
+/// A connection is decided, as by `Yard::decided`: where it opened the rules, this is its peer, and the pass has what the yard decides
+/// where no file stands. Else there is no receipt.
+///
+/// # Errors
+/// There was no memory for the receipt's copy of the decision. The pass and the decision are handed back, and nothing changed but who
+/// speaks.
+pub fn decided<L: Premises, D: Dir + Drop, J: Journal>(
+    yard: &mut Yard<L, D, J>,
+    caller: u64,
+    alloc: Global,
+    pass: Pass<L, D::File>,
+    peer: &Peer,
+    decision: Decision,
+) -> Result<Option<Receipt>, (Pass<L, D::File>, Decision)>
+    requires decides { IsDecidedBy D.File.honest D.File.sound D.File.bytes pass peer.now decision }
+    ensures in_turn { IsInTurn result ↔ MayBeDecided yard.old pass peer.now }
+    ensures receipt { IfOk result (λ answer. IfSome answer (λ r. r
+        ≡ receipt_after (J.count (yard_roll yard.old).journal) caller (Decided (pass_serial pass) decision))) }
+    ensures noted { IfOk result (λ answer. OnSome answer (NotesBy J.told J.count J.stored
+        caller (Decided (pass_serial pass) decision) (yard_roll yard.old) (yard_roll yard.new))) }
+    ensures step { IsTrue D.honest → IfOk result (λ answer. OnSome answer (LeadsDecided (pass_serial pass)
+        (pass_bytes D.File.bytes pass) decision (yard_state D.state yard.old) (yard_state D.state yard.new))) }
+    ensures out { IfOk result (λ answer. IfNone answer (IsPassedOver J.lists caller yard.old yard.new)) }
+    ensures back { IfErr result (λ back. (back.0 ≡ pass) × (back.1 ≡ decision)) }
+    ensures refused { OnErr result (IsPassedOver J.lists caller yard.old yard.new) }
+    ensures same { IsSameBeside J.lists yard.old yard.new }
+    ensures seats { KeepsSeats (yard_seat yard.old) (yard_seat yard.new) }
+{
+    yard.speaker(caller);
+    if !may_be_decided(yard, &pass, peer) {
+        return Ok(None);
+    }
+    let Ok(copy) = decision.copy(alloc) else {
+        return Err((pass, decision));
+    };
+    let serial = pass.serial();
+    yard.decided(pass, peer, decision);
+    let event = Event::Decided {
+        serial,
+        decision: copy,
+    };
+    Ok(Some(receipt(yard, caller, event)))
+}
+
+/// The child of a connection runs, as by `Yard::started`: where the connection at its place was allowed. Else there is no receipt.
+pub fn started<L: Premises, D: Dir + Drop, J: Journal, C: Job>(
+    yard: &mut Yard<L, D, J>,
+    caller: u64,
+    running: &Running<L, C>,
+) -> Option<Receipt>
+    ensures in_turn { IsSome result ↔ (is_allowed (stage_of_place yard.old (place_of running.now)) ≡ true) }
+    ensures receipt { IfSome result (λ r. r ≡ receipt_after (J.count (yard_roll yard.old).journal)
+        caller (Started (number_of yard.old (place_of running.now)))) }
+    ensures noted { IfSome result (λ r. NotesBy J.told J.count J.stored
+        caller r.event (yard_roll yard.old) (yard_roll yard.new)) }
+    ensures step { IsTrue D.honest → IfSome result (λ r. LeadsOn
+        r.event (yard_state D.state yard.old) (yard_state D.state yard.new)) }
+    ensures out { IfNone result (IsPassedOver J.lists caller yard.old yard.new) }
+    ensures same { IsSameBeside J.lists yard.old yard.new }
+    ensures seats { KeepsSeats (yard_seat yard.old) (yard_seat yard.new) }
+{
+    yard.speaker(caller);
+    let serial = allowed(yard, running.place())?;
+    yard.started(running);
+    Some(receipt(yard, caller, Event::Started { serial }))
+}
+
+/// The child of a connection could not be started, as by `Yard::start_failed`: where the connection at this place was allowed. Else
+/// there is no receipt, and the place stays counted for good.
+pub fn start_failed<L: Premises, D: Dir + Drop, J: Journal>(
+    yard: &mut Yard<L, D, J>,
+    caller: u64,
+    place: Place<L>,
+    fault: StartFault,
+) -> Option<Receipt>
+    ensures in_turn { IsSome result ↔ (is_allowed (stage_of_place yard.old place) ≡ true) }
+    ensures receipt { IfSome result (λ r. r ≡ receipt_after (J.count (yard_roll yard.old).journal)
+        caller (StartFailed (number_of yard.old place) fault)) }
+    ensures noted { IfSome result (λ r. NotesBy J.told J.count J.stored
+        caller r.event (yard_roll yard.old) (yard_roll yard.new)) }
+    ensures step { IsTrue D.honest → IfSome result (λ r. LeadsOn
+        r.event (yard_state D.state yard.old) (yard_state D.state yard.new)) }
+    ensures gone { OnSome result (stage_of (number_of yard.old place) (yard_server yard.new).connections ≡ None) }
+    ensures out { IfNone result (IsPassedOver J.lists caller yard.old yard.new) }
+    ensures same { IsSameBeside J.lists yard.old yard.new }
+    ensures seats { KeepsSeats (yard_seat yard.old) (yard_seat yard.new) }
+{
+    yard.speaker(caller);
+    match allowed(yard, &place) {
+        Some(serial) => {
+            yard.start_failed(place, fault);
+            Some(receipt(yard, caller, Event::StartFailed { serial, fault }))
+        }
+        None => {
+            place.strand();
+            None
+        }
+    }
+}
+
+/// The child of a connection has ended, as by `Yard::ended`: where that of the connection at this place was started. Else there is no
+/// receipt, and the place stays counted for good.
+pub fn ended<L: Premises, D: Dir + Drop, J: Journal>(
+    yard: &mut Yard<L, D, J>,
+    caller: u64,
+    place: Place<L>,
+    status: Status,
+) -> Option<Receipt>
+    ensures in_turn { IsSome result ↔ (stage_of_place yard.old place ≡ Some stage.Started) }
+    ensures receipt { IfSome result (λ r. r ≡ receipt_after (J.count (yard_roll yard.old).journal)
+        caller (Ended (number_of yard.old place) status)) }
+    ensures noted { IfSome result (λ r. NotesBy J.told J.count J.stored
+        caller r.event (yard_roll yard.old) (yard_roll yard.new)) }
+    ensures step { IsTrue D.honest → IfSome result (λ r. LeadsOn
+        r.event (yard_state D.state yard.old) (yard_state D.state yard.new)) }
+    ensures gone { OnSome result (stage_of (number_of yard.old place) (yard_server yard.new).connections ≡ None) }
+    ensures out { IfNone result (IsPassedOver J.lists caller yard.old yard.new) }
+    ensures same { IsSameBeside J.lists yard.old yard.new }
+    ensures seats { KeepsSeats (yard_seat yard.old) (yard_seat yard.new) }
+{
+    yard.speaker(caller);
+    match served(yard, &place) {
+        Some(serial) => {
+            yard.ended(place, status);
+            Some(receipt(yard, caller, Event::Ended { serial, status }))
+        }
+        None => {
+            place.strand();
+            None
+        }
+    }
+}
+
+/// The child of a connection could not be waited for, as by `Yard::retired`: where that of the connection at its place was started. Else
+/// there is no receipt. The child is let go, and its place stays counted for good, in both cases.
+pub fn retired<L: Premises, D: Dir + Drop, J: Journal, C: Job + Drop>(
+    yard: &mut Yard<L, D, J>,
+    caller: u64,
+    running: Running<L, C>,
+) -> Option<Receipt>
+    ensures in_turn { IsSome result ↔ (stage_of_place yard.old (place_of running) ≡ Some stage.Started) }
+    ensures receipt { IfSome result (λ r. r ≡ receipt_after (J.count (yard_roll yard.old).journal)
+        caller (Retired (number_of yard.old (place_of running)))) }
+    ensures noted { IfSome result (λ r. NotesBy J.told J.count J.stored
+        caller r.event (yard_roll yard.old) (yard_roll yard.new)) }
+    ensures step { IsTrue D.honest → IfSome result (λ r. LeadsOn
+        r.event (yard_state D.state yard.old) (yard_state D.state yard.new)) }
+    ensures out { IfNone result (IsPassedOver J.lists caller yard.old yard.new) }
+    ensures same { IsSameBeside J.lists yard.old yard.new }
+    ensures seats { KeepsSeats (yard_seat yard.old) (yard_seat yard.new) }
+{
+    yard.speaker(caller);
+    match served(yard, running.place()) {
+        Some(serial) => {
+            yard.retired(running);
+            Some(receipt(yard, caller, Event::Retired { serial }))
+        }
+        None => {
+            running.strand();
+            None
+        }
+    }
+}
+
+/// A connection is given up, as by `Yard::dropped`: where no child of the connection at this place was started. Else there is no
+/// receipt, and the place stays counted for good.
+pub fn dropped<L: Premises, D: Dir + Drop, J: Journal>(
+    yard: &mut Yard<L, D, J>,
+    caller: u64,
+    place: Place<L>,
+    cause: DropCause,
+) -> Option<Receipt>
+    ensures in_turn { IsSome result ↔ (is_unstarted (stage_of_place yard.old place) ≡ true) }
+    ensures receipt { IfSome result (λ r. r ≡ receipt_after (J.count (yard_roll yard.old).journal)
+        caller (Dropped (number_of yard.old place) cause)) }
+    ensures noted { IfSome result (λ r. NotesBy J.told J.count J.stored
+        caller r.event (yard_roll yard.old) (yard_roll yard.new)) }
+    ensures step { IsTrue D.honest → IfSome result (λ r. LeadsOn
+        r.event (yard_state D.state yard.old) (yard_state D.state yard.new)) }
+    ensures gone { OnSome result (stage_of (number_of yard.old place) (yard_server yard.new).connections ≡ None) }
+    ensures out { IfNone result (IsPassedOver J.lists caller yard.old yard.new) }
+    ensures same { IsSameBeside J.lists yard.old yard.new }
+    ensures seats { KeepsSeats (yard_seat yard.old) (yard_seat yard.new) }
+{
+    yard.speaker(caller);
+    match unstarted(yard, &place) {
+        Some(serial) => {
+            yard.dropped(place, cause);
+            Some(receipt(yard, caller, Event::Dropped { serial, cause }))
+        }
+        None => {
+            place.strand();
+            None
+        }
+    }
+}
+
+/// Begins an installation, as `Yard::install_begin` does, and answers what that does, with a receipt where it was an event: at its first
+/// step, and at a fault of the directory.
+pub fn install_begin<L: Premises, D: Dir + Drop, J: Journal>(
+    yard: &mut Yard<L, D, J>,
+    caller: u64,
+    alloc: Global,
+    install: Install,
+) -> (Result<u64, (Install, InstallFault)>, Option<Receipt>)
+    ensures receipt { result.1 ≡ option_map (receipt_after (J.count (yard_roll yard.old).journal) caller) (begin_event result.0) }
+    ensures over { IsRefusedAs Over result.0 ↔ ¬ MayBegin yard.old (installing install) }
+    ensures number { IfOk result.0 (λ number. number ≡ last_begun yard.old + 1) }
+    ensures begun { last_begun yard.new ≡ last_begun_after result.0 (last_begun yard.old) }
+    ensures kept { kept_number yard.new ≡ kept_after_begin result.0 (kept_number yard.old) }
+    ensures rules { yard_rules yard.new ≡ yard_rules yard.old }
+    ensures noted { NotesSome J.told J.count J.stored
+        (begin_event result.0) (spoken_by caller (yard_roll yard.old)) (yard_roll yard.new) }
+    ensures step { IsTrue D.honest → LeadsSome
+        (begin_event result.0) (yard_state D.state yard.old) (yard_state D.state yard.new) }
+    ensures stops { IsTrue D.honest → LeavesNothingElse D.moment D.left_since (yard_directory yard.old)
+        (yard_directory yard.new) (yard_state D.state yard.old) (yard_state D.state yard.new) }
+    ensures lists { J.lists (yard_roll yard.new).journal
+        ≡ lists_after_begin result.0 (installing install).rules (J.lists (yard_roll yard.old).journal) }
+    ensures back { IfErr result.0 (λ r. HandsBack (installing install) (installing r.0) r.1) }
+    ensures seats { KeepsSeats (yard_seat yard.old) (yard_seat yard.new) }
+{
+    yard.speaker(caller);
+    let answer = yard.install_begin(alloc, install);
+    let receipt = begin_receipt(yard, caller, &answer);
+    (answer, receipt)
+}
+
+/// Makes the next step of an installation, as `Yard::install_step` does, and answers what that does, with a receipt where it was an
+/// event: at a step of one that is under way, and at a fault of the directory.
+pub fn install_step<L: Premises, D: Dir + Drop, J: Journal>(
+    yard: &mut Yard<L, D, J>,
+    caller: u64,
+    alloc: Global,
+    number: u64,
+) -> (Result<Phase, InstallFault>, Option<Receipt>)
+    ensures receipt { result.1 ≡ option_map (receipt_after (J.count (yard_roll yard.old).journal) caller)
+        (event_of_step (kept_under yard.old number) result.0) }
+    ensures over { (result.0 ≡ Err Over) ↔ (kept_number yard.old ≢ Some number) }
+    ensures after_done { kept_number yard.old ≡ Some number → yard_installing yard.old ≡ None → result.0 ≡ Ok Done }
+    ensures noted { NotesSome J.told J.count J.stored (event_of_step (kept_under yard.old number) result.0)
+        (spoken_by caller (yard_roll yard.old)) (yard_roll yard.new) }
+    ensures step { IsTrue D.honest → LeadsSome (event_of_step (kept_under yard.old number) result.0)
+        (yard_state D.state yard.old) (yard_state D.state yard.new) }
+    ensures stops { IsTrue D.honest → LeavesNothingElse D.moment D.left_since (yard_directory yard.old)
+        (yard_directory yard.new) (yard_state D.state yard.old) (yard_state D.state yard.new) }
+    ensures goes { IfSome (kept_under yard.old number) (λ s. GoesAsStep s (yard_installing yard.new) result.0) }
+    ensures kept { kept_number yard.new ≡ kept_after_step result.0 (kept_number yard.old) }
+    ensures begun { last_begun yard.new ≡ last_begun yard.old }
+    ensures rules { yard_rules yard.new ≡ yard_rules yard.old }
+    ensures lists { J.lists (yard_roll yard.new).journal ≡ J.lists (yard_roll yard.old).journal }
+    ensures seats { KeepsSeats (yard_seat yard.old) (yard_seat yard.new) }
+{
+    yard.speaker(caller);
+    let under_way = yard.is_under_way(number);
+    let answer = yard.install_step(alloc, number);
+    let receipt = step_receipt(yard, caller, under_way, answer);
+    (answer, receipt)
+}
+
+// The receipt of a yard's last event.
+fn receipt<L: Premises, D: Dir + Drop, J: Journal>(
+    yard: &Yard<L, D, J>,
+    caller: u64,
+    event: Event,
+) -> Receipt
+    ensures caller { result.caller ≡ caller }
+    ensures at { result.at ≡ J.count (yard_roll yard.now).journal }
+    ensures event { result.event ≡ event }
+{
+    Receipt {
+        caller,
+        at: yard.journal().events(),
+        event,
+    }
+}
+
+// The receipt of a first step, if it was an event.
+fn begin_receipt<L: Premises, D: Dir + Drop, J: Journal>(
+    yard: &Yard<L, D, J>,
+    caller: u64,
+    answer: &Result<u64, (Install, InstallFault)>,
+) -> Option<Receipt>
+    ensures { result ≡ option_map (receipt_at (J.count (yard_roll yard.now).journal) caller) (begin_event answer.now) }
+{
+    match answer {
+        Ok(_) => {
+            let phase = Phase::Fresh;
+            Some(receipt(yard, caller, Event::Stepped { phase }))
+        }
+        Err((_, fault)) => fault_receipt(yard, caller, *fault),
+    }
+}
+
+// The receipt of a step, if the installation was under way and it was an event.
+fn step_receipt<L: Premises, D: Dir + Drop, J: Journal>(
+    yard: &Yard<L, D, J>,
+    caller: u64,
+    under_way: bool,
+    answer: Result<Phase, InstallFault>,
+) -> Option<Receipt>
+    ensures { result ≡ option_map (receipt_at (J.count (yard_roll yard.now).journal) caller)
+        (if under_way then step_event answer else None) }
+{
+    if !under_way {
+        return None;
+    }
+    match answer {
+        Ok(phase) => Some(receipt(yard, caller, Event::Stepped { phase })),
+        Err(fault) => fault_receipt(yard, caller, fault),
+    }
+}
+
+// The receipt of a step that failed, if it was the directory's fault.
+fn fault_receipt<L: Premises, D: Dir + Drop, J: Journal>(
+    yard: &Yard<L, D, J>,
+    caller: u64,
+    fault: InstallFault,
+) -> Option<Receipt>
+    ensures { result ≡ option_map (receipt_at (J.count (yard_roll yard.now).journal) caller) (fault_event fault) }
+{
+    match fault {
+        InstallFault::Disk(_, phase) => Some(receipt(yard, caller, Event::StepFailed { phase })),
+        _ => None,
+    }
+}
+
+// Whether it is the turn of a pass.
+fn may_be_decided<L: Premises, D: Dir + Drop, J: Journal>(
+    yard: &Yard<L, D, J>,
+    pass: &Pass<L, D::File>,
+    peer: &Peer,
+) -> bool
+    ensures { IsTrue result ↔ MayBeDecided yard.now pass.now peer.now }
+{
+    yard.stage(pass.serial()) == Some(Stage::Opened)
+        && pass.missing() == yard.missing()
+        && yard.is_peer(pass.serial(), peer)
+}
+
+// The serial of the connection at a place, where it was allowed.
+fn allowed<L: Premises, D: Dir + Drop, J: Journal>(
+    yard: &Yard<L, D, J>,
+    place: &Place<L>,
+) -> Option<u64>
+    ensures { SomeIff result (is_allowed (stage_of_place yard.now place.now) ≡ true) (number_of yard.now place.now) }
+{
+    let serial = yard.serial_of(place)?;
+    match yard.stage(serial) {
+        Some(Stage::Decided(Verdict::Allow)) => Some(serial),
+        _ => None,
+    }
+}
+
+// The serial of the connection at a place, where its child was started.
+fn served<L: Premises, D: Dir + Drop, J: Journal>(
+    yard: &Yard<L, D, J>,
+    place: &Place<L>,
+) -> Option<u64>
+    ensures { SomeIff result (stage_of_place yard.now place.now ≡ Some stage.Started) (number_of yard.now place.now) }
+{
+    let serial = yard.serial_of(place)?;
+    match yard.stage(serial) {
+        Some(Stage::Started) => Some(serial),
+        _ => None,
+    }
+}
+
+// The serial of the connection at a place, where no child was started for it.
+fn unstarted<L: Premises, D: Dir + Drop, J: Journal>(
+    yard: &Yard<L, D, J>,
+    place: &Place<L>,
+) -> Option<u64>
+    ensures { SomeIff result (is_unstarted (stage_of_place yard.now place.now) ≡ true) (number_of yard.now place.now) }
+{
+    let serial = yard.serial_of(place)?;
+    match yard.stage(serial) {
+        Some(Stage::Admitted | Stage::Opened | Stage::Decided(_)) => Some(serial),
+        _ => None,
+    }
+}
