@@ -14,9 +14,9 @@ PAGES := $(wildcard man/*.1)
 # each tool has a page; the program looks at the name by which it is called
 NAMES := $(filter-out ucspi,$(basename $(notdir $(PAGES))))
 PROGRAM := crates/ucspi/out/ucspi
-BENCH := crates/ucspi_bench/out/ucspi_bench
-# small programs that make calls for the tests
-PROBES := $(foreach name,yard_probe call_probe disk_probe text_probe service_probe,crates/$(name)/out/$(name))
+# the small programs of the tests and of the benchmarks: one program, which looks at the name by which it is called
+PROBE := crates/probes/out/probes
+PROBES := $(foreach name,call_probe disk_probe service_probe text_probe ucspi_bench yard_probe,crates/probes/out/$(name))
 SOURCES := HANDLES crates.txt $(shell find crates -name out -prune -o -type f -print)
 
 .PHONY: all run check probes bench install uninstall
@@ -27,25 +27,24 @@ $(PROGRAM): $(SOURCES)
 	cd crates/ucspi && rt run </dev/null
 	touch $@
 
-$(BENCH): $(SOURCES)
-	cd crates/ucspi_bench && rt run </dev/null
+$(PROBE): $(SOURCES)
+	cd crates/probes && rt run </dev/null
 	touch $@
+
+$(PROBES): $(PROBE)
+	ln -f $< $@
 
 run: $(PROGRAM)
 	$(PROGRAM) rulesim <crates/ucspi/stdin
 
 check:
 	rt ci
-	touch $(PROGRAM) $(BENCH) $(PROBES)
+	touch $(PROGRAM) $(PROBE)
 	tests/run
 
-probes: $(BENCH) $(PROBES)
+probes: $(PROBES)
 
-$(PROBES): $(SOURCES)
-	cd $(dir $@).. && rt run </dev/null
-	touch $@
-
-bench: $(PROGRAM) $(BENCH)
+bench: $(PROGRAM) $(PROBES)
 	bench/run
 	bench/server
 

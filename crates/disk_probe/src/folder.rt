@@ -2,35 +2,30 @@
 //! `disk_probe folder FOLDER fresh tmp append abc sync rename tmp file settle open file`.
 ghost use Rattle.std.specs.Prelude.{◌≡◌, false};
 
-use crate::commands::{
-    Answer, Fault, Words, append, failures, fresh, no_such, none, open_name, print_answer, rename,
-    settle, sync,
-};
+use crate::answers::Answers;
+use crate::commands::{self, Words, is_call};
 use dir_calls::{Dir, DirFault, RulesFile};
 use dir_disk::OsDir;
 use std::alloc::Global;
 use std::fs::Files;
-use std::io;
 use std::os::unix::fs::FileExt;
 
 /// How many bytes a call of `append` is given of a long row of zeros.
 const PIECE: usize = 4_096;
 
-/// The answer to a call of a directory of which nothing is known.
-fn answer<D: Dir>(alloc: Global, dir: &mut D, words: &Words<'_>) -> Answer
+/// Makes a call of a directory of which nothing is known.
+fn call<D: Dir>(alloc: Global, dir: &mut D, words: &Words<'_>, out: &mut Answers)
     requires { D.honest ≡ false }
 {
     match words.call {
-        "fresh" => fresh(alloc, dir, words),
-        "append" => append(alloc, dir, words),
-        "zeros" => zeros(alloc, dir, words),
-        "patch" => patch(alloc, dir, words),
-        "sync" => sync(alloc, dir),
-        "rename" => rename(alloc, dir, words),
-        "settle" => settle(dir),
-        "open" => open(alloc, dir, words),
-        "failures" => failures(alloc, dir),
-        _ => Err(Fault::Words),
+        "zeros" => zeros(alloc, dir, words, out),
+        "patch" => patch(alloc, dir, words, out),
+        "open" => open(alloc, dir, words, out),
+        _ => {
+            if !is_call(alloc, dir, words, out) {
+                out.fail();
+            }
+        }
     }
 }
 
@@ -64,18 +59,18 @@ fn first_call(words: &[String]) -> Option<(Words<'_>, &[String])> {
     Some((call, rest))
 }
 
-/// A number by its word.
-fn number_of(word: &str) -> Result<u64, Fault> {
-    match word.parse() {
-        Ok(number) => Ok(number),
-        Err(_) => Err(Fault::Words),
-    }
-}
-
 /// `zeros COUNT` appends so many zero bytes, in pieces.
-fn zeros<D: Dir>(alloc: Global, dir: &mut D, words: &Words<'_>) -> Answer {
-    let calls = append_zeros(alloc, dir, number_of(words.first)?)?;
-    Ok(Some(format!(in alloc; "in {calls}")?))
+fn zeros<D: Dir>(alloc: Global, dir: &mut D, words: &Words<'_>, out: &mut Answers) {
+    let Ok(count) = words.first.parse() else {
+        return out.fail();
+    };
+    match append_zeros(alloc, dir, count) {
+        Ok(calls) => {
+            out.text("in ");
+            out.number_line(calls);
+        }
+        Err(fault) => out.show_line(&fault),
+    }
 }
 
 /// Appends zero bytes, and answers how many calls of `append` it took.
@@ -93,66 +88,62 @@ fn append_zeros<D: Dir>(alloc: Global, dir: &mut D, count: u64) -> Result<u64, D
 }
 
 /// `patch PLACE TEXT` overwrites bytes.
-fn patch<D: Dir>(alloc: Global, dir: &mut D, words: &Words<'_>) -> Answer
+fn patch<D: Dir>(alloc: Global, dir: &mut D, words: &Words<'_>, out: &mut Answers)
     requires { D.honest ≡ false }
 {
-    let place = number_of(words.first)?;
-    dir.patch(alloc, place, words.second.as_bytes())?;
-    Ok(None)
+    match words.first.parse() {
+        Ok(place) => out.done(dir.patch(alloc, place, words.second.as_bytes())),
+        Err(_) => out.fail(),
+    }
 }
 
 /// `open NAME` shows what stands under a name.
-fn open<D: Dir>(alloc: Global, dir: &mut D, words: &Words<'_>) -> Answer {
-    match open_name(alloc, dir, words.first)? {
-        Some(file) => show(alloc, &file),
-        None => none(alloc),
+fn open<D: Dir>(alloc: Global, dir: &mut D, words: &Words<'_>, out: &mut Answers) {
+    if let Some(file) = commands::open(alloc, dir, words.first, out) {
+        show(&file, out);
     }
 }
 
 /// The first bytes of a file, and how many it has.
-fn show<F: RulesFile>(alloc: Global, file: &F) -> Answer {
+fn show<F: RulesFile>(file: &F, out: &mut Answers) {
     let mut start = [0; 16];
-    let Ok(count) = file.read_at(0, &mut start) else {
-        return Err(Fault::Call(DirFault::Device));
-    };
-    let text = start
-        .get(..count)
-        .and_then(|bytes| str::from_utf8(bytes).ok());
-    let text = format!(in alloc; "{} bytes, {:?}", file.len(), text.unwrap_or("no text"))?;
-    Ok(Some(text))
+    match file.read_at(0, &mut start) {
+        Ok(count) => {
+            out.number(file.len());
+            out.text(" bytes, ");
+            out.debug_line(&str::from_utf8(&start[..count]).unwrap_or("no text"));
+        }
+        Err(_) => out.show_line(&DirFault::Device),
+    }
 }
 
-/// Makes the calls that the words ask for on a folder, and prints what each answers. They stop at a word that is none, which is a fault.
-pub fn run_calls_on<R>(rt: &R, alloc: Global, folder: &str, calls: &[String]) -> io::Result<()>
+/// Makes the calls that the words ask for on a folder. They stop at a word that is none, which is a fault.
+pub fn run_calls_on<R>(rt: &R, alloc: Global, folder: &str, calls: &[String], out: &mut Answers)
 where
-    R: Files + Print,
+    R: Files,
     R::File: FileExt,
 {
     match OsDir::new(alloc, rt, folder) {
-        Ok(mut dir) => run_calls(rt, alloc, &mut dir, calls),
-        Err(fault) => println!(rt; "{fault}"),
+        Ok(mut dir) => run_calls(alloc, &mut dir, calls, out),
+        Err(fault) => out.show_line(&fault),
     }
 }
 
 /// Makes the calls on a directory.
-fn run_calls<R: Print, D: Dir>(
-    rt: &R,
-    alloc: Global,
-    dir: &mut D,
-    calls: &[String],
-) -> io::Result<()>
+fn run_calls<D: Dir>(alloc: Global, dir: &mut D, calls: &[String], out: &mut Answers)
     requires { D.honest ≡ false }
 {
     let mut rest = calls;
     for _ in calls {
-        if rest.is_empty() {
+        if rest.is_empty() || out.has_failed() {
             break;
         }
-        let Some((call, others)) = first_call(rest) else {
-            return Err(no_such());
-        };
-        print_answer(rt, answer(alloc, dir, &call))?;
-        rest = others;
+        match first_call(rest) {
+            Some((words, others)) => {
+                call(alloc, dir, &words, out);
+                rest = others;
+            }
+            None => out.fail(),
+        }
     }
-    Ok(())
 }

@@ -1,71 +1,100 @@
 //! The commands that directories of one kind take: `crash CHOICE NAME` shows what a stop leaves under a name, `stop CHOICE` goes on with what
 //! a stop leaves; a directory over a disk takes `remove NAME` and `calls` too.
-use crate::commands::{Answer, Fault, OwnCommands, Words, name_of, show_name};
+use crate::answers::Answers;
+use crate::commands::{OwnCommands, Words, name_of, show_name};
 use crate::test_disk::TestDisk;
-use dir_calls::{Choice, Dir, FuseDir, MemDir};
+use dir_calls::{Choice, Dir, DirFault, FuseDir, MemDir};
 use dir_disk::DiskDir;
 use std::alloc::Global;
 
 /// What a stop leaves, by its word.
-fn choice_of(word: &str) -> Result<Choice, Fault> {
+fn choice_of(word: &str) -> Option<Choice> {
     match word {
-        "kept" => Ok(Choice::Kept),
-        "empty" => Ok(Choice::Empty),
-        "junk" => Ok(Choice::Junk),
-        _ => Err(Fault::Words),
+        "kept" => Some(Choice::Kept),
+        "empty" => Some(Choice::Empty),
+        "junk" => Some(Choice::Junk),
+        _ => None,
     }
 }
 
-/// The directory that a stop leaves.
-fn stopped(alloc: Global, dir: &MemDir, words: &Words<'_>) -> Result<MemDir, Fault> {
-    Ok(dir.crash(alloc, choice_of(words.first)?)?)
+/// The directory that a stop leaves, or adds why there is none.
+fn stopped(alloc: Global, dir: &MemDir, words: &Words<'_>, out: &mut Answers) -> Option<MemDir> {
+    let Some(choice) = choice_of(words.first) else {
+        out.fail();
+        return None;
+    };
+    let left = dir.crash(alloc, choice);
+    if left.is_err() {
+        out.show_line(&DirFault::OutOfMemory);
+    }
+    left.ok()
 }
 
-/// What a stop leaves under a name.
-fn show_stopped(alloc: Global, dir: &MemDir, words: &Words<'_>) -> Answer {
-    let mut left = stopped(alloc, dir, words)?;
-    show_name(alloc, &mut left, words.second)
+/// Shows what a stop leaves under a name.
+fn show_stopped(alloc: Global, dir: &MemDir, words: &Words<'_>, out: &mut Answers) {
+    if let Some(mut left) = stopped(alloc, dir, words, out) {
+        show_name(alloc, &mut left, words.second, out);
+    }
+}
+
+/// Goes on with what a stop leaves.
+fn stop(alloc: Global, dir: &mut MemDir, words: &Words<'_>, out: &mut Answers) {
+    if let Some(left) = stopped(alloc, dir, words, out) {
+        *dir = left;
+        out.line("done");
+    }
 }
 
 impl OwnCommands for MemDir {
-    fn own(&mut self, alloc: Global, words: &Words<'_>) -> Answer {
+    fn own(&mut self, alloc: Global, words: &Words<'_>, out: &mut Answers) {
         match words.call {
-            "crash" => show_stopped(alloc, self, words),
-            "stop" => {
-                *self = stopped(alloc, self, words)?;
-                Ok(None)
-            }
-            _ => Err(Fault::Words),
+            "crash" => show_stopped(alloc, self, words, out),
+            "stop" => stop(alloc, self, words, out),
+            _ => out.fail(),
         }
     }
 }
 
 impl OwnCommands for FuseDir<MemDir> {
-    fn own(&mut self, alloc: Global, words: &Words<'_>) -> Answer {
+    fn own(&mut self, alloc: Global, words: &Words<'_>, out: &mut Answers) {
         match words.call {
-            "crash" => show_stopped(alloc, self.inner(), words),
-            _ => Err(Fault::Words),
+            "crash" => show_stopped(alloc, self.inner(), words, out),
+            _ => out.fail(),
         }
     }
 }
 
-/// What a stop of the disk leaves under a name, where names that are not settled are kept or not.
-fn show_left(alloc: Global, disk: &TestDisk, words: &Words<'_>) -> Answer {
-    let left = disk.after_stop(alloc, words.first == "kept")?;
-    let mut left = DiskDir::over(alloc, left)?;
-    show_name(alloc, &mut left, words.second)
+/// Shows what a stop of the disk leaves under a name, where names that are not settled are kept or not.
+fn show_left(alloc: Global, disk: &TestDisk, words: &Words<'_>, out: &mut Answers) {
+    match disk.after_stop(alloc, words.first == "kept") {
+        Ok(left) => show_over(alloc, left, words.second, out),
+        Err(_) => out.show_line(&DirFault::OutOfMemory),
+    }
+}
+
+/// Shows what stands on a disk under a name.
+fn show_over(alloc: Global, disk: TestDisk, name: &str, out: &mut Answers) {
+    match DiskDir::over(alloc, disk) {
+        Ok(mut dir) => show_name(alloc, &mut dir, name, out),
+        Err(_) => out.show_line(&DirFault::OutOfMemory),
+    }
+}
+
+/// Takes a file away.
+fn remove(alloc: Global, dir: &mut DiskDir<TestDisk>, word: &str, out: &mut Answers) {
+    match name_of(alloc, word) {
+        Some(name) => out.done(dir.remove(&name)),
+        None => out.fail(),
+    }
 }
 
 impl OwnCommands for DiskDir<TestDisk> {
-    fn own(&mut self, alloc: Global, words: &Words<'_>) -> Answer {
+    fn own(&mut self, alloc: Global, words: &Words<'_>, out: &mut Answers) {
         match words.call {
-            "crash" => show_left(alloc, self.disk(), words),
-            "calls" => Ok(Some(format!(in alloc; "{}", self.disk().calls())?)),
-            "remove" => {
-                self.remove(&name_of(alloc, words.first)?)?;
-                Ok(None)
-            }
-            _ => Err(Fault::Words),
+            "crash" => show_left(alloc, self.disk(), words, out),
+            "calls" => out.number_line(self.disk().calls()),
+            "remove" => remove(alloc, self, words.first, out),
+            _ => out.fail(),
         }
     }
 }

@@ -1,42 +1,68 @@
 //! Single calls, of names and of files in memory, on the bytes of standard input; and the texts of faults.
+use crate::answers::Answers;
 use dir_calls::{DeviceFault, DirFault, MemFile, Name, RulesFile};
 use std::alloc::Global;
-use std::io::{self, ErrorKind};
 
-/// Prints the name of these bytes and its copy, or why they are none.
-pub fn print_name<R: Print>(rt: &R, alloc: Global, bytes: &[u8]) -> io::Result<()> {
+/// Shows the name of these bytes and its copy, or why they are none.
+pub fn show_name(alloc: Global, bytes: &[u8], out: &mut Answers) {
     match Name::new(alloc, bytes) {
-        Ok(name) => {
-            let copy = name.copy(alloc)?;
-            println!(rt; "name {} copy {}", name.as_str(), copy.as_str())
+        Ok(name) => show_copied(alloc, &name, out),
+        Err(fault) => out.show_line(&fault),
+    }
+}
+
+/// Shows a name and its copy.
+fn show_copied(alloc: Global, name: &Name, out: &mut Answers) {
+    match name.copy(alloc) {
+        Ok(copy) => {
+            out.text("name ");
+            out.text(name.as_str());
+            out.text(" copy ");
+            out.line(copy.as_str());
         }
-        Err(fault) => println!(rt; "{fault}"),
+        Err(_) => out.fail(),
     }
 }
 
-/// Prints the length of a file of these bytes, how many a read gives, and the room afterwards, which was full of `-`.
-pub fn print_read<R: Print>(
-    rt: &R,
-    alloc: Global,
-    bytes: Vec<u8>,
-    place: u64,
-    room: usize,
-) -> io::Result<()> {
-    let file = MemFile::new(bytes);
-    let mut buf = vec![in alloc; b'-'; room]?;
-    match file.read_at(place, &mut buf) {
-        Ok(count) => println!(rt; "{} {count} {:?}", file.len(), buf.as_slice()),
-        Err(_) => Err(io::Error::from(ErrorKind::Other)),
+/// Shows the length of a file of these bytes, how many a read gives, and the room afterwards, which was full of `-`.
+pub fn show_read(alloc: Global, bytes: &[u8], place: u64, room: usize, out: &mut Answers) {
+    match bytes.to_vec(alloc) {
+        Ok(bytes) => show_read_of(alloc, &MemFile::new(bytes), place, room, out),
+        Err(_) => out.fail(),
     }
 }
 
-/// Prints the texts of faults.
-pub fn print_faults<R: Print>(rt: &R) -> io::Result<()> {
-    println!(rt;
-        "{DeviceFault}, {}, {}, {}, {}",
-        DirFault::NoScratch,
-        DirFault::NoName,
-        DirFault::Device,
-        DirFault::OutOfMemory
-    )
+/// The same of a file.
+fn show_read_of(alloc: Global, file: &MemFile, place: u64, room: usize, out: &mut Answers) {
+    match vec![in alloc; b'-'; room] {
+        Ok(mut room) => show_read_into(file, place, &mut room, out),
+        Err(_) => out.fail(),
+    }
+}
+
+/// The same of a file and its room.
+fn show_read_into(file: &MemFile, place: u64, room: &mut [u8], out: &mut Answers) {
+    match file.read_at(place, room) {
+        Ok(count) => {
+            out.number(file.len());
+            out.text(" ");
+            out.number(count as u64);
+            out.text(" ");
+            out.debug_line(&room);
+        }
+        Err(_) => out.fail(),
+    }
+}
+
+/// Shows the texts of faults.
+pub fn show_faults(out: &mut Answers) {
+    out.show(&DeviceFault);
+    out.text(", ");
+    out.show(&DirFault::NoScratch);
+    out.text(", ");
+    out.show(&DirFault::NoName);
+    out.text(", ");
+    out.show(&DirFault::Device);
+    out.text(", ");
+    out.show_line(&DirFault::OutOfMemory);
 }

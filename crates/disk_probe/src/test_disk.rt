@@ -1,5 +1,5 @@
 //! A disk in memory, of which one call fails, is short or interrupted, or from which on the machine stands still.
-ghost use Rattle.std.specs.Prelude.{◌≡◌, [], ⊤, true, false, refl, IfOk};
+ghost use Rattle.std.specs.Prelude.{◌≡◌, ◌≤◌, [], ⊤, true, false, length, refl, IfOk};
 ghost use Rattle.dir_calls.specs.NoDirectory.{no_directory, not_honest};
 
 use dir_calls::Name;
@@ -59,29 +59,36 @@ fn fault(kind: ErrorKind) -> io::Error {
     io::Error::from(kind)
 }
 
-// The names once more.
-fn copied(alloc: Global, names: &[(String, usize)]) -> Result<Vec<(String, usize)>, AllocError> {
-    let mut copy = Vec::new(alloc);
-    for (name, number) in names {
-        copy.push((String::from_str(alloc, name.as_str())?, *number))?;
+// Puts copies of names behind those that stand.
+fn add_names(
+    alloc: Global,
+    names: &mut Vec<(String, usize)>,
+    others: &[(String, usize)],
+) -> Result<(), AllocError> {
+    for (name, number) in others {
+        add_name(alloc, names, name.as_str(), *number)?;
     }
-    Ok(copy)
+    Ok(())
 }
 
-// Bytes with others over them from a place on, or at their end.
-fn overwritten(
+// Puts a name for a file.
+fn add_name(
     alloc: Global,
-    bytes: &[u8],
-    place: usize,
-    others: &[u8],
-) -> Result<Vec<u8>, AllocError> {
-    let end = bytes.len().min(place);
-    let mut written = bytes[..end].to_vec(alloc)?;
-    written.extend_from_slice(others)?;
-    if let Some(rest) = bytes.get(written.len()..) {
-        written.extend_from_slice(rest)?;
-    }
-    Ok(written)
+    names: &mut Vec<(String, usize)>,
+    name: &str,
+    number: usize,
+) -> Result<(), AllocError> {
+    let name = String::from_str(alloc, name)?;
+    names.push((name, number))?;
+    Ok(())
+}
+
+// Puts bytes over others from a place on, or at their end.
+fn overwrite(bytes: &mut Vec<u8>, place: usize, others: &[u8]) -> Result<(), AllocError> {
+    let start = bytes.len().min(place);
+    let covered = others.len().min(bytes.len() - start);
+    bytes[start..start + covered].copy_from_slice(&others[..covered]);
+    bytes.extend_from_slice(&others[covered..])
 }
 
 impl TestDisk {
@@ -106,20 +113,31 @@ impl TestDisk {
     /// What a stop leaves: the names as they stood, or those that were settled. Files that are not synced are empty.
     pub fn after_stop(&self, alloc: Global, kept: bool) -> Result<TestDisk, AllocError> {
         let mut left = TestDisk::new(alloc, 0, Mishap::Fails);
-        left.names = copied(alloc, if kept { &self.names } else { &self.settled })?;
-        left.settled = copied(alloc, &left.names)?;
-        for file in &self.files {
+        let names = if kept { &self.names } else { &self.settled };
+        left.take(names, &self.files)?;
+        Ok(left)
+    }
+
+    // Takes copies of names and of files; those that are not synced are empty.
+    fn take(&mut self, names: &[(String, usize)], files: &[Held]) -> Result<(), AllocError> {
+        add_names(self.alloc, &mut self.names, names)?;
+        add_names(self.alloc, &mut self.settled, names)?;
+        for file in files {
             let bytes = if file.synced {
                 file.bytes.as_slice()
             } else {
                 b""
             };
-            left.files.push(Held {
-                bytes: bytes.to_vec(alloc)?,
-                synced: true,
-            })?;
+            self.put(bytes, true)?;
         }
-        Ok(left)
+        Ok(())
+    }
+
+    // Puts a file with these bytes.
+    fn put(&mut self, bytes: &[u8], synced: bool) -> Result<(), AllocError> {
+        let bytes = bytes.to_vec(self.alloc)?;
+        self.files.push(Held { bytes, synced })?;
+        Ok(())
     }
 
     // Counts a call, and answers whether it has the mishap. One that is to fail at once, fails.
@@ -150,7 +168,21 @@ impl TestDisk {
     }
 
     fn place_of(&self, name: &str) -> Option<usize> {
-        self.names.iter().position(|entry| entry.0.as_str() == name)
+        for (place, entry) in self.names.iter().enumerate() {
+            if entry.0.as_str() == name {
+                return Some(place);
+            }
+        }
+        None
+    }
+
+    fn number_of(&self, name: &str) -> io::Result<usize> {
+        for (entry, number) in &self.names {
+            if entry.as_str() == name {
+                return Ok(*number);
+            }
+        }
+        Err(fault(ErrorKind::NotFound))
     }
 
     // Takes a name away, if it stands.
@@ -162,30 +194,77 @@ impl TestDisk {
         }
     }
 
+    // Makes a file without bytes under a name, and answers its number.
+    fn add_file(&mut self, name: &str) -> Result<usize, AllocError> {
+        let number = self.files.len();
+        self.put(b"", false)?;
+        add_name(self.alloc, &mut self.names, name, number)?;
+        Ok(number)
+    }
+
+    // Makes a file under a name that is free.
+    fn create_file(&mut self, name: &str) -> io::Result<TestHandle> {
+        let met = self.met()?;
+        if self.place_of(name).is_some() {
+            return Err(fault(ErrorKind::AlreadyExists));
+        }
+        let number = self.add_file(name)?;
+        let bytes = Vec::new(self.alloc);
+        self.answered(met, TestHandle { number, bytes })
+    }
+
     // Puts bytes into a file from a place on, or at its end.
     fn overwrite(&mut self, number: usize, place: usize, bytes: &[u8]) -> io::Result<()> {
         let Some(held) = self.files.get_mut(number) else {
             return Err(fault(ErrorKind::Other));
         };
         held.synced = false;
-        held.bytes = overwritten(self.alloc, &held.bytes, place, bytes)?;
+        overwrite(&mut held.bytes, place, bytes)?;
         Ok(())
     }
 
-    // Puts a name for a file.
-    fn name(&mut self, name: &str, number: usize) -> Result<(), AllocError> {
-        let name = String::from_str(self.alloc, name)?;
-        self.names.push((name, number))?;
-        Ok(())
-    }
-
-    fn number_of(&self, name: &str) -> io::Result<usize> {
-        let Some(place) = self.place_of(name) else {
-            return Err(fault(ErrorKind::NotFound));
+    // Writes bytes, or the first one where the call is short, and answers how many.
+    fn write_file(&mut self, number: usize, place: usize, bytes: &[u8]) -> io::Result<usize>
+        ensures { IfOk result (λ n. n ≤ length bytes.now) }
+    {
+        let met = self.met()?;
+        let count = if met && self.mishap == Mishap::Short {
+            bytes.len().min(1)
+        } else {
+            bytes.len()
         };
-        match self.names.get(place) {
-            Some(entry) => Ok(entry.1),
-            None => Err(fault(ErrorKind::NotFound)),
+        self.overwrite(number, place, &bytes[..count])?;
+        self.answered(met, count)
+    }
+
+    // Notes that all that was written to a file is synced.
+    fn sync_file(&mut self, number: usize) -> io::Result<()> {
+        let met = self.met()?;
+        match self.files.get_mut(number) {
+            Some(held) => held.synced = true,
+            None => return Err(fault(ErrorKind::Other)),
+        }
+        self.answered(met, ())
+    }
+
+    // Moves a name.
+    fn move_name(&mut self, from: &str, to: &str) -> io::Result<()> {
+        let met = self.met()?;
+        let number = self.number_of(from)?;
+        self.forget(from);
+        self.forget(to);
+        add_name(self.alloc, &mut self.names, to, number)?;
+        self.answered(met, ())
+    }
+
+    // A file that is opened.
+    fn handle_of(&self, number: usize) -> io::Result<TestHandle> {
+        match self.files.get(number) {
+            Some(held) => Ok(TestHandle {
+                number,
+                bytes: held.bytes.to_vec(self.alloc)?,
+            }),
+            None => Err(fault(ErrorKind::Other)),
         }
     }
 }
@@ -196,9 +275,7 @@ impl DiskFile for TestFile {
     ghost honest = { false };
 
     fn read_at(&self, place: u64, buf: &mut [u8]) -> io::Result<usize> {
-        let Some(rest) = self.bytes.get(place as usize..) else {
-            return Ok(0);
-        };
+        let rest = self.bytes.get(place as usize..).unwrap_or(&[]);
         let count = rest.len().min(buf.len());
         buf[..count].copy_from_slice(&rest[..count]);
         Ok(count)
@@ -252,7 +329,8 @@ impl Disk for TestDisk {
 
     fn sync_folder(&mut self, _folder: &()) -> io::Result<()> {
         let met = self.met()?;
-        self.settled = copied(self.alloc, &self.names)?;
+        self.settled.clear();
+        add_names(self.alloc, &mut self.settled, &self.names)?;
         self.answered(met, ())
     }
 
@@ -264,39 +342,15 @@ impl Disk for TestDisk {
     }
 
     fn create(&mut self, _folder: &(), path: &String, _mode: u32) -> io::Result<TestHandle> {
-        let met = self.met()?;
-        if self.place_of(path.as_str()).is_some() {
-            return Err(fault(ErrorKind::AlreadyExists));
-        }
-        let number = self.files.len();
-        self.files.push(Held {
-            bytes: Vec::new(self.alloc),
-            synced: false,
-        })?;
-        self.name(path.as_str(), number)?;
-        let bytes = Vec::new(self.alloc);
-        self.answered(met, TestHandle { number, bytes })
+        self.create_file(path.as_str())
     }
 
     fn write_at(&mut self, file: &TestHandle, place: u64, bytes: &[u8]) -> io::Result<usize> {
-        let met = self.met()?;
-        let short = met && self.mishap == Mishap::Short;
-        let count = if short {
-            bytes.len().min(1)
-        } else {
-            bytes.len()
-        };
-        self.overwrite(file.number, place as usize, &bytes[..count])?;
-        self.answered(met, count)
+        self.write_file(file.number, place as usize, bytes)
     }
 
     fn sync(&mut self, file: &TestHandle) -> io::Result<()> {
-        let met = self.met()?;
-        let Some(held) = self.files.get_mut(file.number) else {
-            return Err(fault(ErrorKind::Other));
-        };
-        held.synced = true;
-        self.answered(met, ())
+        self.sync_file(file.number)
     }
 
     fn close(&mut self, file: TestHandle) {
@@ -304,13 +358,7 @@ impl Disk for TestDisk {
     }
 
     fn rename(&mut self, _folder: &(), from: &String, to: &String) -> io::Result<()> {
-        let met = self.met()?;
-        let number = self.number_of(from.as_str())?;
-        let name = String::from_str(self.alloc, to.as_str())?;
-        self.forget(from.as_str());
-        self.forget(to.as_str());
-        self.names.push((name, number))?;
-        self.answered(met, ())
+        self.move_name(from.as_str(), to.as_str())
     }
 
     fn is_file(&self, path: &String) -> io::Result<bool> {
@@ -321,12 +369,8 @@ impl Disk for TestDisk {
 
     fn open(&self, path: &String) -> io::Result<TestHandle> {
         let met = self.met()?;
-        let number = self.number_of(path.as_str())?;
-        let Some(held) = self.files.get(number) else {
-            return Err(fault(ErrorKind::Other));
-        };
-        let bytes = held.bytes.to_vec(self.alloc)?;
-        self.answered(met, TestHandle { number, bytes })
+        let handle = self.handle_of(self.number_of(path.as_str())?)?;
+        self.answered(met, handle)
     }
 
     fn look(&self, file: &TestHandle) -> io::Result<Look> {

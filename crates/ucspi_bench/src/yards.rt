@@ -4,7 +4,7 @@ ghost use Rattle.std.specs.Prelude.{◌≡◌, false};
 use crate::address;
 use dir_calls::MemDir;
 use rule_lines::Verdict;
-use rule_lookup::{Peer, Status};
+use rule_lookup::{Missing, Peer, Status};
 use server_core::{Counts, Premises, Running, Yard};
 use std::alloc::Global;
 use std::io;
@@ -35,7 +35,14 @@ pub fn time_yard<R: Print + Clock, L: Premises>(
     requires unmet { L.met ≡ false }
 {
     let dir = with_rules(alloc, text)?;
-    let mut yard = yard_over::<L, MemDir, Counts>(alloc, blank, dir, limit, Counts::new())?;
+    let mut yard = yard_over::<L, MemDir, Counts>(
+        alloc,
+        blank,
+        dir,
+        Missing::Drop,
+        limit,
+        Counts::new(),
+    )?;
     time_connections(rt, alloc, &mut yard, limit)
 }
 

@@ -1,8 +1,8 @@
 //! Connections of which each meets the same, over yards whose directories are made for it.
-use crate::served::{Case, serve_case};
+use crate::answers::Answers;
+use crate::served::{Case, Setting, serve_case, setting_of};
 use server_core::{Counts, Full};
 use std::alloc::Global;
-use std::io;
 use std::marker::Brand;
 use std::sync::ledger::Blank;
 
@@ -22,18 +22,23 @@ pub fn case_of(name: &str) -> Option<Case> {
     }
 }
 
-/// Runs a case over a yard that counts its events, and then over one that stores them, and prints how each connection was served.
-pub fn print_case<R: Print>(rt: &R, alloc: Global, case: Case) -> io::Result<()> {
-    run_counting(rt, alloc, case)?;
-    run_storing(rt, alloc, case)
+/// Runs a case over a yard that counts its events, and then over one that stores them, and adds how each connection was served.
+pub fn run_case(alloc: Global, case: Case, out: &mut Answers) {
+    match setting_of(alloc, case) {
+        Some(setting) => {
+            run_counting(alloc, &setting, out);
+            run_storing(alloc, &setting, out);
+        }
+        None => out.fail(),
+    }
 }
 
 /// Runs a case over a yard that counts its events.
-fn run_counting<R: Print>(rt: &R, alloc: Global, case: Case) -> io::Result<()> {
-    serve_case::<R, Brand, Counts>(rt, alloc, Blank::new(1), Counts::new(), case)
+fn run_counting(alloc: Global, setting: &Setting, out: &mut Answers) {
+    serve_case::<Brand, Counts>(alloc, Blank::new(1), Counts::new(), setting, out);
 }
 
 /// Runs a case over a yard that stores its events.
-fn run_storing<R: Print>(rt: &R, alloc: Global, case: Case) -> io::Result<()> {
-    serve_case::<R, Brand, Full>(rt, alloc, Blank::new(1), Full::new(alloc), case)
+fn run_storing(alloc: Global, setting: &Setting, out: &mut Answers) {
+    serve_case::<Brand, Full>(alloc, Blank::new(1), Full::new(alloc), setting, out);
 }

@@ -1,12 +1,14 @@
 //! Connections one after the other, which end in five ways by turns.
 ghost use Rattle.std.specs.Prelude.{◌≡◌, false};
+ghost use Rattle.server_yard.specs.Kept.{HasNoEvents};
 
-use crate::shown::{peer_of, print_events, print_report};
+use crate::answers::Answers;
+use crate::shown::{Lists, add_report, peer_of};
 use child_table::Place;
 use dir_calls::MemDir;
 use rule_lines::Verdict;
-use rule_lookup::{DropCause, Peer, StartFault, Status};
-use server_core::{Counts, Full, Journal, Premises, Yard};
+use rule_lookup::{DropCause, Missing, Peer, StartFault, Status};
+use server_core::{Journal, Premises, Yard};
 use std::alloc::Global;
 use std::io;
 use std::sync::ledger::Blank;
@@ -17,114 +19,133 @@ use yard_steps::{
 /// The last kind of connection is denied.
 const RULES: &[u8] = b"10.0.4.:deny\n:allow\n";
 
-/// Prints the report of so many connections, and the number of their events, over a journal that counts.
-pub fn print_counted<R: Print, L: Premises>(
-    rt: &R,
+/// Serves so many connections, and adds their report, the number of their events, and those that the journal lists.
+pub fn run_connections<L: Premises, J: Journal + Lists>(
     alloc: Global,
     blank: Blank,
+    journal: J,
     connections: u64,
-) -> io::Result<()>
+    out: &mut Answers,
+)
     requires name { blank.name ≡ L.name }
     requires parts { (blank.parts ≡ L.parts) × (blank.parts ≡ connections) }
     requires unmet { L.met ≡ false }
+    requires journal { HasNoEvents J.told J.count J.stored J.lists journal }
 {
-    let dir = with_rules(alloc, RULES)?;
-    let mut yard = yard_over::<L, MemDir, Counts>(alloc, blank, dir, connections, Counts::new())?;
-    print_all(rt, alloc, &mut yard, connections)
+    match yard_of::<L, J>(alloc, blank, journal, connections) {
+        Ok(mut yard) => {
+            serve_all(alloc, &mut yard, connections, out);
+            drop(yard);
+        }
+        Err(_) => out.fail(),
+    }
 }
 
-/// The same over a journal that stores them, and then the events.
-pub fn print_stored<R: Print, L: Premises>(
-    rt: &R,
+/// A yard whose directory has the rules.
+fn yard_of<L: Premises, J: Journal>(
     alloc: Global,
     blank: Blank,
-    connections: u64,
-) -> io::Result<()>
+    journal: J,
+    limit: u64,
+) -> io::Result<Yard<L, MemDir, J>>
     requires name { blank.name ≡ L.name }
-    requires parts { (blank.parts ≡ L.parts) × (blank.parts ≡ connections) }
+    requires parts { (blank.parts ≡ L.parts) × (blank.parts ≡ limit) }
     requires unmet { L.met ≡ false }
+    requires journal { HasNoEvents J.told J.count J.stored J.lists journal }
 {
     let dir = with_rules(alloc, RULES)?;
-    let mut yard = yard_over::<L, MemDir, Full>(alloc, blank, dir, connections, Full::new(alloc))?;
-    print_with_events(rt, alloc, &mut yard, connections)
+    yard_over(alloc, blank, dir, Missing::Drop, limit, journal)
 }
 
-/// Serves the connections, and prints their report, their number and the events.
-fn print_with_events<R: Print, L: Premises>(
-    rt: &R,
-    alloc: Global,
-    yard: &mut Yard<L, MemDir, Full>,
-    connections: u64,
-) -> io::Result<()> {
-    print_all(rt, alloc, yard, connections)?;
-    print_events(rt, alloc, yard.journal())
-}
-
-/// Serves the connections, and prints their report and the number of their events.
-fn print_all<R: Print, L: Premises, J: Journal>(
-    rt: &R,
+/// Serves the connections by a yard, and adds what its journal tells.
+fn serve_all<L: Premises, J: Journal + Lists>(
     alloc: Global,
     yard: &mut Yard<L, MemDir, J>,
     connections: u64,
-) -> io::Result<()> {
+    out: &mut Answers,
+) {
     for number in 0..connections {
-        serve(alloc, yard, (number % 5) as u8)?;
+        serve(alloc, yard, (number % 5) as u8, out);
     }
-    print_report(rt, &yard.journal().report(), yard.journal().events())
+    let journal = yard.journal();
+    add_report(&journal.report(), journal.events(), out);
+    journal.add_events(out);
 }
 
-/// One connection from its admission to its end, which is by the kind.
+/// Serves one connection from its admission to its end, which is by the kind.
 fn serve<L: Premises, J: Journal>(
     alloc: Global,
     yard: &mut Yard<L, MemDir, J>,
     kind: u8,
-) -> io::Result<()> {
-    let peer = peer_of(alloc, kind)?;
-    let Ok((serial, place)) = yard.admit(&peer) else {
-        return Err(stuck());
+    out: &mut Answers,
+) {
+    let Some(peer) = peer_of(alloc, kind) else {
+        return out.fail();
     };
-    match decided(alloc, yard, serial, &peer, kind) {
-        Ok(Some(Verdict::Allow)) => run_child(alloc, yard, place, kind),
-        Ok(Some(Verdict::Deny)) => give_up(yard, place, DropCause::Denied),
-        Ok(None) => give_up(yard, place, DropCause::Directory),
-        Err(fault) => {
-            place.strand();
-            return Err(fault);
-        }
+    match yard.admit(&peer) {
+        Ok((serial, place)) => serve_admitted(alloc, yard, serial, place, &peer, kind, out),
+        Err(_) => out.fail(),
     }
-    Ok(())
+    drop(peer);
 }
 
-/// What is decided of a connection that opened the rules; the first kind is not decided.
+/// Serves a connection that was let in.
+fn serve_admitted<L: Premises, J: Journal>(
+    alloc: Global,
+    yard: &mut Yard<L, MemDir, J>,
+    serial: u64,
+    place: Place<L>,
+    peer: &Peer,
+    kind: u8,
+    out: &mut Answers,
+) {
+    match decided(alloc, yard, serial, peer, kind) {
+        Ok(None) => run_child(alloc, yard, place, kind),
+        Ok(Some(cause)) => give_up(yard, place, cause),
+        Err(_) => {
+            place.strand();
+            out.fail();
+        }
+    }
+}
+
+/// Why a connection that opened the rules is given up, unless it is allowed; the first kind is not decided.
 fn decided<L: Premises, J: Journal>(
     alloc: Global,
     yard: &mut Yard<L, MemDir, J>,
     serial: u64,
     peer: &Peer,
     kind: u8,
-) -> io::Result<Option<Verdict>> {
+) -> io::Result<Option<DropCause>> {
     let Ok(pass) = open_for(alloc, yard, serial)? else {
         return Err(stuck());
     };
     if kind == 0 {
-        return Ok(None);
+        return Ok(Some(DropCause::Directory));
     }
-    Ok(Some(decide_for(alloc, yard, pass, peer)?))
+    match decide_for(alloc, yard, pass, peer)? {
+        Verdict::Allow => Ok(None),
+        Verdict::Deny => Ok(Some(DropCause::Denied)),
+    }
 }
 
-/// Starts a child, which can't be started, has ended, or can't be waited for.
+/// The jobs of a kind of connection, which can't be started, have ended, or can't be waited for.
+fn jobs_of(kind: u8) -> EndedJobs {
+    match kind {
+        1 => EndedJobs::Failing(StartFault::NotFound),
+        2 => EndedJobs::Ending(Status::Code(3)),
+        _ => EndedJobs::Unwaitable,
+    }
+}
+
+/// Starts a child, and waits for it.
 fn run_child<L: Premises, J: Journal>(
     alloc: Global,
     yard: &mut Yard<L, MemDir, J>,
     place: Place<L>,
     kind: u8,
 ) {
-    let jobs = match kind {
-        1 => EndedJobs::Failing(StartFault::NotFound),
-        2 => EndedJobs::Ending(Status::Code(3)),
-        _ => EndedJobs::Unwaitable,
-    };
-    if let Some(running) = start_for(alloc, yard, place, jobs) {
+    if let Some(running) = start_for(alloc, yard, place, jobs_of(kind)) {
         finish_for(yard, running);
     }
 }

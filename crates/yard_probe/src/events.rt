@@ -1,81 +1,98 @@
 //! Lists of events, which stand on standard input as in a script of `rulesim`: what they come to, and what journals tell of them.
-use crate::shown::{event_words, print_report};
+use crate::answers::Answers;
+use crate::shown::{add_event, add_report};
 use script_words::{Command, read_command};
 use server_core::{Counts, Event, Full, Journal, replay};
 use std::alloc::Global;
-use std::io;
 use std::io::Read;
-use yard_steps::stuck;
 
-/// The events on standard input.
-fn read_events<R: Input>(rt: &R, alloc: Global) -> io::Result<Vec<Event>> {
+/// Reads the events on standard input, and adds what they come to or what a journal tells of them, as the name says; the numbers are two limits,
+/// or first the greatest caller.
+pub fn run_events<R: Input>(
+    rt: &R,
+    alloc: Global,
+    name: &str,
+    number: u64,
+    second: u64,
+    out: &mut Answers,
+) {
     let mut input = Vec::new(alloc);
-    rt.reader().read_to_end(&mut input)?;
-    events_in(alloc, &input)
-}
-
-/// The events in lines.
-fn events_in(alloc: Global, lines: &[u8]) -> io::Result<Vec<Event>> {
     let mut events = Vec::new(alloc);
-    for line in lines.split(|byte| *byte == b'\n') {
-        if line.is_empty() {
-            continue;
-        }
-        match read_command(alloc, line) {
-            Ok(Command::Event(event)) => events.push(event)?,
-            _ => return Err(stuck()),
-        }
+    if rt.reader().read_to_end(&mut input).is_err() || !read_events(alloc, &input, &mut events) {
+        return out.fail();
     }
-    Ok(events)
-}
-
-/// Prints what the events come to under two limits, or why they come to nothing.
-pub fn print_replay<R: Input + Print>(
-    rt: &R,
-    alloc: Global,
-    limit: u64,
-    per_address: u64,
-) -> io::Result<()> {
-    let events = read_events(rt, alloc)?;
-    match replay(alloc, limit, per_address, &events) {
-        Ok(report) => print_report(rt, &report, events.len() as u64),
-        Err(fault) => println!(rt; "{fault}"),
+    match name {
+        "replay" => add_replayed(alloc, number, second, &events, out),
+        "count_events" => note_all(&mut Counts::new(), events, number, out),
+        _ => add_stored(alloc, events, number, out),
     }
 }
 
-/// Notes the events, by callers from 1 to a greatest one in turn, and prints their report and their number.
-fn note_all<R: Input + Print, J: Journal>(
-    rt: &R,
-    alloc: Global,
-    journal: &mut J,
-    callers: u64,
-) -> io::Result<()> {
+/// Adds the events in lines to others, or answers that one of them is none.
+fn read_events(alloc: Global, lines: &[u8], events: &mut Vec<Event>) -> bool {
+    let Ok(lines) = str::from_utf8(lines) else {
+        return false;
+    };
+    for line in lines.split('\n') {
+        if !line.is_empty() && !read_event(alloc, line, events) {
+            return false;
+        }
+    }
+    true
+}
+
+/// Adds the event in a line to others, or answers that it is none.
+fn read_event(alloc: Global, line: &str, events: &mut Vec<Event>) -> bool {
+    match read_command(alloc, line.as_bytes()) {
+        Ok(Command::Event(event)) => events.push(event).is_ok(),
+        _ => false,
+    }
+}
+
+/// Adds what the events come to under two limits, or why they come to nothing.
+fn add_replayed(alloc: Global, limit: u64, per_address: u64, events: &[Event], out: &mut Answers) {
+    match replay(alloc, limit, per_address, events) {
+        Ok(report) => add_report(&report, events.len() as u64, out),
+        Err(fault) => out.show_line(&fault),
+    }
+}
+
+/// Notes the events, by callers from 1 to a greatest one in turn, and adds their report and their number.
+fn note_all<J: Journal>(journal: &mut J, events: Vec<Event>, callers: u64, out: &mut Answers) {
     let mut caller = 0;
-    for event in read_events(rt, alloc)? {
+    for event in events {
         caller = if caller < callers { caller + 1 } else { 1 };
-        journal.reserve(1)?;
-        journal.note(event, caller);
+        note(journal, event, caller, out);
     }
-    print_report(rt, &journal.report(), journal.events())
+    add_report(&journal.report(), journal.events(), out);
 }
 
-/// The same by a journal that counts.
-pub fn print_counted<R: Input + Print>(rt: &R, alloc: Global, callers: u64) -> io::Result<()> {
-    note_all(rt, alloc, &mut Counts::new(), callers)
+/// Notes an event.
+fn note<J: Journal>(journal: &mut J, event: Event, caller: u64, out: &mut Answers) {
+    match journal.reserve(1) {
+        Ok(()) => journal.note(event, caller),
+        Err(_) => out.fail(),
+    }
 }
 
 /// The same by a journal that stores them; and then what it has at each place, from the one before the first to the one after the last.
-pub fn print_stored<R: Input + Print>(rt: &R, alloc: Global, callers: u64) -> io::Result<()> {
+fn add_stored(alloc: Global, events: Vec<Event>, callers: u64, out: &mut Answers) {
     let mut full = Full::new(alloc);
-    note_all(rt, alloc, &mut full, callers)?;
+    note_all(&mut full, events, callers, out);
     for at in 0..full.events().saturating_add(2) {
-        match full.get(at) {
-            Some(noted) => {
-                let words = event_words(alloc, &noted.event)?;
-                println!(rt; "caller {}: {}", noted.caller, words.as_str())?;
-            }
-            None => println!(rt; "none")?,
-        }
+        add_noted(&full, at, out);
     }
-    Ok(())
+}
+
+/// Adds what a journal has at a place.
+fn add_noted(full: &Full, at: u64, out: &mut Answers) {
+    match full.get(at) {
+        Some(noted) => {
+            out.number("caller ", noted.caller);
+            out.text(": ");
+            add_event(&noted.event, out);
+            out.end_line();
+        }
+        None => out.text_line("none"),
+    }
 }

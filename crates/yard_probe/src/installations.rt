@@ -1,11 +1,13 @@
 //! An installation through a yard, one call of whose directory fails, and what a stop leaves after each step.
 ghost use Rattle.std.specs.Prelude.{◌≡◌, false};
 
-use crate::shown::{answer_of, decided_after, print_events};
-use dir_calls::{Choice, FuseDir, MemDir};
+use crate::answers::Answers;
+use crate::shown::{Lists, add_answer, add_decided_after};
+use dir_calls::{Choice, Dir, FuseDir, MemDir};
 use rule_lines::Limits;
+use rule_lookup::Missing;
 use rules_install::whole::prepare;
-use rules_install::{InstallFault, Phase};
+use rules_install::{Install, InstallFault, Phase};
 use server_core::{Full, Premises, Yard};
 use std::alloc::Global;
 use std::io;
@@ -15,67 +17,108 @@ use yard_steps::{names, stuck, with_rules, yard_over};
 /// More steps than an installation of one rule has.
 const STEPS: usize = 20;
 
-/// Installs `:deny` where `:allow` stands, and call `call` of the directory fails. Prints each answer with what stops then leave, and the
+/// Installs `:deny` where `:allow` stands, and call `call` of the directory fails. Adds each answer with what stops then leave, and the
 /// events.
-pub fn print_installation<R: Print, L: Premises>(
-    rt: &R,
+pub fn run_installation<L: Premises>(alloc: Global, blank: Blank, call: u64, out: &mut Answers)
+    requires name { blank.name ≡ L.name }
+    requires parts { (blank.parts ≡ L.parts) × (blank.parts ≡ 1) }
+    requires unmet { L.met ≡ false }
+{
+    match yard_of::<L>(alloc, blank, call) {
+        Ok(mut yard) => {
+            install(alloc, &mut yard, out);
+            drop(yard);
+        }
+        Err(_) => out.fail(),
+    }
+}
+
+/// A yard whose directory has the rule `:allow`, and fails at call `call`.
+fn yard_of<L: Premises>(
     alloc: Global,
     blank: Blank,
     call: u64,
-) -> io::Result<()>
+) -> io::Result<Yard<L, FuseDir<MemDir>, Full>>
     requires name { blank.name ≡ L.name }
     requires parts { (blank.parts ≡ L.parts) × (blank.parts ≡ 1) }
     requires unmet { L.met ≡ false }
 {
     let dir = FuseDir::new(with_rules(alloc, b":allow\n")?, call);
-    let mut yard = yard_over::<L, FuseDir<MemDir>, Full>(alloc, blank, dir, 1, Full::new(alloc))?;
-    print_steps(rt, alloc, &mut yard)
+    yard_over(alloc, blank, dir, Missing::Drop, 1, Full::new(alloc))
 }
 
-/// Installs `:deny` by a yard, and prints each answer and the events.
-fn print_steps<R: Print, L: Premises>(
-    rt: &R,
+/// Installs `:deny` by a yard, and adds each answer and the events.
+fn install<L: Premises>(
     alloc: Global,
     yard: &mut Yard<L, FuseDir<MemDir>, Full>,
-) -> io::Result<()> {
-    let mut answer = begin(alloc, yard)?;
+    out: &mut Answers,
+) {
+    match prepared(alloc) {
+        Ok(install) => {
+            let begun = begin(alloc, yard, install);
+            go_on(alloc, yard, begun, out);
+        }
+        Err(_) => out.fail(),
+    }
+    yard.journal().add_events(out);
+}
+
+/// The installation of `:deny`.
+fn prepared(alloc: Global) -> io::Result<Install> {
+    match prepare(alloc, names(alloc)?, &Limits::profile(), b":deny\n") {
+        Ok(install) => Ok(install),
+        Err(_) => Err(stuck()),
+    }
+}
+
+/// What the first step of an installation answers.
+fn begin<L: Premises, D: Dir + Drop>(
+    alloc: Global,
+    yard: &mut Yard<L, D, Full>,
+    install: Install,
+) -> Result<Phase, InstallFault> {
+    match yard.install_begin(alloc, install) {
+        Ok(_) => Ok(Phase::Fresh),
+        Err((install, fault)) => {
+            drop(install);
+            Err(fault)
+        }
+    }
+}
+
+/// Makes the further steps, and adds each answer, from that of the first one on.
+fn go_on<L: Premises>(
+    alloc: Global,
+    yard: &mut Yard<L, FuseDir<MemDir>, Full>,
+    begun: Result<Phase, InstallFault>,
+    out: &mut Answers,
+) {
+    let mut answer = begun;
     for _ in 0..STEPS {
-        print_step(rt, alloc, yard.directory().inner(), &answer)?;
+        add_step(alloc, yard.directory().inner(), &answer, out);
         if matches!(answer, Ok(Phase::Done) | Err(_)) {
             break;
         }
-        answer = yard.install_step(alloc, 1);
-    }
-    print_events(rt, alloc, yard.journal())
-}
-
-/// What the first step of the yard's first installation answers.
-fn begin<L: Premises>(
-    alloc: Global,
-    yard: &mut Yard<L, FuseDir<MemDir>, Full>,
-) -> io::Result<Result<Phase, InstallFault>> {
-    let Ok(install) = prepare(alloc, names(alloc)?, &Limits::profile(), b":deny\n") else {
-        return Err(stuck());
-    };
-    match yard.install_begin(alloc, install) {
-        Ok(_) => Ok(Ok(Phase::Fresh)),
-        Err((_, fault)) => Ok(Err(fault)),
+        answer = step(alloc, yard);
     }
 }
 
-/// Prints an answer, and what each stop then leaves.
-fn print_step<R: Print>(
-    rt: &R,
+/// What a further step of an installation answers.
+fn step<L: Premises, D: Dir + Drop>(
     alloc: Global,
-    dir: &MemDir,
-    answer: &Result<Phase, InstallFault>,
-) -> io::Result<()> {
-    let kept = decided_after(alloc, dir, Choice::Kept)?;
-    let empty = decided_after(alloc, dir, Choice::Empty)?;
-    let junk = decided_after(alloc, dir, Choice::Junk)?;
-    let answer = answer_of(alloc, answer)?;
-    println!(rt;
-        "{}: kept {kept}, empty {empty}, junk {junk}",
-        answer.as_str()
-    )
+    yard: &mut Yard<L, D, Full>,
+) -> Result<Phase, InstallFault> {
+    yard.install_step(alloc, 1)
+}
+
+/// Adds an answer, and what each stop then leaves.
+fn add_step(alloc: Global, dir: &MemDir, answer: &Result<Phase, InstallFault>, out: &mut Answers) {
+    add_answer(answer, out);
+    out.text(": kept ");
+    add_decided_after(alloc, dir, Choice::Kept, out);
+    out.text(", empty ");
+    add_decided_after(alloc, dir, Choice::Empty, out);
+    out.text(", junk ");
+    add_decided_after(alloc, dir, Choice::Junk, out);
+    out.end_line();
 }

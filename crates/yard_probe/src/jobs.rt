@@ -1,17 +1,16 @@
 //! Jobs whose wait fails so often before it answers, or that do not start.
 ghost use Rattle.std.specs.Prelude.{◌≡◌, false, ⊤};
 
+use crate::answers::Answers;
 use crate::shown::peer_of;
 use child_table::{Place, Table};
 use rule_lookup::{StartFault, Status};
 use server_core::{Job, Launcher, NoEnds, Program, Running, WaitFault, finish, start};
 use std::alloc::Global;
-use std::fmt::Write;
-use std::io;
 use std::snapshot::Snapshot;
 use std::sync::ledger::{Blank, Ledger};
 use ucspi_env::Environment;
-use yard_steps::{NoPipe, stuck};
+use yard_steps::NoPipe;
 
 /// How often a job is waited for at most.
 const WAITS: usize = 10;
@@ -81,60 +80,71 @@ impl Launcher for Stubborns {
     }
 }
 
-/// Prints what a child's start answers, then its pipe ends and two kills, and each wait until it has ended, with the place that it holds.
-pub fn print_job<R: Print, L: Ledger>(
-    rt: &R,
+/// Adds what a child's start answers, then its pipe ends and two kills, and each wait until it has ended, with the place that it holds.
+pub fn run_job<L: Ledger>(
     alloc: Global,
     blank: Blank,
     fails: Result<u64, StartFault>,
-) -> io::Result<()>
+    out: &mut Answers,
+)
     requires name { blank.name ≡ L.name }
     requires parts { (blank.parts ≡ L.parts) × (blank.parts ≡ 1) }
 {
-    let peer = peer_of(alloc, 1)?;
-    let Ok(mut table) = Table::<L>::new(alloc, blank, 1) else {
-        return Err(stuck());
-    };
-    let Ok(place) = table.admit(&peer) else {
-        return Err(stuck());
-    };
-    let mut lines = String::new(alloc);
-    run_child(alloc, &mut table, place, &Stubborns(fails), &mut lines);
-    print!(rt; "{}", lines.as_str())
+    match Table::<L>::new(alloc, blank, 1) {
+        Ok(mut table) => {
+            admit(alloc, &mut table, &Stubborns(fails), out);
+            drop(table);
+        }
+        Err(_) => out.fail(),
+    }
 }
 
-/// A child from its start to its end, in lines.
+/// Lets a peer in, and runs a child in its place.
+fn admit<L: Ledger>(alloc: Global, table: &mut Table<L>, launcher: &Stubborns, out: &mut Answers) {
+    let Some(peer) = peer_of(alloc, 1) else {
+        return out.fail();
+    };
+    match table.admit(&peer) {
+        Ok(place) => run_child(alloc, table, place, launcher, out),
+        Err(_) => out.fail(),
+    }
+    drop(peer);
+}
+
+/// A child from its start to its end.
 fn run_child<L: Ledger>(
     alloc: Global,
     table: &mut Table<L>,
     place: Place<L>,
     launcher: &Stubborns,
-    lines: &mut String,
+    out: &mut Answers,
 ) {
-    let _ = writeln!(lines, "place {}", place.index());
-    let program = Program::new(String::new(alloc), Vec::new(alloc));
-    match start(alloc, place, launcher, &program, &Environment::new(alloc)) {
-        Ok(running) => wait_for(table, running, lines),
+    out.number_line("place ", place.index() as u64);
+    match started(alloc, place, launcher) {
+        Ok(running) => wait_for(table, running, out),
         Err((place, fault)) => {
-            let _ = writeln!(lines, "{fault:?}");
-            leave(table, place, lines);
+            out.debug(&fault);
+            out.end_line();
+            leave(table, place, out);
         }
     }
 }
 
-fn wait_for<L: Ledger>(
-    table: &mut Table<L>,
-    mut running: Running<L, Stubborn>,
-    lines: &mut String,
-) {
-    let index = running.place().index();
-    let (no_ends, first, second) = (running.ends().is_err(), running.kill(), running.kill());
-    let _ = writeln!(
-        lines,
-        "place {index}, no ends {no_ends}, kills {first:?} {second:?}"
-    );
+/// Starts a child.
+fn started<L: Ledger>(
+    alloc: Global,
+    place: Place<L>,
+    launcher: &Stubborns,
+) -> Result<Running<L, Stubborn>, (Place<L>, StartFault)> {
+    let program = Program::new(String::new(alloc), Vec::new(alloc));
+    start(alloc, place, launcher, &program, &Environment::new(alloc))
+}
+
+/// Asks for a child's pipe ends, kills it twice, and waits for it.
+fn wait_for<L: Ledger>(table: &mut Table<L>, mut running: Running<L, Stubborn>, out: &mut Answers) {
+    kill_twice(&mut running, out);
     for _ in 0..WAITS {
-        let Some(again) = wait_once(table, running, lines) else {
+        let Some(again) = wait_once(table, running, out) else {
             return;
         };
         running = again;
@@ -142,33 +152,47 @@ fn wait_for<L: Ledger>(
     running.strand();
 }
 
+/// Asks for a child's pipe ends and kills it twice, and adds what that answers.
+fn kill_twice<L: Ledger>(running: &mut Running<L, Stubborn>, out: &mut Answers) {
+    out.number("place ", running.place().index() as u64);
+    out.text(", no ends ");
+    out.show(&running.ends().is_err());
+    out.text(", kills ");
+    out.debug(&running.kill());
+    out.text(" ");
+    out.debug(&running.kill());
+    out.end_line();
+}
+
 /// Waits for a child once: it is back where that failed.
 fn wait_once<L: Ledger>(
     table: &mut Table<L>,
     running: Running<L, Stubborn>,
-    lines: &mut String,
+    out: &mut Answers,
 ) -> Option<Running<L, Stubborn>> {
     match finish(running) {
         Ok((place, status)) => {
-            let _ = writeln!(lines, "{status:?}");
-            leave(table, place, lines);
+            out.debug(&status);
+            out.end_line();
+            leave(table, place, out);
             None
         }
         Err((again, fault)) => {
-            let index = again.place().index();
-            let _ = writeln!(lines, "{fault:?}, place {index}, live {}", table.live());
+            out.debug(&fault);
+            out.number(", place ", again.place().index() as u64);
+            out.number_line(", live ", table.live());
             Some(again)
         }
     }
 }
 
 /// Gives a place back that is in use.
-fn leave<L: Ledger>(table: &mut Table<L>, place: Place<L>, lines: &mut String) {
-    let _ = write!(lines, "place {}, ", place.index());
+fn leave<L: Ledger>(table: &mut Table<L>, place: Place<L>, out: &mut Answers) {
+    out.number("place ", place.index() as u64);
     if table.is_used(place.index()) {
         table.leave(place);
     } else {
         place.strand();
     }
-    let _ = writeln!(lines, "live {}", table.live());
+    out.number_line(", live ", table.live());
 }

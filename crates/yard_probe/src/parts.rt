@@ -1,5 +1,5 @@
 //! What the cases are made of: a launcher that counts, a writer that takes only so much, and damaged rules.
-use dir_calls::{Dir, MemDir, Name, RulesFile};
+use dir_calls::{Dir, DirFault, MemDir, Name, RulesFile};
 use rule_lookup::StartFault;
 use server_core::{Launcher, Program};
 use std::alloc::Global;
@@ -62,36 +62,37 @@ impl Write for Narrow {
     }
 }
 
-/// The front of the file that is compiled of `:deny`.
-fn cut_file(alloc: Global) -> io::Result<Vec<u8>> {
-    let mut whole = with_rules(alloc, b":deny\n")?;
-    let Ok(Some(file)) = whole.open(alloc, &rules_name(alloc)?) else {
-        return Err(stuck());
+/// Fills the room with the front of the rules file in a directory, or answers that it could not.
+fn read_rules(alloc: Global, dir: &mut MemDir, room: &mut [u8]) -> bool {
+    let Ok(name) = rules_name(alloc) else {
+        return false;
     };
-    let mut bytes = vec![in alloc; 0u8; CUT]?;
-    match file.read_at(0, &mut bytes) {
-        Ok(CUT) => Ok(bytes),
-        _ => Err(stuck()),
-    }
+    let Ok(Some(file)) = dir.open(alloc, &name) else {
+        return false;
+    };
+    file.read_at(0, room) == Ok(room.len())
 }
 
-/// A directory in memory whose rules file is cut.
+/// A directory in memory whose rules file is the front of what is compiled of `:deny`.
 pub fn with_cut_rules(alloc: Global) -> io::Result<MemDir> {
-    let bytes = cut_file(alloc)?;
-    let mut dir = MemDir::new(alloc);
-    match put(alloc, &mut dir, &rules_name(alloc)?, &bytes) {
-        Ok(()) => Ok(dir),
-        Err(_) => Err(stuck()),
+    let mut bytes = [0; CUT];
+    let mut dir = with_rules(alloc, b":deny\n")?;
+    if read_rules(alloc, &mut dir, &mut bytes) && put_rules(alloc, &mut dir, &bytes) {
+        return Ok(dir);
+    }
+    Err(stuck())
+}
+
+/// Puts these bytes in the place of the rules file, or answers that it could not.
+fn put_rules(alloc: Global, dir: &mut MemDir, bytes: &[u8]) -> bool {
+    match rules_name(alloc) {
+        Ok(name) => put(alloc, dir, &name, bytes).is_ok(),
+        Err(_) => false,
     }
 }
 
 /// Makes a file of these bytes under a name.
-fn put<D: Dir>(
-    alloc: Global,
-    dir: &mut D,
-    name: &Name,
-    bytes: &[u8],
-) -> Result<(), dir_calls::DirFault> {
+fn put<D: Dir>(alloc: Global, dir: &mut D, name: &Name, bytes: &[u8]) -> Result<(), DirFault> {
     dir.fresh(alloc, name)?;
     dir.append(alloc, bytes)?;
     dir.sync(alloc)?;

@@ -2,17 +2,21 @@
 ghost use Rattle.std.specs.Prelude.{◌≡◌, false};
 ghost use Rattle.server_yard.specs.Kept.{HasNoEvents};
 
+use crate::answers::Answers;
 use crate::parts::{Counted, Narrow, with_cut_rules};
+use crate::shown::peer_of;
 use crate::unread::Unread;
+use child_table::Place;
 use dir_calls::{Dir, FuseDir, MemDir};
-use rule_lookup::{DropCause, Missing, Peer, StartFault, Status};
+use rule_lookup::{Missing, Peer, StartFault, Status};
 use server_core::{Journal, Plan, Premises, Program, Served, Yard, is_admitted, serve_one};
 use std::alloc::{AllocError, Global};
+use std::fmt::Debug;
 use std::io;
 use std::sync::atomic::{AtomicU64, Ordering};
 use std::sync::ledger::Blank;
 use ucspi_env::{Environment, Local};
-use yard_steps::{EndedJob, EndedJobs, finish_for, rules_name, stuck, with_rules};
+use yard_steps::{EndedJob, EndedJobs, finish_for, with_rules, yard_over};
 
 /// What is written to each connection first.
 const BANNER: &[u8] = b"220 here\n";
@@ -43,38 +47,48 @@ pub enum Case {
     Banner,
 }
 
-/// How a connection was served.
-#[derive(Clone, Copy, PartialEq, Eq, Debug)]
-enum Answer {
-    Running,
-    Denied,
-    StartFailed(StartFault),
-    Dropped(DropCause),
+/// What the connections of a case meet, by which plan they are served, and whose they are.
+#[derive(Drop)]
+pub struct Setting {
+    case: Case,
+    plan: Plan,
+    peer: Peer,
 }
 
-/// Runs a case, and prints how its connections were served.
-pub fn serve_case<R: Print, L: Premises, J: Journal>(
-    rt: &R,
+/// The setting of a case.
+pub fn setting_of(alloc: Global, case: Case) -> Option<Setting> {
+    let plan = plan(alloc).ok()?;
+    let peer = peer_of(alloc, 0)?;
+    Some(Setting { case, plan, peer })
+}
+
+/// A plan with a banner.
+fn plan(alloc: Global) -> Result<Plan, AllocError> {
+    let program = Program::new(String::from_str(alloc, "prog")?, Vec::new(alloc));
+    let local = Local::new([127, 0, 0, 1], 25, None);
+    let banner = BANNER.to_vec(alloc)?;
+    Ok(Plan::new(program, Environment::new(alloc), local, banner))
+}
+
+/// Runs a case, and adds how its connections were served.
+pub fn serve_case<L: Premises, J: Journal>(
     alloc: Global,
     blank: Blank,
     journal: J,
-    case: Case,
-) -> io::Result<()>
+    setting: &Setting,
+    out: &mut Answers,
+)
     requires name { blank.name ≡ L.name }
     requires parts { (blank.parts ≡ L.parts) × (blank.parts ≡ 1) }
     requires unmet { L.met ≡ false }
     requires journal { HasNoEvents J.told J.count J.stored J.lists journal }
 {
-    match case {
-        Case::Unread => { serve_over::<R, L, Unread, J>(rt, alloc, blank, Unread, journal, case) }
-        Case::Directory => {
-            let dir = FuseDir::new(with_rules(alloc, b":allow\n")?, 1);
-            serve_over::<R, L, FuseDir<MemDir>, J>(rt, alloc, blank, dir, journal, case)
-        }
-        _ => {
-            let dir = rules_of(alloc, case)?;
-            serve_over::<R, L, MemDir, J>(rt, alloc, blank, dir, journal, case)
-        }
+    if setting.case == Case::Unread {
+        return serve_over::<L, Unread, J>(alloc, blank, Unread, journal, setting, out);
+    }
+    match rules_of(alloc, setting.case) {
+        Ok(dir) => serve_rules::<L, J>(alloc, blank, dir, journal, setting, out),
+        Err(_) => out.fail(),
     }
 }
 
@@ -88,129 +102,158 @@ fn rules_of(alloc: Global, case: Case) -> io::Result<MemDir> {
     }
 }
 
-/// Serves the connections over a yard of their own.
-fn serve_over<R: Print, L: Premises, D: Dir + Drop, J: Journal>(
-    rt: &R,
+/// Serves the connections by rules in memory, in a directory whose first call fails if the case is that.
+fn serve_rules<L: Premises, J: Journal>(
     alloc: Global,
     blank: Blank,
-    dir: D,
+    dir: MemDir,
     journal: J,
-    case: Case,
-) -> io::Result<()>
+    setting: &Setting,
+    out: &mut Answers,
+)
     requires name { blank.name ≡ L.name }
     requires parts { (blank.parts ≡ L.parts) × (blank.parts ≡ 1) }
     requires unmet { L.met ≡ false }
     requires journal { HasNoEvents J.told J.count J.stored J.lists journal }
 {
-    let missing = match case {
+    if setting.case == Case::Directory {
+        let dir = FuseDir::new(dir, 1);
+        serve_over::<L, FuseDir<MemDir>, J>(alloc, blank, dir, journal, setting, out);
+    } else {
+        serve_over::<L, MemDir, J>(alloc, blank, dir, journal, setting, out);
+    }
+}
+
+/// Serves the connections over a yard of their own.
+fn serve_over<L: Premises, D: Dir + Drop, J: Journal>(
+    alloc: Global,
+    blank: Blank,
+    dir: D,
+    journal: J,
+    setting: &Setting,
+    out: &mut Answers,
+)
+    requires name { blank.name ≡ L.name }
+    requires parts { (blank.parts ≡ L.parts) × (blank.parts ≡ 1) }
+    requires unmet { L.met ≡ false }
+    requires journal { HasNoEvents J.told J.count J.stored J.lists journal }
+{
+    let missing = missing_of(setting.case);
+    match yard_over::<L, D, J>(alloc, blank, dir, missing, 1, journal) {
+        Ok(mut yard) => {
+            serve_all(alloc, &mut yard, setting, out);
+            drop(yard);
+        }
+        Err(_) => out.fail(),
+    }
+}
+
+/// What is decided where no rules file stands.
+fn missing_of(case: Case) -> Missing {
+    match case {
         Case::MissingAllowed => Missing::Allow,
         _ => Missing::Drop,
-    };
-    let rules = Some((rules_name(alloc)?, missing));
-    let Ok(mut yard) = Yard::<L, D, J>::new(alloc, blank, dir, rules, 1, journal) else {
-        return Err(stuck());
-    };
-    print_all(rt, alloc, &mut yard, case)
+    }
 }
 
 /// Serves the connections by a yard.
-fn print_all<R: Print, L: Premises, D: Dir + Drop, J: Journal>(
-    rt: &R,
+fn serve_all<L: Premises, D: Dir + Drop, J: Journal>(
     alloc: Global,
     yard: &mut Yard<L, D, J>,
-    case: Case,
-) -> io::Result<()> {
+    setting: &Setting,
+    out: &mut Answers,
+) {
     for _ in 0..CONNECTIONS {
-        print_served(rt, alloc, yard, case)?;
+        let launcher = launcher_of(setting.case);
+        let mut writer = writer_of(setting.case);
+        serve(alloc, yard, setting, &launcher, &mut writer, out);
     }
-    Ok(())
 }
 
-/// Serves a connection, and prints its answer, how often a program was started, how many are alive and how much of the banner was taken.
-fn print_served<R: Print, L: Premises, D: Dir + Drop, J: Journal>(
-    rt: &R,
-    alloc: Global,
-    yard: &mut Yard<L, D, J>,
-    case: Case,
-) -> io::Result<()> {
-    let launcher = Counted {
-        jobs: match case {
-            Case::NotFound => EndedJobs::Failing(StartFault::NotFound),
-            _ => EndedJobs::Ending(Status::Code(0)),
-        },
-        starts: AtomicU64::new(0),
+/// What starts the programs of a case.
+fn launcher_of(case: Case) -> Counted {
+    let jobs = match case {
+        Case::NotFound => EndedJobs::Failing(StartFault::NotFound),
+        _ => EndedJobs::Ending(Status::Code(0)),
     };
-    let mut writer = Narrow {
+    Counted {
+        jobs,
+        starts: AtomicU64::new(0),
+    }
+}
+
+/// What takes the banner of a case.
+fn writer_of(case: Case) -> Narrow {
+    Narrow {
         room: if case == Case::Banner { 3 } else { 100 },
         taken: 0,
-    };
-    let (answer, live) = serve(alloc, yard, &launcher, &mut writer)?;
-    let starts = launcher.starts.load(Ordering::SeqCst);
-    println!(rt;
-        "{answer:?}, {starts} starts, {live} alive, {} bytes",
-        writer.taken
-    )
+    }
 }
 
-/// A plan with a banner.
-fn plan(alloc: Global) -> Result<Plan, AllocError> {
-    let program = Program::new(String::from_str(alloc, "prog")?, Vec::new(alloc));
-    let local = Local::new([127, 0, 0, 1], 25, None);
-    Ok(Plan::new(
-        program,
-        Environment::new(alloc),
-        local,
-        BANNER.to_vec(alloc)?,
-    ))
-}
-
-/// Lets a connection in and serves it, and answers how many are alive then. A child that runs ends.
+/// Lets a connection in and serves it.
 fn serve<L: Premises, D: Dir + Drop, J: Journal>(
     alloc: Global,
     yard: &mut Yard<L, D, J>,
+    setting: &Setting,
     launcher: &Counted,
     writer: &mut Narrow,
-) -> io::Result<(Answer, u64)> {
-    let plan = plan(alloc)?;
-    let Ok(peer) = Peer::new(alloc, [10, 0, 0, 1], 4_000, None, None) else {
-        return Err(stuck());
-    };
-    serve_by(alloc, yard, launcher, writer, &plan, &peer)
+    out: &mut Answers,
+) {
+    match yard.admit(&setting.peer) {
+        Ok((serial, place)) => {
+            serve_by(alloc, yard, serial, place, setting, launcher, writer, out)
+        }
+        Err(_) => out.fail(),
+    }
 }
 
-/// The same of this client, by this plan.
+/// Serves a connection that was let in, and adds how, how often a program was started, how many are alive then and how much of the banner was
+/// taken. A child that runs ends.
 fn serve_by<L: Premises, D: Dir + Drop, J: Journal>(
     alloc: Global,
     yard: &mut Yard<L, D, J>,
+    serial: u64,
+    place: Place<L>,
+    setting: &Setting,
     launcher: &Counted,
     writer: &mut Narrow,
-    plan: &Plan,
-    peer: &Peer,
-) -> io::Result<(Answer, u64)> {
-    let Ok((serial, place)) = yard.admit(peer) else {
-        return Err(stuck());
-    };
+    out: &mut Answers,
+) {
+    let (peer, plan) = (&setting.peer, &setting.plan);
     if !is_admitted(yard, &place, serial, peer) {
         place.strand();
-        return Err(stuck());
+        return out.fail();
     }
     let served = serve_one(alloc, yard, place, serial, peer, plan, launcher, writer);
     let live = yard.live();
-    Ok((answer_of(yard, served), live))
+    end(yard, served, out);
+    out.number(", ", launcher.starts.load(Ordering::SeqCst));
+    out.number(" starts, ", live);
+    out.number(" alive, ", writer.taken as u64);
+    out.text_line(" bytes");
 }
 
-/// How a connection was served. A child that runs ends.
-fn answer_of<L: Premises, D: Dir + Drop, J: Journal>(
+/// Adds how a connection was served. A child that runs ends.
+fn end<L: Premises, D: Dir + Drop, J: Journal>(
     yard: &mut Yard<L, D, J>,
     served: Served<L, EndedJob>,
-) -> Answer {
+    out: &mut Answers,
+) {
     match served {
         Served::Running(running) => {
             finish_for(yard, running);
-            Answer::Running
+            out.text("Running");
         }
-        Served::Denied => Answer::Denied,
-        Served::StartFailed(fault) => Answer::StartFailed(fault),
-        Served::Dropped(cause) => Answer::Dropped(cause),
+        Served::Denied => out.text("Denied"),
+        Served::StartFailed(fault) => add_cause("StartFailed", &fault, out),
+        Served::Dropped(cause) => add_cause("Dropped", &cause, out),
     }
+}
+
+/// Adds how a connection was served, and why.
+fn add_cause<T: Debug>(how: &str, cause: &T, out: &mut Answers) {
+    out.text(how);
+    out.text("(");
+    out.debug(cause);
+    out.text(")");
 }

@@ -1,20 +1,17 @@
-//! What is printed of answers, events and decisions.
+//! What is told of answers, events and decisions.
+use crate::answers::Answers;
 use cdb_read::CdbFile;
 use dir_calls::{Choice, Dir, MemDir, MemFile};
 use rule_lines::Verdict;
 use rule_lookup::{Missing, Peer, Status, decide};
 use rules_install::{InstallFault, Phase};
-use server_core::{Event, Full, Journal, Report};
-use std::alloc::{AllocError, Global};
-use std::io;
-use yard_steps::{rules_name, stuck};
+use server_core::{Counts, Event, Full, Journal, Report};
+use std::alloc::Global;
+use yard_steps::rules_name;
 
 /// The peer with an address of one block.
-pub fn peer_of(alloc: Global, block: u8) -> io::Result<Peer> {
-    match Peer::new(alloc, [10, 0, block, 1], 4_000, None, None) {
-        Ok(peer) => Ok(peer),
-        Err(_) => Err(stuck()),
-    }
+pub fn peer_of(alloc: Global, block: u8) -> Option<Peer> {
+    Peer::new(alloc, [10, 0, block, 1], 4_000, None, None).ok()
 }
 
 /// A verdict in a word.
@@ -25,34 +22,48 @@ fn verdict_word(verdict: Verdict) -> &'static str {
     }
 }
 
-/// What the rules file decides of a peer after a stop.
-pub fn decided_after(alloc: Global, dir: &MemDir, choice: Choice) -> io::Result<&'static str> {
-    let (name, peer) = (rules_name(alloc)?, peer_of(alloc, 0)?);
-    let mut left = dir.crash(alloc, choice)?;
-    match left.open(alloc, &name) {
-        Ok(Some(file)) => Ok(decided_by(alloc, &CdbFile::new(file), &peer)),
-        Ok(None) => Ok("no file"),
-        Err(_) => Err(stuck()),
+/// Adds what the rules file decides of a peer after a stop.
+pub fn add_decided_after(alloc: Global, dir: &MemDir, choice: Choice, out: &mut Answers) {
+    match dir.crash(alloc, choice) {
+        Ok(mut left) => add_decided_in(alloc, &mut left, out),
+        Err(_) => out.fail(),
     }
 }
 
-/// What a rules file decides of a peer.
-fn decided_by(alloc: Global, file: &CdbFile<MemFile>, peer: &Peer) -> &'static str {
-    match decide(alloc, Some(file), Missing::Drop, peer) {
-        Ok(decision) => verdict_word(decision.verdict),
-        Err(_) => "fault",
+/// Adds what the rules file in a directory decides of a peer.
+fn add_decided_in(alloc: Global, dir: &mut MemDir, out: &mut Answers) {
+    let Ok(name) = rules_name(alloc) else {
+        return out.fail();
+    };
+    match dir.open(alloc, &name) {
+        Ok(Some(file)) => add_decided_by(alloc, &CdbFile::new(file), out),
+        Ok(None) => out.text("no file"),
+        Err(_) => out.fail(),
     }
 }
 
-/// What a step of an installation answered.
-pub fn answer_of(
-    alloc: Global,
-    answer: &Result<Phase, InstallFault>,
-) -> Result<String, AllocError> {
+/// Adds what a rules file decides of a peer.
+fn add_decided_by(alloc: Global, file: &CdbFile<MemFile>, out: &mut Answers) {
+    let Some(peer) = peer_of(alloc, 0) else {
+        return out.fail();
+    };
+    match decide(alloc, Some(file), Missing::Drop, &peer) {
+        Ok(decision) => out.text(verdict_word(decision.verdict)),
+        Err(_) => out.text("fault"),
+    }
+    drop(peer);
+}
+
+/// Adds what a step of an installation answered.
+pub fn add_answer(answer: &Result<Phase, InstallFault>, out: &mut Answers) {
     match answer {
-        Ok(phase) => String::from_str(alloc, phase.as_str()),
-        Err(InstallFault::Disk(fault, phase)) => format!(in alloc; "{fault} at {phase}"),
-        Err(fault) => format!(in alloc; "{fault}"),
+        Ok(phase) => out.text(phase.as_str()),
+        Err(InstallFault::Disk(fault, phase)) => {
+            out.show(fault);
+            out.text(" at ");
+            out.show(phase);
+        }
+        Err(fault) => out.show(fault),
     }
 }
 
@@ -64,53 +75,86 @@ fn code_of(status: Status) -> u8 {
     }
 }
 
-/// A report and a number of events.
-pub fn print_report<R: Print>(rt: &R, report: &Report, events: u64) -> io::Result<()> {
-    println!(rt;
-        "admitted {} live {} retired {} most {}, {events} events",
-        report.admitted, report.live, report.retired, report.most
-    )
+/// Adds a report and a number of events.
+pub fn add_report(report: &Report, events: u64, out: &mut Answers) {
+    out.number("admitted ", report.admitted);
+    out.number(" live ", report.live);
+    out.number(" retired ", report.retired);
+    out.number(" most ", report.most);
+    out.number(", ", events);
+    out.text_line(" events");
 }
 
-/// An admission, an opening or a decision in the words of a script, or another event.
-pub fn event_words(alloc: Global, event: &Event) -> Result<String, AllocError> {
+/// Adds an admission, an opening or a decision in the words of a script, or another event.
+pub fn add_event(event: &Event, out: &mut Answers) {
     match event {
         Event::Admitted { serial, peer } => {
-            let [a, b, c, d] = peer.ip();
-            format!(in alloc; "admitted {serial} {a}.{b}.{c}.{d}")
+            out.number("admitted ", *serial);
+            add_address(peer.ip(), out);
         }
         Event::Opened { serial, there } => {
-            let there = if *there { "yes" } else { "no" };
-            format!(in alloc; "opened {serial} {there}")
+            out.number("opened ", *serial);
+            out.text(if *there { " yes" } else { " no" });
         }
         Event::Decided { serial, decision } => {
-            format!(in alloc; "decided {serial} {}", verdict_word(decision.verdict))
+            out.number("decided ", *serial);
+            out.text(" ");
+            out.text(verdict_word(decision.verdict));
         }
-        other => end_words(alloc, other),
+        other => add_end(other, out),
     }
 }
 
-/// Another event in the words of a script.
-fn end_words(alloc: Global, event: &Event) -> Result<String, AllocError> {
+/// Adds an address.
+fn add_address(address: [u8; 4], out: &mut Answers) {
+    let [a, b, c, d] = address;
+    out.number(" ", u64::from(a));
+    out.number(".", u64::from(b));
+    out.number(".", u64::from(c));
+    out.number(".", u64::from(d));
+}
+
+/// Adds another event in the words of a script.
+fn add_end(event: &Event, out: &mut Answers) {
     match event {
-        Event::Started { serial } => format!(in alloc; "started {serial}"),
-        Event::StartFailed { serial, .. } => format!(in alloc; "startfailed {serial}"),
-        Event::Ended { serial, status } => format!(in alloc; "ended {serial} {}", code_of(*status)),
-        Event::Retired { serial } => format!(in alloc; "retired {serial}"),
-        Event::Dropped { serial, .. } => format!(in alloc; "dropped {serial}"),
-        Event::Stepped { phase } => format!(in alloc; "phase {phase}"),
-        Event::StepFailed { phase } => format!(in alloc; "failed {phase}"),
-        _ => String::from_str(alloc, "stop"),
+        Event::Started { serial } => out.number("started ", *serial),
+        Event::StartFailed { serial, .. } => out.number("startfailed ", *serial),
+        Event::Ended { serial, status } => {
+            out.number("ended ", *serial);
+            out.number(" ", u64::from(code_of(*status)));
+        }
+        Event::Retired { serial } => out.number("retired ", *serial),
+        Event::Dropped { serial, .. } => out.number("dropped ", *serial),
+        Event::Stepped { phase } => add_phase("phase ", *phase, out),
+        Event::StepFailed { phase } => add_phase("failed ", *phase, out),
+        _ => out.text("stop"),
     }
 }
 
-/// Prints all events, in the words of a script.
-pub fn print_events<R: Print>(rt: &R, alloc: Global, full: &Full) -> io::Result<()> {
-    for at in 0..full.events() {
-        if let Some(noted) = full.get(at.saturating_add(1)) {
-            let words = event_words(alloc, &noted.event)?;
-            println!(rt; "event {}", words.as_str())?;
+/// Adds a phase behind a text.
+fn add_phase(text: &str, phase: Phase, out: &mut Answers) {
+    out.text(text);
+    out.text(phase.as_str());
+}
+
+/// A journal that may be able to list its events.
+pub trait Lists {
+    /// Adds all events, in the words of a script, where it stores them.
+    fn add_events(&self, out: &mut Answers);
+}
+
+impl Lists for Counts {
+    fn add_events(&self, _out: &mut Answers) {}
+}
+
+impl Lists for Full {
+    fn add_events(&self, out: &mut Answers) {
+        for at in 0..self.events() {
+            if let Some(noted) = self.get(at.saturating_add(1)) {
+                out.text("event ");
+                add_event(&noted.event, out);
+                out.end_line();
+            }
         }
     }
-    Ok(())
 }

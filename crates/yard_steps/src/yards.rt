@@ -10,11 +10,12 @@ use std::alloc::Global;
 use std::io;
 use std::sync::ledger::Blank;
 
-/// A yard with a rules name, over a journal without events. Where no rules file stands connections are denied.
+/// A yard with a rules name, over a journal without events; `missing` says what is decided where no rules file stands.
 pub fn yard_over<L: Premises, D: Dir + Drop, J: Journal>(
     alloc: Global,
     blank: Blank,
     dir: D,
+    missing: Missing,
     limit: u64,
     journal: J,
 ) -> io::Result<Yard<L, D, J>>
@@ -23,7 +24,7 @@ pub fn yard_over<L: Premises, D: Dir + Drop, J: Journal>(
     requires unmet { L.met ≡ false }
     requires journal { HasNoEvents J.told J.count J.stored J.lists journal }
 {
-    let rules = Some((rules_name(alloc)?, Missing::Drop));
+    let rules = Some((rules_name(alloc)?, missing));
     match Yard::new(alloc, blank, dir, rules, limit, journal) {
         Ok(yard) => Ok(yard),
         Err(_) => Err(stuck()),

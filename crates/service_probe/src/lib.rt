@@ -13,11 +13,11 @@ use between::{print_between, print_end};
 use log_lines::print_log;
 use served::{Asked, print_served};
 use std::alloc::Global;
-use std::process::ExitCode;
+use std::env::Args;
+use std::io;
 use std::sync::Wait;
 use std::thread::Threads;
 use std::time::Clock;
-use std::{env, io};
 
 /// The greatest limit.
 const MOST: u64 = 10_000;
@@ -53,36 +53,35 @@ fn serve<R: Print + Threads + Wait + Clock + Sync>(
     print_served(rt, alloc, asked, words.get(5..).unwrap_or_default())
 }
 
-/// Makes the call that the words ask for.
-fn run<R: Print + Threads + Wait + Clock + Sync>(
+/// Makes the call that the words ask for, and prints what came of it.
+///
+/// # Errors
+/// The words ask for no such call, there was no memory, or the call or the standard output failed.
+pub fn run<R: Print + Threads + Wait + Clock + Sync>(
+    rt: &R,
+    alloc: Global,
+    given: &mut Args,
+) -> io::Result<()> {
+    let mut words = Vec::new(alloc);
+    for word in given {
+        words.push(word)?;
+    }
+    run_words(rt, alloc, &words)
+}
+
+/// Makes the call that these words ask for.
+fn run_words<R: Print + Threads + Wait + Clock + Sync>(
     rt: &R,
     alloc: Global,
     words: &[String],
 ) -> io::Result<()> {
     let scripts = words.get(1..).unwrap_or_default();
     match word(words, 0) {
+        "" => Ok(()),
         "log" => print_log(rt, alloc, word(words, 1), number(words, 2) as usize),
         "between" => print_between(rt, alloc, scripts),
         "served" => print_end(rt, alloc, scripts, true),
         "unserved" => print_end(rt, alloc, scripts, false),
         _ => serve(rt, alloc, words),
-    }
-}
-
-fn main(rt: HostRuntime) -> ExitCode {
-    let alloc = rt.alloc();
-    let (Ok(mut given), mut words) = (env::args(&rt), Vec::new(alloc)) else {
-        return ExitCode::FAILURE;
-    };
-    let _program = given.next();
-    for word in given {
-        if words.push(word).is_err() {
-            return ExitCode::FAILURE;
-        }
-    }
-    if words.is_empty() || run(&rt, alloc, &words).is_ok() {
-        ExitCode::SUCCESS
-    } else {
-        ExitCode::FAILURE
     }
 }

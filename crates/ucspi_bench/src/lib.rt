@@ -18,16 +18,16 @@ use rules_install::{InstallFault, Names};
 use server_core::{Event, replay};
 use site_calls::time_site;
 use std::alloc::{AllocError, Global};
+use std::env::Args;
 use std::fs::Files;
+use std::io;
 use std::marker::Brand;
 use std::os::unix::fs::FileExt;
-use std::process::ExitCode;
 use std::rt::Clock;
 use std::sync::Wait;
 use std::sync::ledger::Blank;
 use std::thread::Threads;
 use std::time::Instant;
-use std::{env, io};
 use ucspi_env::HostTable;
 use yards::time_yard;
 
@@ -272,8 +272,29 @@ fn time_yard_with<R: Print + Clock>(rt: &R, alloc: Global, size: usize) -> io::R
     time_yard::<R, Brand>(rt, alloc, Blank::new(limit), limit, bytes)
 }
 
-/// Runs a benchmark of this size.
-fn run<R: Print + Clock + Files + Threads + Wait + Sync>(
+/// Runs the benchmark that the first word names, of the size that the second one says.
+///
+/// # Errors
+/// There is no such benchmark or size, its calls failed, or the clock or the standard output did.
+pub fn run<R: Print + Clock + Files + Threads + Wait + Sync>(
+    rt: &R,
+    alloc: Global,
+    words: &mut Args,
+) -> io::Result<()>
+where
+    R::File: FileExt,
+{
+    let (Some(name), Some(size)) = (words.next(), words.next()) else {
+        return Ok(());
+    };
+    match size.as_str().parse() {
+        Ok(size) => time_calls(rt, alloc, name.as_str(), size),
+        Err(_) => Err(io::Error::from(io::ErrorKind::InvalidInput)),
+    }
+}
+
+/// Runs the benchmark with a name.
+fn time_calls<R: Print + Clock + Files + Threads + Wait + Sync>(
     rt: &R,
     alloc: Global,
     name: &str,
@@ -293,19 +314,5 @@ where
         "yard" => time_yard_with(rt, alloc, size),
         "site" => time_site(rt, alloc, size as u64),
         _ => Err(io::Error::from(io::ErrorKind::InvalidInput)),
-    }
-}
-
-fn main(rt: HostRuntime) -> ExitCode {
-    let Ok(mut words) = env::args(&rt) else {
-        return ExitCode::FAILURE;
-    };
-    let _program = words.next();
-    let (Some(name), Some(size)) = (words.next(), words.next()) else {
-        return ExitCode::SUCCESS;
-    };
-    match size.as_str().parse::<usize>() {
-        Ok(size) if run(&rt, rt.alloc(), name.as_str(), size).is_ok() => ExitCode::SUCCESS,
-        _ => ExitCode::FAILURE,
     }
 }

@@ -16,9 +16,8 @@ use answer::Answer;
 use arguments::Arguments;
 use std::alloc::Global;
 use std::env::Args;
+use std::io;
 use std::io::{Error, ErrorKind, Read};
-use std::process::ExitCode;
-use std::{env, io};
 
 /// Adds the answer of a call.
 fn answer_call(alloc: Global, call: &str, words: &[String], input: &[u8], out: &mut Answer) {
@@ -94,26 +93,18 @@ fn print_whole<R: Print>(rt: &R, out: &Answer) -> io::Result<()> {
     }
 }
 
-/// Makes the call with a name and the words that follow, and prints its answer.
-fn run<R: Input + Print>(rt: &R, alloc: Global, call: &str, more: &mut Args) -> io::Result<()> {
+/// Makes the call that the first word names, with the words that follow, and prints its answer.
+///
+/// # Errors
+/// There was no memory for the answer, or the standard input or output failed.
+pub fn run<R: Input + Print>(rt: &R, alloc: Global, more: &mut Args) -> io::Result<()> {
+    let Some(call) = more.next() else {
+        return Ok(());
+    };
     let mut words = Vec::new(alloc);
     let mut input = Vec::new(alloc);
     let mut out = Answer::new(alloc);
     take_all(rt, more, &mut words, &mut input)?;
-    answer_call(alloc, call, &words, &input, &mut out);
+    answer_call(alloc, call.as_str(), &words, &input, &mut out);
     print_whole(rt, &out)
-}
-
-fn main(rt: HostRuntime) -> ExitCode {
-    let Ok(mut words) = env::args(&rt) else {
-        return ExitCode::FAILURE;
-    };
-    let _program = words.next();
-    let Some(call) = words.next() else {
-        return ExitCode::SUCCESS;
-    };
-    match run(&rt, rt.alloc(), call.as_str(), &mut words) {
-        Ok(()) => ExitCode::SUCCESS,
-        Err(_) => ExitCode::FAILURE,
-    }
 }

@@ -11,9 +11,8 @@ mod words;
 use answer::Answer;
 use std::alloc::Global;
 use std::env::Args;
+use std::io;
 use std::io::{Error, ErrorKind, Read, Write};
-use std::process::ExitCode;
-use std::{env, io};
 
 /// Makes the calls that the words ask for.
 fn make_calls(alloc: Global, first: &str, words: &mut Args, given: &[u8], out: &mut Answer) {
@@ -35,24 +34,16 @@ fn print_all<R: Print>(rt: &R, out: &Answer) -> io::Result<()> {
 }
 
 /// Makes the calls that the words ask for, with the standard input, and prints what they answer.
-fn run<R: Input + Print>(rt: &R, alloc: Global, first: &str, words: &mut Args) -> io::Result<()> {
+///
+/// # Errors
+/// The words ask for no such calls, one of the calls failed, or the standard input or output did.
+pub fn run<R: Input + Print>(rt: &R, alloc: Global, words: &mut Args) -> io::Result<()> {
+    let Some(first) = words.next() else {
+        return Ok(());
+    };
     let mut given = Vec::new(alloc);
     let mut out = Answer::new(alloc);
     rt.reader().read_to_end(&mut given)?;
-    make_calls(alloc, first, words, &given, &mut out);
+    make_calls(alloc, first.as_str(), words, &given, &mut out);
     print_all(rt, &out)
-}
-
-fn main(rt: HostRuntime) -> ExitCode {
-    let Ok(mut words) = env::args(&rt) else {
-        return ExitCode::FAILURE;
-    };
-    let _program = words.next();
-    let Some(first) = words.next() else {
-        return ExitCode::SUCCESS;
-    };
-    match run(&rt, rt.alloc(), first.as_str(), &mut words) {
-        Ok(()) => ExitCode::SUCCESS,
-        Err(_) => ExitCode::FAILURE,
-    }
 }
