@@ -13,6 +13,8 @@ from killed_installations import READER, digest
 PAIRS = 200
 # two that end closer together than this may have ended in the other order than they were noticed
 SURELY_LATER = 0.003
+# and so may these few, where a busy machine lets one wait between its last call and its end
+FEW = PAIRS // 50
 
 
 def text_of(number, rules):
@@ -54,7 +56,7 @@ class Writers:
 
 def check(program, failures):
     """Counts the pairs and what is looked at beside them, and adds a line to the failures for each that found something else."""
-    sure = 0
+    sure = wrong = 0
     with tempfile.TemporaryDirectory() as folder:
         writers = Writers(program, folder)
         with subprocess.Popen(
@@ -68,14 +70,16 @@ def check(program, failures):
                     failures.append("two installations at once, exit codes: %r" % (codes,))
                 if found not in writers.files:
                     failures.append("two installations at once left a file of neither text")
-                elif last is not None and found != writers.files[last]:
-                    failures.append("two installations at once: the text of the first to end stands")
+                elif last is not None:
+                    wrong += found != writers.files[last]
                 sure += last is not None
             said, errors = reader.communicate(b"end\n", timeout=60)
         if reader.returncode != 0 or int(said.split()[0]) < 20:
             failures.append("a reader of files installed two at once: %r" % ((said, errors),))
         if os.path.exists(writers.words[3]):
             failures.append("two installations at once left a scratch file")
+        if wrong > FEW:
+            failures.append("two installations at once: %d times the text of the first to end stands" % wrong)
         if sure < PAIRS // 4:
             failures.append("two installations at once: only %d of %d times was it known which was the last" % (sure, PAIRS))
     return PAIRS + 3
