@@ -17,6 +17,9 @@ PROGRAM := crates/ucspi/out/ucspi
 # the small programs of the tests and of the benchmarks: one program, which looks at the name by which it is called
 PROBE := crates/probes/out/probes
 PROBES := $(foreach name,call_probe disk_probe service_probe text_probe ucspi_bench yard_probe,crates/probes/out/$(name))
+# how many checks stand side by side, each on one processor (one that is given several takes a third more of them in all): one for each
+# processor, and for each 4 GB of free memory, twice what the largest takes
+RT_JOBS ?= $(shell awk -v most=$$(nproc) '/^MemAvailable/ { room = int($$2 / 4000000); print room < 1 ? 1 : room < most ? room : most }' /proc/meminfo)
 SOURCES := HANDLES crates.txt $(shell find crates -name out -prune -o -type f -print)
 
 .PHONY: all run check probes bench install uninstall
@@ -38,7 +41,7 @@ run: $(PROGRAM)
 	$(PROGRAM) rulesim <crates/ucspi/stdin
 
 check:
-	rt ci
+	RT_JOBS=$(RT_JOBS) rt ci
 	touch $(PROGRAM) $(PROBE)
 	tests/run
 

@@ -73,7 +73,7 @@ impl fmt::Display for LineFault {
 impl Error for LineFault {}
 
 /// Why a line gives no rules: what is wrong with it, or that there was no memory for them.
-#[derive(Clone, Copy, Debug)]
+#[derive(Clone, Copy)]
 pub(crate) enum RuleFault {
     /// The line is faulty.
     Kind(LineKind),

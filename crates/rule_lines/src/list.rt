@@ -126,7 +126,7 @@ fn are_same(some: Option<Numbers>, others: Option<Numbers>) -> bool
 }
 
 /// How long the parts of an address are, and the numbers between them.
-#[derive(Clone, Copy, Debug)]
+#[derive(Clone, Copy)]
 struct Form {
     front: usize,
     numbers: Option<Numbers>,
