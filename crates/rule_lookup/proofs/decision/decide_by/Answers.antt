@@ -59,3 +59,26 @@ returns-in_err-code-clause-device g c = λ is.
 
 pub returns-in-Some-clause-device : goal.returns-in-Some-clause-device
 returns-in-Some-clause-device g c = no_device c.as_str-in-Some.result.now c.as_slice.result.now c.by_code.result c.by_code.ensures.refused
+
+pub returns-clause-device : goal.returns-clause-device
+returns-clause-device g c = λ is. absurd (cc)
+
+pub returns-in_err-code-clause-decided : goal.returns-in_err-code-clause-decided
+returns-in_err-code-clause-decided g c =
+    let p = err_from_is_err_and c.from_residual-in_err-code.result c.from_residual-in_err-code.ensures.1 in
+    rw p.1 tt
+
+pub returns-in_err-forms-clause-decided : goal.returns-in_err-forms-clause-decided
+returns-in_err-forms-clause-decided g c =
+    let p = err_from_is_err_and c.from_residual.result c.from_residual.ensures.1 in
+    rw p.1 tt
+
+pub returns-in_err-forms-clause-refused : goal.returns-in_err-forms-clause-refused
+returns-in_err-forms-clause-refused g c =
+    let p = err_from_is_err_and c.from_residual.result c.from_residual.ensures.1 in
+    rw (p.1, p.2) tt
+
+pub returns-in_err-forms-clause-device : goal.returns-in_err-forms-clause-device
+returns-in_err-forms-clause-device g c = λ is.
+    let p = err_from_is_err_and c.from_residual.result c.from_residual.ensures.1 in
+    absurd (cc (p.1, p.2, is))
