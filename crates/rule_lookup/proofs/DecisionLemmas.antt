@@ -1,7 +1,7 @@
 -- The first form under which a source has something decides.
-use Rattle.std.proofs.Common.{◌≡◌, ℕ, suc, ◌+◌, ◌<◌, true, cond, List, [], ◌∷◌, Some, Result, Ok, Err, IfOk, IfErr, String, string_bytes, arith, map, length, get_or, drop, find, refl, sym, ap, subst, ◌∙◌}
+use Rattle.std.proofs.Common.{◌≡◌, ℕ, suc, ◌+◌, ◌<◌, ◌≤◌, true, cond, List, [], ◌∷◌, Some, Result, Ok, Err, IfOk, IfErr, String, string_bytes, arith, map, length, get_or, drop, find, refl, sym, ap, subst, ◌∙◌}
 use Rattle.std.specs.List.{Any}
-use Rattle.std.proofs.lemmas.List.{at_drop_more, length-map, get_or-map}
+use Rattle.std.proofs.lemmas.List.{at_drop_all, at_drop_more, length-map, get_or-map}
 use Rattle.std.specs.declared.alloc.Global.{Global}
 use Rattle.rule_lines.specs.declared.source.FindFault.TheVariants.{Short, Device, OutOfMemory as NoMemoryToFind}
 use Rattle.rule_lines.specs.Codes.{decoded}
@@ -9,7 +9,7 @@ use Rattle.rule_lines.specs.Lookups.{Finding, Has, Absent, Broken, Trust, Unknow
 use Rattle.rule_lookup.specs.declared.decision.Decision.{Decision}
 use Rattle.rule_lookup.specs.declared.decision.DecideFault.{DecideFault}
 use Rattle.rule_lookup.specs.declared.decision.DecideFault.TheVariants.{Find, Code, OutOfMemory}
-use Rattle.rule_lookup.specs.Decisions.{asked, is_there, by_first, by_finding, by_code, DecisionFails, LookupFails, CodeFails}
+use Rattle.rule_lookup.specs.Decisions.{asked, by_default, is_there, by_first, by_finding, by_code, DecisionFails, LookupFails, CodeFails}
 
 -- what follows from a fact is known where the fact is
 pub WhereKnown-map : (t : Trust) {A B : Type 0} → (A → B) → WhereKnown t A → WhereKnown t B
@@ -97,3 +97,17 @@ form_at texts forms i text all inside at =
       omega arith,
       ap string_bytes at ∙ sym (get_or-map string_bytes texts i text (string_bytes text) inside) ∙ ap (λ (fs : List (List ℕ)). get_or fs i (string_bytes text)) all,
     )
+
+-- nor is a decision, nor want of memory
+pub decision_no_device : {P : Type 0} (decision : Decision) → ◌≡◌ {A = Result Decision DecideFault} (Ok decision) (Err (Find Device)) → P
+decision_no_device decision is = absurd (cc)
+
+pub memory_no_device : {P : Type 0} (r : Result Decision DecideFault) (fault : DecideFault) → r ≡ Err fault → fault ≡ OutOfMemory → r ≡ Err (Find Device) → P
+memory_no_device r fault fails memory is = absurd (cc)
+
+-- where no form is left the default decides
+pub decided-default : (finds : List ℕ → Finding) (t : Trust) (texts : List (String Global)) (forms : List (List ℕ)) (i : ℕ) (decision : Decision) → map string_bytes texts ≡ forms → length texts ≤ i → decision ≡ by_default → WhereKnown t (find (λ f. is_there (finds f)) (drop i forms) ≡ find (λ f. is_there (finds f)) forms) → WhereKnown t (by_first finds (find (λ f. is_there (finds f)) forms) ≡ Ok decision)
+decided-default finds t texts forms i decision all past is so_far =
+    let places : length texts ≡ length forms = sym (length-map texts string_bytes) ∙ ap length all in
+    let none = at_drop_all (find (λ f. is_there (finds f))) forms i (omega arith) in
+    WhereKnown-map t (λ s. sym (ap (by_first finds) (sym none ∙ s)) ∙ ap (λ (d : Decision). Ok d) (sym is)) so_far

@@ -1,3 +1,4 @@
+pub mod Refusals
 pub mod RoomLemmas
 pub mod Peopled
 pub mod Histories

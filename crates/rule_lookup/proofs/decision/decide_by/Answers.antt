@@ -1,7 +1,7 @@
 use Rattle.std.proofs.Common.{◌∙◌, ap, arith, map, refl, string_bytes}
 use Rattle.std.proofs.lemmas.Result.{err_from_is_err_and}
 use Rattle.rule_lookup.specs.Forms.{forms_of}
-use Rattle.rule_lookup.proofs.DecisionLemmas.{Any-asked-here, Any-asked-later, WhereKnown-of, form_at, first-later, no_device, decided-here, refused-here, refused-look_up}
+use Rattle.rule_lookup.proofs.DecisionLemmas.{Any-asked-here, Any-asked-later, WhereKnown-of, form_at, first-later, no_device, decided-default, decided-here, decision_no_device, memory_no_device, refused-here, refused-look_up}
 use Rattle.rule_lookup.proofs.decision.decide_by.Goals as goal
 
 pub returns-in_err-code-clause-refused : goal.returns-in_err-code-clause-refused
@@ -59,3 +59,29 @@ returns-in_err-code-clause-device g c = λ is.
 
 pub returns-in-Some-clause-device : goal.returns-in-Some-clause-device
 returns-in-Some-clause-device g c = no_device c.as_str-in-Some.result.now c.as_slice.result.now c.by_code.result c.by_code.ensures.refused
+
+pub returns-clause-device : goal.returns-clause-device
+returns-clause-device g c = λ is. decision_no_device c.by_default.result is
+
+pub returns-in_err-code-clause-decided : goal.returns-in_err-code-clause-decided
+returns-in_err-code-clause-decided g c =
+    let p = err_from_is_err_and c.from_residual-in_err-code.result c.from_residual-in_err-code.ensures.1 in
+    rw p.1 tt
+
+pub returns-in_err-forms-clause-decided : goal.returns-in_err-forms-clause-decided
+returns-in_err-forms-clause-decided g c =
+    let p = err_from_is_err_and c.from_residual.result c.from_residual.ensures.1 in
+    rw p.1 tt
+
+pub returns-in_err-forms-clause-refused : goal.returns-in_err-forms-clause-refused
+returns-in_err-forms-clause-refused g c =
+    let p = err_from_is_err_and c.from_residual.result c.from_residual.ensures.1 in
+    rw (p.1, p.2) tt
+
+pub returns-in_err-forms-clause-device : goal.returns-in_err-forms-clause-device
+returns-in_err-forms-clause-device g c = λ is.
+    let p = err_from_is_err_and c.from_residual.result c.from_residual.ensures.1 in
+    memory_no_device c.from_residual.result p.0 p.1 p.2 is
+
+pub returns-clause-decided : goal.returns-clause-decided
+returns-clause-decided g c = decided-default (g.S.PairSource.finds c.args.source.now) (g.S.PairSource.trust c.args.source.now) c.deref-form-items.result.now (forms_of c.args.peer.now) c.loop-form.form-index c.by_default.result c.loop-form.invariant.all c.loop-form-test.false c.by_default.ensures c.loop-form.invariant.first

@@ -104,3 +104,32 @@ pub returns-in-Err-clause-same_seats : goal.returns-in-Err-clause-same_seats
 returns-in-Err-clause-same_seats g c =
     let old = c.args.self.now in
     serials_kept (get nat_cmp old.seats) (get nat_cmp c.give_place.new.seats) old.table old.state c.in-Err.ensures.err_seats old.seated
+
+pub returns-in_err-copy-clause-lists : goal.returns-in_err-copy-clause-lists
+returns-in_err-copy-clause-lists g c = refl
+
+pub returns-in-Ok-clause-seat : goal.returns-in-Ok-clause-seat
+returns-in-Ok-clause-seat g c = c.in-Ok.ensures.seated
+
+pub returns-in-Ok-clause-noted : goal.returns-in-Ok-clause-noted
+returns-in-Ok-clause-noted g c =
+    let old = c.args.self.now in
+    let n = c.args.serial in
+    let copied = c.in_ok-copy.ensures in
+    let same = c.in_ok-reserve.ensures.same in
+    let peer = c.args.peer.now in
+    record {
+      may = c.requires.may;
+      happens = c.in-Ok.ensures.admitted;
+      speaks = refl;
+      tells = c.note.ensures.told ∙ ap (λ (p : Client). next_report (g.J.Journal.told c.reserve.new.self) (event.Admitted n p)) copied ∙ ap (λ r. next_report r (event.Admitted n peer)) same.same_report;
+      counts = c.note.ensures.count ∙ ap one_more same.same_count;
+      stores = c.note.ensures.stored ∙ ap (λ (p : Client). option_map (λ notes. notes ++ record { event = event.Admitted n p; caller = old.speaker } ∷ []) (g.J.Journal.stored c.reserve.new.self)) copied ∙ ap (λ o. option_map (λ notes. notes ++ record { event = event.Admitted n peer; caller = old.speaker } ∷ []) o) same.same_notes;
+    }
+
+pub returns-in-Err-clause-refused : goal.returns-in-Err-clause-refused
+returns-in-Err-clause-refused g c =
+    let err = c.in-Err.ensures.err in
+    let reserved = c.in_ok-reserve.ensures.same in
+    let released = c.release.ensures.same in
+    record { stays = err.1; speaks = refl; tells = released.same_report ∙ reserved.same_report; counts = released.same_count ∙ reserved.same_count; stores = released.same_notes ∙ reserved.same_notes }

@@ -210,3 +210,75 @@ pub returns-else-is_of_disk-clause-back : goal.returns-else-is_of_disk-clause-ba
 returns-else-is_of_disk-clause-back g c =
     let s = installing c.args.install in
     back_of s (installing c.begin_noted.new.install) (next_phase s) c.in-Err.fault c.in-Err.ensures.goes
+
+pub returns-in_default-clause-begun : goal.returns-in_default-clause-begun
+returns-in_default-clause-begun g c = refl
+
+pub returns-in_default-clause-kept : goal.returns-in_default-clause-kept
+returns-in_default-clause-kept g c = refl
+
+pub returns-in_default-clause-rules : goal.returns-in_default-clause-rules
+returns-in_default-clause-rules g c = refl
+
+pub returns-in_default-clause-noted : goal.returns-in_default-clause-noted
+returns-in_default-clause-noted g c = record { stays = refl; speaks = refl; tells = refl; counts = refl; stores = refl }
+
+pub returns-in_default-clause-step : goal.returns-in_default-clause-step
+returns-in_default-clause-step g c = λ honest. refl
+
+pub returns-in_default-clause-lists : goal.returns-in_default-clause-lists
+returns-in_default-clause-lists g c = refl
+
+pub returns-in_default-clause-back : goal.returns-in_default-clause-back
+returns-in_default-clause-back g c = refl
+
+pub returns-in_default-clause-seats : goal.returns-in_default-clause-seats
+returns-in_default-clause-seats g c = λ i. refl
+
+pub returns-then-is_of_disk-clause-begun : goal.returns-then-is_of_disk-clause-begun
+returns-then-is_of_disk-clause-begun g c = refl
+
+pub returns-then-is_of_disk-clause-rules : goal.returns-then-is_of_disk-clause-rules
+returns-then-is_of_disk-clause-rules g c = refl
+
+pub returns-then-is_of_disk-clause-noted : goal.returns-then-is_of_disk-clause-noted
+returns-then-is_of_disk-clause-noted g c = c.in-Err.ensures.noted
+
+pub returns-then-is_of_disk-clause-lists : goal.returns-then-is_of_disk-clause-lists
+returns-then-is_of_disk-clause-lists g c = c.in-Err.ensures.err
+
+pub returns-then-is_of_disk-clause-seats : goal.returns-then-is_of_disk-clause-seats
+returns-then-is_of_disk-clause-seats g c = c.begin_noted.ensures.seats
+
+pub returns-else-is_of_disk-clause-begun : goal.returns-else-is_of_disk-clause-begun
+returns-else-is_of_disk-clause-begun g c = refl
+
+pub returns-else-is_of_disk-clause-rules : goal.returns-else-is_of_disk-clause-rules
+returns-else-is_of_disk-clause-rules g c = refl
+
+pub returns-else-is_of_disk-clause-noted : goal.returns-else-is_of_disk-clause-noted
+returns-else-is_of_disk-clause-noted g c = c.in-Err.ensures.noted
+
+pub returns-else-is_of_disk-clause-lists : goal.returns-else-is_of_disk-clause-lists
+returns-else-is_of_disk-clause-lists g c = c.in-Err.ensures.err
+
+pub returns-else-is_of_disk-clause-seats : goal.returns-else-is_of_disk-clause-seats
+returns-else-is_of_disk-clause-seats g c = c.begin_noted.ensures.seats
+
+pub returns-in-Ok-clause-number : goal.returns-in-Ok-clause-number
+returns-in-Ok-clause-number g c = c.in-Some.ensures.some.1
+
+pub returns-in-Ok-clause-begun : goal.returns-in-Ok-clause-begun
+returns-in-Ok-clause-begun g c = refl
+
+pub returns-in-Ok-clause-kept : goal.returns-in-Ok-clause-kept
+returns-in-Ok-clause-kept g c = refl
+
+pub returns-in-Ok-clause-rules : goal.returns-in-Ok-clause-rules
+returns-in-Ok-clause-rules g c = refl
+
+pub returns-in-Ok-clause-lists : goal.returns-in-Ok-clause-lists
+returns-in-Ok-clause-lists g c = c.in-Ok.ensures.kept
+
+pub returns-in-Ok-clause-seats : goal.returns-in-Ok-clause-seats
+returns-in-Ok-clause-seats g c = c.begin_noted.ensures.seats

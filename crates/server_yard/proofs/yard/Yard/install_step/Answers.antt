@@ -1,4 +1,4 @@
-use Rattle.std.proofs.Common.{◌≡◌, ℕ, Bool, Option, None, Some, refl, sym, ap, subst, ◌∙◌, arith, eq-eqb}
+use Rattle.std.proofs.Common.{◌≡◌, ℕ, Bool, Option, None, Some, inr, refl, sym, ap, subst, ◌∙◌, arith, eq-eqb}
 use Rattle.std.specs.Prelude.{IfSome, if◌then◌else◌}
 use mathlib.Core.Logic.{∥∥₁_map}
 use Rattle.rules_install.specs.Installing.{Fits, Installing, next_phase}
@@ -9,8 +9,10 @@ use Rattle.server_yard.specs.Rolls.{NotesSome}
 use Rattle.server_yard.specs.Rosters.{roll_of}
 use Rattle.server_yard.specs.Standing.{LeadsSome, YardState}
 use Rattle.server_yard.specs.Stepping.{GoesAsStep, event_of_step, kept_after_step}
-use Rattle.server_yard.specs.Yards.{yard_roll, yard_state}
+use Rattle.server_yard.specs.Yards.{kept_under, yard_roll, yard_state}
 use Rattle.server_yard.proofs.Going.{going_then, kept_is, kept_numbers, kept_result, later, not_over, phase_then, some_rules, steps_to, still_state}
+use Rattle.server_yard.proofs.Keeping.{none_not_some}
+use Rattle.server_yard.proofs.Refusals.{over_leads, over_notes}
 use Rattle.server_yard.proofs.Stepped.{has_kept, it_kept, step_leads}
 use Rattle.server_yard.proofs.yard.Yard.install_step.Goals as goal
 
@@ -126,3 +128,106 @@ returns-in-UnderWay-clause-kept g c =
     let made = c.step_noted-result in
     ap (λ (b : Bool). if b then Some old.begun else None) c.after.ensures.kept ∙ kept_numbers made.result old.begun
     ∙ ap (λ o. kept_after_step made.result o) (sym (ap (λ i. if is_kept i then Some old.begun else None) (sym c.in-UnderWay.ensures.value)))
+
+pub returns-then-number-self-clause-kept : goal.returns-then-number-self-clause-kept
+returns-then-number-self-clause-kept g c = refl
+
+pub returns-then-number-self-clause-begun : goal.returns-then-number-self-clause-begun
+returns-then-number-self-clause-begun g c = refl
+
+pub returns-then-number-self-clause-rules : goal.returns-then-number-self-clause-rules
+returns-then-number-self-clause-rules g c = refl
+
+pub returns-then-number-self-clause-lists : goal.returns-then-number-self-clause-lists
+returns-then-number-self-clause-lists g c = refl
+
+pub returns-then-number-self-clause-seats : goal.returns-then-number-self-clause-seats
+returns-then-number-self-clause-seats g c = λ i. refl
+
+pub returns-then-number-self-clause-stops : goal.returns-then-number-self-clause-stops
+returns-then-number-self-clause-stops g c = λ honest files w image at left. inr (g.met.D.Dir.only_now c.args.self.now.dir image honest left)
+
+pub returns-then-number-self-clause-noted : goal.returns-then-number-self-clause-noted
+returns-then-number-self-clause-noted g c =
+    let old = c.args.self.now in
+    let j = g.J.Journal in
+    over_notes j.told j.count j.stored (kept_under old c.args.number) (yard_roll old) (yard_roll old) (record { stays = refl; speaks = refl; tells = refl; counts = refl; stores = refl })
+
+pub returns-then-number-self-clause-step : goal.returns-then-number-self-clause-step
+returns-then-number-self-clause-step g c = λ honest. over_leads (kept_under c.args.self.now c.args.number) (yard_state g.D.Dir.state c.args.self.now) (yard_state g.D.Dir.state c.args.self.now) refl
+
+pub returns-in-Idle-clause-begun : goal.returns-in-Idle-clause-begun
+returns-in-Idle-clause-begun g c = refl
+
+pub returns-in-Idle-clause-rules : goal.returns-in-Idle-clause-rules
+returns-in-Idle-clause-rules g c = refl
+
+pub returns-in-Idle-clause-lists : goal.returns-in-Idle-clause-lists
+returns-in-Idle-clause-lists g c = refl
+
+pub returns-in-Idle-clause-seats : goal.returns-in-Idle-clause-seats
+returns-in-Idle-clause-seats g c = λ i. refl
+
+pub returns-in-Idle-clause-stops : goal.returns-in-Idle-clause-stops
+returns-in-Idle-clause-stops g c = λ honest files w image at left. inr (g.met.D.Dir.only_now c.args.self.now.dir image honest left)
+
+pub returns-in-Idle-clause-noted : goal.returns-in-Idle-clause-noted
+returns-in-Idle-clause-noted g c =
+    let old = c.args.self.now in
+    let j = g.J.Journal in
+    over_notes j.told j.count j.stored (kept_under old c.args.number) (yard_roll old) (yard_roll old) (record { stays = refl; speaks = refl; tells = refl; counts = refl; stores = refl })
+
+pub returns-in-AtDone-clause-begun : goal.returns-in-AtDone-clause-begun
+returns-in-AtDone-clause-begun g c = refl
+
+pub returns-in-AtDone-clause-rules : goal.returns-in-AtDone-clause-rules
+returns-in-AtDone-clause-rules g c = refl
+
+pub returns-in-AtDone-clause-lists : goal.returns-in-AtDone-clause-lists
+returns-in-AtDone-clause-lists g c = refl
+
+pub returns-in-AtDone-clause-seats : goal.returns-in-AtDone-clause-seats
+returns-in-AtDone-clause-seats g c = λ i. refl
+
+pub returns-in-AtDone-clause-after_done : goal.returns-in-AtDone-clause-after_done
+returns-in-AtDone-clause-after_done g c = λ kept none. refl
+
+pub returns-in-AtDone-clause-stops : goal.returns-in-AtDone-clause-stops
+returns-in-AtDone-clause-stops g c = λ honest files w image at left. inr (g.met.D.Dir.only_now c.args.self.now.dir image honest left)
+
+pub returns-in-UnderWay-clause-begun : goal.returns-in-UnderWay-clause-begun
+returns-in-UnderWay-clause-begun g c = refl
+
+pub returns-in-UnderWay-clause-rules : goal.returns-in-UnderWay-clause-rules
+returns-in-UnderWay-clause-rules g c = refl
+
+pub returns-in-UnderWay-clause-lists : goal.returns-in-UnderWay-clause-lists
+returns-in-UnderWay-clause-lists g c = c.step_noted-result.ensures.lists
+
+pub returns-in-UnderWay-clause-seats : goal.returns-in-UnderWay-clause-seats
+returns-in-UnderWay-clause-seats g c = c.step_noted-result.ensures.seats
+
+pub returns-in-UnderWay-clause-after_done : goal.returns-in-UnderWay-clause-after_done
+returns-in-UnderWay-clause-after_done g c = λ kept none. absurd (none_not_some _ (sym none ∙ ap installing_of (sym c.in-UnderWay.ensures.value)))
+
+pub returns-in-Idle-clause-over : goal.returns-in-Idle-clause-over
+returns-in-Idle-clause-over g c =
+    let old = c.args.self.now in
+    ((λ is kept. none_not_some _ (ap (λ i. if is_kept i then Some old.begun else None) c.in-Idle.ensures.value ∙ kept)), (λ kept. refl))
+
+pub returns-in-Idle-clause-after_done : goal.returns-in-Idle-clause-after_done
+returns-in-Idle-clause-after_done g c = λ kept none.
+    let old = c.args.self.now in
+    absurd (none_not_some _ (ap (λ i. if is_kept i then Some old.begun else None) c.in-Idle.ensures.value ∙ kept))
+
+pub returns-in-AtDone-clause-over : goal.returns-in-AtDone-clause-over
+returns-in-AtDone-clause-over g c =
+    let old = c.args.self.now in
+    let here = c.if-number-self.false in
+    let number : old.begun ≡ c.args.number = grind (arith, here) in
+    ((λ is. absurd (cc)), (λ none. absurd (none (ap (λ i. if is_kept i then Some old.begun else None) (sym c.in-AtDone.ensures.value) ∙ ap (λ (n : ℕ). Some n) number))))
+
+pub returns-in-AtDone-clause-kept : goal.returns-in-AtDone-clause-kept
+returns-in-AtDone-clause-kept g c =
+    let old = c.args.self.now in
+    ap (λ i. if is_kept i then Some old.begun else None) c.in-AtDone.ensures.value
