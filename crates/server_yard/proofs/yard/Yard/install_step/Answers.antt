@@ -11,7 +11,6 @@ use Rattle.server_yard.specs.Standing.{LeadsSome, YardState}
 use Rattle.server_yard.specs.Stepping.{GoesAsStep, event_of_step, kept_after_step}
 use Rattle.server_yard.specs.Yards.{kept_under, yard_roll, yard_state}
 use Rattle.server_yard.proofs.Going.{going_then, kept_is, kept_numbers, kept_result, later, not_over, phase_then, some_rules, steps_to, still_state}
-use Rattle.server_yard.proofs.Keeping.{none_not_some}
 use Rattle.server_yard.proofs.Refusals.{over_leads, over_notes}
 use Rattle.server_yard.proofs.Stepped.{has_kept, it_kept, step_leads}
 use Rattle.server_yard.proofs.yard.Yard.install_step.Goals as goal
@@ -206,28 +205,3 @@ returns-in-UnderWay-clause-lists g c = c.step_noted-result.ensures.lists
 
 pub returns-in-UnderWay-clause-seats : goal.returns-in-UnderWay-clause-seats
 returns-in-UnderWay-clause-seats g c = c.step_noted-result.ensures.seats
-
-pub returns-in-UnderWay-clause-after_done : goal.returns-in-UnderWay-clause-after_done
-returns-in-UnderWay-clause-after_done g c = λ kept none. absurd (none_not_some _ (sym none ∙ ap installing_of (sym c.in-UnderWay.ensures.value)))
-
-pub returns-in-Idle-clause-over : goal.returns-in-Idle-clause-over
-returns-in-Idle-clause-over g c =
-    let old = c.args.self.now in
-    ((λ is kept. none_not_some _ (ap (λ i. if is_kept i then Some old.begun else None) c.in-Idle.ensures.value ∙ kept)), (λ kept. refl))
-
-pub returns-in-Idle-clause-after_done : goal.returns-in-Idle-clause-after_done
-returns-in-Idle-clause-after_done g c = λ kept none.
-    let old = c.args.self.now in
-    absurd (none_not_some _ (ap (λ i. if is_kept i then Some old.begun else None) c.in-Idle.ensures.value ∙ kept))
-
-pub returns-in-AtDone-clause-over : goal.returns-in-AtDone-clause-over
-returns-in-AtDone-clause-over g c =
-    let old = c.args.self.now in
-    let here = c.if-number-self.false in
-    let number : old.begun ≡ c.args.number = grind (arith, here) in
-    ((λ is. absurd (cc)), (λ none. absurd (none (ap (λ i. if is_kept i then Some old.begun else None) (sym c.in-AtDone.ensures.value) ∙ ap (λ (n : ℕ). Some n) number))))
-
-pub returns-in-AtDone-clause-kept : goal.returns-in-AtDone-clause-kept
-returns-in-AtDone-clause-kept g c =
-    let old = c.args.self.now in
-    ap (λ i. if is_kept i then Some old.begun else None) c.in-AtDone.ensures.value
