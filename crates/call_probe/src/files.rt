@@ -13,8 +13,8 @@ mod folders;
 mod lookups;
 mod words;
 
-use crate::answer::Answer;
 use crate::words::next_number;
+use probe_answers::Answer;
 use std::alloc::Global;
 use std::env::Args;
 
@@ -48,7 +48,5 @@ pub fn run(alloc: Global, words: &mut Args, given: &[u8], out: &mut Answer) {
         Some(name) => append_answer(alloc, name.as_str(), words, given, out),
         None => out.fail(),
     }
-    if out.has_failed() {
-        out.clear();
-    }
+    out.keep_whole();
 }

@@ -2,17 +2,16 @@
 //! answers. The words behind that one say which calls. With no words it does nothing.
 #![tactic(auto)]
 
-mod answer;
 mod files;
 mod streams;
 mod tables;
 mod words;
 
-use answer::Answer;
+use probe_answers::Answer;
 use std::alloc::Global;
 use std::env::Args;
 use std::io;
-use std::io::{Error, ErrorKind, Read, Write};
+use std::io::Read;
 
 /// Makes the calls that the words ask for.
 fn make_calls(alloc: Global, first: &str, words: &mut Args, given: &[u8], out: &mut Answer) {
@@ -22,15 +21,6 @@ fn make_calls(alloc: Global, first: &str, words: &mut Args, given: &[u8], out: &
         "file" => files::run(alloc, words, given, out),
         _ => out.fail(),
     }
-}
-
-/// Prints what the calls answered. It fails where one of them failed.
-fn print_all<R: Print>(rt: &R, out: &Answer) -> io::Result<()> {
-    io::writer(rt).write_all(out.bytes())?;
-    if out.has_failed() {
-        return Err(Error::from(ErrorKind::InvalidInput));
-    }
-    Ok(())
 }
 
 /// Makes the calls that the words ask for, with the standard input, and prints what they answer.
@@ -45,5 +35,5 @@ pub fn run<R: Input + Print>(rt: &R, alloc: Global, words: &mut Args) -> io::Res
     let mut out = Answer::new(alloc);
     rt.reader().read_to_end(&mut given)?;
     make_calls(alloc, first.as_str(), words, &given, &mut out);
-    print_all(rt, &out)
+    out.print(rt)
 }

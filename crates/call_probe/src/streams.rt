@@ -7,9 +7,9 @@ mod pumps;
 mod stages;
 mod words;
 
-use crate::answer::Answer;
 use crate::streams::words::next_way;
 use crate::words::next_number;
+use probe_answers::Answer;
 use std::alloc::Global;
 use std::env::Args;
 use wrapper_chain::{record, record_end};
@@ -24,7 +24,7 @@ fn add_record(alloc: Global, name: &str, text: &[u8], words: &mut Args, out: &mu
         "record" => out.note(record(number, way, text, &mut lines)),
         _ => out.note(record_end(number, way, &mut lines)),
     }
-    out.list_line(&lines);
+    out.debug_line(&lines);
 }
 
 /// Makes the calls of a name.

@@ -3,9 +3,9 @@
 
 mod commands;
 
-use crate::answer::Answer;
 use crate::tables::commands::run_commands;
 use crate::words::next_number;
+use probe_answers::Answer;
 use std::alloc::Global;
 use std::env::Args;
 use std::marker::Brand;

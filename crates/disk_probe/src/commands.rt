@@ -1,6 +1,6 @@
 //! The commands that any directory takes: each makes one call of it, apart from `replace`, `patched` and `install`.
-use crate::answers::Answers;
 use dir_calls::{Dir, DirFault, Name, RulesFile, replace_file};
+use probe_answers::Answer;
 use rule_lines::Limits;
 use rules_install::Names;
 use rules_install::whole::install;
@@ -21,7 +21,7 @@ pub struct Words<'a> {
 /// A directory that takes some commands more.
 pub trait OwnCommands {
     /// Obeys one of them.
-    fn own(&mut self, alloc: Global, words: &Words<'_>, out: &mut Answers);
+    fn own(&mut self, alloc: Global, words: &Words<'_>, out: &mut Answer);
 }
 
 /// Obeys a command.
@@ -30,7 +30,7 @@ pub fn obey<D: Dir + OwnCommands>(
     dir: &mut D,
     kept: &mut Vec<D::File>,
     words: &Words<'_>,
-    out: &mut Answers,
+    out: &mut Answer,
 ) {
     match words.call {
         "patched" => patched(alloc, dir, words, out),
@@ -48,7 +48,7 @@ pub fn obey<D: Dir + OwnCommands>(
 }
 
 /// Makes one call of a directory, and adds its answer. Other words ask for no such call.
-pub fn is_call<D: Dir>(alloc: Global, dir: &mut D, words: &Words<'_>, out: &mut Answers) -> bool {
+pub fn is_call<D: Dir>(alloc: Global, dir: &mut D, words: &Words<'_>, out: &mut Answer) -> bool {
     match words.call {
         "fresh" => fresh(alloc, dir, words, out),
         "append" => append(alloc, dir, words, out),
@@ -73,7 +73,7 @@ fn two_names(alloc: Global, words: &Words<'_>) -> Option<(Name, Name)> {
 }
 
 /// `fresh NAME` makes a scratch file.
-fn fresh<D: Dir>(alloc: Global, dir: &mut D, words: &Words<'_>, out: &mut Answers) {
+fn fresh<D: Dir>(alloc: Global, dir: &mut D, words: &Words<'_>, out: &mut Answer) {
     match name_of(alloc, words.first) {
         Some(name) => out.done(dir.fresh(alloc, &name)),
         None => out.fail(),
@@ -81,7 +81,7 @@ fn fresh<D: Dir>(alloc: Global, dir: &mut D, words: &Words<'_>, out: &mut Answer
 }
 
 /// `append TEXT` puts bytes at its end.
-fn append<D: Dir>(alloc: Global, dir: &mut D, words: &Words<'_>, out: &mut Answers) {
+fn append<D: Dir>(alloc: Global, dir: &mut D, words: &Words<'_>, out: &mut Answer) {
     match dir.append(alloc, words.first.as_bytes()) {
         Ok(count) => out.number_line(count as u64),
         Err(fault) => out.show_line(&fault),
@@ -89,7 +89,7 @@ fn append<D: Dir>(alloc: Global, dir: &mut D, words: &Words<'_>, out: &mut Answe
 }
 
 /// `rename FROM TO` moves one name onto another.
-fn rename<D: Dir>(alloc: Global, dir: &mut D, words: &Words<'_>, out: &mut Answers) {
+fn rename<D: Dir>(alloc: Global, dir: &mut D, words: &Words<'_>, out: &mut Answer) {
     match two_names(alloc, words) {
         Some((from, to)) => out.done(dir.rename(alloc, &from, &to)),
         None => out.fail(),
@@ -97,7 +97,7 @@ fn rename<D: Dir>(alloc: Global, dir: &mut D, words: &Words<'_>, out: &mut Answe
 }
 
 /// `patched NAME TEXT BYTE` makes a file with a text, and overwrites its first byte.
-fn patched<D: Dir>(alloc: Global, dir: &mut D, words: &Words<'_>, out: &mut Answers) {
+fn patched<D: Dir>(alloc: Global, dir: &mut D, words: &Words<'_>, out: &mut Answer) {
     let Some(first) = words.third.as_bytes().first() else {
         return out.fail();
     };
@@ -123,7 +123,7 @@ fn make_patched<D: Dir>(
 }
 
 /// Opens a file under a name, or adds why there is none.
-pub fn open<D: Dir>(alloc: Global, dir: &mut D, word: &str, out: &mut Answers) -> Option<D::File> {
+pub fn open<D: Dir>(alloc: Global, dir: &mut D, word: &str, out: &mut Answer) -> Option<D::File> {
     let Some(name) = name_of(alloc, word) else {
         out.fail();
         return None;
@@ -137,7 +137,7 @@ pub fn open<D: Dir>(alloc: Global, dir: &mut D, word: &str, out: &mut Answers) -
 }
 
 /// Shows what stands under a name.
-pub fn show_name<D: Dir>(alloc: Global, dir: &mut D, word: &str, out: &mut Answers) {
+pub fn show_name<D: Dir>(alloc: Global, dir: &mut D, word: &str, out: &mut Answer) {
     if let Some(file) = open(alloc, dir, word, out) {
         show(&file, out);
     }
@@ -149,7 +149,7 @@ fn keep<D: Dir>(
     dir: &mut D,
     kept: &mut Vec<D::File>,
     words: &Words<'_>,
-    out: &mut Answers,
+    out: &mut Answer,
 ) {
     if let Some(file) = open(alloc, dir, words.first, out) {
         match kept.push(file) {
@@ -160,7 +160,7 @@ fn keep<D: Dir>(
 }
 
 /// `kept NUMBER` shows a file that was kept, counted from 0.
-fn show_kept<F: RulesFile>(kept: &[F], words: &Words<'_>, out: &mut Answers) {
+fn show_kept<F: RulesFile>(kept: &[F], words: &Words<'_>, out: &mut Answer) {
     let Ok(number) = words.first.parse::<usize>() else {
         return out.fail();
     };
@@ -171,7 +171,7 @@ fn show_kept<F: RulesFile>(kept: &[F], words: &Words<'_>, out: &mut Answers) {
 }
 
 /// Shows how many bytes a file has, and its first bytes.
-fn show<F: RulesFile>(file: &F, out: &mut Answers) {
+fn show<F: RulesFile>(file: &F, out: &mut Answer) {
     let mut start = [0; SHOWN];
     match file.read_at(0, &mut start) {
         Ok(count) => {
@@ -184,7 +184,7 @@ fn show<F: RulesFile>(file: &F, out: &mut Answers) {
 }
 
 /// `replace SCRATCH NAME TEXT` puts a whole file in the place of another.
-fn replace<D: Dir>(alloc: Global, dir: &mut D, words: &Words<'_>, out: &mut Answers) {
+fn replace<D: Dir>(alloc: Global, dir: &mut D, words: &Words<'_>, out: &mut Answer) {
     match two_names(alloc, words) {
         Some((scratch, name)) => {
             replace_by(alloc, dir, &scratch, &name, words.third.as_bytes(), out)
@@ -200,7 +200,7 @@ fn replace_by<D: Dir>(
     scratch: &Name,
     name: &Name,
     bytes: &[u8],
-    out: &mut Answers,
+    out: &mut Answer,
 ) {
     if scratch.as_str() == name.as_str() {
         return out.fail();
@@ -209,7 +209,7 @@ fn replace_by<D: Dir>(
 }
 
 /// `install TEXT` installs a rule text under the name `rules`, by the name `tmp`; each `|` of the word ends a line.
-fn install_rules<D: Dir>(alloc: Global, dir: &mut D, words: &Words<'_>, out: &mut Answers) {
+fn install_rules<D: Dir>(alloc: Global, dir: &mut D, words: &Words<'_>, out: &mut Answer) {
     match words.first.replace(alloc, '|', "\n") {
         Ok(text) => install_text(alloc, dir, text.as_str(), out),
         Err(_) => out.show_line(&DirFault::OutOfMemory),
@@ -217,7 +217,7 @@ fn install_rules<D: Dir>(alloc: Global, dir: &mut D, words: &Words<'_>, out: &mu
 }
 
 /// Installs a rule text.
-fn install_text<D: Dir>(alloc: Global, dir: &mut D, text: &str, out: &mut Answers) {
+fn install_text<D: Dir>(alloc: Global, dir: &mut D, text: &str, out: &mut Answer) {
     let Some(names) = names(alloc) else {
         return out.fail();
     };

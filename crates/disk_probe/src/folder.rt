@@ -2,10 +2,10 @@
 //! `disk_probe folder FOLDER fresh tmp append abc sync rename tmp file settle open file`.
 ghost use Rattle.std.specs.Prelude.{◌≡◌, false};
 
-use crate::answers::Answers;
 use crate::commands::{self, Words, is_call};
 use dir_calls::{Dir, DirFault, RulesFile};
 use dir_disk::OsDir;
+use probe_answers::Answer;
 use std::alloc::Global;
 use std::fs::Files;
 use std::os::unix::fs::FileExt;
@@ -14,7 +14,7 @@ use std::os::unix::fs::FileExt;
 const PIECE: usize = 4_096;
 
 /// Makes a call of a directory of which nothing is known.
-fn call<D: Dir>(alloc: Global, dir: &mut D, words: &Words<'_>, out: &mut Answers)
+fn call<D: Dir>(alloc: Global, dir: &mut D, words: &Words<'_>, out: &mut Answer)
     requires { D.honest ≡ false }
 {
     match words.call {
@@ -60,14 +60,13 @@ fn first_call(words: &[String]) -> Option<(Words<'_>, &[String])> {
 }
 
 /// `zeros COUNT` appends so many zero bytes, in pieces.
-fn zeros<D: Dir>(alloc: Global, dir: &mut D, words: &Words<'_>, out: &mut Answers) {
+fn zeros<D: Dir>(alloc: Global, dir: &mut D, words: &Words<'_>, out: &mut Answer) {
     let Ok(count) = words.first.parse() else {
         return out.fail();
     };
     match append_zeros(alloc, dir, count) {
         Ok(calls) => {
-            out.text("in ");
-            out.number_line(calls);
+            out.count_line("in ", calls);
         }
         Err(fault) => out.show_line(&fault),
     }
@@ -88,7 +87,7 @@ fn append_zeros<D: Dir>(alloc: Global, dir: &mut D, count: u64) -> Result<u64, D
 }
 
 /// `patch PLACE TEXT` overwrites bytes.
-fn patch<D: Dir>(alloc: Global, dir: &mut D, words: &Words<'_>, out: &mut Answers)
+fn patch<D: Dir>(alloc: Global, dir: &mut D, words: &Words<'_>, out: &mut Answer)
     requires { D.honest ≡ false }
 {
     match words.first.parse() {
@@ -98,14 +97,14 @@ fn patch<D: Dir>(alloc: Global, dir: &mut D, words: &Words<'_>, out: &mut Answer
 }
 
 /// `open NAME` shows what stands under a name.
-fn open<D: Dir>(alloc: Global, dir: &mut D, words: &Words<'_>, out: &mut Answers) {
+fn open<D: Dir>(alloc: Global, dir: &mut D, words: &Words<'_>, out: &mut Answer) {
     if let Some(file) = commands::open(alloc, dir, words.first, out) {
         show(&file, out);
     }
 }
 
 /// The first bytes of a file, and how many it has.
-fn show<F: RulesFile>(file: &F, out: &mut Answers) {
+fn show<F: RulesFile>(file: &F, out: &mut Answer) {
     let mut start = [0; 16];
     match file.read_at(0, &mut start) {
         Ok(count) => {
@@ -118,7 +117,7 @@ fn show<F: RulesFile>(file: &F, out: &mut Answers) {
 }
 
 /// Makes the calls that the words ask for on a folder. They stop at a word that is none, which is a fault.
-pub fn run_calls_on<R>(rt: &R, alloc: Global, folder: &str, calls: &[String], out: &mut Answers)
+pub fn run_calls_on<R>(rt: &R, alloc: Global, folder: &str, calls: &[String], out: &mut Answer)
 where
     R: Files,
     R::File: FileExt,
@@ -130,7 +129,7 @@ where
 }
 
 /// Makes the calls on a directory.
-fn run_calls<D: Dir>(alloc: Global, dir: &mut D, calls: &[String], out: &mut Answers)
+fn run_calls<D: Dir>(alloc: Global, dir: &mut D, calls: &[String], out: &mut Answer)
     requires { D.honest ≡ false }
 {
     let mut rest = calls;

@@ -1,10 +1,10 @@
 //! The commands that directories of one kind take: `crash CHOICE NAME` shows what a stop leaves under a name, `stop CHOICE` goes on with what
 //! a stop leaves; a directory over a disk takes `remove NAME` and `calls` too.
-use crate::answers::Answers;
 use crate::commands::{OwnCommands, Words, name_of, show_name};
 use crate::test_disk::TestDisk;
 use dir_calls::{Choice, Dir, DirFault, FuseDir, MemDir};
 use dir_disk::DiskDir;
+use probe_answers::Answer;
 use std::alloc::Global;
 
 /// What a stop leaves, by its word.
@@ -18,7 +18,7 @@ fn choice_of(word: &str) -> Option<Choice> {
 }
 
 /// The directory that a stop leaves, or adds why there is none.
-fn stopped(alloc: Global, dir: &MemDir, words: &Words<'_>, out: &mut Answers) -> Option<MemDir> {
+fn stopped(alloc: Global, dir: &MemDir, words: &Words<'_>, out: &mut Answer) -> Option<MemDir> {
     let Some(choice) = choice_of(words.first) else {
         out.fail();
         return None;
@@ -31,14 +31,14 @@ fn stopped(alloc: Global, dir: &MemDir, words: &Words<'_>, out: &mut Answers) ->
 }
 
 /// Shows what a stop leaves under a name.
-fn show_stopped(alloc: Global, dir: &MemDir, words: &Words<'_>, out: &mut Answers) {
+fn show_stopped(alloc: Global, dir: &MemDir, words: &Words<'_>, out: &mut Answer) {
     if let Some(mut left) = stopped(alloc, dir, words, out) {
         show_name(alloc, &mut left, words.second, out);
     }
 }
 
 /// Goes on with what a stop leaves.
-fn stop(alloc: Global, dir: &mut MemDir, words: &Words<'_>, out: &mut Answers) {
+fn stop(alloc: Global, dir: &mut MemDir, words: &Words<'_>, out: &mut Answer) {
     if let Some(left) = stopped(alloc, dir, words, out) {
         *dir = left;
         out.line("done");
@@ -46,7 +46,7 @@ fn stop(alloc: Global, dir: &mut MemDir, words: &Words<'_>, out: &mut Answers) {
 }
 
 impl OwnCommands for MemDir {
-    fn own(&mut self, alloc: Global, words: &Words<'_>, out: &mut Answers) {
+    fn own(&mut self, alloc: Global, words: &Words<'_>, out: &mut Answer) {
         match words.call {
             "crash" => show_stopped(alloc, self, words, out),
             "stop" => stop(alloc, self, words, out),
@@ -56,7 +56,7 @@ impl OwnCommands for MemDir {
 }
 
 impl OwnCommands for FuseDir<MemDir> {
-    fn own(&mut self, alloc: Global, words: &Words<'_>, out: &mut Answers) {
+    fn own(&mut self, alloc: Global, words: &Words<'_>, out: &mut Answer) {
         match words.call {
             "crash" => show_stopped(alloc, self.inner(), words, out),
             _ => out.fail(),
@@ -65,7 +65,7 @@ impl OwnCommands for FuseDir<MemDir> {
 }
 
 /// Shows what a stop of the disk leaves under a name, where names that are not settled are kept or not.
-fn show_left(alloc: Global, disk: &TestDisk, words: &Words<'_>, out: &mut Answers) {
+fn show_left(alloc: Global, disk: &TestDisk, words: &Words<'_>, out: &mut Answer) {
     match disk.after_stop(alloc, words.first == "kept") {
         Ok(left) => show_over(alloc, left, words.second, out),
         Err(_) => out.show_line(&DirFault::OutOfMemory),
@@ -73,7 +73,7 @@ fn show_left(alloc: Global, disk: &TestDisk, words: &Words<'_>, out: &mut Answer
 }
 
 /// Shows what stands on a disk under a name.
-fn show_over(alloc: Global, disk: TestDisk, name: &str, out: &mut Answers) {
+fn show_over(alloc: Global, disk: TestDisk, name: &str, out: &mut Answer) {
     match DiskDir::over(alloc, disk) {
         Ok(mut dir) => show_name(alloc, &mut dir, name, out),
         Err(_) => out.show_line(&DirFault::OutOfMemory),
@@ -81,7 +81,7 @@ fn show_over(alloc: Global, disk: TestDisk, name: &str, out: &mut Answers) {
 }
 
 /// Takes a file away.
-fn remove(alloc: Global, dir: &mut DiskDir<TestDisk>, word: &str, out: &mut Answers) {
+fn remove(alloc: Global, dir: &mut DiskDir<TestDisk>, word: &str, out: &mut Answer) {
     match name_of(alloc, word) {
         Some(name) => out.done(dir.remove(&name)),
         None => out.fail(),
@@ -89,7 +89,7 @@ fn remove(alloc: Global, dir: &mut DiskDir<TestDisk>, word: &str, out: &mut Answ
 }
 
 impl OwnCommands for DiskDir<TestDisk> {
-    fn own(&mut self, alloc: Global, words: &Words<'_>, out: &mut Answers) {
+    fn own(&mut self, alloc: Global, words: &Words<'_>, out: &mut Answer) {
         match words.call {
             "crash" => show_left(alloc, self.disk(), words, out),
             "calls" => out.number_line(self.disk().calls()),

@@ -4,22 +4,21 @@
 //! which stand among the words. With no words it does nothing.
 #![tactic(auto)]
 
-mod answers;
 mod commands;
 mod folder;
 mod kinds;
 mod single;
 mod test_disk;
 
-use answers::Answers;
 use commands::{OwnCommands, Words, obey};
 use dir_calls::{Dir, FuseDir, MemDir};
 use dir_disk::DiskDir;
+use probe_answers::Answer;
 use std::alloc::{AllocError, Global};
 use std::env::Args;
 use std::fs::Files;
 use std::io;
-use std::io::{Error, ErrorKind, Read, Write};
+use std::io::Read;
 use std::os::unix::fs::FileExt;
 use test_disk::{Mishap, TestDisk};
 
@@ -39,7 +38,7 @@ fn words_of(line: &str) -> Words<'_> {
 }
 
 /// Runs all commands on a directory.
-fn run_commands<D: Dir + OwnCommands>(alloc: Global, dir: &mut D, given: &[u8], out: &mut Answers) {
+fn run_commands<D: Dir + OwnCommands>(alloc: Global, dir: &mut D, given: &[u8], out: &mut Answer) {
     let mut kept = Vec::new(alloc);
     match str::from_utf8(given) {
         Ok(text) => obey_all(alloc, dir, &mut kept, text, out),
@@ -53,7 +52,7 @@ fn obey_all<D: Dir + OwnCommands>(
     dir: &mut D,
     kept: &mut Vec<D::File>,
     text: &str,
-    out: &mut Answers,
+    out: &mut Answer,
 ) {
     for line in text.split('\n') {
         if !line.is_empty() && !out.has_failed() {
@@ -85,7 +84,7 @@ fn mishap_of(name: &str) -> Option<Mishap> {
 }
 
 /// Runs the commands on a directory of which one call fails.
-fn run_fuse(alloc: Global, words: &mut Args, given: &[u8], out: &mut Answers) {
+fn run_fuse(alloc: Global, words: &mut Args, given: &[u8], out: &mut Answer) {
     match next_number(words) {
         Some(call) => {
             run_commands(
@@ -106,7 +105,7 @@ fn next_call(words: &mut Args) -> Option<(u64, Mishap)> {
 }
 
 /// Runs the commands on a folder of a disk.
-fn run_disk(alloc: Global, words: &mut Args, given: &[u8], out: &mut Answers) {
+fn run_disk(alloc: Global, words: &mut Args, given: &[u8], out: &mut Answer) {
     match next_call(words) {
         Some((at, mishap)) => run_over(alloc, TestDisk::new(alloc, at, mishap), given, out),
         None => out.fail(),
@@ -114,7 +113,7 @@ fn run_disk(alloc: Global, words: &mut Args, given: &[u8], out: &mut Answers) {
 }
 
 /// Runs the commands on the folder of this disk.
-fn run_over(alloc: Global, disk: TestDisk, given: &[u8], out: &mut Answers) {
+fn run_over(alloc: Global, disk: TestDisk, given: &[u8], out: &mut Answer) {
     match DiskDir::over(alloc, disk) {
         Ok(mut dir) => run_commands(alloc, &mut dir, given, out),
         Err(_) => out.fail(),
@@ -128,7 +127,7 @@ fn next_read(words: &mut Args) -> Option<(u64, usize)> {
 }
 
 /// Makes a single read of a file.
-fn run_read(alloc: Global, words: &mut Args, given: &[u8], out: &mut Answers) {
+fn run_read(alloc: Global, words: &mut Args, given: &[u8], out: &mut Answer) {
     match next_read(words) {
         Some((place, room)) => single::show_read(alloc, given, place, room, out),
         None => out.fail(),
@@ -136,7 +135,7 @@ fn run_read(alloc: Global, words: &mut Args, given: &[u8], out: &mut Answers) {
 }
 
 /// Runs what the first word names, which is no folder of the system.
-fn run_given(alloc: Global, first: &str, words: &mut Args, given: &[u8], out: &mut Answers) {
+fn run_given(alloc: Global, first: &str, words: &mut Args, given: &[u8], out: &mut Answer) {
     match first {
         "memory" => run_commands(alloc, &mut MemDir::new(alloc), given, out),
         "fuse" => run_fuse(alloc, words, given, out),
@@ -161,7 +160,7 @@ fn rest_of(alloc: Global, words: &mut Args) -> Result<Vec<String>, AllocError> {
 }
 
 /// Makes the calls on a folder of the system that the words ask for.
-fn run_folder<R: Files>(rt: &R, alloc: Global, words: &mut Args, out: &mut Answers)
+fn run_folder<R: Files>(rt: &R, alloc: Global, words: &mut Args, out: &mut Answer)
 where
     R::File: FileExt,
 {
@@ -174,22 +173,13 @@ where
     }
 }
 
-/// Prints all answers. It fails where a command has none.
-fn print_all<R: Print>(rt: &R, out: &Answers) -> io::Result<()> {
-    io::writer(rt).write_all(out.bytes())?;
-    if out.has_failed() {
-        return Err(Error::from(ErrorKind::InvalidInput));
-    }
-    Ok(())
-}
-
 /// Runs what the first word names, with the standard input.
 fn run_with_input<R: Input>(
     rt: &R,
     alloc: Global,
     first: &str,
     words: &mut Args,
-    out: &mut Answers,
+    out: &mut Answer,
 ) {
     let mut given = Vec::new(alloc);
     match rt.reader().read_to_end(&mut given) {
@@ -209,10 +199,10 @@ where
     let Some(first) = words.next() else {
         return Ok(());
     };
-    let mut out = Answers::new(alloc);
+    let mut out = Answer::new(alloc);
     match first.as_str() {
         "folder" => run_folder(rt, alloc, words, &mut out),
         _ => run_with_input(rt, alloc, first.as_str(), words, &mut out),
     }
-    print_all(rt, &out)
+    out.print(rt)
 }

@@ -1,6 +1,6 @@
 //! Environments, servers' ends and host tables.
-use crate::answer::Answer;
 use crate::arguments::{Arguments, put};
+use probe_answers::Answer;
 use rule_lookup::{Decision, Peer};
 use std::alloc::Global;
 use ucspi_env::{Environment, HostTable, build};
@@ -38,7 +38,7 @@ pub fn push_variables(alloc: Global, given: &Arguments<'_>, out: &mut Answer) {
 fn push_all(given: &Arguments<'_>, variables: &Environment, out: &mut Answer) {
     out.number(variables.len() as u64);
     out.text(" ");
-    out.flag(variables.is_empty());
+    out.show(&variables.is_empty());
     out.text("\n");
     for place in 0..variables.len() {
         out.debug_line(&variables.at(place));
@@ -53,8 +53,7 @@ pub fn push_local(alloc: Global, given: &Arguments<'_>, out: &mut Answer) {
         return out.fail();
     };
     out.debug(&local.ip());
-    out.text(" ");
-    out.number(local.port() as u64);
+    out.count(" ", local.port() as u64);
     out.text(" ");
     out.debug_line(&local.host());
 }
@@ -71,7 +70,7 @@ fn push_host(given: &Arguments<'_>, table: &HostTable, out: &mut Answer) {
     let ip = given.address("ip");
     match given.known("name") {
         Some(name) => {
-            out.flag(table.confirms(name, ip));
+            out.show(&table.confirms(name, ip));
             out.text("\n");
         }
         None => out.debug_line(&table.name_of(ip)),

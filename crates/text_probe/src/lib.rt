@@ -3,7 +3,6 @@
 //! then option words, and those of `encode` settings. With no words it does nothing.
 #![tactic(auto)]
 
-mod answer;
 mod arguments;
 mod environments;
 mod log_lines;
@@ -12,12 +11,12 @@ mod option_words;
 mod rules;
 mod sources;
 
-use answer::Answer;
 use arguments::Arguments;
+use probe_answers::Answer;
 use std::alloc::Global;
 use std::env::Args;
 use std::io;
-use std::io::{Error, ErrorKind, Read};
+use std::io::Read;
 
 /// Adds the answer of a call.
 fn answer_call(alloc: Global, call: &str, words: &[String], input: &[u8], out: &mut Answer) {
@@ -85,14 +84,6 @@ fn take_all<R: Input>(
     Ok(())
 }
 
-/// Prints an answer.
-fn print_whole<R: Print>(rt: &R, out: &Answer) -> io::Result<()> {
-    match out.whole() {
-        Some(text) => print!(rt; "{text}"),
-        None => Err(Error::from(ErrorKind::OutOfMemory)),
-    }
-}
-
 /// Makes the call that the first word names, with the words that follow, and prints its answer.
 ///
 /// # Errors
@@ -106,5 +97,6 @@ pub fn run<R: Input + Print>(rt: &R, alloc: Global, more: &mut Args) -> io::Resu
     let mut out = Answer::new(alloc);
     take_all(rt, more, &mut words, &mut input)?;
     answer_call(alloc, call.as_str(), &words, &input, &mut out);
-    print_whole(rt, &out)
+    out.keep_whole();
+    out.print(rt)
 }

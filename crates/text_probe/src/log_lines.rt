@@ -1,7 +1,7 @@
 //! The lines of the log.
-use crate::answer::Answer;
 use crate::arguments::{Arguments, shown};
 use byte_text::{push_number, push_text, whole_or_none};
+use probe_answers::Answer;
 use rule_lines::Verdict;
 use rule_lookup::{DropCause, Peer, StartFault, Status};
 use status_lines::{

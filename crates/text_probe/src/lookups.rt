@@ -1,9 +1,9 @@
 //! Peers, their forms, and decisions.
-use crate::answer::Answer;
 use crate::arguments::Arguments;
 use crate::environments::push_built;
 use crate::log_lines::push_verdict;
 use crate::sources::{Faulty, fault_of};
+use probe_answers::Answer;
 use rule_lines::{Limits, ListPairs, RuleList, Setting, Settings, Verdict, parse};
 use rule_lookup::{DecideFault, Decision, Found, Missing, Peer, decide, forms, parse_address};
 use std::alloc::Global;
@@ -34,8 +34,7 @@ fn push_about(alloc: Global, call: &str, given: &Arguments<'_>, peer: &Peer, out
 /// Adds a peer.
 fn push_peer(peer: &Peer, out: &mut Answer) {
     out.debug(&peer.ip());
-    out.text(" ");
-    out.number(peer.port() as u64);
+    out.count(" ", peer.port() as u64);
     out.text("\n");
     out.debug(&peer.host());
     out.text(" ");

@@ -1,6 +1,6 @@
 //! Option words, with the letters of `tcpserver`.
-use crate::answer::Answer;
 use crate::arguments::Arguments;
+use probe_answers::Answer;
 use rule_lines::ParseFault;
 use std::alloc::{AllocError, Global};
 use ucspi_words::{Given, Meaning, Options, TCPSERVER_LETTERS, WordFault, number_in, read_words};
@@ -24,7 +24,7 @@ fn push_read(options: &Options<'_>, rest: &[String], out: &mut Answer) {
 
 /// Adds an option and its value.
 fn push_option(given: &Given<'_>, out: &mut Answer) {
-    out.letter(given.letter);
+    out.show(&given.letter);
     out.text(" ");
     out.debug_line(&given.value);
 }
@@ -51,7 +51,7 @@ fn push_letters_of(alloc: Global, letters: &[char], words: &[String], out: &mut 
 /// Adds whether the first of some letters was given, its value and its number, and which of the letters was given last.
 fn push_given(options: &Options<'_>, letters: &[char], out: &mut Answer) {
     if let Some(first) = letters.first() {
-        out.flag(options.has(*first));
+        out.show(&options.has(*first));
         out.text("\n");
         out.debug_line(&options.value(*first));
         out.debug_line(&options.last_of(letters));

@@ -1,7 +1,7 @@
 //! Rule texts, lists and codes.
-use crate::answer::Answer;
 use crate::arguments::{Arguments, shown};
 use crate::lookups::push_words;
+use probe_answers::Answer;
 use rule_lines::{
     Instr, Limits, LineFault, ListPairs, Pair, PairSource, ParseFault, RuleList, Settings, Verdict,
     decode_instr, encode_instr, parse,
@@ -59,7 +59,7 @@ fn push_list(alloc: Global, call: &str, given: &Arguments<'_>, list: &RuleList, 
 fn push_parts(alloc: Global, call: &str, list: &RuleList, out: &mut Answer) {
     out.number(list.len() as u64);
     out.text(" ");
-    out.flag(list.is_empty());
+    out.show(&list.is_empty());
     out.text(" ");
     let mut parts = Vec::new(alloc);
     for place in 0..list.len() {
@@ -162,9 +162,7 @@ fn push_instr(alloc: Global, instr: &Instr, out: &mut Answer) {
 pub fn push_limits(out: &mut Answer) {
     let limits = Limits::profile();
     out.number(limits.text);
-    out.text(" ");
-    out.number(limits.line);
-    out.text(" ");
-    out.number(limits.file);
+    out.count(" ", limits.line);
+    out.count(" ", limits.file);
     out.text("\n");
 }

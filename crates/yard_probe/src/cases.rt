@@ -1,6 +1,6 @@
 //! Connections of which each meets the same, over yards whose directories are made for it.
-use crate::answers::Answers;
 use crate::served::{Case, Setting, serve_case, setting_of};
+use probe_answers::Answer;
 use server_core::{Counts, Full};
 use std::alloc::Global;
 use std::marker::Brand;
@@ -23,7 +23,7 @@ pub fn case_of(name: &str) -> Option<Case> {
 }
 
 /// Runs a case over a yard that counts its events, and then over one that stores them, and adds how each connection was served.
-pub fn run_case(alloc: Global, case: Case, out: &mut Answers) {
+pub fn run_case(alloc: Global, case: Case, out: &mut Answer) {
     match setting_of(alloc, case) {
         Some(setting) => {
             run_counting(alloc, &setting, out);
@@ -34,11 +34,11 @@ pub fn run_case(alloc: Global, case: Case, out: &mut Answers) {
 }
 
 /// Runs a case over a yard that counts its events.
-fn run_counting(alloc: Global, setting: &Setting, out: &mut Answers) {
+fn run_counting(alloc: Global, setting: &Setting, out: &mut Answer) {
     serve_case::<Brand, Counts>(alloc, Blank::new(1), Counts::new(), setting, out);
 }
 
 /// Runs a case over a yard that stores its events.
-fn run_storing(alloc: Global, setting: &Setting, out: &mut Answers) {
+fn run_storing(alloc: Global, setting: &Setting, out: &mut Answer) {
     serve_case::<Brand, Full>(alloc, Blank::new(1), Full::new(alloc), setting, out);
 }

@@ -2,10 +2,10 @@
 ghost use Rattle.std.specs.Prelude.{◌≡◌, false};
 ghost use Rattle.server_yard.specs.Kept.{HasNoEvents};
 
-use crate::answers::Answers;
 use crate::shown::{Lists, add_report, peer_of};
 use child_table::Place;
 use dir_calls::MemDir;
+use probe_answers::Answer;
 use rule_lines::Verdict;
 use rule_lookup::{DropCause, Missing, Peer, StartFault, Status};
 use server_core::{Journal, Premises, Yard};
@@ -25,7 +25,7 @@ pub fn run_connections<L: Premises, J: Journal + Lists>(
     blank: Blank,
     journal: J,
     connections: u64,
-    out: &mut Answers,
+    out: &mut Answer,
 )
     requires name { blank.name ≡ L.name }
     requires parts { (blank.parts ≡ L.parts) × (blank.parts ≡ connections) }
@@ -62,7 +62,7 @@ fn serve_all<L: Premises, J: Journal + Lists>(
     alloc: Global,
     yard: &mut Yard<L, MemDir, J>,
     connections: u64,
-    out: &mut Answers,
+    out: &mut Answer,
 ) {
     for number in 0..connections {
         serve(alloc, yard, (number % 5) as u8, out);
@@ -77,7 +77,7 @@ fn serve<L: Premises, J: Journal>(
     alloc: Global,
     yard: &mut Yard<L, MemDir, J>,
     kind: u8,
-    out: &mut Answers,
+    out: &mut Answer,
 ) {
     let Some(peer) = peer_of(alloc, kind) else {
         return out.fail();
@@ -97,7 +97,7 @@ fn serve_admitted<L: Premises, J: Journal>(
     place: Place<L>,
     peer: &Peer,
     kind: u8,
-    out: &mut Answers,
+    out: &mut Answer,
 ) {
     match decided(alloc, yard, serial, peer, kind) {
         Ok(None) => run_child(alloc, yard, place, kind),

@@ -1,6 +1,6 @@
 //! Lists of events, which stand on standard input as in a script of `rulesim`: what they come to, and what journals tell of them.
-use crate::answers::Answers;
 use crate::shown::{add_event, add_report};
+use probe_answers::Answer;
 use script_words::{Command, read_command};
 use server_core::{Counts, Event, Full, Journal, replay};
 use std::alloc::Global;
@@ -14,7 +14,7 @@ pub fn run_events<R: Input>(
     name: &str,
     number: u64,
     second: u64,
-    out: &mut Answers,
+    out: &mut Answer,
 ) {
     let mut input = Vec::new(alloc);
     let mut events = Vec::new(alloc);
@@ -50,7 +50,7 @@ fn read_event(alloc: Global, line: &str, events: &mut Vec<Event>) -> bool {
 }
 
 /// Adds what the events come to under two limits, or why they come to nothing.
-fn add_replayed(alloc: Global, limit: u64, per_address: u64, events: &[Event], out: &mut Answers) {
+fn add_replayed(alloc: Global, limit: u64, per_address: u64, events: &[Event], out: &mut Answer) {
     match replay(alloc, limit, per_address, events) {
         Ok(report) => add_report(&report, events.len() as u64, out),
         Err(fault) => out.show_line(&fault),
@@ -58,7 +58,7 @@ fn add_replayed(alloc: Global, limit: u64, per_address: u64, events: &[Event], o
 }
 
 /// Notes the events, by callers from 1 to a greatest one in turn, and adds their report and their number.
-fn note_all<J: Journal>(journal: &mut J, events: Vec<Event>, callers: u64, out: &mut Answers) {
+fn note_all<J: Journal>(journal: &mut J, events: Vec<Event>, callers: u64, out: &mut Answer) {
     let mut caller = 0;
     for event in events {
         caller = if caller < callers { caller + 1 } else { 1 };
@@ -68,7 +68,7 @@ fn note_all<J: Journal>(journal: &mut J, events: Vec<Event>, callers: u64, out: 
 }
 
 /// Notes an event.
-fn note<J: Journal>(journal: &mut J, event: Event, caller: u64, out: &mut Answers) {
+fn note<J: Journal>(journal: &mut J, event: Event, caller: u64, out: &mut Answer) {
     match journal.reserve(1) {
         Ok(()) => journal.note(event, caller),
         Err(_) => out.fail(),
@@ -76,7 +76,7 @@ fn note<J: Journal>(journal: &mut J, event: Event, caller: u64, out: &mut Answer
 }
 
 /// The same by a journal that stores them; and then what it has at each place, from the one before the first to the one after the last.
-fn add_stored(alloc: Global, events: Vec<Event>, callers: u64, out: &mut Answers) {
+fn add_stored(alloc: Global, events: Vec<Event>, callers: u64, out: &mut Answer) {
     let mut full = Full::new(alloc);
     note_all(&mut full, events, callers, out);
     for at in 0..full.events().saturating_add(2) {
@@ -85,14 +85,14 @@ fn add_stored(alloc: Global, events: Vec<Event>, callers: u64, out: &mut Answers
 }
 
 /// Adds what a journal has at a place.
-fn add_noted(full: &Full, at: u64, out: &mut Answers) {
+fn add_noted(full: &Full, at: u64, out: &mut Answer) {
     match full.get(at) {
         Some(noted) => {
-            out.number("caller ", noted.caller);
+            out.count("caller ", noted.caller);
             out.text(": ");
             add_event(&noted.event, out);
             out.end_line();
         }
-        None => out.text_line("none"),
+        None => out.line("none"),
     }
 }

@@ -1,9 +1,9 @@
 //! An installation through a yard, one call of whose directory fails, and what a stop leaves after each step.
 ghost use Rattle.std.specs.Prelude.{◌≡◌, false};
 
-use crate::answers::Answers;
 use crate::shown::{Lists, add_answer, add_decided_after};
 use dir_calls::{Choice, Dir, FuseDir, MemDir};
+use probe_answers::Answer;
 use rule_lines::Limits;
 use rule_lookup::Missing;
 use rules_install::whole::prepare;
@@ -19,7 +19,7 @@ const STEPS: usize = 20;
 
 /// Installs `:deny` where `:allow` stands, and call `call` of the directory fails. Adds each answer with what stops then leave, and the
 /// events.
-pub fn run_installation<L: Premises>(alloc: Global, blank: Blank, call: u64, out: &mut Answers)
+pub fn run_installation<L: Premises>(alloc: Global, blank: Blank, call: u64, out: &mut Answer)
     requires name { blank.name ≡ L.name }
     requires parts { (blank.parts ≡ L.parts) × (blank.parts ≡ 1) }
     requires unmet { L.met ≡ false }
@@ -51,7 +51,7 @@ fn yard_of<L: Premises>(
 fn install<L: Premises>(
     alloc: Global,
     yard: &mut Yard<L, FuseDir<MemDir>, Full>,
-    out: &mut Answers,
+    out: &mut Answer,
 ) {
     match prepared(alloc) {
         Ok(install) => {
@@ -91,7 +91,7 @@ fn go_on<L: Premises>(
     alloc: Global,
     yard: &mut Yard<L, FuseDir<MemDir>, Full>,
     begun: Result<Phase, InstallFault>,
-    out: &mut Answers,
+    out: &mut Answer,
 ) {
     let mut answer = begun;
     for _ in 0..STEPS {
@@ -112,7 +112,7 @@ fn step<L: Premises, D: Dir + Drop>(
 }
 
 /// Adds an answer, and what each stop then leaves.
-fn add_step(alloc: Global, dir: &MemDir, answer: &Result<Phase, InstallFault>, out: &mut Answers) {
+fn add_step(alloc: Global, dir: &MemDir, answer: &Result<Phase, InstallFault>, out: &mut Answer) {
     add_answer(answer, out);
     out.text(": kept ");
     add_decided_after(alloc, dir, Choice::Kept, out);

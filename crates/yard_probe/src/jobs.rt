@@ -1,9 +1,9 @@
 //! Jobs whose wait fails so often before it answers, or that do not start.
 ghost use Rattle.std.specs.Prelude.{◌≡◌, false, ⊤};
 
-use crate::answers::Answers;
 use crate::shown::peer_of;
 use child_table::{Place, Table};
+use probe_answers::Answer;
 use rule_lookup::{StartFault, Status};
 use server_core::{Job, Launcher, NoEnds, Program, Running, WaitFault, finish, start};
 use std::alloc::Global;
@@ -85,7 +85,7 @@ pub fn run_job<L: Ledger>(
     alloc: Global,
     blank: Blank,
     fails: Result<u64, StartFault>,
-    out: &mut Answers,
+    out: &mut Answer,
 )
     requires name { blank.name ≡ L.name }
     requires parts { (blank.parts ≡ L.parts) × (blank.parts ≡ 1) }
@@ -100,7 +100,7 @@ pub fn run_job<L: Ledger>(
 }
 
 /// Lets a peer in, and runs a child in its place.
-fn admit<L: Ledger>(alloc: Global, table: &mut Table<L>, launcher: &Stubborns, out: &mut Answers) {
+fn admit<L: Ledger>(alloc: Global, table: &mut Table<L>, launcher: &Stubborns, out: &mut Answer) {
     let Some(peer) = peer_of(alloc, 1) else {
         return out.fail();
     };
@@ -117,9 +117,9 @@ fn run_child<L: Ledger>(
     table: &mut Table<L>,
     place: Place<L>,
     launcher: &Stubborns,
-    out: &mut Answers,
+    out: &mut Answer,
 ) {
-    out.number_line("place ", place.index() as u64);
+    out.count_line("place ", place.index() as u64);
     match started(alloc, place, launcher) {
         Ok(running) => wait_for(table, running, out),
         Err((place, fault)) => {
@@ -141,7 +141,7 @@ fn started<L: Ledger>(
 }
 
 /// Asks for a child's pipe ends, kills it twice, and waits for it.
-fn wait_for<L: Ledger>(table: &mut Table<L>, mut running: Running<L, Stubborn>, out: &mut Answers) {
+fn wait_for<L: Ledger>(table: &mut Table<L>, mut running: Running<L, Stubborn>, out: &mut Answer) {
     kill_twice(&mut running, out);
     for _ in 0..WAITS {
         let Some(again) = wait_once(table, running, out) else {
@@ -153,8 +153,8 @@ fn wait_for<L: Ledger>(table: &mut Table<L>, mut running: Running<L, Stubborn>, 
 }
 
 /// Asks for a child's pipe ends and kills it twice, and adds what that answers.
-fn kill_twice<L: Ledger>(running: &mut Running<L, Stubborn>, out: &mut Answers) {
-    out.number("place ", running.place().index() as u64);
+fn kill_twice<L: Ledger>(running: &mut Running<L, Stubborn>, out: &mut Answer) {
+    out.count("place ", running.place().index() as u64);
     out.text(", no ends ");
     out.show(&running.ends().is_err());
     out.text(", kills ");
@@ -168,7 +168,7 @@ fn kill_twice<L: Ledger>(running: &mut Running<L, Stubborn>, out: &mut Answers) 
 fn wait_once<L: Ledger>(
     table: &mut Table<L>,
     running: Running<L, Stubborn>,
-    out: &mut Answers,
+    out: &mut Answer,
 ) -> Option<Running<L, Stubborn>> {
     match finish(running) {
         Ok((place, status)) => {
@@ -179,20 +179,20 @@ fn wait_once<L: Ledger>(
         }
         Err((again, fault)) => {
             out.debug(&fault);
-            out.number(", place ", again.place().index() as u64);
-            out.number_line(", live ", table.live());
+            out.count(", place ", again.place().index() as u64);
+            out.count_line(", live ", table.live());
             Some(again)
         }
     }
 }
 
 /// Gives a place back that is in use.
-fn leave<L: Ledger>(table: &mut Table<L>, place: Place<L>, out: &mut Answers) {
-    out.number("place ", place.index() as u64);
+fn leave<L: Ledger>(table: &mut Table<L>, place: Place<L>, out: &mut Answer) {
+    out.count("place ", place.index() as u64);
     if table.is_used(place.index()) {
         table.leave(place);
     } else {
         place.strand();
     }
-    out.number_line(", live ", table.live());
+    out.count_line(", live ", table.live());
 }

@@ -3,7 +3,6 @@
 //! does nothing.
 #![tactic(auto)]
 
-mod answers;
 mod cases;
 mod connections;
 mod events;
@@ -15,24 +14,23 @@ mod served;
 mod shown;
 mod unread;
 
-use answers::Answers;
 use cases::{case_of, run_case};
 use connections::run_connections;
 use events::run_events;
 use installations::run_installation;
 use jobs::run_job;
 use limits::run_limit;
+use probe_answers::Answer;
 use rule_lookup::StartFault;
 use server_core::{Counts, Full};
 use std::alloc::Global;
 use std::env::Args;
 use std::io;
-use std::io::{Error, ErrorKind, Write};
 use std::marker::Brand;
 use std::sync::ledger::Blank;
 
 /// Runs a case that has a number, and no events.
-fn run_numbered(alloc: Global, name: &str, number: u64, out: &mut Answers) {
+fn run_numbered(alloc: Global, name: &str, number: u64, out: &mut Answer) {
     match name {
         "limit" => run_limit::<Brand>(alloc, Blank::new(number), number, out),
         "counted" => run_counted(alloc, number, out),
@@ -45,13 +43,13 @@ fn run_numbered(alloc: Global, name: &str, number: u64, out: &mut Answers) {
 }
 
 /// Serves so many connections over a journal that counts their events.
-fn run_counted(alloc: Global, number: u64, out: &mut Answers) {
+fn run_counted(alloc: Global, number: u64, out: &mut Answer) {
     let blank = Blank::new(number);
     run_connections::<Brand, Counts>(alloc, blank, Counts::new(), number, out);
 }
 
 /// Serves so many connections over a journal that stores their events.
-fn run_stored(alloc: Global, number: u64, out: &mut Answers) {
+fn run_stored(alloc: Global, number: u64, out: &mut Answer) {
     let blank = Blank::new(number);
     run_connections::<Brand, Full>(alloc, blank, Full::new(alloc), number, out);
 }
@@ -67,7 +65,7 @@ fn run_with_number<R: Input>(
     alloc: Global,
     name: &str,
     words: &mut Args,
-    out: &mut Answers,
+    out: &mut Answer,
 ) {
     let Some(number) = next_number(words) else {
         return out.fail();
@@ -81,15 +79,6 @@ fn run_with_number<R: Input>(
     }
 }
 
-/// Prints all lines. It fails where a call did.
-fn print_all<R: Print>(rt: &R, out: &Answers) -> io::Result<()> {
-    io::writer(rt).write_all(out.lines())?;
-    if out.has_failed() {
-        return Err(Error::from(ErrorKind::InvalidInput));
-    }
-    Ok(())
-}
-
 /// Runs the case that the first word names, and prints what its calls answer.
 ///
 /// # Errors
@@ -98,10 +87,10 @@ pub fn run<R: Input + Print>(rt: &R, alloc: Global, words: &mut Args) -> io::Res
     let Some(name) = words.next() else {
         return Ok(());
     };
-    let mut out = Answers::new(alloc);
+    let mut out = Answer::new(alloc);
     match case_of(name.as_str()) {
         Some(case) => run_case(alloc, case, &mut out),
         None => run_with_number(rt, alloc, name.as_str(), words, &mut out),
     }
-    print_all(rt, &out)
+    out.print(rt)
 }

@@ -1,16 +1,16 @@
 //! A limit of 0, and a full yard.
 ghost use Rattle.std.specs.Prelude.{◌≡◌, false};
 
-use crate::answers::Answers;
 use crate::shown::peer_of;
 use dir_calls::MemDir;
+use probe_answers::Answer;
 use rule_lookup::Peer;
 use server_core::{Counts, Premises, Yard};
 use std::alloc::Global;
 use std::sync::ledger::Blank;
 
 /// Adds what a yard with a limit answers when it is made, and what two connections then get.
-pub fn run_limit<L: Premises>(alloc: Global, blank: Blank, limit: u64, out: &mut Answers)
+pub fn run_limit<L: Premises>(alloc: Global, blank: Blank, limit: u64, out: &mut Answer)
     requires name { blank.name ≡ L.name }
     requires parts { (blank.parts ≡ L.parts) × (blank.parts ≡ limit) }
     requires unmet { L.met ≡ false }
@@ -26,21 +26,21 @@ pub fn run_limit<L: Premises>(alloc: Global, blank: Blank, limit: u64, out: &mut
 }
 
 /// Adds what two connections from one address get, and how many are alive then.
-fn admit_two<L: Premises>(alloc: Global, yard: &mut Yard<L, MemDir, Counts>, out: &mut Answers) {
+fn admit_two<L: Premises>(alloc: Global, yard: &mut Yard<L, MemDir, Counts>, out: &mut Answer) {
     let Some(peer) = peer_of(alloc, 1) else {
         return out.fail();
     };
     admit(yard, &peer, out);
     admit(yard, &peer, out);
-    out.number_line("live ", yard.live());
+    out.count_line("live ", yard.live());
 }
 
 /// Lets a connection in, and adds its serial or why it isn't let in. It stays in for good.
-fn admit<L: Premises>(yard: &mut Yard<L, MemDir, Counts>, peer: &Peer, out: &mut Answers) {
+fn admit<L: Premises>(yard: &mut Yard<L, MemDir, Counts>, peer: &Peer, out: &mut Answer) {
     match yard.admit(peer) {
         Ok((serial, place)) => {
             place.strand();
-            out.number_line("admitted ", serial);
+            out.count_line("admitted ", serial);
         }
         Err(fault) => out.show_line(&fault),
     }

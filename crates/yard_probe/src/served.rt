@@ -2,12 +2,12 @@
 ghost use Rattle.std.specs.Prelude.{◌≡◌, false};
 ghost use Rattle.server_yard.specs.Kept.{HasNoEvents};
 
-use crate::answers::Answers;
 use crate::parts::{Counted, Narrow, with_cut_rules};
 use crate::shown::peer_of;
 use crate::unread::Unread;
 use child_table::Place;
 use dir_calls::{Dir, FuseDir, MemDir};
+use probe_answers::Answer;
 use rule_lookup::{Missing, Peer, StartFault, Status};
 use server_core::{Journal, Plan, Premises, Program, Served, Yard, is_admitted, serve_one};
 use std::alloc::{AllocError, Global};
@@ -76,7 +76,7 @@ pub fn serve_case<L: Premises, J: Journal>(
     blank: Blank,
     journal: J,
     setting: &Setting,
-    out: &mut Answers,
+    out: &mut Answer,
 )
     requires name { blank.name ≡ L.name }
     requires parts { (blank.parts ≡ L.parts) × (blank.parts ≡ 1) }
@@ -109,7 +109,7 @@ fn serve_rules<L: Premises, J: Journal>(
     dir: MemDir,
     journal: J,
     setting: &Setting,
-    out: &mut Answers,
+    out: &mut Answer,
 )
     requires name { blank.name ≡ L.name }
     requires parts { (blank.parts ≡ L.parts) × (blank.parts ≡ 1) }
@@ -131,7 +131,7 @@ fn serve_over<L: Premises, D: Dir + Drop, J: Journal>(
     dir: D,
     journal: J,
     setting: &Setting,
-    out: &mut Answers,
+    out: &mut Answer,
 )
     requires name { blank.name ≡ L.name }
     requires parts { (blank.parts ≡ L.parts) × (blank.parts ≡ 1) }
@@ -161,7 +161,7 @@ fn serve_all<L: Premises, D: Dir + Drop, J: Journal>(
     alloc: Global,
     yard: &mut Yard<L, D, J>,
     setting: &Setting,
-    out: &mut Answers,
+    out: &mut Answer,
 ) {
     for _ in 0..CONNECTIONS {
         let launcher = launcher_of(setting.case);
@@ -197,7 +197,7 @@ fn serve<L: Premises, D: Dir + Drop, J: Journal>(
     setting: &Setting,
     launcher: &Counted,
     writer: &mut Narrow,
-    out: &mut Answers,
+    out: &mut Answer,
 ) {
     match yard.admit(&setting.peer) {
         Ok((serial, place)) => {
@@ -217,7 +217,7 @@ fn serve_by<L: Premises, D: Dir + Drop, J: Journal>(
     setting: &Setting,
     launcher: &Counted,
     writer: &mut Narrow,
-    out: &mut Answers,
+    out: &mut Answer,
 ) {
     let (peer, plan) = (&setting.peer, &setting.plan);
     if !is_admitted(yard, &place, serial, peer) {
@@ -227,17 +227,17 @@ fn serve_by<L: Premises, D: Dir + Drop, J: Journal>(
     let served = serve_one(alloc, yard, place, serial, peer, plan, launcher, writer);
     let live = yard.live();
     end(yard, served, out);
-    out.number(", ", launcher.starts.load(Ordering::SeqCst));
-    out.number(" starts, ", live);
-    out.number(" alive, ", writer.taken as u64);
-    out.text_line(" bytes");
+    out.count(", ", launcher.starts.load(Ordering::SeqCst));
+    out.count(" starts, ", live);
+    out.count(" alive, ", writer.taken as u64);
+    out.line(" bytes");
 }
 
 /// Adds how a connection was served. A child that runs ends.
 fn end<L: Premises, D: Dir + Drop, J: Journal>(
     yard: &mut Yard<L, D, J>,
     served: Served<L, EndedJob>,
-    out: &mut Answers,
+    out: &mut Answer,
 ) {
     match served {
         Served::Running(running) => {
@@ -251,7 +251,7 @@ fn end<L: Premises, D: Dir + Drop, J: Journal>(
 }
 
 /// Adds how a connection was served, and why.
-fn add_cause<T: Debug>(how: &str, cause: &T, out: &mut Answers) {
+fn add_cause<T: Debug>(how: &str, cause: &T, out: &mut Answer) {
     out.text(how);
     out.text("(");
     out.debug(cause);

@@ -1,7 +1,7 @@
 //! What is told of answers, events and decisions.
-use crate::answers::Answers;
 use cdb_read::CdbFile;
 use dir_calls::{Choice, Dir, MemDir, MemFile};
+use probe_answers::Answer;
 use rule_lines::Verdict;
 use rule_lookup::{Missing, Peer, Status, decide};
 use rules_install::{InstallFault, Phase};
@@ -23,7 +23,7 @@ fn verdict_word(verdict: Verdict) -> &'static str {
 }
 
 /// Adds what the rules file decides of a peer after a stop.
-pub fn add_decided_after(alloc: Global, dir: &MemDir, choice: Choice, out: &mut Answers) {
+pub fn add_decided_after(alloc: Global, dir: &MemDir, choice: Choice, out: &mut Answer) {
     match dir.crash(alloc, choice) {
         Ok(mut left) => add_decided_in(alloc, &mut left, out),
         Err(_) => out.fail(),
@@ -31,7 +31,7 @@ pub fn add_decided_after(alloc: Global, dir: &MemDir, choice: Choice, out: &mut 
 }
 
 /// Adds what the rules file in a directory decides of a peer.
-fn add_decided_in(alloc: Global, dir: &mut MemDir, out: &mut Answers) {
+fn add_decided_in(alloc: Global, dir: &mut MemDir, out: &mut Answer) {
     let Ok(name) = rules_name(alloc) else {
         return out.fail();
     };
@@ -43,7 +43,7 @@ fn add_decided_in(alloc: Global, dir: &mut MemDir, out: &mut Answers) {
 }
 
 /// Adds what a rules file decides of a peer.
-fn add_decided_by(alloc: Global, file: &CdbFile<MemFile>, out: &mut Answers) {
+fn add_decided_by(alloc: Global, file: &CdbFile<MemFile>, out: &mut Answer) {
     let Some(peer) = peer_of(alloc, 0) else {
         return out.fail();
     };
@@ -55,7 +55,7 @@ fn add_decided_by(alloc: Global, file: &CdbFile<MemFile>, out: &mut Answers) {
 }
 
 /// Adds what a step of an installation answered.
-pub fn add_answer(answer: &Result<Phase, InstallFault>, out: &mut Answers) {
+pub fn add_answer(answer: &Result<Phase, InstallFault>, out: &mut Answer) {
     match answer {
         Ok(phase) => out.text(phase.as_str()),
         Err(InstallFault::Disk(fault, phase)) => {
@@ -76,28 +76,28 @@ fn code_of(status: Status) -> u8 {
 }
 
 /// Adds a report and a number of events.
-pub fn add_report(report: &Report, events: u64, out: &mut Answers) {
-    out.number("admitted ", report.admitted);
-    out.number(" live ", report.live);
-    out.number(" retired ", report.retired);
-    out.number(" most ", report.most);
-    out.number(", ", events);
-    out.text_line(" events");
+pub fn add_report(report: &Report, events: u64, out: &mut Answer) {
+    out.count("admitted ", report.admitted);
+    out.count(" live ", report.live);
+    out.count(" retired ", report.retired);
+    out.count(" most ", report.most);
+    out.count(", ", events);
+    out.line(" events");
 }
 
 /// Adds an admission, an opening or a decision in the words of a script, or another event.
-pub fn add_event(event: &Event, out: &mut Answers) {
+pub fn add_event(event: &Event, out: &mut Answer) {
     match event {
         Event::Admitted { serial, peer } => {
-            out.number("admitted ", *serial);
+            out.count("admitted ", *serial);
             add_address(peer.ip(), out);
         }
         Event::Opened { serial, there } => {
-            out.number("opened ", *serial);
+            out.count("opened ", *serial);
             out.text(if *there { " yes" } else { " no" });
         }
         Event::Decided { serial, decision } => {
-            out.number("decided ", *serial);
+            out.count("decided ", *serial);
             out.text(" ");
             out.text(verdict_word(decision.verdict));
         }
@@ -106,25 +106,25 @@ pub fn add_event(event: &Event, out: &mut Answers) {
 }
 
 /// Adds an address.
-fn add_address(address: [u8; 4], out: &mut Answers) {
+fn add_address(address: [u8; 4], out: &mut Answer) {
     let [a, b, c, d] = address;
-    out.number(" ", u64::from(a));
-    out.number(".", u64::from(b));
-    out.number(".", u64::from(c));
-    out.number(".", u64::from(d));
+    out.count(" ", u64::from(a));
+    out.count(".", u64::from(b));
+    out.count(".", u64::from(c));
+    out.count(".", u64::from(d));
 }
 
 /// Adds another event in the words of a script.
-fn add_end(event: &Event, out: &mut Answers) {
+fn add_end(event: &Event, out: &mut Answer) {
     match event {
-        Event::Started { serial } => out.number("started ", *serial),
-        Event::StartFailed { serial, .. } => out.number("startfailed ", *serial),
+        Event::Started { serial } => out.count("started ", *serial),
+        Event::StartFailed { serial, .. } => out.count("startfailed ", *serial),
         Event::Ended { serial, status } => {
-            out.number("ended ", *serial);
-            out.number(" ", u64::from(code_of(*status)));
+            out.count("ended ", *serial);
+            out.count(" ", u64::from(code_of(*status)));
         }
-        Event::Retired { serial } => out.number("retired ", *serial),
-        Event::Dropped { serial, .. } => out.number("dropped ", *serial),
+        Event::Retired { serial } => out.count("retired ", *serial),
+        Event::Dropped { serial, .. } => out.count("dropped ", *serial),
         Event::Stepped { phase } => add_phase("phase ", *phase, out),
         Event::StepFailed { phase } => add_phase("failed ", *phase, out),
         _ => out.text("stop"),
@@ -132,7 +132,7 @@ fn add_end(event: &Event, out: &mut Answers) {
 }
 
 /// Adds a phase behind a text.
-fn add_phase(text: &str, phase: Phase, out: &mut Answers) {
+fn add_phase(text: &str, phase: Phase, out: &mut Answer) {
     out.text(text);
     out.text(phase.as_str());
 }
@@ -140,15 +140,15 @@ fn add_phase(text: &str, phase: Phase, out: &mut Answers) {
 /// A journal that may be able to list its events.
 pub trait Lists {
     /// Adds all events, in the words of a script, where it stores them.
-    fn add_events(&self, out: &mut Answers);
+    fn add_events(&self, out: &mut Answer);
 }
 
 impl Lists for Counts {
-    fn add_events(&self, _out: &mut Answers) {}
+    fn add_events(&self, _out: &mut Answer) {}
 }
 
 impl Lists for Full {
-    fn add_events(&self, out: &mut Answers) {
+    fn add_events(&self, out: &mut Answer) {
         for at in 0..self.events() {
             if let Some(noted) = self.get(at.saturating_add(1)) {
                 out.text("event ");

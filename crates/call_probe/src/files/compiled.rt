@@ -1,7 +1,7 @@
 //! Compiled files, and pieces of them.
-use crate::answer::Answer;
 use crate::files::words::next_short;
 use cdb_write::{Maker, hash, header, record_piece, table_piece};
+use probe_answers::Answer;
 use std::alloc::Global;
 use std::env::Args;
 

@@ -1,7 +1,7 @@
 //! Installations over a directory in memory.
-use crate::answer::Answer;
 use crate::words::next_number;
 use dir_calls::{Choice, Dir, FuseDir, MemDir, MemFile, Name, RulesFile};
+use probe_answers::Answer;
 use rule_lines::Limits;
 use rules_install::whole::{install, prepare};
 use rules_install::{Install, InstallFault, Names, Phase};
@@ -65,8 +65,7 @@ fn append_answer(
     match word {
         "limited" => append_limited(alloc, dir, words, out),
         "failures" => {
-            out.text("failures ");
-            out.number_line(dir.failures());
+            out.count_line("failures ", dir.failures());
         }
         _ => match words.next() {
             Some(next) => append_for(alloc, dir, word, next.as_str(), out),

@@ -1,10 +1,10 @@
 //! Look-ups in a compiled file.
 ghost use Rattle.std.specs.Prelude.{[], false};
 
-use crate::answer::Answer;
 use crate::words::next_number;
 use cdb_read::CdbFile;
 use dir_calls::{DeviceFault, MemFile, RulesFile};
+use probe_answers::Answer;
 use rule_lines::{FindFault, PairSource};
 use std::alloc::Global;
 use std::cell::Cell;
@@ -119,8 +119,7 @@ pub fn append_reads(alloc: Global, words: &mut Args, given: &[u8], out: &mut Ans
     let log = Log::new();
     let _found = look_up(alloc, &log, given, usize::MAX, 0, key.as_str());
     out.number(log.reads.get());
-    out.text(" reads of ");
-    out.number(log.bytes.get() as u64);
+    out.count(" reads of ", log.bytes.get() as u64);
     out.line(" bytes");
 }
 

@@ -1,8 +1,8 @@
 //! Calls of one chain: a number feeds so many of the next bytes; `finish`, `renew` and `is_empty` are the chain's own; `show` adds what was
 //! written; `back` goes back to the text's beginning, with nothing written; and `pump` is of the module `pumps`.
-use crate::answer::Answer;
 use crate::streams::pumps::pump_next;
 use crate::streams::words::next_size;
+use probe_answers::Answer;
 use std::alloc::Global;
 use std::env::Args;
 use std::io;
@@ -90,7 +90,7 @@ fn call(alloc: Global, stream: &mut Stream<'_>, word: &str, words: &mut Args, ou
         } else {
             "false"
         }),
-        "show" => out.list_line(&stream.out),
+        "show" => out.debug_line(&stream.out),
         "pump" => pump_next(alloc, stream, words, out),
         "renew" => {
             stream.chain.renew();

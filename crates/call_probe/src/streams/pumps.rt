@@ -2,12 +2,12 @@
 //! (`fails`, `interrupted` or `nothing`) and which one; the tap is `none`, `keeper WAY`, or `recorder WAY NUMBER WRITER`.
 ghost use Rattle.std.specs.Prelude.{⊤};
 
-use crate::answer::Answer;
 use crate::streams::chains::Stream;
 use crate::streams::pieces::{Source, Target, next_pieces};
 use crate::streams::words::next_way;
 use crate::words::next_number;
 use byte_pump::{NoTap, Recorder, Tap, pump};
+use probe_answers::Answer;
 use std::alloc::Global;
 use std::env::Args;
 use wrapper_chain::Way;
@@ -117,7 +117,7 @@ fn pump_kept<'a>(
     };
     pump_with(alloc, stream, run, &mut tap, out);
     out.text(", kept ");
-    out.list_line(&tap.log);
+    out.debug_line(&tap.log);
 }
 
 /// Runs a pump with a recorder, of the way, with the number and to the writer that the next words describe.
@@ -143,8 +143,7 @@ fn pump_recorded<'a>(
 fn add_recorded(lines: &Target, out: &mut Answer) {
     out.text(", recorded ");
     out.debug(&lines.bytes.as_slice());
-    out.text(" in ");
-    out.number(lines.pieces.calls as u64);
+    out.count(" in ", lines.pieces.calls as u64);
     out.text(" writes\n");
 }
 
@@ -173,11 +172,8 @@ fn pump_with<'a, T: Tap>(
 
 /// Adds what a pump that has ended read, left and wrote.
 fn add_counts(run: &Run<'_>, out: &mut Answer) {
-    out.text(", ");
-    out.number(run.source.pieces.calls as u64);
-    out.text(" reads, ");
-    out.number(run.source.text.len() as u64);
-    out.text(" left, ");
-    out.number(run.target.pieces.calls as u64);
+    out.count(", ", run.source.pieces.calls as u64);
+    out.count(" reads, ", run.source.text.len() as u64);
+    out.count(" left, ", run.target.pieces.calls as u64);
     out.text(" writes");
 }

@@ -1,5 +1,5 @@
 //! Stages alone.
-use crate::answer::Answer;
+use probe_answers::Answer;
 use std::alloc::Global;
 use std::env::Args;
 use wrapper_chain::{AddCr, DelCr, FixCr, LineStage};
@@ -27,7 +27,7 @@ fn add_pieces<S: LineStage>(
 ) {
     let mut made = Vec::new(alloc);
     match feed_pieces(stage, text, words, &mut made) {
-        Some(()) => out.list_line(&made),
+        Some(()) => out.debug_line(&made),
         None => out.fail(),
     }
 }

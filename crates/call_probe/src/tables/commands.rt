@@ -3,8 +3,8 @@
 //! `live_at LAST` ask for a number.
 ghost use Rattle.std.specs.Prelude.{◌≡◌};
 
-use crate::answer::Answer;
 use child_table::{Place, Table, TableFault};
+use probe_answers::Answer;
 use rule_lookup::Peer;
 use std::alloc::Global;
 use std::io::BufRead;
@@ -135,8 +135,7 @@ fn admit<L: Ledger>(
 
 /// Keeps a place, and adds its index.
 fn keep<L: Ledger>(places: &mut Places<L>, place: Place<L>, out: &mut Answer) {
-    out.text("index ");
-    out.number_line(place.index() as u64);
+    out.count_line("index ", place.index() as u64);
     if let Err(failed) = places.push(Some(place)) {
         strand(failed.value);
         out.fail();
