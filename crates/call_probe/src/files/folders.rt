@@ -1,4 +1,9 @@
 //! Installations over a directory in memory.
+ghost use Rattle.dir_calls.specs.FuseParts.{fuse_inner};
+ghost use Rattle.dir_calls.specs.MemDir.{mem_state};
+ghost use Rattle.rules_install.specs.Installing.{Fits};
+ghost use Rattle.rules_install.specs.Installs.{installing};
+
 use crate::words::next_number;
 use dir_calls::{Choice, Dir, FuseDir, MemDir, MemFile, Name, RulesFile};
 use probe_answers::Answer;
@@ -155,10 +160,17 @@ fn append_all_steps(alloc: Global, dir: &mut FuseDir<MemDir>, text: &[u8], out: 
     let Some(names) = names(alloc) else {
         return out.fail();
     };
-    let Ok(mut install) = prepare(alloc, names, &Limits::profile(), text) else {
-        return out.fail();
-    };
-    append_stepped(&install, out);
+    match prepare(alloc, names, &Limits::profile(), text) {
+        Ok(mut install) => append_steps(alloc, dir, &mut install, out),
+        Err(_) => out.fail(),
+    }
+}
+
+/// Makes the steps of an installation, and one step more.
+fn append_steps(alloc: Global, dir: &mut FuseDir<MemDir>, install: &mut Install, out: &mut Answer)
+    requires { Fits (installing install.old) (mem_state (fuse_inner dir.old)) }
+{
+    append_stepped(install, out);
     let mut is_ended = false;
     for _ in 0..STEPS {
         let answer = install.step(alloc, dir);
@@ -168,7 +180,7 @@ fn append_all_steps(alloc: Global, dir: &mut FuseDir<MemDir>, text: &[u8], out: 
         }
         is_ended = matches!(answer, Ok(Phase::Done) | Err(_));
     }
-    append_stepped(&install, out);
+    append_stepped(install, out);
 }
 
 /// Adds whether a step is said to have been made.
