@@ -2,8 +2,7 @@ use Rattle.std.proofs.Common.{◌≢◌, List, ℕ, IsTrue, sym, ◌∙◌, ap, 
 use Rattle.std.specs.Prelude.{Option}
 use Rattle.dir_calls.specs.Directory.{Directory}
 use Rattle.dir_calls.specs.Calls.{makes, appends, syncs, after}
-use Rattle.dir_calls.specs.Lasting.{LastsAmong}
-use Rattle.dir_calls.specs.Replacing.{Stays, HasSynced}
+use Rattle.dir_calls.specs.Replacing.{Stays, HasSynced, KeepsWhatLasts}
 use Rattle.dir_calls.proofs.Lasting.{makes_keeps, syncs_keeps}
 use Rattle.dir_calls.proofs.Replacing.{stays_call, stays_then, stays_on, on_ok, written}
 use Rattle.dir_calls.proofs.replace.write_scratch.Given.{Over}
@@ -11,9 +10,9 @@ use Rattle.dir_calls.proofs.replace.write_scratch.Goals as goal
 use Rattle.dir_calls.proofs.replace.write_scratch.Goals.{After-fresh, After-append_all}
 
 -- up to the making
-made : (g : Over) (c : After-fresh g) → IsTrue g.D.Dir.honest → (name : List ℕ) (olds : List (Option (List ℕ))) → c.args.scratch.now ≢ name → LastsAmong (g.D.Dir.state c.args.dir.now) name olds
-    → Stays g.D.Dir.state g.D.Dir.moment g.D.Dir.left_since name olds c.args.dir.now c.fresh.new.self
-made g c honest name olds differ lasts =
+made : (g : Over) (c : After-fresh g) → IsTrue g.D.Dir.honest → (name : List ℕ) → c.args.scratch.now ≢ name
+    → KeepsWhatLasts g.D.Dir.state g.D.Dir.moment g.D.Dir.left_since name c.args.dir.now c.fresh.new.self
+made g c honest name differ olds lasts =
     let old = c.args.dir.now in
     let scratch = c.args.scratch.now in
     let keeps = makes_keeps (g.D.Dir.state old) name olds lasts scratch (λ same. differ (sym same)) in
@@ -31,9 +30,9 @@ pub returns-in_err-fresh-clause-stays : goal.returns-in_err-fresh-clause-stays
 returns-in_err-fresh-clause-stays g c = made g (goal.at.returns-in_err-fresh-clause-stays g c).After-fresh
 
 pub returns-in_err-append_all-clause-stays : goal.returns-in_err-append_all-clause-stays
-returns-in_err-append_all-clause-stays g c = λ honest name olds differ lasts.
+returns-in_err-append_all-clause-stays g c = λ honest name differ olds lasts.
     let at = goal.at.returns-in_err-append_all-clause-stays g c in
-    filled g at.After-append_all honest name olds (made g at.After-fresh honest name olds differ lasts)
+    filled g at.After-append_all honest name olds (made g at.After-fresh honest name differ olds lasts)
 
 pub returns-clause-written : goal.returns-clause-written
 returns-clause-written g c = λ honest.
@@ -44,10 +43,10 @@ returns-clause-written g c = λ honest.
     (written (g.D.Dir.state c.args.dir.now) scratch bytes))
 
 pub returns-clause-stays : goal.returns-clause-stays
-returns-clause-stays g c = λ honest name olds differ lasts.
+returns-clause-stays g c = λ honest name differ olds lasts.
     let at = goal.at.returns-clause-stays g c in
     let mid = c.append_all.new.dir in
-    let so_far = filled g at.After-append_all honest name olds (made g at.After-fresh honest name olds differ lasts) in
+    let so_far = filled g at.After-append_all honest name olds (made g at.After-fresh honest name differ olds lasts) in
     let keeps = syncs_keeps (g.D.Dir.state mid) name olds so_far.lasts in
     stays_on g.D.Dir.state g.D.Dir.moment g.D.Dir.left_since name olds c.args.dir.now mid c.sync.new.self (λ _. syncs) syncs c.sync.result
     so_far (λ image left. g.met.D.Dir.only_now mid image honest left) (c.sync.ensures.time honest) (c.sync.ensures.does honest) keeps (λ _. keeps)
