@@ -1,4 +1,4 @@
-use Rattle.std.proofs.Common.{◌≡◌, List, ℕ, IsTrue, ◌≤◌, length}
+use Rattle.std.proofs.Common.{◌≡◌, List, ℕ, IsTrue, length}
 use Rattle.dir_calls.specs.Calls.{appends, after}
 use Rattle.dir_calls.specs.Replacing.{KeepsWhatLasts}
 use Rattle.dir_calls.proofs.replace.append_all.Given as goal

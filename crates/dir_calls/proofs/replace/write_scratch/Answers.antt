@@ -1,8 +1,12 @@
 use Rattle.std.proofs.Common.{◌≢◌, List, ℕ, IsTrue, sym, ◌∙◌, ap, subst}
-use Rattle.std.specs.Prelude.{Option}
+use Rattle.std.proofs.lemmas.Result.{IfOk-from_err, err_from_is_err_and}
+use Rattle.std.specs.Prelude.{Option, Err}
+use Rattle.dir_calls.specs.declared.fault.DirFault.{DirFault}
 use Rattle.dir_calls.specs.Directory.{Directory}
 use Rattle.dir_calls.specs.Calls.{makes, appends, syncs, after}
+use Rattle.dir_calls.specs.Moments.{CountsFault}
 use Rattle.dir_calls.specs.Replacing.{Stays, HasSynced, KeepsWhatLasts}
+use Rattle.dir_calls.proofs.Counting.{counted_on}
 use Rattle.dir_calls.proofs.Lasting.{makes_keeps, syncs_keeps}
 use Rattle.dir_calls.proofs.Replacing.{stays_call, stays_then, stays_on, on_ok, written}
 use Rattle.dir_calls.proofs.replace.write_scratch.Given.{Over}
@@ -50,3 +54,24 @@ returns-clause-stays g c = λ honest name differ olds lasts.
     let keeps = syncs_keeps (g.D.Dir.state mid) name olds so_far.lasts in
     stays_on g.D.Dir.state g.D.Dir.moment g.D.Dir.left_since name olds c.args.dir.now mid c.sync.new.self (λ _. syncs) syncs c.sync.result
     so_far (λ image left. g.met.D.Dir.only_now mid image honest left) (c.sync.ensures.time honest) (c.sync.ensures.does honest) keeps (λ _. keeps)
+
+pub returns-in_err-fresh-clause-written : goal.returns-in_err-fresh-clause-written
+returns-in_err-fresh-clause-written g c = λ honest. IfOk-from_err c.from_residual.result _ c.from_residual.ensures.0
+
+pub returns-in_err-fresh-clause-counted : goal.returns-in_err-fresh-clause-counted
+returns-in_err-fresh-clause-counted g c =
+    let p = err_from_is_err_and c.from_residual.result c.from_residual.ensures.1 in
+    rw (p.1, p.2) (c.in_err-fresh.ensures.counted)
+
+pub returns-in_err-append_all-clause-written : goal.returns-in_err-append_all-clause-written
+returns-in_err-append_all-clause-written g c = λ honest. IfOk-from_err c.from_residual-in_err-append_all.result _ c.from_residual-in_err-append_all.ensures.0
+
+pub returns-in_err-append_all-clause-counted : goal.returns-in_err-append_all-clause-counted
+returns-in_err-append_all-clause-counted g c =
+    let p = err_from_is_err_and c.from_residual-in_err-append_all.result c.from_residual-in_err-append_all.ensures.1 in
+    counted_on (g.D.Dir.failed c.args.dir.now) (g.D.Dir.failed c.fresh.new.self) (g.D.Dir.failed c.append_all.new.dir) c.append_all.result c.from_residual-in_err-append_all.result c.in_err-append_all.field-0.0
+    c.in_err-append_all.was (p.1 ∙ ap (λ (f : DirFault). Err f) p.2) c.in_ok-fresh.ensures.counted c.append_all.ensures.counted
+
+pub returns-clause-counted : goal.returns-clause-counted
+returns-clause-counted g c =
+    subst (λ (n : ℕ). CountsFault n (g.D.Dir.failed c.sync.new.self) c.sync.result) (c.in_ok-append_all.ensures.counted ∙ c.in_ok-fresh.ensures.counted) c.sync.ensures.counted
