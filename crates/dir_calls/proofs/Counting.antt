@@ -1,5 +1,5 @@
 -- Failures that are counted.
-use Rattle.std.proofs.Common.{◌≡◌, ◌⊎◌, inl, inr, ℕ, ◌<◌, ◌≤◌, ◌+◌, ◌-◌, ◌^◌, arith}
+use Rattle.std.proofs.Common.{◌≡◌, ◌⊎◌, inl, inr, ℕ, ◌<◌, ◌≤◌, ◌+◌, ◌-◌, ◌^◌, ◌∙◌, subst, arith}
 use Rattle.std.specs.Prelude.{Result, Ok, Err}
 use Rattle.dir_calls.specs.Moments.{CountsFault}
 use Rattle.dir_calls.specs.declared.fault.DirFault.{DirFault}
@@ -18,3 +18,11 @@ counts_later before now (Err Device) (inr (same, top)) = omega (arith, same)
 pub counts_device : (before now : ℕ) → (now ≡ before + 1) ⊎ ((now ≡ before) × (before ≡ 2 ^ 64 - 1)) → (before < now) ⊎ (now ≡ 2 ^ 64 - 1)
 counts_device before now (inl one) = inl (omega (arith, one))
 counts_device before now (inr (same, top)) = inr (omega (arith, same, top))
+
+-- a call that counted none, and then a call whose fault is passed on
+pub counted_on : {T U : Type 0} (before mid now : ℕ) (first : Result T DirFault) (last : Result U DirFault) (fault : DirFault) → first ≡ Err fault → last ≡ Err fault → mid ≡ before
+    → CountsFault mid now first → CountsFault before now last
+counted_on before mid now first last Device one two same counted = rw two (subst (λ (n : ℕ). (now ≡ n + 1) ⊎ ((now ≡ n) × (n ≡ 2 ^ 64 - 1))) same (rw one at counted))
+counted_on before mid now first last NoScratch one two same counted = rw two ((rw one at counted) ∙ same)
+counted_on before mid now first last NoName one two same counted = rw two ((rw one at counted) ∙ same)
+counted_on before mid now first last OutOfMemory one two same counted = rw two ((rw one at counted) ∙ same)

@@ -1,8 +1,8 @@
 -- A directory in memory after a change.
-use Rattle.std.proofs.Common.{Global, ◌≡◌, true, false, ℕ, zero, suc, ◌+◌, ◌-◌, ◌≤◌, ◌<◌, List, [], ◌∷◌, ◌++◌, length, get_or, take, drop, refl, sym, ◌∙◌, ap, arith, append_assoc, length-append, length-take, length-drop}
+use Rattle.std.proofs.Common.{Global, ◌≡◌, true, false, ℕ, zero, suc, ◌+◌, ◌-◌, ◌≤◌, ◌<◌, List, [], ◌∷◌, ◌++◌, length, get_or, take, drop, refl, sym, ◌∙◌, ap, subst, arith, append_assoc, length-append, length-take, length-drop}
 use Rattle.std.proofs.lemmas.List.{drop-drop, with_items_is, take_all, drop_all, take-append-le, drop-append-le, take-append-drop}
 use Rattle.std.proofs.lemmas.List.Sums.{fold-append}
-use Rattle.std.proofs.lemmas.Option.{slice_get-map, slice_get_read}
+use Rattle.std.proofs.lemmas.Option.{slice_get-map, slice_get_past, slice_get_read}
 use Rattle.std.specs.FinMap.{insert, remove}
 use Rattle.std.specs.Option.{ForSome, option_map}
 use Rattle.std.specs.Vec.{with_items}
@@ -101,3 +101,20 @@ module _ (old : Vec ℕ Global) (place : ℕ) (bytes : List ℕ) (inside : place
     where
       total : place + (place + length bytes - place) ≡ place + length bytes
       total = omega arith
+
+-- ---- what stands under a name
+
+abbrev bytes_at : List Stored → Option ℕ → Option (List ℕ)
+bytes_at files number = option_map (λ (f : FileState). f.bytes) (option_and_then (λ n. slice_get (map file_of files) n) number)
+
+-- those of the file that is read from the list
+pub bytes_read : (read files : List Stored) (number : Option ℕ) (n : ℕ) (item file : Stored) → read ≡ files → number ≡ Some n → n < length read → item ≡ get_or read n item → item ≡ file
+    → bytes_at files number ≡ Some (file_of file).bytes
+bytes_read read files number n item file same is within there item_is = subst (λ (l : List Stored). bytes_at l number ≡ Some (file_of file).bytes) same
+    (ap (bytes_at read) is ∙ ap (option_map (λ (f : FileState). f.bytes)) (slice_get-map file_of read n ∙ ap (option_map file_of) (slice_get_read read (length read) n item refl within there ∙ ap (λ (f : Stored). Some f) item_is)))
+
+pub bytes_nowhere : (files : List Stored) (number : Option ℕ) (n : ℕ) → number ≡ Some n → length files ≤ n → bytes_at files number ≡ None
+bytes_nowhere files number n is past = ap (bytes_at files) is ∙ ap (option_map (λ (f : FileState). f.bytes)) (slice_get-map file_of files n ∙ ap (option_map file_of) (slice_get_past files n past))
+
+pub bytes_of_none : (files : List Stored) (number : Option ℕ) → number ≡ None → bytes_at files number ≡ None
+bytes_of_none files number is = ap (bytes_at files) is

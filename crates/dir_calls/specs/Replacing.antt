@@ -1,5 +1,5 @@
 -- What a run of calls leaves under a name.
-use Rattle.std.specs.Prelude.{◌≡◌, ℕ, true, List, Option, Some}
+use Rattle.std.specs.Prelude.{◌≡◌, ℕ, true, List, ◌∷◌, Option, Some}
 use Rattle.dir_calls.specs.Directory.{Directory, file_at}
 use Rattle.dir_calls.specs.Lasting.{LastsAmong, HasAmong}
 use Rattle.dir_calls.specs.Moments.{LeavesOnly}
@@ -9,6 +9,16 @@ use Rattle.dir_calls.specs.Moments.{LeavesOnly}
 pub record Stays {D : Type 0} (state : D → Directory) (moment : D → ℕ) (left_since : D → ℕ → Directory → Type 0) (name : List ℕ) (contents : List (Option (List ℕ))) (old new : D) : Type 0 where
   pub lasts : LastsAmong (state new) name contents
   pub any_moment : LeavesOnly moment left_since old new (HasAmong name contents)
+
+-- what lasts under the name lasts there, and stands there whenever the machine stops meanwhile
+abbrev pub KeepsWhatLasts : {D : Type 0} → (state : D → Directory) → (moment : D → ℕ) → (left_since : D → ℕ → Directory → Type 0) → (name : List ℕ) → (old new : D) → Type 0
+KeepsWhatLasts state moment left_since name old new =
+    (contents : List (Option (List ℕ))) → LastsAmong (state old) name contents → Stays state moment left_since name contents old new
+
+-- what lasts under the name, or a file with these bytes, lasts there, and stands there whenever the machine stops meanwhile
+abbrev pub KeepsOrPuts : {D : Type 0} → (state : D → Directory) → (moment : D → ℕ) → (left_since : D → ℕ → Directory → Type 0) → (name bytes : List ℕ) → (old new : D) → Type 0
+KeepsOrPuts state moment left_since name bytes old new =
+    (contents : List (Option (List ℕ))) → LastsAmong (state old) name contents → Stays state moment left_since name (Some bytes ∷ contents) old new
 
 -- a synced file with these bytes stands under a name
 abbrev pub HasSynced : List ℕ → List ℕ → Directory → Type 0

@@ -1,9 +1,9 @@
 //! A file put whole in the place of another.
-ghost use Rattle.std.specs.Prelude.{◌≡◌, ◌≢◌, List, [], ◌∷◌, ℕ, IsTrue, Option, Some, OnOk};
+ghost use Rattle.std.specs.Prelude.{◌≡◌, ◌≢◌, List, [], ◌∷◌, ℕ, IsTrue, Some, OnOk};
 ghost use Rattle.dir_calls.specs.Calls.{appends, after};
-ghost use Rattle.dir_calls.specs.Lasting.{LastsAmong, HasAmong};
-ghost use Rattle.dir_calls.specs.Moments.{LeavesOnly, CountsFault};
-ghost use Rattle.dir_calls.specs.Replacing.{Stays, HasSynced};
+ghost use Rattle.dir_calls.specs.Lasting.{LastsAmong};
+ghost use Rattle.dir_calls.specs.Moments.{CountsFault};
+ghost use Rattle.dir_calls.specs.Replacing.{HasSynced, KeepsOrPuts, KeepsWhatLasts};
 
 use crate::{Dir, DirFault, Name};
 use std::alloc::Global;
@@ -13,8 +13,8 @@ fn append_all<D: Dir>(alloc: Global, dir: &mut D, bytes: &[u8]) -> Result<(), Di
     ensures appended { IsTrue D.honest → OnOk result (
         D.state dir.new ≡ after (appends bytes.now) (D.state dir.old)) }
     // no name is touched
-    ensures stays { IsTrue D.honest → (name : List ℕ) (olds : List (Option (List ℕ)))
-        → LastsAmong (D.state dir.old) name olds → Stays D.state D.moment D.left_since name olds dir.old dir.new }
+    ensures stays { IsTrue D.honest → (name : List ℕ)
+        → KeepsWhatLasts D.state D.moment D.left_since name dir.old dir.new }
     ensures counted { CountsFault (D.failed dir.old) (D.failed dir.new) result }
 {
     let mut rest = bytes;
@@ -34,8 +34,8 @@ fn write_scratch<D: Dir>(
 ) -> Result<(), DirFault>
     ensures written { IsTrue D.honest → OnOk result (HasSynced scratch.now bytes.now (D.state dir.new)) }
     // no other name is touched
-    ensures stays { IsTrue D.honest → (name : List ℕ) (olds : List (Option (List ℕ))) → scratch.now ≢ name
-        → LastsAmong (D.state dir.old) name olds → Stays D.state D.moment D.left_since name olds dir.old dir.new }
+    ensures stays { IsTrue D.honest → (name : List ℕ) → scratch.now ≢ name
+        → KeepsWhatLasts D.state D.moment D.left_since name dir.old dir.new }
     ensures counted { CountsFault (D.failed dir.old) (D.failed dir.new) result }
 {
     dir.fresh(alloc, scratch)?;
@@ -55,12 +55,10 @@ pub fn replace_file<D: Dir>(
     bytes: &[u8],
 ) -> Result<(), DirFault>
     requires differ { scratch.now ≢ name.now }
-    // whenever the machine stops since the call began, what stood there stands under the name, or the new file, whole
-    ensures any_moment { IsTrue D.honest → (olds : List (Option (List ℕ))) → LastsAmong (D.state dir.old) name.now olds
-        → LeavesOnly D.moment D.left_since dir.old dir.new (HasAmong name.now (Some bytes.now ∷ olds)) }
-    // and so it is afterwards, also after a fault
-    ensures lasts { IsTrue D.honest → (olds : List (Option (List ℕ))) → LastsAmong (D.state dir.old) name.now olds
-        → LastsAmong (D.state dir.new) name.now (Some bytes.now ∷ olds) }
+    // whenever the machine stops since the call began, what stood there stands under the name, or the new file, whole, and so it is
+    // afterwards, also after a fault
+    ensures stays { IsTrue D.honest
+        → KeepsOrPuts D.state D.moment D.left_since name.now bytes.now dir.old dir.new }
     // at the end the new file stands there for good
     ensures done { IsTrue D.honest → OnOk result (LastsAmong (D.state dir.new) name.now (Some bytes.now ∷ [])) }
     ensures counted { CountsFault (D.failed dir.old) (D.failed dir.new) result }

@@ -1,11 +1,11 @@
 -- What the calls of a disk do. Its state is a directory: the names, the files with all that was written to them and whether that was synced since, and the
 -- file that may be written: the last one that was made.
-use Rattle.std.specs.Prelude.{◌≡◌, ◌⊎◌, ◌≤◌, ◌+◌, ℕ, false, List, [], ◌∷◌, ◌++◌, length, take, drop, Some}
+use Rattle.std.specs.Prelude.{◌≡◌, ◌⊎◌, ◌≤◌, ◌+◌, ℕ, false, List, [], ◌∷◌, ◌++◌, length, take, drop, None, Some}
 use Rattle.std.specs.Option.{ForSome}
 use Rattle.dir_calls.specs.NameTable.{SettlesSome, puts, push}
-use Rattle.dir_calls.specs.Directory.{Directory, FileState, KeepsSynced, scratch_of}
+use Rattle.dir_calls.specs.Directory.{Directory, FileState, KeepsSynced, number_of, scratch_of}
 use Rattle.dir_calls.specs.Images.{IsImage}
-use Rattle.dir_calls.specs.Calls.{lasting, with_scratch}
+use Rattle.dir_calls.specs.Calls.{renames, after, lasting, with_scratch, without}
 use Rattle.dir_calls.specs.Moments.{Elapses}
 
 -- the file with bytes in place of those from a place on, or at its end: what is written is not synced
@@ -43,6 +43,18 @@ pub record SettlesPart (old new : Directory) : Type 0 where
 -- a call has done all of its work, or none
 abbrev pub AllOrNone : Directory → Directory → Directory → Type 0
 AllOrNone old done new = (new ≡ old) ⊎ (new ≡ done)
+
+-- the name is taken away, or nothing has changed
+abbrev pub RemovesOrNot : List ℕ → Directory → Directory → Type 0
+RemovesOrNot name old new = AllOrNone old (without old name) new
+
+-- the name is moved onto the other, or nothing has changed
+abbrev pub MovesOrNot : List ℕ → List ℕ → Directory → Directory → Type 0
+MovesOrNot from to old new = AllOrNone old (after (renames from to) old) new
+
+-- no file stands under the name, and nothing has changed
+abbrev pub FindsNone : List ℕ → Directory → Directory → Type 0
+FindsNone name old new = (number_of old name ≡ None) × (new ≡ old)
 
 -- the file of this number is the one that may be written, and the place is inside it or at its end
 pub record MayWrite (d : Directory) (number place : ℕ) : Type 0 where

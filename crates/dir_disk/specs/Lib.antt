@@ -1,4 +1,5 @@
 -- A directory over a disk: what the disk gives, and what is kept back of it.
+pub mod DiskFaults
 pub mod DiskSteps
 pub mod KeptImages
 pub mod OsDir

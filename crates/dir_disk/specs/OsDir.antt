@@ -3,7 +3,9 @@ use Rattle.std.specs.Prelude.{◌≡◌, ◌≢◌, ℕ, Bool, IsTrue, false, Li
 use Rattle.std.specs.Option.{option_map, ForSome}
 use Rattle.std.proofs.Props.{props}
 use Rattle.dir_calls.specs.Directory.{Directory, FileState, KeepsSynced, number_of}
-use Rattle.dir_calls.specs.Calls.{longer, with_scratch}
+use Rattle.dir_calls.specs.Calls.{Call, longer, with_scratch}
+use Rattle.dir_calls.specs.Outcomes.{LeftBy}
+use Rattle.dir_calls.specs.Moments.{Elapses, Includes}
 
 -- the directory of a disk, with the bytes that are kept back at the end of the file that may be written
 abbrev pub kept_back : List ℕ → Directory → Directory
@@ -26,6 +28,17 @@ Holds-prop number d (Some file) written = hlevel props
 
 pub Holds_honest-prop : {H : Type 0} (honest : Bool) (number : H → ℕ) (d : Directory) (scratch : Option H) (written : ℕ) → IsProp (IsTrue honest → Holds number d scratch written)
 Holds_honest-prop honest number d scratch written = hlevel (props, Holds-prop)
+
+-- time goes on by one call over a disk of whose bytes the last are kept back until then: a stop since an earlier moment may have left what it
+-- may have left before, or what a stop within the call or right after it leaves, and nothing else
+abbrev pub KeptElapses : {D : Type 0} → (state : D → Directory) → (moment : D → ℕ) → (left_since : D → ℕ → Directory → Type 0) → Call → List ℕ → (old new : D) → Type 0
+KeptElapses state moment left_since call pending old new =
+    Elapses (moment old) (moment new) (left_since old) (left_since new) (LeftBy call (kept_back pending (state old)) (state new))
+
+-- a stop since an earlier moment may have left all that a stop within such a call or right after it leaves
+abbrev pub KeptIncludes : {D : Type 0} → (state : D → Directory) → (moment : D → ℕ) → (left_since : D → ℕ → Directory → Type 0) → Call → List ℕ → (old new : D) → Type 0
+KeptIncludes state moment left_since call pending old new =
+    Includes (moment old) (left_since new) (LeftBy call (kept_back pending (state old)) (state new))
 
 -- a file that was to be written is given up: the names and the synced files are as before, and no file may be written
 pub record GivesUp (old new : Directory) : Type 0 where

@@ -1,12 +1,12 @@
 //! What a file system gives, call by call.
-ghost use Rattle.std.specs.Prelude.{◌≡◌, ◌≢◌, ◌≤◌, ◌<◌, ◌+◌, ◌^◌, List, ℕ, Bool, true, IsTrue, None, Some, IsSome, length, take, slice_get, IfOk, IfErr, OnOk, OnErr};
+ghost use Rattle.std.specs.Prelude.{◌≡◌, ◌≢◌, ◌≤◌, ◌<◌, ◌+◌, ◌^◌, List, ℕ, Bool, true, IsTrue, None, Some, IsSome, length, take, slice_get, IfOk, OnOk, OnErr};
 ghost use Rattle.std.specs.Option.{option_map, ForSome};
-ghost use Rattle.std.specs.IoError.{error_kind};
 ghost use Rattle.dir_calls.specs.Directory.{Directory, number_of};
 ghost use Rattle.dir_calls.specs.Images.{IsImage};
 ghost use Rattle.dir_calls.specs.Files.{Gives};
 ghost use Rattle.dir_calls.specs.Calls.{renames, settles, after, closed, without};
-ghost use Rattle.dir_disk.specs.DiskSteps.{AllOrNone, MayWrite, SettlesPart, Spoils, StepElapses, after_sync, after_write, created};
+ghost use Rattle.dir_disk.specs.DiskFaults.{OnInterrupted, OnNotFound};
+ghost use Rattle.dir_disk.specs.DiskSteps.{AllOrNone, FindsNone, MayWrite, MovesOrNot, RemovesOrNot, SettlesPart, Spoils, StepElapses, after_sync, after_write, created};
 
 use dir_calls::Name;
 use std::alloc::{AllocError, Global};
@@ -41,8 +41,7 @@ pub trait DiskFile {
         ensures room { IfOk result (λ n. n ≤ length buf.old) }
         ensures same_length { length buf.new ≡ length buf.old }
         ensures gives { IsTrue honest → IfOk result (λ n. Gives (bytes self.now) place n buf.old buf.new) }
-        ensures interrupted { IsTrue honest → IfErr result (λ e. error_kind e ≡ ErrorKind.Interrupted
-            → buf.new ≡ buf.old) };
+        ensures interrupted { IsTrue honest → OnInterrupted result (buf.new ≡ buf.old) };
 }
 
 /// A folder of a file system, call by call: what POSIX and Linux promise of each, where only this process changes the names. A call that a
@@ -106,8 +105,7 @@ pub trait Disk {
     /// Those of the system. The first of the changes may be lasting then, some or all or none.
     fn sync_folder(&mut self, folder: &Self::Folder) -> io::Result<()>
         ensures done { IsTrue honest → OnOk result (state self.new ≡ after settles (state self.old)) }
-        ensures interrupted { IsTrue honest → IfErr result (λ e. error_kind e ≡ ErrorKind.Interrupted
-            → state self.new ≡ state self.old) }
+        ensures interrupted { IsTrue honest → OnInterrupted result (state self.new ≡ state self.old) }
         ensures failed { IsTrue honest → OnErr result (SettlesPart (state self.old) (state self.new)) }
         ensures time { IsTrue honest → StepElapses state moment left_since self.old self.new };
 
@@ -117,12 +115,11 @@ pub trait Disk {
     /// `NotFound` where there is no such name; others of the system, and then the name may be taken away.
     fn unlink(&mut self, folder: &Self::Folder, path: &Self::Path) -> io::Result<()>
         ensures done { IsTrue honest → OnOk result (state self.new ≡ without (state self.old) (named path.now)) }
-        ensures absent { IsTrue honest → IfErr result (λ e. error_kind e ≡ ErrorKind.NotFound
-            → (number_of (state self.old) (named path.now) ≡ None) × (state self.new ≡ state self.old)) }
-        ensures interrupted { IsTrue honest → IfErr result (λ e. error_kind e ≡ ErrorKind.Interrupted
-            → state self.new ≡ state self.old) }
+        ensures absent { IsTrue honest → OnNotFound result
+            (FindsNone (named path.now) (state self.old) (state self.new)) }
+        ensures interrupted { IsTrue honest → OnInterrupted result (state self.new ≡ state self.old) }
         ensures failed { IsTrue honest → OnErr result
-            (AllOrNone (state self.old) (without (state self.old) (named path.now)) (state self.new)) }
+            (RemovesOrNot (named path.now) (state self.old) (state self.new)) }
         ensures time { IsTrue honest → StepElapses state moment left_since self.old self.new };
 
     /// Makes a new empty file under a name that must be free (open with `O_CREAT` and `O_EXCL`), to be written, with these permissions
@@ -153,8 +150,7 @@ pub trait Disk {
         ensures fits { IsTrue honest → IfOk result (λ n. place + n < 2 ^ 63) }
         ensures done { IsTrue honest → IfOk result (λ n.
             state self.new ≡ after_write place (take n bytes.now) (state self.old)) }
-        ensures interrupted { IsTrue honest → IfErr result (λ e. error_kind e ≡ ErrorKind.Interrupted
-            → state self.new ≡ state self.old) }
+        ensures interrupted { IsTrue honest → OnInterrupted result (state self.new ≡ state self.old) }
         ensures failed { IsTrue honest → OnErr result (Spoils (state self.old) (state self.new)) }
         ensures time { IsTrue honest → StepElapses state moment left_since self.old self.new };
 
@@ -165,8 +161,7 @@ pub trait Disk {
     fn sync(&mut self, file: &Self::Handle) -> io::Result<()>
         requires may { IsTrue honest → (state self.old).scratch ≡ Some (number file.now) }
         ensures done { IsTrue honest → OnOk result (state self.new ≡ after_sync (state self.old)) }
-        ensures interrupted { IsTrue honest → IfErr result (λ e. error_kind e ≡ ErrorKind.Interrupted
-            → state self.new ≡ state self.old) }
+        ensures interrupted { IsTrue honest → OnInterrupted result (state self.new ≡ state self.old) }
         ensures failed { IsTrue honest → OnErr result (Spoils (state self.old) (state self.new)) }
         ensures time { IsTrue honest → StepElapses state moment left_since self.old self.new };
 
@@ -189,12 +184,11 @@ pub trait Disk {
         ensures found { IsTrue honest → OnOk result (IsSome (number_of (state self.old) (named from.now))) }
         ensures done { IsTrue honest → OnOk result
             (state self.new ≡ after (renames (named from.now) (named to.now)) (state self.old)) }
-        ensures absent { IsTrue honest → IfErr result (λ e. error_kind e ≡ ErrorKind.NotFound
-            → (number_of (state self.old) (named from.now) ≡ None) × (state self.new ≡ state self.old)) }
-        ensures interrupted { IsTrue honest → IfErr result (λ e. error_kind e ≡ ErrorKind.Interrupted
-            → state self.new ≡ state self.old) }
-        ensures failed { IsTrue honest → OnErr result (AllOrNone (state self.old)
-            (after (renames (named from.now) (named to.now)) (state self.old)) (state self.new)) }
+        ensures absent { IsTrue honest → OnNotFound result
+            (FindsNone (named from.now) (state self.old) (state self.new)) }
+        ensures interrupted { IsTrue honest → OnInterrupted result (state self.new ≡ state self.old) }
+        ensures failed { IsTrue honest → OnErr result
+            (MovesOrNot (named from.now) (named to.now) (state self.old) (state self.new)) }
         ensures time { IsTrue honest → StepElapses state moment left_since self.old self.new };
 
     /// Whether what stands under a name is a file, and no folder, pipe or device (stat). It is not opened.
@@ -202,8 +196,8 @@ pub trait Disk {
     /// # Errors
     /// `NotFound` where there is no such name; others of the system.
     fn is_file(&self, path: &Self::Path) -> io::Result<bool>
-        ensures absent { IsTrue honest → IfErr result (λ e. error_kind e ≡ ErrorKind.NotFound
-            → number_of (state self.now) (named path.now) ≡ None) };
+        ensures absent { IsTrue honest → OnNotFound result
+            (number_of (state self.now) (named path.now) ≡ None) };
 
     /// Opens what stands under a name to read it (open).
     ///
@@ -212,8 +206,8 @@ pub trait Disk {
     fn open(&self, path: &Self::Path) -> io::Result<Self::Handle>
         ensures opened { IsTrue honest → IfOk result (λ file.
             number_of (state self.now) (named path.now) ≡ Some (number file)) }
-        ensures absent { IsTrue honest → IfErr result (λ e. error_kind e ≡ ErrorKind.NotFound
-            → number_of (state self.now) (named path.now) ≡ None) };
+        ensures absent { IsTrue honest → OnNotFound result
+            (number_of (state self.now) (named path.now) ≡ None) };
 
     /// What an opened file is (fstat).
     ///

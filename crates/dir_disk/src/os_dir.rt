@@ -1,13 +1,12 @@
 //! Folders of a disk, and so of the system.
 ghost use Rattle.std.specs.Prelude.{◌≡◌, ◌≢◌, ◌⊎◌, Err, false, None, Option, Some, IsTrue, IfErr, IfOk, IsErr, OnOk, OnErr, Ok, List, ℕ};
-ghost use Rattle.std.specs.Option.{option_map, ForSome};
+ghost use Rattle.std.specs.Option.{option_map};
 ghost use Rattle.std.specs.IoError.{error_kind};
-ghost use Rattle.dir_calls.specs.Directory.{content, number_of};
-ghost use Rattle.dir_calls.specs.Lasting.{LastsAmong};
-ghost use Rattle.dir_calls.specs.Replacing.{Stays};
+ghost use Rattle.dir_calls.specs.Directory.{number_of};
+ghost use Rattle.dir_calls.specs.Replacing.{KeepsWhatLasts};
 ghost use Rattle.dir_disk.specs.OsDir.{Holds, Holds_honest-prop, SparesOthers, kept_back};
 ghost use Rattle.dir_calls.specs.Moments.{CountsFault};
-ghost use Rattle.dir_disk.specs.OsFile.{os_bytes};
+ghost use Rattle.dir_disk.specs.OsFile.{IsFoundAt};
 ghost use Rattle.dir_disk.specs.KeptImages.{kept_image, disk_image};
 ghost use Rattle.std.proofs.Common.{subst, sym};
 
@@ -116,9 +115,8 @@ impl<D: Disk + Drop> DiskDir<D> {
         ensures others { IsTrue D.honest
             → SparesOthers name.now (os_state D.state self.old) (os_state D.state self.new) }
         // what lasts under another name lasts there, and stands there whenever the machine stops since the call began
-        ensures stays { IsTrue D.honest → (other : List ℕ) (contents : List (Option (List ℕ))) → name.now ≢ other
-            → LastsAmong (os_state D.state self.old) other contents → Stays (os_state D.state) (os_moment D.moment)
-            (os_left_since D.left_since) other contents self.old self.new }
+        ensures stays { IsTrue D.honest → (other : List ℕ) → name.now ≢ other
+            → KeepsWhatLasts (os_state D.state) (os_moment D.moment) (os_left_since D.left_since) other self.old self.new }
         ensures faults { IfErr result (λ fault. fault ≡ DirFault.Device) }
         ensures counted { CountsFault (os_failed self.old) (os_failed self.new) result }
     {
@@ -264,9 +262,8 @@ fn open_file<D: Disk>(
     scratch: &Option<D::Handle>,
 ) -> io::Result<Option<OsFile<D::File>>>
     requires { IsTrue D.honest → (D.state disk.now).scratch ≡ option_map D.number scratch.now }
-    ensures { IsTrue D.honest → IfOk result (λ found. (pending : List ℕ)
-        → option_map (os_bytes D.File.bytes) found
-        ≡ content (kept_back pending (D.state disk.now)) (D.named path.now)) }
+    ensures { IsTrue D.honest
+        → IfOk result (IsFoundAt D.File.bytes (D.state disk.now) (D.named path.now)) }
 {
     match is_file(disk, path) {
         Ok(true) => {}

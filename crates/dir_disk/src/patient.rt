@@ -1,10 +1,11 @@
 //! Calls of a disk, tried again where a signal interrupts them.
-ghost use Rattle.std.specs.Prelude.{◌≡◌, ◌≤◌, ◌<◌, ◌+◌, ◌^◌, false, IsTrue, None, Some, IsSome, IsErr, IsErrAnd, length, IfErr, IfOk, OnOk, OnErr};
+ghost use Rattle.std.specs.Prelude.{◌≡◌, ◌<◌, ◌+◌, ◌^◌, false, IsTrue, None, Some, IsSome, IsErr, IsErrAnd, length, IfErr, OnOk, OnErr};
 ghost use Rattle.std.specs.Option.{ForSome};
 ghost use Rattle.std.specs.IoError.{error_kind};
 ghost use Rattle.dir_calls.specs.Directory.{number_of, scratch_of};
 ghost use Rattle.dir_calls.specs.Calls.{renames, settles, after, without};
-ghost use Rattle.dir_disk.specs.DiskSteps.{AllOrNone, MayWrite, SettlesPart, Spoils, StepElapses, after_sync, after_write};
+ghost use Rattle.dir_disk.specs.DiskFaults.{OnNotFound};
+ghost use Rattle.dir_disk.specs.DiskSteps.{FindsNone, MayWrite, MovesOrNot, RemovesOrNot, SettlesPart, Spoils, StepElapses, after_sync, after_write};
 
 use crate::disk::Disk;
 use std::io::{self, ErrorKind};
@@ -62,7 +63,7 @@ pub(crate) fn opened<'a, D: Disk>(
 pub(crate) fn unlink<D: Disk>(disk: &mut D, folder: &D::Folder, path: &D::Path) -> io::Result<()>
     ensures done { IsTrue D.honest → OnOk result (D.state disk.new ≡ without (D.state disk.old) (D.named path.now)) }
     ensures failed { IsTrue D.honest → OnErr result
-        (AllOrNone (D.state disk.old) (without (D.state disk.old) (D.named path.now)) (D.state disk.new)) }
+        (RemovesOrNot (D.named path.now) (D.state disk.old) (D.state disk.new)) }
     ensures time { IsTrue D.honest → StepElapses D.state D.moment D.left_since disk.old disk.new }
 {
     for _ in 0..TRIES {
@@ -79,10 +80,10 @@ fn rename<D: Disk>(disk: &mut D, folder: &D::Folder, from: &D::Path, to: &D::Pat
     ensures found { IsTrue D.honest → OnOk result (IsSome (number_of (D.state disk.old) (D.named from.now))) }
     ensures done { IsTrue D.honest → OnOk result
         (D.state disk.new ≡ after (renames (D.named from.now) (D.named to.now)) (D.state disk.old)) }
-    ensures absent { IsTrue D.honest → IfErr result (λ e. error_kind e ≡ ErrorKind.NotFound
-        → (number_of (D.state disk.old) (D.named from.now) ≡ None) × (D.state disk.new ≡ D.state disk.old)) }
-    ensures failed { IsTrue D.honest → OnErr result (AllOrNone (D.state disk.old)
-        (after (renames (D.named from.now) (D.named to.now)) (D.state disk.old)) (D.state disk.new)) }
+    ensures absent { IsTrue D.honest → OnNotFound result
+        (FindsNone (D.named from.now) (D.state disk.old) (D.state disk.new)) }
+    ensures failed { IsTrue D.honest → OnErr result
+        (MovesOrNot (D.named from.now) (D.named to.now) (D.state disk.old) (D.state disk.new)) }
     ensures time { IsTrue D.honest → StepElapses D.state D.moment D.left_since disk.old disk.new }
 {
     for _ in 0..TRIES {
@@ -117,7 +118,7 @@ pub(crate) fn remove_name<D: Disk>(
 ) -> io::Result<()>
     ensures done { IsTrue D.honest → OnOk result (D.state disk.new ≡ without (D.state disk.old) (D.named path.now)) }
     ensures failed { IsTrue D.honest → OnErr result
-        (AllOrNone (D.state disk.old) (without (D.state disk.old) (D.named path.now)) (D.state disk.new)) }
+        (RemovesOrNot (D.named path.now) (D.state disk.old) (D.state disk.new)) }
     ensures time { IsTrue D.honest → StepElapses D.state D.moment D.left_since disk.old disk.new }
 {
     match opened(disk, folder) {
@@ -136,10 +137,10 @@ pub(crate) fn move_name<D: Disk>(
     ensures found { IsTrue D.honest → OnOk result (IsSome (number_of (D.state disk.old) (D.named from.now))) }
     ensures done { IsTrue D.honest → OnOk result
         (D.state disk.new ≡ after (renames (D.named from.now) (D.named to.now)) (D.state disk.old)) }
-    ensures absent { IsTrue D.honest → IfErr result (λ e. error_kind e ≡ ErrorKind.NotFound
-        → (number_of (D.state disk.old) (D.named from.now) ≡ None) × (D.state disk.new ≡ D.state disk.old)) }
-    ensures failed { IsTrue D.honest → OnErr result (AllOrNone (D.state disk.old)
-        (after (renames (D.named from.now) (D.named to.now)) (D.state disk.old)) (D.state disk.new)) }
+    ensures absent { IsTrue D.honest → OnNotFound result
+        (FindsNone (D.named from.now) (D.state disk.old) (D.state disk.new)) }
+    ensures failed { IsTrue D.honest → OnErr result
+        (MovesOrNot (D.named from.now) (D.named to.now) (D.state disk.old) (D.state disk.new)) }
     ensures time { IsTrue D.honest → StepElapses D.state D.moment D.left_since disk.old disk.new }
 {
     match opened(disk, folder) {
@@ -211,8 +212,8 @@ pub(crate) fn write_all<D: Disk>(
 
 /// Whether what stands under a name is a file.
 pub(crate) fn is_file<D: Disk>(disk: &D, path: &D::Path) -> io::Result<bool>
-    ensures absent { IsTrue D.honest → IfErr result (λ e. error_kind e ≡ ErrorKind.NotFound
-        → number_of (D.state disk.now) (D.named path.now) ≡ None) }
+    ensures absent { IsTrue D.honest → OnNotFound result
+        (number_of (D.state disk.now) (D.named path.now) ≡ None) }
 {
     for _ in 0..TRIES {
         match disk.is_file(path) {

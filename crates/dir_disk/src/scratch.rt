@@ -3,10 +3,9 @@ ghost use Rattle.std.specs.Prelude.{◌≡◌, ◌≤◌, ◌<◌, ◌+◌, [], 
 ghost use Rattle.std.specs.Option.{option_map};
 ghost use Rattle.dir_calls.specs.Calls.{makes, patches, syncs, after, closed};
 ghost use Rattle.dir_calls.specs.Methods.{CallElapses, CallIncludes};
-ghost use Rattle.dir_calls.specs.Outcomes.{Fails, LeftBy};
-ghost use Rattle.dir_calls.specs.Moments.{Elapses, Includes};
+ghost use Rattle.dir_calls.specs.Outcomes.{Fails};
 ghost use Rattle.dir_disk.specs.DiskSteps.{Spoils, StepElapses};
-ghost use Rattle.dir_disk.specs.OsDir.{GivesUp, Holds, IsWritable, kept_back};
+ghost use Rattle.dir_disk.specs.OsDir.{GivesUp, Holds, IsWritable, KeptElapses, KeptIncludes, kept_back};
 
 use crate::disk::Disk;
 use crate::patient::{sync, unlink, write_all};
@@ -192,11 +191,10 @@ pub(crate) fn renew<D: Disk>(
     ensures failed { IsTrue D.honest → OnErr result
         (Fails (makes (D.named path.now)) (kept_back pending.old.items (D.state disk.old)) (D.state disk.new)) }
     ensures closed { IsTrue D.honest → OnErr result ((D.state disk.new).scratch ≡ None) }
-    ensures time { IsTrue D.honest → Elapses (D.moment disk.old) (D.moment disk.new)
-        (D.left_since disk.old) (D.left_since disk.new)
-        (LeftBy (makes (D.named path.now)) (kept_back pending.old.items (D.state disk.old)) (D.state disk.new)) }
-    ensures within { IsTrue D.honest → OnOk result (Includes (D.moment disk.old) (D.left_since disk.new)
-        (LeftBy (makes (D.named path.now)) (kept_back pending.old.items (D.state disk.old)) (D.state disk.new))) }
+    ensures time { IsTrue D.honest → KeptElapses D.state D.moment D.left_since (makes (D.named path.now))
+        pending.old.items disk.old disk.new }
+    ensures within { IsTrue D.honest → OnOk result (KeptIncludes D.state D.moment D.left_since
+        (makes (D.named path.now)) pending.old.items disk.old disk.new) }
 {
     let_go(disk, scratch, written, pending)?;
     make_file(disk, folder, path)

@@ -1,8 +1,7 @@
 //! `tcprules`: compiles a rule text from standard input, and installs it.
-ghost use Rattle.std.specs.Prelude.{◌≡◌, ◌≢◌, ◌⊎◌, ◌<◌, ◌^◌, ◌-◌, ◌+◌, List, ℕ, IsTrue, false, None, Option, IsSome, IfOk, IfErr, IfSome, OnOk, take};
-ghost use Rattle.dir_calls.specs.Lasting.{LastsAmong};
+ghost use Rattle.std.specs.Prelude.{◌≡◌, ◌⊎◌, ◌<◌, ◌^◌, ◌-◌, ◌+◌, IsTrue, false, None, Option, IsSome, IfOk, IfErr, IfSome, OnOk, take};
 ghost use Rattle.dir_calls.specs.Names.{name_fault};
-ghost use Rattle.dir_calls.specs.Replacing.{Stays};
+ghost use Rattle.dir_calls.specs.Replacing.{KeepsWhatLasts};
 ghost use Rattle.dir_disk.specs.OsParts.{os_left_since, os_moment, os_state};
 ghost use Rattle.rules_install.specs.Installs.{installing};
 ghost use Rattle.rules_install.specs.ParseFaults.{of_parse};
@@ -176,9 +175,8 @@ fn install_in<F: Files<File = File> + Drop>(
 /// Takes what stands under the scratch name away, as well as that can be done: a fault of that is told to nobody. What lasts under the name of
 /// the rules file lasts there, and stands there whenever the machine stops meanwhile.
 pub fn remove_scratch<D: Disk + Drop>(dir: &mut DiskDir<D>, names: &Names)
-    ensures stays { IsTrue D.honest → (contents : List (Option (List ℕ)))
-        → LastsAmong (os_state D.state dir.old) names.now.cdb contents → Stays (os_state D.state) (os_moment D.moment)
-        (os_left_since D.left_since) names.now.cdb contents dir.old dir.new }
+    ensures stays { IsTrue D.honest → KeepsWhatLasts (os_state D.state) (os_moment D.moment)
+        (os_left_since D.left_since) names.now.cdb dir.old dir.new }
 {
     let _removed = dir.remove(names.tmp());
 }

@@ -1,10 +1,8 @@
 use Rattle.std.proofs.Common.{◌≡◌, List, [], ℕ, IsTrue, ◌-◌, length, take, drop, length-drop, sym, ◌∙◌, ap, arith}
 use Rattle.std.proofs.lemmas.List.{take_all, nil_from_length}
 use Rattle.std.proofs.lemmas.Bool.Decides.{nat_tests}
-use Rattle.std.specs.Prelude.{Option}
 use Rattle.dir_calls.specs.Calls.{appends, after}
-use Rattle.dir_calls.specs.Lasting.{LastsAmong}
-use Rattle.dir_calls.specs.Replacing.{Stays}
+use Rattle.dir_calls.specs.Replacing.{KeepsWhatLasts}
 use Rattle.dir_calls.proofs.Lasting.{appends_keeps}
 use Rattle.dir_calls.proofs.Replacing.{stays_on, append_none, append_rest}
 use Rattle.dir_calls.proofs.replace.append_all.Given.{Over}
@@ -12,8 +10,7 @@ use Rattle.dir_calls.proofs.replace.append_all.Goals as goal
 use Rattle.dir_calls.proofs.replace.append_all.Goals.{After-append}
 
 -- up to an append, whatever it answers
-stays : (g : Over) (c : After-append g) → IsTrue g.D.Dir.honest → (name : List ℕ) (olds : List (Option (List ℕ))) → LastsAmong (g.D.Dir.state c.args.dir.now) name olds
-    → Stays g.D.Dir.state g.D.Dir.moment g.D.Dir.left_since name olds c.args.dir.now c.append.new.self
+stays : (g : Over) (c : After-append g) → IsTrue g.D.Dir.honest → (name : List ℕ) → KeepsWhatLasts g.D.Dir.state g.D.Dir.moment g.D.Dir.left_since name c.args.dir.now c.append.new.self
 stays g c honest name olds lasts =
     let mid = c.loop-rest.dir in
     let rest = c.loop-rest.rest.now in

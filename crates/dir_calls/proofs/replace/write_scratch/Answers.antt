@@ -1,9 +1,12 @@
 use Rattle.std.proofs.Common.{◌≢◌, List, ℕ, IsTrue, sym, ◌∙◌, ap, subst}
-use Rattle.std.specs.Prelude.{Option}
+use Rattle.std.proofs.lemmas.Result.{IfOk-from_err, err_from_is_err_and}
+use Rattle.std.specs.Prelude.{Option, Err}
+use Rattle.dir_calls.specs.declared.fault.DirFault.{DirFault}
 use Rattle.dir_calls.specs.Directory.{Directory}
 use Rattle.dir_calls.specs.Calls.{makes, appends, syncs, after}
-use Rattle.dir_calls.specs.Lasting.{LastsAmong}
-use Rattle.dir_calls.specs.Replacing.{Stays, HasSynced}
+use Rattle.dir_calls.specs.Moments.{CountsFault}
+use Rattle.dir_calls.specs.Replacing.{Stays, HasSynced, KeepsWhatLasts}
+use Rattle.dir_calls.proofs.Counting.{counted_on}
 use Rattle.dir_calls.proofs.Lasting.{makes_keeps, syncs_keeps}
 use Rattle.dir_calls.proofs.Replacing.{stays_call, stays_then, stays_on, on_ok, written}
 use Rattle.dir_calls.proofs.replace.write_scratch.Given.{Over}
@@ -11,9 +14,9 @@ use Rattle.dir_calls.proofs.replace.write_scratch.Goals as goal
 use Rattle.dir_calls.proofs.replace.write_scratch.Goals.{After-fresh, After-append_all}
 
 -- up to the making
-made : (g : Over) (c : After-fresh g) → IsTrue g.D.Dir.honest → (name : List ℕ) (olds : List (Option (List ℕ))) → c.args.scratch.now ≢ name → LastsAmong (g.D.Dir.state c.args.dir.now) name olds
-    → Stays g.D.Dir.state g.D.Dir.moment g.D.Dir.left_since name olds c.args.dir.now c.fresh.new.self
-made g c honest name olds differ lasts =
+made : (g : Over) (c : After-fresh g) → IsTrue g.D.Dir.honest → (name : List ℕ) → c.args.scratch.now ≢ name
+    → KeepsWhatLasts g.D.Dir.state g.D.Dir.moment g.D.Dir.left_since name c.args.dir.now c.fresh.new.self
+made g c honest name differ olds lasts =
     let old = c.args.dir.now in
     let scratch = c.args.scratch.now in
     let keeps = makes_keeps (g.D.Dir.state old) name olds lasts scratch (λ same. differ (sym same)) in
@@ -31,9 +34,9 @@ pub returns-in_err-fresh-clause-stays : goal.returns-in_err-fresh-clause-stays
 returns-in_err-fresh-clause-stays g c = made g (goal.at.returns-in_err-fresh-clause-stays g c).After-fresh
 
 pub returns-in_err-append_all-clause-stays : goal.returns-in_err-append_all-clause-stays
-returns-in_err-append_all-clause-stays g c = λ honest name olds differ lasts.
+returns-in_err-append_all-clause-stays g c = λ honest name differ olds lasts.
     let at = goal.at.returns-in_err-append_all-clause-stays g c in
-    filled g at.After-append_all honest name olds (made g at.After-fresh honest name olds differ lasts)
+    filled g at.After-append_all honest name olds (made g at.After-fresh honest name differ olds lasts)
 
 pub returns-clause-written : goal.returns-clause-written
 returns-clause-written g c = λ honest.
@@ -44,10 +47,31 @@ returns-clause-written g c = λ honest.
     (written (g.D.Dir.state c.args.dir.now) scratch bytes))
 
 pub returns-clause-stays : goal.returns-clause-stays
-returns-clause-stays g c = λ honest name olds differ lasts.
+returns-clause-stays g c = λ honest name differ olds lasts.
     let at = goal.at.returns-clause-stays g c in
     let mid = c.append_all.new.dir in
-    let so_far = filled g at.After-append_all honest name olds (made g at.After-fresh honest name olds differ lasts) in
+    let so_far = filled g at.After-append_all honest name olds (made g at.After-fresh honest name differ olds lasts) in
     let keeps = syncs_keeps (g.D.Dir.state mid) name olds so_far.lasts in
     stays_on g.D.Dir.state g.D.Dir.moment g.D.Dir.left_since name olds c.args.dir.now mid c.sync.new.self (λ _. syncs) syncs c.sync.result
     so_far (λ image left. g.met.D.Dir.only_now mid image honest left) (c.sync.ensures.time honest) (c.sync.ensures.does honest) keeps (λ _. keeps)
+
+pub returns-in_err-fresh-clause-written : goal.returns-in_err-fresh-clause-written
+returns-in_err-fresh-clause-written g c = λ honest. IfOk-from_err c.from_residual.result _ c.from_residual.ensures.0
+
+pub returns-in_err-fresh-clause-counted : goal.returns-in_err-fresh-clause-counted
+returns-in_err-fresh-clause-counted g c =
+    let p = err_from_is_err_and c.from_residual.result c.from_residual.ensures.1 in
+    rw (p.1, p.2) (c.in_err-fresh.ensures.counted)
+
+pub returns-in_err-append_all-clause-written : goal.returns-in_err-append_all-clause-written
+returns-in_err-append_all-clause-written g c = λ honest. IfOk-from_err c.from_residual-in_err-append_all.result _ c.from_residual-in_err-append_all.ensures.0
+
+pub returns-in_err-append_all-clause-counted : goal.returns-in_err-append_all-clause-counted
+returns-in_err-append_all-clause-counted g c =
+    let p = err_from_is_err_and c.from_residual-in_err-append_all.result c.from_residual-in_err-append_all.ensures.1 in
+    counted_on (g.D.Dir.failed c.args.dir.now) (g.D.Dir.failed c.fresh.new.self) (g.D.Dir.failed c.append_all.new.dir) c.append_all.result c.from_residual-in_err-append_all.result c.in_err-append_all.field-0.0
+    c.in_err-append_all.was (p.1 ∙ ap (λ (f : DirFault). Err f) p.2) c.in_ok-fresh.ensures.counted c.append_all.ensures.counted
+
+pub returns-clause-counted : goal.returns-clause-counted
+returns-clause-counted g c =
+    subst (λ (n : ℕ). CountsFault n (g.D.Dir.failed c.sync.new.self) c.sync.result) (c.in_ok-append_all.ensures.counted ∙ c.in_ok-fresh.ensures.counted) c.sync.ensures.counted

@@ -48,7 +48,7 @@ returns-clause-others g c = λ honest.
     (removal_spares g.D.Disk.number d f s.scratch s.written p name (s.holds honest) how)
 
 pub returns-clause-stays : goal.returns-clause-stays
-returns-clause-stays g c = λ honest other contents differ lasts.
+returns-clause-stays g c = λ honest other differ contents lasts.
     let s = c.args.self.now in
     let d = g.D.Disk.state s.disk in
     let m = g.D.Disk.state c.give_up.new.disk in
