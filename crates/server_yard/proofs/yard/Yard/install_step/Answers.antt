@@ -6,8 +6,8 @@ use Rattle.rules_install.specs.Installs.{installing}
 use Rattle.server_yard.specs.Installed.{IsKeptBy}
 use Rattle.server_yard.specs.Kept.{installing_of, is_kept, phase_of, rules_of}
 use Rattle.server_yard.specs.Rolls.{NotesSome}
-use Rattle.server_yard.specs.Rosters.{roll_of}
-use Rattle.server_yard.specs.Standing.{LeadsSome, YardState}
+use Rattle.server_yard.specs.Rosters.{books_of, roll_of}
+use Rattle.server_yard.specs.Standing.{HasUnderWay, LeadsSome, YardState}
 use Rattle.server_yard.specs.Stepping.{GoesAsStep, event_of_step, kept_after_step}
 use Rattle.server_yard.specs.Yards.{kept_under, yard_roll, yard_state}
 use Rattle.server_yard.proofs.Going.{going_then, kept_is, kept_numbers, kept_result, later, not_over, phase_then, some_rules, steps_to, still_state}
@@ -50,10 +50,10 @@ invariant_of-self-in-UnderWay g c =
       finds = λ honest x is. subst (λ (u : Installing). Fits u (state made.new.dir)) (kept_is t x result (sym kept ∙ is)) (made.ensures.fits honest);
       installed = λ met. ∥∥₁_map (old.installed met) (λ k.
           let honest = old.honest met in
-          let mine = subst (λ (o : Option Installing). IsKeptBy (j.told (roll_of old.roster).journal) (j.count (roll_of old.roster).journal) (j.stored (roll_of old.roster).journal) (j.lists (roll_of old.roster).journal) (roll_of old.roster).server (state old.dir) (rules_of old.rules) o) inst k in
-          subst (λ (o : Option Installing). IsKeptBy (j.told (roll_of made.new.roster).journal) (j.count (roll_of made.new.roster).journal) (j.stored (roll_of made.new.roster).journal) (j.lists (roll_of made.new.roster).journal) (roll_of made.new.roster).server (state made.new.dir) (rules_of old.rules) o) (sym kept)
-          (kept_result j.told j.count j.stored (j.lists (roll_of old.roster).journal) (j.lists (roll_of made.new.roster).journal) (state old.dir) (state made.new.dir) (rules_of old.rules) s t (next_phase s) result (roll_of old.roster) (roll_of made.new.roster) mine
-          (has_kept mine.installed.world (state old.dir) (rules_of old.rules) s r.0 mine.installed.has_directory mine.installed.has_rules r.1 (going.for_rules r.0 r.1) mine.installed.has_installing)
+          let far = subst (λ (o : Option Installing). HasUnderWay k.installed.world o) inst k.installed.has_installing in
+          subst (λ (o : Option Installing). IsKeptBy (books_of made.new.roster) (record (yard_state state old) { directory = state made.new.dir; server = made.new.roster.state; installing = o })) (sym kept)
+          (kept_result j.told j.count j.stored j.lists (state old.dir) (state made.new.dir) (rules_of old.rules) (installing_of old.installation) s t (next_phase s) result (roll_of old.roster) (roll_of made.new.roster) k inst
+          (has_kept k.installed.world (state old.dir) (rules_of old.rules) s r.0 k.installed.has_directory k.installed.has_rules r.1 (going.for_rules r.0 r.1) far)
           old.roster.small made.ensures.noted made.ensures.goes (made.ensures.device honest) (made.ensures.leads honest) (made.ensures.still honest) (later s going.begun) made.ensures.lists));
     }
 
