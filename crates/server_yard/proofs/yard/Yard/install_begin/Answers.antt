@@ -24,6 +24,18 @@ use Rattle.server_yard.proofs.Keeping.{kept_quiet, none_not_some, one_more_of, s
 use Rattle.server_yard.proofs.Stepped.{has_new, it_new, step_leads}
 use Rattle.server_yard.proofs.yard.Yard.install_begin.Goals as goal
 
+pub begin_noted-requires-clause-is_open : goal.begin_noted-requires-clause-is_open
+begin_noted-requires-clause-is_open g c = c.in-Some.ensures.some.0.is_open
+
+pub begin_noted-requires-clause-unbegun : goal.begin_noted-requires-clause-unbegun
+begin_noted-requires-clause-unbegun g c = c.in-Some.ensures.some.0.unbegun
+
+pub returns-in_default-clause-over : goal.returns-in_default-clause-over
+returns-in_default-clause-over g c = (λ is. c.in_default.ensures.none refl, λ none. refl)
+
+pub returns-in_default-clause-number : goal.returns-in_default-clause-number
+returns-in_default-clause-number g c = tt
+
 pub returns-in_default-clause-stops : goal.returns-in_default-clause-stops
 returns-in_default-clause-stops g c = λ honest files w image at left. inr (g.met.D.Dir.only_now c.args.self.now.dir image honest left)
 
@@ -86,6 +98,9 @@ pub returns-then-is_of_disk-clause-over : goal.returns-then-is_of_disk-clause-ov
 returns-then-is_of_disk-clause-over g c =
     let disk = sym c.is_of_disk.ensures ∙ c.if-is_of_disk.true in
     (λ is. absurd (not_disk_over c.in-Err.fault disk is), λ none. absurd (none c.in-Some.ensures.some.0))
+
+pub returns-then-is_of_disk-clause-number : goal.returns-then-is_of_disk-clause-number
+returns-then-is_of_disk-clause-number g c = tt
 
 pub returns-then-is_of_disk-clause-kept : goal.returns-then-is_of_disk-clause-kept
 returns-then-is_of_disk-clause-kept g c =
@@ -180,6 +195,9 @@ returns-else-is_of_disk-clause-over g c =
     let s = installing c.args.install in
     (λ is. absurd (not_over s (installing c.begin_noted.new.install) (next_phase s) (Err c.in-Err.fault) c.in-Err.ensures.goes (ap (λ (f : InstallFault). Err f) is)), λ none. absurd (none c.in-Some.ensures.some.0))
 
+pub returns-else-is_of_disk-clause-number : goal.returns-else-is_of_disk-clause-number
+returns-else-is_of_disk-clause-number g c = tt
+
 pub returns-else-is_of_disk-clause-kept : goal.returns-else-is_of_disk-clause-kept
 returns-else-is_of_disk-clause-kept g c =
     let other = sym c.is_of_disk.ensures ∙ c.if-is_of_disk.false in
@@ -264,6 +282,12 @@ returns-else-is_of_disk-clause-lists g c = c.in-Err.ensures.err
 
 pub returns-else-is_of_disk-clause-seats : goal.returns-else-is_of_disk-clause-seats
 returns-else-is_of_disk-clause-seats g c = c.begin_noted.ensures.seats
+
+pub returns-in-Ok-clause-over : goal.returns-in-Ok-clause-over
+returns-in-Ok-clause-over g c = (λ refused. absurd refused, λ none. none c.in-Some.ensures.some.0)
+
+pub returns-in-Ok-clause-back : goal.returns-in-Ok-clause-back
+returns-in-Ok-clause-back g c = tt
 
 pub returns-in-Ok-clause-number : goal.returns-in-Ok-clause-number
 returns-in-Ok-clause-number g c = c.in-Some.ensures.some.1
