@@ -18,7 +18,7 @@ use Rattle.server_events.specs.Worlds.{RulesName}
 use Rattle.server_events.specs.declared.event.Event.TheVariants.{StepFailed}
 use Rattle.server_events.specs.declared.report.Report.{Report}
 use Rattle.server_yard.specs.Installed.{IsKeptBy}
-use Rattle.server_yard.specs.Rolls.{IsQuiet, NotesSome, Roll}
+use Rattle.server_yard.specs.Rolls.{IsQuiet, NotesSome, Roll, books_by}
 use Rattle.server_yard.specs.Stepping.{HandsBack, fault_event, is_of_disk, kept_after_fault, kept_then}
 use Rattle.server_yard.specs.Yards.{name_of}
 use Rattle.server_yard.proofs.Going.{kept_failed}
@@ -107,15 +107,15 @@ back_of s t next Over goes = absurd goes
 back_of s t next OutOfMemory goes = goes
 
 -- what the installations left then
-pub kept_fault : {J : Type 0} (told : J → Report) (count : J → ℕ) (stored : J → Option (List Noted)) (lists lists' : Option (List (List Rule))) (d e : Directory) (rules : Option RulesName) (installing : Option Installing) (s t : Installing) (fault : InstallFault) (old new : Roll J)
-    (k : IsKeptBy (told old.journal) (count old.journal) (stored old.journal) lists old.server d rules installing) → IsUnderWay k.installed.world s d → old.server.limit < 2 ^ 64 → is_of_disk fault ≡ true → NotesSome told count stored (fault_event fault) old new → IsOfDevice (Err fault) → lists' ≡ lists → way.LeadsOn s t d e (Err fault)
-    → IsKeptBy (told new.journal) (count new.journal) (stored new.journal) lists' new.server e rules None
-kept_fault told count stored lists lists' d e rules installing s t (Line fault) old new k under small disk noted device same leads = absurd (cc)
-kept_fault told count stored lists lists' d e rules installing s t TooLarge old new k under small disk noted device same leads = absurd (cc)
-kept_fault told count stored lists lists' d e rules installing s t Over old new k under small disk noted device same leads = absurd (cc)
-kept_fault told count stored lists lists' d e rules installing s t OutOfMemory old new k under small disk noted device same leads = absurd (cc)
-kept_fault told count stored lists lists' d e rules installing s t (Disk NoScratch phase) old new k under small disk noted device same leads = absurd (cc)
-kept_fault told count stored lists lists' d e rules installing s t (Disk NoName phase) old new k under small disk noted device same leads = absurd (cc)
-kept_fault told count stored lists lists' d e rules installing s t (Disk NoMemory phase) old new k under small disk noted device same leads = absurd (cc)
-kept_fault told count stored lists lists' d e rules installing s t (Disk Device phase) old new k under small disk noted device same leads =
-    kept_failed lists lists' d e rules installing s t (next_phase s) k under (λ q g. g.1 ∙ ap (λ (x : Phase). Some x) (sym g.0)) phase old.speaker (one_more_of told count stored (StepFailed phase) old new small tt noted) same leads
+pub kept_fault : {J : Type 0} (told : J → Report) (count : J → ℕ) (stored : J → Option (List Noted)) (lists : J → Option (List (List Rule))) (d e : Directory) (rules : Option RulesName) (installing : Option Installing) (s t : Installing) (fault : InstallFault) (old new : Roll J)
+    (k : IsKeptBy (books_by told count stored lists old.journal) (record { directory = d; rules = rules; server = old.server; installing = installing })) → IsUnderWay k.installed.world s d → old.server.limit < 2 ^ 64 → is_of_disk fault ≡ true → NotesSome told count stored (fault_event fault) old new → IsOfDevice (Err fault) → lists new.journal ≡ lists old.journal → way.LeadsOn s t d e (Err fault)
+    → IsKeptBy (books_by told count stored lists new.journal) (record { directory = e; rules = rules; server = new.server; installing = None })
+kept_fault told count stored lists d e rules installing s t (Line fault) old new k under small disk noted device same leads = absurd (cc)
+kept_fault told count stored lists d e rules installing s t TooLarge old new k under small disk noted device same leads = absurd (cc)
+kept_fault told count stored lists d e rules installing s t Over old new k under small disk noted device same leads = absurd (cc)
+kept_fault told count stored lists d e rules installing s t OutOfMemory old new k under small disk noted device same leads = absurd (cc)
+kept_fault told count stored lists d e rules installing s t (Disk NoScratch phase) old new k under small disk noted device same leads = absurd (cc)
+kept_fault told count stored lists d e rules installing s t (Disk NoName phase) old new k under small disk noted device same leads = absurd (cc)
+kept_fault told count stored lists d e rules installing s t (Disk NoMemory phase) old new k under small disk noted device same leads = absurd (cc)
+kept_fault told count stored lists d e rules installing s t (Disk Device phase) old new k under small disk noted device same leads =
+    kept_failed (record { directory = d; rules = rules; server = old.server; installing = installing }) new.server e s t (next_phase s) k under (λ q g. g.1 ∙ ap (λ (x : Phase). Some x) (sym g.0)) phase old.speaker (one_more_of told count stored (StepFailed phase) old new small tt noted) same leads

@@ -22,7 +22,7 @@ use Rattle.server_events.specs.declared.event.Event.TheVariants.{Stepped, StepFa
 use Rattle.server_events.specs.declared.report.Report.{Report}
 use Rattle.server_yard.specs.Installed.{IsKeptBy}
 use Rattle.server_yard.specs.Kept.{IsGoing, phase_of}
-use Rattle.server_yard.specs.Rolls.{NotesSome, Roll}
+use Rattle.server_yard.specs.Rolls.{Books, NotesSome, Roll, books_by}
 use Rattle.server_yard.specs.Standing.{HasUnderWay, YardState}
 use Rattle.server_yard.specs.Stepping.{is_kept_after, kept_after_step, kept_then, step_event}
 use Rattle.server_yard.proofs.Histories.{OneMore, history_on}
@@ -88,49 +88,52 @@ phase_then told count stored s t next (Err OutOfMemory) old new noted goes was =
 -- ---- what the installations left
 
 -- one step more of a history
-module _ {told told' : Report} {count count' : ℕ} {stored stored' : Option (List Noted)} {sv sv' : ServerState} (lists lists' : Option (List (List Rule))) (d e : Directory) (rules : Option RulesName) (installing : Option Installing) (s t : Installing) (next : Phase)
-    (k : IsKeptBy told count stored lists sv d rules installing) (under : IsUnderWay k.installed.world s d) (goes_reached : (p : Phase) → Goes next s t (Ok p) → t.reached ≡ Some p) where
-  pub kept_stepped : (p : Phase) (caller : ℕ) → OneMore told count stored sv (Stepped p) caller told' count' stored' sv' → Goes next s t (Ok p) → way.LeadsOn s t d e (Ok p) → ((p ≡ Fresh → lists' ≡ option_map (λ (all : List (List Rule)). all ++ t.rules ∷ []) lists) × (p ≢ Fresh → lists' ≡ lists)) → IsKeptBy told' count' stored' lists' sv' e rules (kept_then t (Ok p))
+module _ {b b' : Books} (y : YardState) (server : ServerState) (e : Directory) (s t : Installing) (next : Phase)
+    (k : IsKeptBy b y) (under : IsUnderWay k.installed.world s y.directory) (goes_reached : (p : Phase) → Goes next s t (Ok p) → t.reached ≡ Some p) where
+  pub kept_stepped : (p : Phase) (caller : ℕ) → OneMore b.told b.count b.stored y.server (Stepped p) caller b'.told b'.count b'.stored server → Goes next s t (Ok p) → way.LeadsOn s t y.directory e (Ok p) → ((p ≡ Fresh → b'.lists ≡ option_map (λ (all : List (List Rule)). all ++ t.rules ∷ []) b.lists) × (p ≢ Fresh → b'.lists ≡ b.lists))
+      → IsKeptBy b' (record { directory = e; rules = y.rules; server = server; installing = kept_then t (Ok p) })
   kept_stepped p caller more goes leads texts =
-      let moved = stepped k.installed.world s t d e under p goes.2 (goes_reached p goes) leads in
+      let moved = stepped k.installed.world s t y.directory e under p goes.2 (goes_reached p goes) leads in
       record {
         history = k.history ++ Stepped p ∷ [];
         is_history = history_on more k.history k.is_history;
-        installed = installed_on lists lists' d e rules sv sv' installing (kept_then t (Ok p)) k.history (Stepped p) refl more.happens (step_phases p) k.installed moved.0 moved.1 (by p moved.0 moved.1.step.moves moved.1.under texts);
+        installed = installed_on b.lists b'.lists y (record { directory = e; rules = y.rules; server = server; installing = kept_then t (Ok p) }) k.history (Stepped p) refl refl more.happens (step_phases p) k.installed moved.0 moved.1 (by p moved.0 moved.1.step.moves moved.1.under texts);
       }
     where
-      by : (p : Phase) (v : World) → Advances p k.installed.world v → HasUnderWay v (kept_then t (Ok p)) → ((p ≡ Fresh → lists' ≡ option_map (λ (all : List (List Rule)). all ++ t.rules ∷ []) lists) × (p ≢ Fresh → lists' ≡ lists)) → IfSome lists' (λ all. v.accepted ≡ k.installed.first ∷ map Some all)
-      by Fresh v moves has which = subst (λ (o : Option (List (List Rule))). IfSome o (λ all. v.accepted ≡ k.installed.first ∷ map Some all)) (sym (which.0 refl)) (texts_more lists k.installed.world v k.installed.first t.rules (accepted_fresh k.installed.world v t moves has) k.installed.accepted)
-      by Filling v moves has which = subst (λ (o : Option (List (List Rule))). IfSome o (λ all. v.accepted ≡ k.installed.first ∷ map Some all)) (sym (which.1 (λ x. absurd (cc)))) (texts_same lists k.installed.world v k.installed.first (accepted_other Filling k.installed.world v (λ x. absurd (cc)) moves) k.installed.accepted)
-      by Synced v moves has which = subst (λ (o : Option (List (List Rule))). IfSome o (λ all. v.accepted ≡ k.installed.first ∷ map Some all)) (sym (which.1 (λ x. absurd (cc)))) (texts_same lists k.installed.world v k.installed.first (accepted_other Synced k.installed.world v (λ x. absurd (cc)) moves) k.installed.accepted)
-      by Named v moves has which = subst (λ (o : Option (List (List Rule))). IfSome o (λ all. v.accepted ≡ k.installed.first ∷ map Some all)) (sym (which.1 (λ x. absurd (cc)))) (texts_same lists k.installed.world v k.installed.first (accepted_other Named k.installed.world v (λ x. absurd (cc)) moves) k.installed.accepted)
-      by Done v moves has which = subst (λ (o : Option (List (List Rule))). IfSome o (λ all. v.accepted ≡ k.installed.first ∷ map Some all)) (sym (which.1 (λ x. absurd (cc)))) (texts_same lists k.installed.world v k.installed.first (accepted_other Done k.installed.world v (λ x. absurd (cc)) moves) k.installed.accepted)
+      by : (p : Phase) (v : World) → Advances p k.installed.world v → HasUnderWay v (kept_then t (Ok p)) → ((p ≡ Fresh → b'.lists ≡ option_map (λ (all : List (List Rule)). all ++ t.rules ∷ []) b.lists) × (p ≢ Fresh → b'.lists ≡ b.lists)) → IfSome b'.lists (λ all. v.accepted ≡ k.installed.first ∷ map Some all)
+      by Fresh v moves has which = subst (λ (o : Option (List (List Rule))). IfSome o (λ all. v.accepted ≡ k.installed.first ∷ map Some all)) (sym (which.0 refl)) (texts_more b.lists k.installed.world v k.installed.first t.rules (accepted_fresh k.installed.world v t moves has) k.installed.accepted)
+      by Filling v moves has which = subst (λ (o : Option (List (List Rule))). IfSome o (λ all. v.accepted ≡ k.installed.first ∷ map Some all)) (sym (which.1 (λ x. absurd (cc)))) (texts_same b.lists k.installed.world v k.installed.first (accepted_other Filling k.installed.world v (λ x. absurd (cc)) moves) k.installed.accepted)
+      by Synced v moves has which = subst (λ (o : Option (List (List Rule))). IfSome o (λ all. v.accepted ≡ k.installed.first ∷ map Some all)) (sym (which.1 (λ x. absurd (cc)))) (texts_same b.lists k.installed.world v k.installed.first (accepted_other Synced k.installed.world v (λ x. absurd (cc)) moves) k.installed.accepted)
+      by Named v moves has which = subst (λ (o : Option (List (List Rule))). IfSome o (λ all. v.accepted ≡ k.installed.first ∷ map Some all)) (sym (which.1 (λ x. absurd (cc)))) (texts_same b.lists k.installed.world v k.installed.first (accepted_other Named k.installed.world v (λ x. absurd (cc)) moves) k.installed.accepted)
+      by Done v moves has which = subst (λ (o : Option (List (List Rule))). IfSome o (λ all. v.accepted ≡ k.installed.first ∷ map Some all)) (sym (which.1 (λ x. absurd (cc)))) (texts_same b.lists k.installed.world v k.installed.first (accepted_other Done k.installed.world v (λ x. absurd (cc)) moves) k.installed.accepted)
 
-  pub kept_failed : (p : Phase) (caller : ℕ) → OneMore told count stored sv (StepFailed p) caller told' count' stored' sv' → lists' ≡ lists → way.LeadsOn s t d e (Err (Disk Device p)) → IsKeptBy told' count' stored' lists' sv' e rules None
+  pub kept_failed : (p : Phase) (caller : ℕ) → OneMore b.told b.count b.stored y.server (StepFailed p) caller b'.told b'.count b'.stored server → b'.lists ≡ b.lists → way.LeadsOn s t y.directory e (Err (Disk Device p))
+      → IsKeptBy b' (record { directory = e; rules = y.rules; server = server; installing = None })
   kept_failed p caller more same leads =
-      let moved = step_failed k.installed.world s t d e under p leads in
+      let moved = step_failed k.installed.world s t y.directory e under p leads in
       record {
         history = k.history ++ StepFailed p ∷ [];
         is_history = history_on more k.history k.is_history;
-        installed = installed_on lists lists' d e rules sv sv' installing None k.history (StepFailed p) refl more.happens (fail_phases p) k.installed moved.0 moved.1 (subst (λ (o : Option (List (List Rule))). IfSome o (λ all. moved.0.accepted ≡ k.installed.first ∷ map Some all)) (sym same) (texts_same lists k.installed.world moved.0 k.installed.first (accepted_failed p k.installed.world moved.0 moved.1.step.moves) k.installed.accepted));
+        installed = installed_on b.lists b'.lists y (record { directory = e; rules = y.rules; server = server; installing = None }) k.history (StepFailed p) refl refl more.happens (fail_phases p) k.installed moved.0 moved.1 (subst (λ (o : Option (List (List Rule))). IfSome o (λ all. moved.0.accepted ≡ k.installed.first ∷ map Some all)) (sym same) (texts_same b.lists k.installed.world moved.0 k.installed.first (accepted_failed p k.installed.world moved.0 moved.1.step.moves) k.installed.accepted));
       }
 
 -- by the answer of a step
-pub kept_result : {J : Type 0} (told : J → Report) (count : J → ℕ) (stored : J → Option (List Noted)) (lists lists' : Option (List (List Rule))) (d e : Directory) (rules : Option RulesName) (s t : Installing) (next : Phase) (result : Result Phase InstallFault) (old new : Roll J)
-    (k : IsKeptBy (told old.journal) (count old.journal) (stored old.journal) lists old.server d rules (Some s)) → IsUnderWay k.installed.world s d → old.server.limit < 2 ^ 64 → NotesSome told count stored (step_event result) old new → Goes next s t result → IsOfDevice result → way.LeadsOn s t d e result
-    → (step_event result ≡ None → e ≡ d) → next ≢ Fresh → lists' ≡ lists → IsKeptBy (told new.journal) (count new.journal) (stored new.journal) lists' new.server e rules (kept_then t result)
-kept_result told count stored lists lists' d e rules s t next (Ok p) old new k under small noted goes device leads still later same =
-    kept_stepped lists lists' d e rules (Some s) s t next k under (λ q g. g.1 ∙ ap (λ (x : Phase). Some x) (sym g.0)) p old.speaker (one_more_of told count stored (Stepped p) old new small tt noted) goes leads ((λ is. absurd (later (sym goes.0 ∙ is))), λ other. same)
-kept_result told count stored lists lists' d e rules s t next (Err (Disk Device p)) old new k under small noted goes device leads still later same =
-    kept_failed lists lists' d e rules (Some s) s t next k under (λ q g. g.1 ∙ ap (λ (x : Phase). Some x) (sym g.0)) p old.speaker (one_more_of told count stored (StepFailed p) old new small tt noted) same leads
-kept_result told count stored lists lists' d e rules s t next (Err (Disk NoScratch p)) old new k under small noted goes device leads still later same = absurd (cc)
-kept_result told count stored lists lists' d e rules s t next (Err (Disk NoName p)) old new k under small noted goes device leads still later same = absurd (cc)
-kept_result told count stored lists lists' d e rules s t next (Err (Disk NoMemory p)) old new k under small noted goes device leads still later same = absurd (cc)
-kept_result told count stored lists lists' d e rules s t next (Err (Line fault)) old new k under small noted goes device leads still later same = absurd goes
-kept_result told count stored lists lists' d e rules s t next (Err TooLarge) old new k under small noted goes device leads still later same = absurd goes
-kept_result told count stored lists lists' d e rules s t next (Err Over) old new k under small noted goes device leads still later same = absurd goes
-kept_result told count stored lists lists' d e rules s t next (Err OutOfMemory) old new k under small noted goes device leads still later same =
-    kept_quiet noted.tells noted.counts noted.stores same noted.stays (still refl) (ap (λ (x : Installing). Some x) goes) k
+pub kept_result : {J : Type 0} (told : J → Report) (count : J → ℕ) (stored : J → Option (List Noted)) (lists : J → Option (List (List Rule))) (d e : Directory) (rules : Option RulesName) (installing : Option Installing) (s t : Installing) (next : Phase) (result : Result Phase InstallFault) (old new : Roll J)
+    (k : IsKeptBy (books_by told count stored lists old.journal) (record { directory = d; rules = rules; server = old.server; installing = installing })) → installing ≡ Some s → IsUnderWay k.installed.world s d → old.server.limit < 2 ^ 64 → NotesSome told count stored (step_event result) old new → Goes next s t result → IsOfDevice result
+    → way.LeadsOn s t d e result → (step_event result ≡ None → e ≡ d) → next ≢ Fresh → lists new.journal ≡ lists old.journal
+    → IsKeptBy (books_by told count stored lists new.journal) (record { directory = e; rules = rules; server = new.server; installing = kept_then t result })
+kept_result told count stored lists d e rules installing s t next (Ok p) old new k kept under small noted goes device leads still later same =
+    kept_stepped (record { directory = d; rules = rules; server = old.server; installing = installing }) new.server e s t next k under (λ q g. g.1 ∙ ap (λ (x : Phase). Some x) (sym g.0)) p old.speaker (one_more_of told count stored (Stepped p) old new small tt noted) goes leads ((λ is. absurd (later (sym goes.0 ∙ is))), λ other. same)
+kept_result told count stored lists d e rules installing s t next (Err (Disk Device p)) old new k kept under small noted goes device leads still later same =
+    kept_failed (record { directory = d; rules = rules; server = old.server; installing = installing }) new.server e s t next k under (λ q g. g.1 ∙ ap (λ (x : Phase). Some x) (sym g.0)) p old.speaker (one_more_of told count stored (StepFailed p) old new small tt noted) same leads
+kept_result told count stored lists d e rules installing s t next (Err (Disk NoScratch p)) old new k kept under small noted goes device leads still later same = absurd (cc)
+kept_result told count stored lists d e rules installing s t next (Err (Disk NoName p)) old new k kept under small noted goes device leads still later same = absurd (cc)
+kept_result told count stored lists d e rules installing s t next (Err (Disk NoMemory p)) old new k kept under small noted goes device leads still later same = absurd (cc)
+kept_result told count stored lists d e rules installing s t next (Err (Line fault)) old new k kept under small noted goes device leads still later same = absurd goes
+kept_result told count stored lists d e rules installing s t next (Err TooLarge) old new k kept under small noted goes device leads still later same = absurd goes
+kept_result told count stored lists d e rules installing s t next (Err Over) old new k kept under small noted goes device leads still later same = absurd goes
+kept_result told count stored lists d e rules installing s t next (Err OutOfMemory) old new k kept under small noted goes device leads still later same =
+    kept_quiet noted.tells noted.counts noted.stores same noted.stays (still refl) refl (ap (λ (x : Installing). Some x) goes ∙ sym kept) k
 
 -- an installation that was begun comes to no first phase again
 later_at : (o : Option Phase) (patched : Bool) → o ≢ None → next_of o patched ≢ Fresh

@@ -14,11 +14,12 @@ use Rattle.server_events.specs.declared.event.Event.TheVariants.{Stepped, StepFa
 use Rattle.server_events.proofs.InstalledRuns.{legal_then}
 use Rattle.server_yard.specs.Installed.{IsInstalledBy, installs_of}
 use Rattle.server_yard.specs.Seating.{is_installing}
-use Rattle.server_yard.specs.Standing.{Begins, HasUnderWay}
+use Rattle.server_yard.specs.Standing.{Begins, HasUnderWay, YardState}
 use Rattle.server_yard.proofs.Stepped.{GoesOn}
 
 -- the first world, in which nothing was installed
-pub none_installed : (lists : Option (List (List Rule))) (d : Directory) (rules : Option RulesName) (limit per_address : ℕ) → IfSome lists (λ all. all ≡ []) → Begins d rules → IsInstalledBy lists d rules None None []
+pub none_installed : (lists : Option (List (List Rule))) (d : Directory) (rules : Option RulesName) (limit per_address : ℕ) → IfSome lists (λ all. all ≡ []) → Begins d rules
+    → IsInstalledBy lists (record { directory = d; rules = rules; server = start limit per_address; installing = None }) []
 none_installed lists d rules limit per_address no_rules begins =
     let w : World = record { directory = d; rules = rules; server = start limit per_address; accepted = begins.text ∷ []; acknowledged = 0; under_way = None; kept = [] } in
     let first : IsStart w = record { text = begins.text; begins = begins.stands; none_pending = begins.none_pending; server = refl; accepted = refl; acknowledged = refl; under_way = refl; kept = refl } in
@@ -58,12 +59,13 @@ pub installs-one : (h : List Event) (e : Event) → is_installing e ≡ true →
 installs-one h e one = installs-push h e ∙ ap (λ (b : Bool). installs_of h ++ cond b (e ∷ []) []) one
 
 -- what is the same is installed by the same
-pub installed_same : {lists lists' : Option (List (List Rule))} {d d' : Directory} {rules : Option RulesName} {phase phase' : Option Phase} {installing installing' : Option Installing} {h h' : List Event} → lists' ≡ lists → d' ≡ d → phase' ≡ phase → installing' ≡ installing → installs_of h' ≡ installs_of h → IsInstalledBy lists d rules phase installing h → IsInstalledBy lists' d' rules phase' installing' h'
-installed_same {lists} {lists'} {d} {d'} {rules} {phase} {phase'} {installing} {installing'} {h} {h'} l e p i same is = record {
+pub installed_same : {lists lists' : Option (List (List Rule))} {y y' : YardState} {h h' : List Event} → lists' ≡ lists → y'.directory ≡ y.directory → y'.rules ≡ y.rules → y'.server.phase ≡ y.server.phase → y'.installing ≡ y.installing → installs_of h' ≡ installs_of h
+    → IsInstalledBy lists y h → IsInstalledBy lists' y' h'
+installed_same {lists} {lists'} {y} {y'} {h} {h'} l e r p i same is = record {
   world = is.world;
   reached = subst (λ (es : List Event). Reaches es is.world) (sym same) is.reached;
   has_directory = is.has_directory ∙ sym e;
-  has_rules = is.has_rules;
+  has_rules = is.has_rules ∙ sym r;
   has_phase = is.has_phase ∙ sym p;
   has_installing = subst (λ (o : Option Installing). HasUnderWay is.world o) (sym i) is.has_installing;
   first = is.first;
@@ -71,10 +73,10 @@ installed_same {lists} {lists'} {d} {d'} {rules} {phase} {phase'} {installing} {
 }
 
 -- one more step
-pub installed_on : (lists lists' : Option (List (List Rule))) (d e : Directory) (rules : Option RulesName) (s s' : ServerState) (installing kept_then : Option Installing) (h : List Event) (event : Event) → is_installing event ≡ true → s' ≡ after s event
-    → ((x y : ServerState) → x.phase ≡ y.phase → (after x event).phase ≡ (after y event).phase) → (is : IsInstalledBy lists d rules s.phase installing h) → (v : World) → GoesOn is.world v event e kept_then
-    → IfSome lists' (λ all. v.accepted ≡ is.first ∷ map Some all) → IsInstalledBy lists' e rules s'.phase kept_then (h ++ event ∷ [])
-installed_on lists lists' d e rules s s' installing kept_then h event kind happens phases is v on texts = record {
+pub installed_on : (lists lists' : Option (List (List Rule))) (y z : YardState) (h : List Event) (event : Event) → is_installing event ≡ true → z.rules ≡ y.rules → z.server ≡ after y.server event
+    → ((a b : ServerState) → a.phase ≡ b.phase → (after a event).phase ≡ (after b event).phase) → (is : IsInstalledBy lists y h) → (v : World) → GoesOn is.world v event z.directory z.installing
+    → IfSome lists' (λ all. v.accepted ≡ is.first ∷ map Some all) → IsInstalledBy lists' z (h ++ event ∷ [])
+installed_on lists lists' y z h event kind ruled happens phases is v on texts = record {
   world = v;
   reached = subst (λ (es : List Event). Reaches es v) (sym (installs-one h event kind)) (record {
     begin = is.reached.begin;
@@ -82,8 +84,8 @@ installed_on lists lists' d e rules s s' installing kept_then h event kind happe
     legal = legal_then is.reached.legal (more on.step none);
   });
   has_directory = on.directory;
-  has_rules = on.rules ∙ is.has_rules;
-  has_phase = ap (λ (x : ServerState). x.phase) on.server ∙ phases is.world.server s is.has_phase ∙ ap (λ (x : ServerState). x.phase) (sym happens);
+  has_rules = on.rules ∙ is.has_rules ∙ sym ruled;
+  has_phase = ap (λ (x : ServerState). x.phase) on.server ∙ phases is.world.server y.server is.has_phase ∙ ap (λ (x : ServerState). x.phase) (sym happens);
   has_installing = on.under;
   first = is.first;
   accepted = texts;

@@ -9,7 +9,6 @@ use Rattle.event_journals.specs.declared.journal.Noted.{Noted}
 use Rattle.rule_lines.specs.Pairs.{Rule}
 use Rattle.rule_lines.specs.Lookups.{WhereKnown}
 use Rattle.rule_lookup.specs.Peers.{Client}
-use Rattle.rules_install.specs.Installing.{Installing}
 use Rattle.server_events.specs.ServerState.{ServerState}
 use Rattle.server_events.specs.Worlds.{RulesName, StandsFor}
 use Rattle.server_events.specs.declared.event.Event.{Event}
@@ -18,8 +17,9 @@ use Rattle.server_events.specs.declared.report.Report.{Report}
 use Rattle.server_events.proofs.WholeText.{reached_whole}
 use Rattle.server_yard.specs.Installed.{IsKeptBy, IsWholeFile, installs_of}
 use Rattle.server_yard.specs.Passes.{trust_in}
-use Rattle.server_yard.specs.Rolls.{IsQuiet, Notes, Roll}
+use Rattle.server_yard.specs.Rolls.{Books, IsQuiet, Notes, Roll}
 use Rattle.server_yard.specs.Seating.{goes_on, is_installing, leaver}
+use Rattle.server_yard.specs.Standing.{YardState}
 use Rattle.server_yard.specs.Yards.{IsSameBeside, yard_roll, yard_state}
 use Rattle.server_yard.specs.declared.yard.Yard.{Yard}
 use Rattle.server_yard.proofs.Histories.{OneMore, history_on, history_same}
@@ -92,12 +92,12 @@ one_more_of told count stored e old new small fits noted = record {
 }
 
 -- the installations of a history with one event of a connection more left the same
-pub kept_on : {told told' : Report} {count count' : ℕ} {stored stored' : Option (List Noted)} {lists lists' : Option (List (List Rule))} {s s' : ServerState} {d d' : Directory} {rules : Option RulesName} {installing installing' : Option Installing} {e : Event} {caller : ℕ}
-    → is_connection's e ≡ true → lists' ≡ lists → d' ≡ d → installing' ≡ installing → OneMore told count stored s e caller told' count' stored' s' → IsKeptBy told count stored lists s d rules installing → IsKeptBy told' count' stored' lists' s' d' rules installing'
-kept_on {told} {told'} {count} {count'} {stored} {stored'} {lists} {lists'} {s} {s'} {d} {d'} {rules} {installing} {installing'} {e} {caller} own l same i more k = record {
+pub kept_on : {b b' : Books} {y y' : YardState} {e : Event} {caller : ℕ}
+    → is_connection's e ≡ true → b'.lists ≡ b.lists → y'.directory ≡ y.directory → y'.rules ≡ y.rules → y'.installing ≡ y.installing → OneMore b.told b.count b.stored y.server e caller b'.told b'.count b'.stored y'.server → IsKeptBy b y → IsKeptBy b' y'
+kept_on {b} {b'} {y} {y'} {e} {caller} own l same r i more k = record {
   history = k.history ++ e ∷ [];
   is_history = history_on more k.history k.is_history;
-  installed = installed_same l same (ap (λ (u : ServerState). u.phase) more.happens ∙ phase_stays s e own) i (installs-other k.history e (own_other e own)) k.installed;
+  installed = installed_same l same r (ap (λ (u : ServerState). u.phase) more.happens ∙ phase_stays y.server e own) i (installs-other k.history e (own_other e own)) k.installed;
 }
 
 -- a yard that noted an event of a connection, and is the same beside
@@ -116,8 +116,8 @@ whole_of : (text : Option (List Rule)) (bytes : Option (List ℕ)) → StandsFor
 whole_of None bytes none = subst (λ (o : Option (List ℕ)). IsWholeFile o) (sym none) tt
 whole_of (Some rules) bytes stands = subst (λ (o : Option (List ℕ)). IsWholeFile o) (sym stands.1) (rules, stands.2)
 
-pub stands_whole : {told : Report} {count : ℕ} {stored : Option (List Noted)} {lists : Option (List (List Rule))} {s : ServerState} {d : Directory} {rules : Option RulesName} {installing : Option Installing} → IsKeptBy told count stored lists s d rules installing → (r : RulesName) → rules ≡ Some r → IsWholeFile (content d r.name)
-stands_whole {told} {count} {stored} {lists} {s} {d} {rules} {installing} k r is =
+pub stands_whole : {b : Books} {y : YardState} → IsKeptBy b y → (r : RulesName) → y.rules ≡ Some r → IsWholeFile (content y.directory r.name)
+stands_whole {b} {y} k r is =
     let it = k.installed in
     let has = reached_whole (installs_of k.history) it.world r it.reached (it.has_rules ∙ is) in
     subst (λ (x : Directory). IsWholeFile (content x r.name)) it.has_directory (whole_of has.now.text (content it.world.directory r.name) has.now.stands)
@@ -140,12 +140,12 @@ if_ok (Ok x) is then_so = then_so x is
 if_ok (Err fault) is then_so = tt
 
 -- nothing was noted
-pub kept_quiet : {told told' : Report} {count count' : ℕ} {stored stored' : Option (List Noted)} {lists lists' : Option (List (List Rule))} {s s' : ServerState} {d d' : Directory} {rules : Option RulesName} {installing installing' : Option Installing}
-    → told' ≡ told → count' ≡ count → stored' ≡ stored → lists' ≡ lists → s' ≡ s → d' ≡ d → installing' ≡ installing → IsKeptBy told count stored lists s d rules installing → IsKeptBy told' count' stored' lists' s' d' rules installing'
-kept_quiet {told} {told'} {count} {count'} {stored} {stored'} {lists} {lists'} {s} {s'} {d} {d'} {rules} {installing} {installing'} t c o l w e i k = record {
+pub kept_quiet : {b b' : Books} {y y' : YardState}
+    → b'.told ≡ b.told → b'.count ≡ b.count → b'.stored ≡ b.stored → b'.lists ≡ b.lists → y'.server ≡ y.server → y'.directory ≡ y.directory → y'.rules ≡ y.rules → y'.installing ≡ y.installing → IsKeptBy b y → IsKeptBy b' y'
+kept_quiet {b} {b'} {y} {y'} t c o l w e r i k = record {
   history = k.history;
   is_history = history_same t c o w k.history k.is_history;
-  installed = installed_same l e (ap (λ (u : ServerState). u.phase) w) i refl k.installed;
+  installed = installed_same l e r (ap (λ (u : ServerState). u.phase) w) i refl k.installed;
 }
 
 pub is_some-map : {X Y : Type 0} (f : X → Y) (o : Option X) → is_some (option_map f o) ≡ is_some o

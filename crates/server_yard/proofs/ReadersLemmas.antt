@@ -7,25 +7,23 @@ use Rattle.std.proofs.lemmas.List.Sums.{sum_by-cons}
 use mathlib.Core.Logic.{∥∥₁_map}
 use Rattle.dir_calls.specs.Directory.{Directory}
 use Rattle.dir_calls.specs.NameTable.{CanBeLeft, Names}
-use Rattle.event_journals.specs.declared.journal.Noted.{Noted}
 use Rattle.rule_lines.specs.Pairs.{Rule}
-use Rattle.rules_install.specs.Installing.{Installing}
 use Rattle.rules_install.specs.declared.Phase.{Phase}
 use Rattle.rules_install.specs.declared.Phase.TheVariants.{Fresh, Filling, Synced, Named, Done}
 use Rattle.server_events.specs.Headline.{Reaches}
-use Rattle.server_events.specs.ServerState.{ServerState}
 use Rattle.server_events.specs.Steps.{Advances, Legal, Moves, Step, none, more}
 use Rattle.server_events.specs.Table.{Follows, done}
 use Rattle.server_events.specs.Worlds.{Accepted, RulesName, UnderWay, World}
 use Rattle.server_events.specs.declared.event.Event.{Event}
 use Rattle.server_events.specs.declared.event.Event.TheVariants.{Admitted, Opened, Decided, Started, StartFailed, Ended, Retired, Dropped, Stepped, StepFailed, Stop}
-use Rattle.server_events.specs.declared.report.Report.{Report}
 use Rattle.server_events.proofs.StandingTexts.{IsText, StandsAt}
 use Rattle.server_events.proofs.TableLemmas.{may_come_follows, step_is}
 use Rattle.server_events.proofs.WholeText.{Agree, good_reached, good_rules}
 use Rattle.server_yard.specs.Installed.{IsKeptBy, installs_of}
 use Rattle.server_yard.specs.Readers.{IsAbsentOrCompiled, KeptYard, NamesCompiled, NamesStored, NamesStoredSinceDone, ReadersFind, begun_in, is_first}
+use Rattle.server_yard.specs.Rolls.{Books}
 use Rattle.server_yard.specs.Seating.{is_installing}
+use Rattle.server_yard.specs.Standing.{YardState}
 
 -- ---- how many texts were accepted
 
@@ -256,23 +254,23 @@ stored_at first lists least d names name (suc place) text some recent is stands 
     }
 
 module _ (k : KeptYard) where
-  text_of : (names : Names) → CanBeLeft k.directory.names names → IsText k.kept.installed.world.accepted k.kept.installed.world.acknowledged k.directory.files (get names k.rules.name)
+  text_of : (names : Names) → CanBeLeft k.state.directory.names names → IsText k.kept.installed.world.accepted k.kept.installed.world.acknowledged k.state.directory.files (get names k.rules.name)
   text_of names left =
       let it = k.kept.installed in
-      let holds = good_rules it.world k.rules it.has_rules (good_reached (installs_of k.kept.history) it.world it.reached) in
+      let holds = good_rules it.world k.rules (it.has_rules ∙ k.follows) (good_reached (installs_of k.kept.history) it.world it.reached) in
       subst (λ (d : Directory). (ns : Names) → CanBeLeft d.names ns → IsText it.world.accepted it.world.acknowledged d.files (get ns k.rules.name)) it.has_directory holds.lasts names left
 
-  pub always_whole : IsAbsentOrCompiled k.directory k.rules.name
+  pub always_whole : IsAbsentOrCompiled k.state.directory k.rules.name
   always_whole names left =
       let is = text_of names left in
-      absent_or k.directory names k.rules.name is.text is.stands
+      absent_or k.state.directory names k.rules.name is.text is.stands
 
-  texts_are : (lists : List (List Rule)) → k.lists ≡ Some lists → k.kept.installed.world.accepted ≡ k.kept.installed.first ∷ map (λ (r : List Rule). Some r) lists
+  texts_are : (lists : List (List Rule)) → k.books.lists ≡ Some lists → k.kept.installed.world.accepted ≡ k.kept.installed.first ∷ map (λ (r : List Rule). Some r) lists
   texts_are lists is =
       let it = k.kept.installed in
       subst (λ (o : Option (List (List Rule))). IfSome o (λ all. it.world.accepted ≡ it.first ∷ map Some all)) is it.accepted
 
-  pub since_done : (lists : List (List Rule)) → k.lists ≡ Some lists → NamesStoredSinceDone k.kept.history lists k.directory k.rules.name
+  pub since_done : (lists : List (List Rule)) → k.books.lists ≡ Some lists → NamesStoredSinceDone k.kept.history lists k.state.directory k.rules.name
   since_done lists is before later split names left =
       let it = k.kept.installed in
       let at = done_number (installs_of k.kept.history) it.world it.reached (installs_of before) (installs_of later) (ap installs_of split ∙ installs-done before later) in
@@ -282,9 +280,9 @@ module _ (k : KeptYard) where
       let acknowledged = at.0 in
       let some = at.1 in
       let found = subst (λ (a : Accepted). slice_get a text.place ≡ Some text.text) (texts_are lists is) text.accepted_as in
-      stored_at it.first lists (begun_in before) k.directory names k.rules.name text.place text.text (omega (arith, some, same)) (omega (arith, acknowledged, recent, same)) found text.stands
+      stored_at it.first lists (begun_in before) k.state.directory names k.rules.name text.place text.text (omega (arith, some, same)) (omega (arith, acknowledged, recent, same)) found text.stands
 
-  pub one_each : (lists : List (List Rule)) → k.lists ≡ Some lists → length lists ≡ begun_in k.kept.history
+  pub one_each : (lists : List (List Rule)) → k.books.lists ≡ Some lists → length lists ≡ begun_in k.kept.history
   one_each lists is =
       let it = k.kept.installed in
       let counted = counted_reached (installs_of k.kept.history) it.world it.reached in
@@ -294,16 +292,16 @@ module _ (k : KeptYard) where
       let lengths = length-texts lists in
       omega (arith, texts, same, all, lengths)
 
-  pub readers_find : ReadersFind k.told k.count k.stored k.lists k.server k.directory k.rules
-  readers_find = record { history = k.kept.history; is_history = k.kept.is_history; always = always_whole; since_done = by k.lists refl }
+  pub readers_find : ReadersFind k.books k.state k.rules
+  readers_find = record { history = k.kept.history; is_history = k.kept.is_history; always = always_whole; since_done = by k.books.lists refl }
     where
-      by : (o : Option (List (List Rule))) → k.lists ≡ o → IfSome o (λ all. NamesStoredSinceDone k.kept.history all k.directory k.rules.name)
+      by : (o : Option (List (List Rule))) → k.books.lists ≡ o → IfSome o (λ all. NamesStoredSinceDone k.kept.history all k.state.directory k.rules.name)
       by None is = tt
       by (Some lists) is = since_done lists is
 
 -- the same of a yard whose premises were met, with or without a rules name
-pub find_whole : (told : Report) (count : ℕ) (stored : Option (List Noted)) (lists : Option (List (List Rule))) (server : ServerState) (d : Directory) (installing : Option Installing) (rules : Option RulesName) → ∥ IsKeptBy told count stored lists server d rules installing ∥₁
-    → IfSome rules (λ r. ∥ ReadersFind told count stored lists server d r ∥₁)
-find_whole told count stored lists server d installing None kept = tt
-find_whole told count stored lists server d installing (Some r) kept =
-    ∥∥₁_map kept (λ k. readers_find (record { told = told; count = count; stored = stored; lists = lists; server = server; directory = d; rules = r; installing = installing; kept = k }))
+pub find_whole : (books : Books) (y : YardState) → ∥ IsKeptBy books y ∥₁ → IfSome y.rules (λ r. ∥ ReadersFind books y r ∥₁)
+find_whole books y kept = by y.rules refl where
+  by : (o : Option RulesName) → y.rules ≡ o → IfSome o (λ r. ∥ ReadersFind books y r ∥₁)
+  by None is = tt
+  by (Some r) is = ∥∥₁_map kept (λ k. readers_find (record { books = books; state = y; rules = r; follows = is; kept = k }))

@@ -1,6 +1,6 @@
--- A step that is refused as over is no event.
-use Rattle.std.proofs.Common.{◌≡◌, ℕ, List, Option, None, Some}
-use Rattle.std.specs.Prelude.{Err}
+-- A step that is refused as over is no event; which installation is kept under a number.
+use Rattle.std.proofs.Common.{◌≡◌, ℕ, Bool, true, false, List, Option, None, Some, refl, sym}
+use Rattle.std.specs.Prelude.{Err, if◌then◌else◌}
 use Rattle.event_journals.specs.declared.journal.Noted.{Noted}
 use Rattle.rules_install.specs.Installing.{Installing}
 use Rattle.rules_install.specs.declared.fault.InstallFault.TheVariants.{Over}
@@ -8,6 +8,7 @@ use Rattle.server_events.specs.declared.report.Report.{Report}
 use Rattle.server_yard.specs.Rolls.{IsQuiet, NotesSome, Roll}
 use Rattle.server_yard.specs.Standing.{LeadsSome, YardState}
 use Rattle.server_yard.specs.Stepping.{event_of_step}
+use Rattle.server_yard.proofs.Keeping.{none_not_some, same_some}
 
 -- nothing is noted, whatever was under way
 pub over_notes : {J : Type 0} (told : J → Report) (count : J → ℕ) (stored : J → Option (List Noted)) (o : Option Installing) (a b : Roll J) → IsQuiet told count stored a b → NotesSome told count stored (event_of_step o (Err Over)) a b
@@ -18,3 +19,13 @@ over_notes told count stored (Some s) a b quiet = quiet
 pub over_leads : (o : Option Installing) (y z : YardState) → z ≡ y → LeadsSome (event_of_step o (Err Over)) y z
 over_leads None y z same = same
 over_leads (Some s) y z same = same
+
+-- the number that is kept is that of the last that was begun
+pub kept_is_last : (kept : Bool) (last number : ℕ) → (if kept then Some last else None) ≡ Some number → last ≡ number
+kept_is_last true last number is = same_some last number is
+kept_is_last false last number is = absurd (none_not_some number is)
+
+-- where none is under way, there is none under any number
+pub none_under : (here : Bool) (o : Option Installing) → o ≡ None → (if here then o else None) ≡ None
+none_under true o is = is
+none_under false o is = refl

@@ -13,6 +13,9 @@ use Rattle.rules_install.specs.declared.Phase.TheVariants.{Fresh, Filling, Synce
 use Rattle.server_events.specs.Worlds.{RulesName}
 use Rattle.server_events.specs.declared.report.Report.{Report}
 use Rattle.server_yard.specs.Rolls.{StoresNothing}
+use Rattle.server_yard.specs.Rosters.{roll_of}
+use Rattle.server_yard.specs.Standing.{YardState}
+use Rattle.server_yard.specs.declared.roster.Roster.{Roster}
 use Rattle.server_yard.specs.declared.yard.Installation.{Installation}
 use Rattle.server_yard.specs.declared.yard.Installation.TheVariants.{Idle, UnderWay, AtDone}
 
@@ -25,6 +28,15 @@ abbrev pub installing_of : Installation → Option Installing
 installing_of Idle = None
 installing_of (UnderWay install) = Some (installing install)
 installing_of AtDone = None
+
+-- what a yard of these parts has of a world
+abbrev pub state_of : {L J : Type 0} {j : _} → Roster L J j → Directory → Option (List ℕ × Missing) → Installation → YardState
+state_of roster directory rules installation = record {
+  directory = directory;
+  rules = rules_of rules;
+  server = (roll_of roster).server;
+  installing = installing_of installation;
+}
 
 -- how far it has come
 abbrev pub phase_of : Option Installing → Option Phase

@@ -1,20 +1,17 @@
 -- What a reader finds under the rules name of a yard, whatever part of the pending changes a stop takes.
-use Rattle.std.specs.Prelude.{◌≡◌, ◌≤◌, ◌+◌, ◌⊎◌, ℕ, Bool, true, false, List, ◌∷◌, ◌++◌, Option, None, Some, IfSome, slice_get}
+use Rattle.std.specs.Prelude.{◌≡◌, ◌≤◌, ◌+◌, ◌⊎◌, ℕ, Bool, true, false, List, ◌∷◌, ◌++◌, None, Some, IfSome, slice_get}
 use Rattle.std.specs.List.{count_by}
 use Rattle.std.specs.FinMap.{get}
 use Rattle.dir_calls.specs.Directory.{Directory}
 use Rattle.dir_calls.specs.NameTable.{CanBeLeft, Names}
-use Rattle.event_journals.specs.declared.journal.Noted.{Noted}
 use Rattle.rule_lines.specs.Pairs.{Rule}
-use Rattle.rules_install.specs.Installing.{Installing}
 use Rattle.rules_install.specs.declared.Phase.TheVariants.{Fresh, Done}
-use Rattle.server_events.specs.ServerState.{ServerState}
 use Rattle.server_events.specs.Worlds.{IsOf, RulesName}
 use Rattle.server_events.specs.declared.event.Event.{Event}
 use Rattle.server_events.specs.declared.event.Event.TheVariants.{Stepped}
-use Rattle.server_events.specs.declared.report.Report.{Report}
 use Rattle.server_yard.specs.Installed.{IsKeptBy}
-use Rattle.server_yard.specs.Rolls.{IsHistory}
+use Rattle.server_yard.specs.Rolls.{Books, IsHistory}
+use Rattle.server_yard.specs.Standing.{YardState}
 
 -- among these names the name stands for a synced file that is compiled of these rules
 pub record NamesCompiled (d : Directory) (names : Names) (name : List ℕ) (rules : List Rule) : Type 0 where
@@ -55,20 +52,15 @@ NamesStoredSinceDone history lists d name =
 
 -- a yard that follows rules, as its type keeps it
 pub record KeptYard : Type 0 where
-  pub told : Report
-  pub count : ℕ
-  pub stored : Option (List Noted)
-  pub lists : Option (List (List Rule))
-  pub server : ServerState
-  pub directory : Directory
+  pub books : Books
+  pub state : YardState
   pub rules : RulesName
-  pub installing : Option Installing
-  pub kept : IsKeptBy told count stored lists server directory (Some rules) installing
+  pub follows : state.rules ≡ Some rules
+  pub kept : IsKeptBy books state
 
 -- what readers find in it, told from its history
-pub record ReadersFind (told : Report) (count : ℕ) (stored : Option (List Noted)) (lists : Option (List (List Rule))) (server : ServerState)
-    (directory : Directory) (rules : RulesName) : Type 0 where
+pub record ReadersFind (books : Books) (y : YardState) (rules : RulesName) : Type 0 where
   pub history : List Event
-  pub is_history : IsHistory told count stored server history
-  pub always : IsAbsentOrCompiled directory rules.name
-  pub since_done : IfSome lists (λ all. NamesStoredSinceDone history all directory rules.name)
+  pub is_history : IsHistory books.told books.count books.stored y.server history
+  pub always : IsAbsentOrCompiled y.directory rules.name
+  pub since_done : IfSome books.lists (λ all. NamesStoredSinceDone history all y.directory rules.name)

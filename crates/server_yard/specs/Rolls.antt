@@ -1,5 +1,6 @@
 -- What the events of a yard change: the state that they led to, the journal, and who speaks; and which place is whose.
 use Rattle.std.specs.Prelude.{◌≡◌, ◌++◌, ◌∷◌, ℕ, true, List, [], Option, Some, None, IfSome, map, option_map, option_and_then}
+use Rattle.rule_lines.specs.Pairs.{Rule}
 use Rattle.server_events.specs.ServerState.{ServerState, after, is_legal, may_happen, stage_of, start, state_after}
 use Rattle.server_events.specs.declared.event.Event.{Event}
 use Rattle.server_events.specs.declared.event.Stage.{Stage}
@@ -12,6 +13,16 @@ pub record Roll (J : Type 0) : Type 0 where
   pub server : ServerState
   pub journal : J
   pub speaker : ℕ
+
+-- what a journal tells: the report and the number of the events that were noted, and the events and the lists of rules that it stores
+pub record Books : Type 0 where
+  pub told : Report
+  pub count : ℕ
+  pub stored : Option (List Noted)
+  pub lists : Option (List (List Rule))
+
+abbrev pub books_by : {J : Type 0} → (J → Report) → (J → ℕ) → (J → Option (List Noted)) → (J → Option (List (List Rule))) → J → Books
+books_by told count stored lists journal = record { told = told journal; count = count journal; stored = stored journal; lists = lists journal }
 
 -- an event that may happen does, and is noted with who speaks
 pub record Notes {J : Type 0} (told : J → Report) (count : J → ℕ) (stored : J → Option (List Noted)) (event : Event) (old new : Roll J) : Type 0 where

@@ -1,14 +1,13 @@
 -- A yard as worlds see it, and the steps that its calls are.
-use Rattle.std.specs.Prelude.{◌≡◌, ◌++◌, ◌∷◌, ◌⊎◌, ℕ, Bool, IsTrue, List, [], Option, None, Some, option_and_then, is_some}
+use Rattle.std.specs.Prelude.{◌≡◌, ◌++◌, ◌∷◌, ℕ, Bool, IsTrue, List, [], Option, None, Some, option_and_then, is_some}
 use Rattle.dir_calls.specs.Directory.{Directory, content}
-use Rattle.dir_calls.specs.Images.{IsImage}
 use Rattle.install_steps.specs.UnderWay.{IsAsFar}
 use Rattle.rules_install.specs.Installing.{Installing}
 use Rattle.rule_lines.specs.Pairs.{Rule}
 use Rattle.rule_lookup.specs.declared.decision.Decision.{Decision}
 use Rattle.server_events.specs.Headline.{Reaches}
 use Rattle.server_events.specs.ServerState.{ServerState, start}
-use Rattle.server_events.specs.Steps.{MayLeave, Step}
+use Rattle.server_events.specs.Steps.{Step}
 use Rattle.server_events.specs.Worlds.{KeptFile, RulesName, StartsWith, World, kept_by}
 use Rattle.server_events.specs.declared.event.Event.{Event}
 use Rattle.server_events.specs.declared.event.Event.TheVariants.{Opened, Decided}
@@ -56,12 +55,6 @@ LeadsOpened n bytes y z =
 abbrev pub LeadsDecided : ℕ → Option (List ℕ) → Decision → YardState → YardState → Type 0
 LeadsDecided n bytes decision y z =
     (files : List KeptFile) → kept_by n files ≡ Some bytes → Leads (Decided n decision) y files z files
-
--- A stop at any moment since left what a stop may leave of each such world, or of the directory as it is after it.
-abbrev pub LeavesNothingElse : {D : Type 0} → (D → ℕ) → (D → ℕ → Directory → Type 0) → (old new : D) → (y z : YardState) → Type 0
-LeavesNothingElse moment left_since old new y z =
-    (files : List KeptFile) (w : World) (image : Directory) → Matches y files w → left_since new (moment old) image
-    → MayLeave w image ⊎ IsImage z.directory image
 
 -- what stands under the rules name, if there is one
 abbrev pub standing_of : YardState → Option (List ℕ)

@@ -1,29 +1,30 @@
 -- A yard: what contracts say of it.
-use Rattle.std.specs.Prelude.{◌≡◌, ◌<◌, ◌-◌, ◌^◌, ◌==◌, ℕ, List, Option, None, Some, false, option_map, if◌then◌else◌}
+use Rattle.std.specs.Prelude.{◌≡◌, ◌<◌, ◌-◌, ◌^◌, ◌==◌, ◌⊎◌, ℕ, List, Option, None, Some, false, option_map, if◌then◌else◌}
 use Rattle.dir_calls.specs.Directory.{Directory}
+use Rattle.dir_calls.specs.Images.{IsImage}
 use Rattle.rule_lines.specs.Pairs.{Rule}
 use Rattle.rules_install.specs.Installing.{Installing}
 use Rattle.server_events.specs.ServerState.{ServerState, start}
-use Rattle.server_events.specs.Worlds.{RulesName}
+use Rattle.server_events.specs.Steps.{MayLeave}
+use Rattle.server_events.specs.Worlds.{KeptFile, RulesName, World}
 use Rattle.server_events.specs.declared.event.Stage.{Stage}
-use Rattle.server_yard.specs.Kept.{installing_of, is_kept, rules_of}
-use Rattle.server_yard.specs.Rolls.{Roll, number_at, serial_at, stage_at}
-use Rattle.server_yard.specs.Rosters.{roll_of, seat_of}
-use Rattle.server_yard.specs.Standing.{YardState}
+use Rattle.server_yard.specs.Kept.{installing_of, is_kept, rules_of, state_of}
+use Rattle.server_yard.specs.Rolls.{Books, Roll, number_at, serial_at, stage_at}
+use Rattle.server_yard.specs.Rosters.{books_of, roll_of, seat_of}
+use Rattle.server_yard.specs.Standing.{Matches, YardState}
 use Rattle.server_yard.specs.declared.yard.Yard.{Yard}
 
 -- what a yard has of a world, by what its directory tells
 abbrev pub yard_state : {L D J F : Type 0} {p : _} {l : _} {d : _} {j : _} → (D → Directory) → Yard L D J F p l d j → YardState
-yard_state state y = record {
-  directory = state y.dir;
-  rules = rules_of y.rules;
-  server = (roll_of y.roster).server;
-  installing = installing_of y.installation;
-}
+yard_state state y = state_of y.roster (state y.dir) y.rules y.installation
 
 -- what its events change
 abbrev pub yard_roll : {L D J F : Type 0} {p : _} {l : _} {d : _} {j : _} → Yard L D J F p l d j → Roll J
 yard_roll y = roll_of y.roster
+
+-- what its journal tells
+abbrev pub yard_books : {L D J F : Type 0} {p : _} {l : _} {d : _} {j : _} → Yard L D J F p l d j → Books
+yard_books y = books_of y.roster
 
 -- the state that they led to
 abbrev pub yard_server : {L D J F : Type 0} {p : _} {l : _} {d : _} {j : _} → Yard L D J F p l d j → ServerState
@@ -60,6 +61,12 @@ kept_number y = if is_kept y.installation then Some y.begun else None
 
 abbrev pub yard_installing : {L D J F : Type 0} {p : _} {l : _} {d : _} {j : _} → Yard L D J F p l d j → Option Installing
 yard_installing y = installing_of y.installation
+
+-- A stop at any moment since left what a stop may leave of each world that was the yard's, or of the directory as it is after it.
+abbrev pub LeavesNothingElse : {L D J F : Type 0} {p : _} {l : _} {d : _} {j : _} → (D → Directory) → (D → ℕ) → (D → ℕ → Directory → Type 0) → (old new : Yard L D J F p l d j) → Type 0
+LeavesNothingElse state moment left_since old new =
+    (files : List KeptFile) (w : World) (image : Directory) → Matches (yard_state state old) files w
+    → left_since (yard_directory new) (moment (yard_directory old)) image → MayLeave w image ⊎ IsImage (state (yard_directory new)) image
 
 -- but for what its events change, and where they are noted, a yard is as before
 pub record IsSameBeside {L D J F : Type 0} {p : _} {l : _} {d : _} {j : _} (lists : J → Option (List (List Rule))) (old new : Yard L D J F p l d j) : Type 0 where

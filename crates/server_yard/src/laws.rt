@@ -18,9 +18,9 @@ pub fn reached()
 /// installations, since any of them answered `Done` it stands for one that is compiled of the list of that installation or of a later one;
 /// there is one list for each.
 pub fn readers()
-    ensures always { (k : KeptYard) → IsAbsentOrCompiled k.directory k.rules.name }
-    ensures since_done { (k : KeptYard) (lists : List (List Rule)) → k.lists ≡ Some lists
-        → NamesStoredSinceDone k.kept.history lists k.directory k.rules.name }
-    ensures one_each { (k : KeptYard) (lists : List (List Rule)) → k.lists ≡ Some lists
+    ensures always { (k : KeptYard) → IsAbsentOrCompiled k.state.directory k.rules.name }
+    ensures since_done { (k : KeptYard) (lists : List (List Rule)) → k.books.lists ≡ Some lists
+        → NamesStoredSinceDone k.kept.history lists k.state.directory k.rules.name }
+    ensures one_each { (k : KeptYard) (lists : List (List Rule)) → k.books.lists ≡ Some lists
         → length lists ≡ begun_in k.kept.history }
 {}

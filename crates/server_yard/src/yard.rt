@@ -15,11 +15,11 @@ ghost use Rattle.server_yard.specs.Installed.{IsKeptBy, IsWholeFile};
 ghost use Rattle.server_yard.specs.Passes.{IsDecidedBy, pass_bytes, pass_file, pass_missing, pass_serial};
 ghost use Rattle.server_yard.specs.Readers.{ReadersFind};
 ghost use Rattle.server_yard.specs.Rolls.{IsQuiet, Notes, NotesSome};
-ghost use Rattle.server_yard.specs.Rosters.{roll_of};
+ghost use Rattle.server_yard.specs.Rosters.{books_of, roll_of};
 ghost use Rattle.server_yard.specs.Seating.{GivesSeat, IsAddressFull, IsSpent, KeepsSeats, KeepsSerials, goes_on, leaver};
-ghost use Rattle.server_yard.specs.Standing.{BeginsWell, LeadsDecided, LeadsOn, LeadsOpened, LeadsSome, LeavesNothingElse, standing_of};
+ghost use Rattle.server_yard.specs.Standing.{BeginsWell, LeadsDecided, LeadsOn, LeadsOpened, LeadsSome, standing_of};
 ghost use Rattle.server_yard.specs.Stepping.{GoesAsStep, HandsBack, IsRefusedAs, begin_event, event_of_step, kept_after_begin, kept_after_step, is_kept_after, is_of_disk, kept_then, last_begun_after, lists_after_begin};
-ghost use Rattle.server_yard.specs.Kept.{FindsItsFile, FindsItsFile-prop, HasNoEvents, IsKeptInstallation, installing_of, is_kept, phase_of, rules_of};
+ghost use Rattle.server_yard.specs.Kept.{FindsItsFile, FindsItsFile-prop, HasNoEvents, IsKeptInstallation, installing_of, is_kept, phase_of, rules_of, state_of};
 ghost use Rattle.server_yard.specs.declared.roster.AdmitFault.TheVariants.{Full, FullForAddress, Spent};
 
 use crate::pass::Pass;
@@ -68,12 +68,12 @@ pub struct Yard<L: Premises, D: Dir + Drop, J: Journal> {
     ghost going: { IsKeptInstallation (installing_of installation) (rules_of rules) },
     ghost finds: { FindsItsFile D.honest (installing_of installation) (D.state dir) } by { FindsItsFile-prop D.honest (installing_of installation) (D.state dir) },
     // where the premises are met the installations of its history, by themselves, are a history of the headline that left its directory
-    pub ghost installed: { IsTrue L.met → ∥ IsKeptBy (J.told (roll_of roster).journal) (J.count (roll_of roster).journal) (J.stored (roll_of roster).journal)
-        (J.lists (roll_of roster).journal) (roll_of roster).server (D.state dir) (rules_of rules) (installing_of installation) ∥₁ },
+    pub ghost installed: { IsTrue L.met
+        → ∥ IsKeptBy (books_of roster) (state_of roster (D.state dir) rules installation) ∥₁ },
 }
 
 impl<L: Premises, D: Dir + Drop, J: Journal> Yard<L, D, J> {
-    ghost use Rattle.server_yard.specs.Yards.{IsMade, IsSameBeside, IsSameButDirectory, MayBegin, kept_number, kept_under, last_begun, name_of, number_of, serial_of, stage_of_place, yard_directory, yard_installing, yard_roll, yard_rules, yard_seat, yard_server, yard_state};
+    ghost use Rattle.server_yard.specs.Yards.{IsMade, IsSameBeside, IsSameButDirectory, LeavesNothingElse, MayBegin, kept_number, kept_under, last_begun, name_of, number_of, serial_of, stage_of_place, yard_books, yard_directory, yard_installing, yard_roll, yard_rules, yard_seat, yard_server, yard_state};
 
     /// A yard over a directory, with the name of its rules file and what is decided where no file stands there; without a name every connection is
     /// allowed. No connection is there, and no installation under way. At most `limit` connections are alive at once. `blank` has as many
@@ -175,9 +175,8 @@ impl<L: Premises, D: Dir + Drop, J: Journal> Yard<L, D, J> {
 
     /// A law: what a reader finds, as `laws::readers` has it, of each yard whose premises were met when it was made.
     pub fn consistent(&self)
-        ensures { IsTrue L.met → IfSome (yard_rules self.now) (λ rules. ∥ ReadersFind
-            (J.told (yard_roll self.now).journal) (J.count (yard_roll self.now).journal) (J.stored (yard_roll self.now).journal)
-            (J.lists (yard_roll self.now).journal) (yard_server self.now) (D.state (yard_directory self.now)) rules ∥₁) }
+        ensures { IsTrue L.met → IfSome (yard_rules self.now) (λ rules.
+            ∥ ReadersFind (yard_books self.now) (yard_state D.state self.now) rules ∥₁) }
     {}
 
     /// Who calls the events that follow: a number from 1, or 0 for nobody, as at first. Nothing else changes.
@@ -480,8 +479,8 @@ impl<L: Premises, D: Dir + Drop, J: Journal> Yard<L, D, J> {
         ensures step { IsTrue D.honest → LeadsSome
             (begin_event result) (yard_state D.state self.old) (yard_state D.state self.new) }
         // a stop at any moment since left what the headline's world may leave, or an image of the directory as it is then
-        ensures stops { IsTrue D.honest → LeavesNothingElse D.moment D.left_since (yard_directory self.old)
-            (yard_directory self.new) (yard_state D.state self.old) (yard_state D.state self.new) }
+        ensures stops { IsTrue D.honest
+            → LeavesNothingElse D.state D.moment D.left_since self.old self.new }
         ensures lists { J.lists (yard_roll self.new).journal
             ≡ lists_after_begin result (installing install).rules (J.lists (yard_roll self.old).journal) }
         ensures back { IfErr result (λ r. HandsBack (installing install) (installing r.0) r.1) }
@@ -520,8 +519,8 @@ impl<L: Premises, D: Dir + Drop, J: Journal> Yard<L, D, J> {
             (event_of_step (kept_under self.old number) result) (yard_roll self.old) (yard_roll self.new) }
         ensures step { IsTrue D.honest → LeadsSome (event_of_step (kept_under self.old number) result)
             (yard_state D.state self.old) (yard_state D.state self.new) }
-        ensures stops { IsTrue D.honest → LeavesNothingElse D.moment D.left_since (yard_directory self.old)
-            (yard_directory self.new) (yard_state D.state self.old) (yard_state D.state self.new) }
+        ensures stops { IsTrue D.honest
+            → LeavesNothingElse D.state D.moment D.left_since self.old self.new }
         // as `Install::step` of the one that is kept
         ensures goes { IfSome (kept_under self.old number) (λ s. GoesAsStep s (yard_installing self.new) result) }
         ensures kept { kept_number self.new ≡ kept_after_step result (kept_number self.old) }

@@ -13,9 +13,9 @@ ghost use Rattle.server_events.specs.declared.event.Stage.TheVariants as stage;
 ghost use Rattle.server_yard.specs.Passes.{IsDecidedBy, pass_bytes, pass_file, pass_missing, pass_serial};
 ghost use Rattle.server_yard.specs.Rolls.{IsQuiet, NotesSome};
 ghost use Rattle.server_yard.specs.Seating.{GivesSeat, IsAddressFull, IsSpent, KeepsSeats, KeepsSerials};
-ghost use Rattle.server_yard.specs.Standing.{LeadsDecided, LeadsOn, LeadsOpened, LeadsSome, LeavesNothingElse, standing_of};
+ghost use Rattle.server_yard.specs.Standing.{LeadsDecided, LeadsOn, LeadsOpened, LeadsSome, standing_of};
 ghost use Rattle.server_yard.specs.Stepping.{GoesAsStep, HandsBack, IsRefusedAs, begin_event, event_of_step, fault_event, kept_after_begin, kept_after_step, last_begun_after, lists_after_begin, step_event};
-ghost use Rattle.server_yard.specs.Yards.{IsSameBeside, IsSameButDirectory, MayBegin, kept_number, kept_under, last_begun, number_of, stage_of_place, yard_directory, yard_installing, yard_roll, yard_rules, yard_seat, yard_server, yard_state};
+ghost use Rattle.server_yard.specs.Yards.{IsSameBeside, IsSameButDirectory, LeavesNothingElse, MayBegin, kept_number, kept_under, last_begun, number_of, stage_of_place, yard_directory, yard_installing, yard_roll, yard_rules, yard_seat, yard_server, yard_state};
 ghost use Rattle.server_yard.specs.declared.roster.AdmitFault.TheVariants.{Full, FullForAddress, OutOfMemory, Spent};
 ghost use Rattle.site_turns.specs.Receipts.{receipt_after, receipt_at};
 ghost use Rattle.site_turns.specs.Turns.{IsInTurn, IsPassedOver, MayBeDecided, NotesBy, spoken_by};
@@ -343,8 +343,8 @@ pub fn install_begin<L: Premises, D: Dir + Drop, J: Journal>(
         (begin_event result.0) (spoken_by caller (yard_roll yard.old)) (yard_roll yard.new) }
     ensures step { IsTrue D.honest → LeadsSome
         (begin_event result.0) (yard_state D.state yard.old) (yard_state D.state yard.new) }
-    ensures stops { IsTrue D.honest → LeavesNothingElse D.moment D.left_since (yard_directory yard.old)
-        (yard_directory yard.new) (yard_state D.state yard.old) (yard_state D.state yard.new) }
+    ensures stops { IsTrue D.honest
+        → LeavesNothingElse D.state D.moment D.left_since yard.old yard.new }
     ensures lists { J.lists (yard_roll yard.new).journal
         ≡ lists_after_begin result.0 (installing install).rules (J.lists (yard_roll yard.old).journal) }
     ensures back { IfErr result.0 (λ r. HandsBack (installing install) (installing r.0) r.1) }
@@ -372,8 +372,8 @@ pub fn install_step<L: Premises, D: Dir + Drop, J: Journal>(
         (spoken_by caller (yard_roll yard.old)) (yard_roll yard.new) }
     ensures step { IsTrue D.honest → LeadsSome (event_of_step (kept_under yard.old number) result.0)
         (yard_state D.state yard.old) (yard_state D.state yard.new) }
-    ensures stops { IsTrue D.honest → LeavesNothingElse D.moment D.left_since (yard_directory yard.old)
-        (yard_directory yard.new) (yard_state D.state yard.old) (yard_state D.state yard.new) }
+    ensures stops { IsTrue D.honest
+        → LeavesNothingElse D.state D.moment D.left_since yard.old yard.new }
     ensures goes { IfSome (kept_under yard.old number) (λ s. GoesAsStep s (yard_installing yard.new) result.0) }
     ensures kept { kept_number yard.new ≡ kept_after_step result.0 (kept_number yard.old) }
     ensures begun { last_begun yard.new ≡ last_begun yard.old }

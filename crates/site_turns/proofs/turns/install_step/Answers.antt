@@ -1,10 +1,10 @@
-use Rattle.std.proofs.Common.{◌≡◌, ◌≢◌, ◌↔◌, ap, subst, ◌∙◌}
+use Rattle.std.proofs.Common.{◌≡◌, ◌≢◌, ◌↔◌, sym, ap, subst, ◌∙◌}
 use Rattle.std.specs.Prelude.{Err, IfSome, None, Option, Some, if◌then◌else◌, option_map}
 use Rattle.rules_install.specs.Installing.{Installing}
 use Rattle.rules_install.specs.declared.fault.InstallFault.TheVariants.{Over}
 use Rattle.server_events.specs.declared.event.Event.{Event}
 use Rattle.server_yard.specs.Rolls.{NotesSome, Roll}
-use Rattle.server_yard.specs.Standing.{LeadsSome, LeavesNothingElse, YardState}
+use Rattle.server_yard.specs.Standing.{LeadsSome, Matches, YardState}
 use Rattle.server_yard.specs.Stepping.{GoesAsStep, event_of_step, step_event}
 use Rattle.server_yard.specs.Yards.{kept_under, yard_directory, yard_installing, yard_roll, yard_state}
 use Rattle.site_turns.specs.Receipts.{receipt_after, receipt_at}
@@ -54,14 +54,14 @@ returns-clause-step g c = λ honest.
     (spoken_state state g.J.Journal.lists c.args.caller old mid c.speaker.ensures.speaks c.speaker.ensures.same) (c.install_step-answer.ensures.step honest))
 
 pub returns-clause-stops : goal.returns-clause-stops
-returns-clause-stops g c = λ honest.
+returns-clause-stops g c = λ honest files w image at left.
     let old = c.args.yard.now in
     let mid = c.speaker.new.self in
-    let state = g.D.Dir.state in
-    let new = c.install_step-answer.new.self in
-    subst (λ (from : _). LeavesNothingElse g.D.Dir.moment g.D.Dir.left_since from (yard_directory new) (yard_state state old) (yard_state state new)) c.speaker.ensures.same.directory
-    (subst (λ (s : YardState). LeavesNothingElse g.D.Dir.moment g.D.Dir.left_since (yard_directory mid) (yard_directory new) s (yard_state state new))
-    (spoken_state state g.J.Journal.lists c.args.caller old mid c.speaker.ensures.speaks c.speaker.ensures.same) (c.install_step-answer.ensures.stops honest))
+    let dir = g.D.Dir in
+    let same = c.speaker.ensures.same in
+    c.install_step-answer.ensures.stops honest files w image
+    (subst (λ (s : YardState). Matches s files w) (sym (spoken_state dir.state g.J.Journal.lists c.args.caller old mid c.speaker.ensures.speaks same)) at)
+    (subst (λ (from : _). dir.left_since (yard_directory c.install_step-answer.new.self) (dir.moment from) image) (sym same.directory) left)
 
 pub returns-clause-goes : goal.returns-clause-goes
 returns-clause-goes g c =

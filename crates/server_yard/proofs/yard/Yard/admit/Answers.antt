@@ -18,8 +18,8 @@ invariant_of-self g c =
       phase = ⊎_elim (λ x. old.phase ∙ sym (ap (λ (u : ServerState). u.phase) x.1.happens ∙ phase_stays old.roster.state (event.Admitted x.0 peer) refl)) (λ quiet. old.phase ∙ sym (ap (λ (u : ServerState). u.phase) quiet.stays)) way;
       going = old.going;
       finds = old.finds;
-      installed = λ met. ∥∥₁_map (old.installed met) (λ k. ⊎_elim (λ x. kept_on refl c.admit.ensures.lists refl refl (one_more_of j.told j.count j.stored (event.Admitted x.0 peer) (yard_roll old) _ old.roster.small x.2 x.1) k)
-          (λ quiet. kept_quiet quiet.tells quiet.counts quiet.stores c.admit.ensures.lists quiet.stays refl refl k) way);
+      installed = λ met. ∥∥₁_map (old.installed met) (λ k. ⊎_elim (λ x. kept_on refl c.admit.ensures.lists refl refl refl (one_more_of j.told j.count j.stored (event.Admitted x.0 peer) (yard_roll old) _ old.roster.small x.2 x.1) k)
+          (λ quiet. kept_quiet quiet.tells quiet.counts quiet.stores c.admit.ensures.lists quiet.stays refl refl refl k) way);
     }
 
 pub returns-clause-step : goal.returns-clause-step

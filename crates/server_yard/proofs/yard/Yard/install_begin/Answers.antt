@@ -14,7 +14,7 @@ use Rattle.server_events.specs.declared.event.Event.TheVariants.{Stepped}
 use Rattle.server_yard.specs.Installed.{IsKeptBy}
 use Rattle.server_yard.specs.Kept.{IsGoing, installing_of, rules_of}
 use Rattle.server_yard.specs.Rolls.{Notes}
-use Rattle.server_yard.specs.Rosters.{roll_of}
+use Rattle.server_yard.specs.Rosters.{books_of, roll_of}
 use Rattle.server_yard.specs.Standing.{LeadsOn, LeadsSome, YardState}
 use Rattle.server_yard.specs.Stepping.{kept_then}
 use Rattle.server_yard.specs.Yards.{yard_state}
@@ -23,6 +23,18 @@ use Rattle.server_yard.proofs.Going.{going_at, kept_stepped, not_over, states, s
 use Rattle.server_yard.proofs.Keeping.{kept_quiet, none_not_some, one_more_of, same_some}
 use Rattle.server_yard.proofs.Stepped.{has_new, it_new, step_leads}
 use Rattle.server_yard.proofs.yard.Yard.install_begin.Goals as goal
+
+pub begin_noted-requires-clause-is_open : goal.begin_noted-requires-clause-is_open
+begin_noted-requires-clause-is_open g c = c.in-Some.ensures.some.0.is_open
+
+pub begin_noted-requires-clause-unbegun : goal.begin_noted-requires-clause-unbegun
+begin_noted-requires-clause-unbegun g c = c.in-Some.ensures.some.0.unbegun
+
+pub returns-in_default-clause-over : goal.returns-in_default-clause-over
+returns-in_default-clause-over g c = (λ is. c.in_default.ensures.none refl, λ none. refl)
+
+pub returns-in_default-clause-number : goal.returns-in_default-clause-number
+returns-in_default-clause-number g c = tt
 
 pub returns-in_default-clause-stops : goal.returns-in_default-clause-stops
 returns-in_default-clause-stops g c = λ honest files w image at left. inr (g.met.D.Dir.only_now c.args.self.now.dir image honest left)
@@ -51,8 +63,8 @@ invariant_of-self g c =
       finds = λ honest x same. subst (λ (u : Installing). Fits u (state made.new.dir)) (same_some t x same) (c.in-Ok.ensures.fits honest);
       installed = λ met. ∥∥₁_map (old.installed met) (λ k.
           let honest = old.honest met in
-          subst (λ (q : Phase). IsKeptBy (j.told (roll_of made.new.roster).journal) (j.count (roll_of made.new.roster).journal) (j.stored (roll_of made.new.roster).journal) (j.lists (roll_of made.new.roster).journal) (roll_of made.new.roster).server (state made.new.dir) rules (kept_then t (Ok q))) is
-          (kept_stepped (j.lists (roll_of old.roster).journal) (j.lists (roll_of made.new.roster).journal) (state old.dir) (state made.new.dir) rules (installing_of old.installation) s t (next_phase s) k
+          subst (λ (q : Phase). IsKeptBy (books_of made.new.roster) (record (yard_state state old) { directory = state made.new.dir; server = made.new.roster.state; installing = kept_then t (Ok q) })) is
+          (kept_stepped (yard_state state old) made.new.roster.state (state made.new.dir) s t (next_phase s) k
           (has_new k.installed.world (state old.dir) rules s r.0 k.installed.has_directory k.installed.has_rules r.1 r.2 may.unbegun) (λ q h. h.1 ∙ ap (λ (x : Phase). Some x) (sym h.0)) p old.roster.speaker
           (one_more_of j.told j.count j.stored (Stepped p) (roll_of old.roster) (roll_of made.new.roster) old.roster.small tt noted) goes (c.in-Ok.ensures.leads honest)
           ((λ fresh. c.in-Ok.ensures.kept ∙ ap (λ (rs : List Rule). option_map (λ (all : List (List Rule)). all ++ rs ∷ []) (j.lists (roll_of old.roster).journal)) (sym c.in-Ok.ensures.same.rules)), λ other. absurd (other is))));
@@ -78,7 +90,7 @@ invariant_of-self-then-is_of_disk g c =
       finds = λ honest x same. absurd (none_not_some x same);
       installed = λ met. ∥∥₁_map (old.installed met) (λ k.
           let honest = old.honest met in
-          kept_fault j.told j.count j.stored (j.lists (roll_of old.roster).journal) (j.lists (roll_of made.new.roster).journal) (state old.dir) (state made.new.dir) rules (installing_of old.installation) s t fault (roll_of old.roster) (roll_of made.new.roster) k
+          kept_fault j.told j.count j.stored j.lists (state old.dir) (state made.new.dir) rules (installing_of old.installation) s t fault (roll_of old.roster) (roll_of made.new.roster) k
           (has_new k.installed.world (state old.dir) rules s r.0 k.installed.has_directory k.installed.has_rules r.1 r.2 may.unbegun) old.roster.small disk c.in-Err.ensures.noted (c.in-Err.ensures.device honest) c.in-Err.ensures.err (c.in-Err.ensures.leads honest));
     }
 
@@ -86,6 +98,9 @@ pub returns-then-is_of_disk-clause-over : goal.returns-then-is_of_disk-clause-ov
 returns-then-is_of_disk-clause-over g c =
     let disk = sym c.is_of_disk.ensures ∙ c.if-is_of_disk.true in
     (λ is. absurd (not_disk_over c.in-Err.fault disk is), λ none. absurd (none c.in-Some.ensures.some.0))
+
+pub returns-then-is_of_disk-clause-number : goal.returns-then-is_of_disk-clause-number
+returns-then-is_of_disk-clause-number g c = tt
 
 pub returns-then-is_of_disk-clause-kept : goal.returns-then-is_of_disk-clause-kept
 returns-then-is_of_disk-clause-kept g c =
@@ -137,7 +152,7 @@ invariant_of-self-else-is_of_disk g c =
       phase = old.phase ∙ sym (ap (λ (u : ServerState). u.phase) quiet.stays);
       going = old.going;
       finds = λ honest x same. subst (λ (d : Directory). Fits x d) (sym (c.in-Err.ensures.still honest (none_event fault other))) (old.finds honest x same);
-      installed = λ met. ∥∥₁_map (old.installed met) (λ k. kept_quiet quiet.tells quiet.counts quiet.stores c.in-Err.ensures.err quiet.stays (c.in-Err.ensures.still (old.honest met) (none_event fault other)) refl k);
+      installed = λ met. ∥∥₁_map (old.installed met) (λ k. kept_quiet quiet.tells quiet.counts quiet.stores c.in-Err.ensures.err quiet.stays (c.in-Err.ensures.still (old.honest met) (none_event fault other)) refl refl k);
     }
 
 pub returns-in-Ok-clause-step : goal.returns-in-Ok-clause-step
@@ -179,6 +194,9 @@ pub returns-else-is_of_disk-clause-over : goal.returns-else-is_of_disk-clause-ov
 returns-else-is_of_disk-clause-over g c =
     let s = installing c.args.install in
     (λ is. absurd (not_over s (installing c.begin_noted.new.install) (next_phase s) (Err c.in-Err.fault) c.in-Err.ensures.goes (ap (λ (f : InstallFault). Err f) is)), λ none. absurd (none c.in-Some.ensures.some.0))
+
+pub returns-else-is_of_disk-clause-number : goal.returns-else-is_of_disk-clause-number
+returns-else-is_of_disk-clause-number g c = tt
 
 pub returns-else-is_of_disk-clause-kept : goal.returns-else-is_of_disk-clause-kept
 returns-else-is_of_disk-clause-kept g c =
@@ -264,6 +282,12 @@ returns-else-is_of_disk-clause-lists g c = c.in-Err.ensures.err
 
 pub returns-else-is_of_disk-clause-seats : goal.returns-else-is_of_disk-clause-seats
 returns-else-is_of_disk-clause-seats g c = c.begin_noted.ensures.seats
+
+pub returns-in-Ok-clause-over : goal.returns-in-Ok-clause-over
+returns-in-Ok-clause-over g c = (λ refused. absurd refused, λ none. none c.in-Some.ensures.some.0)
+
+pub returns-in-Ok-clause-back : goal.returns-in-Ok-clause-back
+returns-in-Ok-clause-back g c = tt
 
 pub returns-in-Ok-clause-number : goal.returns-in-Ok-clause-number
 returns-in-Ok-clause-number g c = c.in-Some.ensures.some.1

@@ -1,19 +1,28 @@
 use Rattle.std.proofs.Common.{◌≡◌, ℕ, Bool, Option, None, Some, inr, refl, sym, ap, subst, ◌∙◌, arith, eq-eqb}
-use Rattle.std.specs.Prelude.{IfSome, if◌then◌else◌}
+use Rattle.std.proofs.lemmas.Bool.{ne_eqb}
+use Rattle.std.specs.Prelude.{◌==◌, IfSome, Ok, Err, if◌then◌else◌}
 use mathlib.Core.Logic.{∥∥₁_map}
 use Rattle.rules_install.specs.Installing.{Fits, Installing, next_phase}
 use Rattle.rules_install.specs.Installs.{installing}
+use Rattle.rules_install.specs.declared.Phase.TheVariants.{Done}
+use Rattle.rules_install.specs.declared.fault.InstallFault.TheVariants.{Over}
 use Rattle.server_yard.specs.Installed.{IsKeptBy}
 use Rattle.server_yard.specs.Kept.{installing_of, is_kept, phase_of, rules_of}
 use Rattle.server_yard.specs.Rolls.{NotesSome}
-use Rattle.server_yard.specs.Rosters.{roll_of}
-use Rattle.server_yard.specs.Standing.{LeadsSome, YardState}
+use Rattle.server_yard.specs.Rosters.{books_of, roll_of}
+use Rattle.server_yard.specs.Standing.{HasUnderWay, LeadsSome, YardState}
 use Rattle.server_yard.specs.Stepping.{GoesAsStep, event_of_step, kept_after_step}
 use Rattle.server_yard.specs.Yards.{kept_under, yard_roll, yard_state}
-use Rattle.server_yard.proofs.Going.{going_then, kept_is, kept_numbers, kept_result, later, not_over, phase_then, some_rules, steps_to, still_state}
-use Rattle.server_yard.proofs.Refusals.{over_leads, over_notes}
+use Rattle.server_yard.proofs.Going.{going_then, kept_is, kept_numbers, kept_result, later, not_over, phase_then, some_rules, states, steps_to, still_state}
+use Rattle.server_yard.proofs.Keeping.{kept_quiet, none_not_some}
+use Rattle.server_yard.proofs.Refusals.{kept_is_last, none_under, over_leads, over_notes}
 use Rattle.server_yard.proofs.Stepped.{has_kept, it_kept, step_leads}
 use Rattle.server_yard.proofs.yard.Yard.install_step.Goals as goal
+
+pub step_noted-result-requires-clause-is_open : goal.step_noted-result-requires-clause-is_open
+step_noted-result-requires-clause-is_open g c =
+    let old = c.args.self.now in
+    (old.going (installing c.in-UnderWay.install) (ap installing_of (sym c.in-UnderWay.ensures.value))).is_open
 
 pub step_noted-result-requires-clause-undone : goal.step_noted-result-requires-clause-undone
 step_noted-result-requires-clause-undone g c =
@@ -29,6 +38,30 @@ pub step_noted-result-requires-clause-fits : goal.step_noted-result-requires-cla
 step_noted-result-requires-clause-fits g c = λ honest.
     let old = c.args.self.now in
     old.finds honest (installing c.in-UnderWay.install) (ap installing_of (sym c.in-UnderWay.ensures.value))
+
+pub invariant_of-self : goal.invariant_of-self
+invariant_of-self g c =
+    let old = c.args.self.now in
+    let same = ap installing_of (c.replace.ensures.after ∙ c.in-Idle.ensures.value) in
+    record {
+      honest = old.honest;
+      phase = ap phase_of same ∙ old.phase;
+      going = λ x is. old.going x (sym same ∙ is);
+      finds = λ honest x is. old.finds honest x (sym same ∙ is);
+      installed = λ met. ∥∥₁_map (old.installed met) (λ k. kept_quiet refl refl refl refl refl refl refl same k);
+    }
+
+pub invariant_of-self-in-AtDone : goal.invariant_of-self-in-AtDone
+invariant_of-self-in-AtDone g c =
+    let old = c.args.self.now in
+    let none = ap installing_of (sym c.in-AtDone.ensures.value) in
+    record {
+      honest = old.honest;
+      phase = sym (ap phase_of none) ∙ old.phase;
+      going = λ x is. absurd (none_not_some x is);
+      finds = λ honest x is. absurd (none_not_some x is);
+      installed = λ met. ∥∥₁_map (old.installed met) (λ k. kept_quiet refl refl refl refl refl refl refl (sym none) k);
+    }
 
 pub invariant_of-self-in-UnderWay : goal.invariant_of-self-in-UnderWay
 invariant_of-self-in-UnderWay g c =
@@ -50,10 +83,10 @@ invariant_of-self-in-UnderWay g c =
       finds = λ honest x is. subst (λ (u : Installing). Fits u (state made.new.dir)) (kept_is t x result (sym kept ∙ is)) (made.ensures.fits honest);
       installed = λ met. ∥∥₁_map (old.installed met) (λ k.
           let honest = old.honest met in
-          let mine = subst (λ (o : Option Installing). IsKeptBy (j.told (roll_of old.roster).journal) (j.count (roll_of old.roster).journal) (j.stored (roll_of old.roster).journal) (j.lists (roll_of old.roster).journal) (roll_of old.roster).server (state old.dir) (rules_of old.rules) o) inst k in
-          subst (λ (o : Option Installing). IsKeptBy (j.told (roll_of made.new.roster).journal) (j.count (roll_of made.new.roster).journal) (j.stored (roll_of made.new.roster).journal) (j.lists (roll_of made.new.roster).journal) (roll_of made.new.roster).server (state made.new.dir) (rules_of old.rules) o) (sym kept)
-          (kept_result j.told j.count j.stored (j.lists (roll_of old.roster).journal) (j.lists (roll_of made.new.roster).journal) (state old.dir) (state made.new.dir) (rules_of old.rules) s t (next_phase s) result (roll_of old.roster) (roll_of made.new.roster) mine
-          (has_kept mine.installed.world (state old.dir) (rules_of old.rules) s r.0 mine.installed.has_directory mine.installed.has_rules r.1 (going.for_rules r.0 r.1) mine.installed.has_installing)
+          let far = subst (λ (o : Option Installing). HasUnderWay k.installed.world o) inst k.installed.has_installing in
+          subst (λ (o : Option Installing). IsKeptBy (books_of made.new.roster) (record (yard_state state old) { directory = state made.new.dir; server = made.new.roster.state; installing = o })) (sym kept)
+          (kept_result j.told j.count j.stored j.lists (state old.dir) (state made.new.dir) (rules_of old.rules) (installing_of old.installation) s t (next_phase s) result (roll_of old.roster) (roll_of made.new.roster) k inst
+          (has_kept k.installed.world (state old.dir) (rules_of old.rules) s r.0 k.installed.has_directory k.installed.has_rules r.1 (going.for_rules r.0 r.1) far)
           old.roster.small made.ensures.noted made.ensures.goes (made.ensures.device honest) (made.ensures.leads honest) (made.ensures.still honest) (later s going.begun) made.ensures.lists));
     }
 
@@ -67,6 +100,9 @@ returns-in-UnderWay-clause-over g c =
       λ is. absurd (not_over s (installing made.new.install) (next_phase s) made.result made.ensures.goes is),
       λ none. absurd (none (ap (λ i. if is_kept i then Some old.begun else None) (sym c.in-UnderWay.ensures.value) ∙ ap (λ (n : ℕ). Some n) number)),
     )
+
+pub returns-in-UnderWay-clause-after_done : goal.returns-in-UnderWay-clause-after_done
+returns-in-UnderWay-clause-after_done g c = λ kept none. absurd (none_not_some _ (sym none ∙ ap installing_of (sym c.in-UnderWay.ensures.value)))
 
 pub returns-in-UnderWay-clause-noted : goal.returns-in-UnderWay-clause-noted
 returns-in-UnderWay-clause-noted g c =
@@ -128,6 +164,29 @@ returns-in-UnderWay-clause-kept g c =
     ap (λ (b : Bool). if b then Some old.begun else None) c.after.ensures.kept ∙ kept_numbers made.result old.begun
     ∙ ap (λ o. kept_after_step made.result o) (sym (ap (λ i. if is_kept i then Some old.begun else None) (sym c.in-UnderWay.ensures.value)))
 
+pub returns-then-number-self-clause-over : goal.returns-then-number-self-clause-over
+returns-then-number-self-clause-over g c =
+    let old = c.args.self.now in
+    let other = c.if-number-self.true in (
+      λ is kept. let here = kept_is_last (is_kept old.installation) old.begun c.args.number kept in grind (arith, here, other),
+      λ none. refl,
+    )
+
+pub returns-then-number-self-clause-after_done : goal.returns-then-number-self-clause-after_done
+returns-then-number-self-clause-after_done g c = λ kept none.
+    let old = c.args.self.now in
+    let other = c.if-number-self.true in
+    let here = kept_is_last (is_kept old.installation) old.begun c.args.number kept in
+    absurd (grind (arith, here, other))
+
+pub returns-then-number-self-clause-goes : goal.returns-then-number-self-clause-goes
+returns-then-number-self-clause-goes g c =
+    let old = c.args.self.now in
+    let other = c.if-number-self.true in
+    let apart = ne_eqb old.begun c.args.number (λ is. grind (arith, is, other)) in
+    subst (λ (o : Option Installing). IfSome o (λ s. GoesAsStep s (installing_of old.installation) (Err Over)))
+    (sym (ap (λ (b : Bool). if b then installing_of old.installation else None) apart)) tt
+
 pub returns-then-number-self-clause-kept : goal.returns-then-number-self-clause-kept
 returns-then-number-self-clause-kept g c = refl
 
@@ -170,6 +229,34 @@ returns-in-Idle-clause-seats g c = λ i. refl
 pub returns-in-Idle-clause-stops : goal.returns-in-Idle-clause-stops
 returns-in-Idle-clause-stops g c = λ honest files w image at left. inr (g.met.D.Dir.only_now c.args.self.now.dir image honest left)
 
+pub returns-in-Idle-clause-over : goal.returns-in-Idle-clause-over
+returns-in-Idle-clause-over g c =
+    let old = c.args.self.now in
+    (λ is kept. none_not_some c.args.number (ap (λ i. if is_kept i then Some old.begun else None) c.in-Idle.ensures.value ∙ kept), λ none. refl)
+
+pub returns-in-Idle-clause-after_done : goal.returns-in-Idle-clause-after_done
+returns-in-Idle-clause-after_done g c = λ kept none.
+    let old = c.args.self.now in
+    absurd (none_not_some c.args.number (ap (λ i. if is_kept i then Some old.begun else None) c.in-Idle.ensures.value ∙ kept))
+
+pub returns-in-Idle-clause-step : goal.returns-in-Idle-clause-step
+returns-in-Idle-clause-step g c = λ honest.
+    let old = c.args.self.now in
+    let y = yard_state g.D.Dir.state old in
+    let z : YardState = record y { installing = installing_of c.replace.new.dest } in
+    over_leads (kept_under old c.args.number) y z (states y z refl refl refl (ap installing_of (c.replace.ensures.after ∙ c.in-Idle.ensures.value)))
+
+pub returns-in-Idle-clause-goes : goal.returns-in-Idle-clause-goes
+returns-in-Idle-clause-goes g c =
+    let old = c.args.self.now in
+    let under = none_under (old.begun == c.args.number) (installing_of old.installation) (ap installing_of (sym c.in-Idle.ensures.value)) in
+    subst (λ (o : Option Installing). IfSome o (λ s. GoesAsStep s (installing_of c.replace.new.dest) (Err Over))) (sym under) tt
+
+pub returns-in-Idle-clause-kept : goal.returns-in-Idle-clause-kept
+returns-in-Idle-clause-kept g c =
+    let old = c.args.self.now in
+    ap (λ i. if is_kept i then Some old.begun else None) (c.replace.ensures.after ∙ c.in-Idle.ensures.value)
+
 pub returns-in-Idle-clause-noted : goal.returns-in-Idle-clause-noted
 returns-in-Idle-clause-noted g c =
     let old = c.args.self.now in
@@ -190,6 +277,42 @@ returns-in-AtDone-clause-seats g c = λ i. refl
 
 pub returns-in-AtDone-clause-after_done : goal.returns-in-AtDone-clause-after_done
 returns-in-AtDone-clause-after_done g c = λ kept none. refl
+
+pub returns-in-AtDone-clause-over : goal.returns-in-AtDone-clause-over
+returns-in-AtDone-clause-over g c =
+    let old = c.args.self.now in
+    let here = c.if-number-self.false in
+    let number : old.begun ≡ c.args.number = grind (arith, here) in (
+      λ is. absurd (cc),
+      λ none. absurd (none (ap (λ i. if is_kept i then Some old.begun else None) (sym c.in-AtDone.ensures.value) ∙ ap (λ (n : ℕ). Some n) number)),
+    )
+
+pub returns-in-AtDone-clause-noted : goal.returns-in-AtDone-clause-noted
+returns-in-AtDone-clause-noted g c =
+    let old = c.args.self.now in
+    let j = g.J.Journal in
+    let under = none_under (old.begun == c.args.number) (installing_of old.installation) (ap installing_of (sym c.in-AtDone.ensures.value)) in
+    subst (λ (o : Option Installing). NotesSome j.told j.count j.stored (event_of_step o (Ok Done)) (yard_roll old) (yard_roll old)) (sym under)
+    (record { stays = refl; speaks = refl; tells = refl; counts = refl; stores = refl })
+
+pub returns-in-AtDone-clause-step : goal.returns-in-AtDone-clause-step
+returns-in-AtDone-clause-step g c = λ honest.
+    let old = c.args.self.now in
+    let y = yard_state g.D.Dir.state old in
+    let z : YardState = record y { installing = None } in
+    let under = none_under (old.begun == c.args.number) (installing_of old.installation) (ap installing_of (sym c.in-AtDone.ensures.value)) in
+    subst (λ (o : Option Installing). LeadsSome (event_of_step o (Ok Done)) y z) (sym under) (states y z refl refl refl (ap installing_of c.in-AtDone.ensures.value))
+
+pub returns-in-AtDone-clause-goes : goal.returns-in-AtDone-clause-goes
+returns-in-AtDone-clause-goes g c =
+    let old = c.args.self.now in
+    let under = none_under (old.begun == c.args.number) (installing_of old.installation) (ap installing_of (sym c.in-AtDone.ensures.value)) in
+    subst (λ (o : Option Installing). IfSome o (λ s. GoesAsStep s None (Ok Done))) (sym under) tt
+
+pub returns-in-AtDone-clause-kept : goal.returns-in-AtDone-clause-kept
+returns-in-AtDone-clause-kept g c =
+    let old = c.args.self.now in
+    ap (λ i. if is_kept i then Some old.begun else None) c.in-AtDone.ensures.value
 
 pub returns-in-AtDone-clause-stops : goal.returns-in-AtDone-clause-stops
 returns-in-AtDone-clause-stops g c = λ honest files w image at left. inr (g.met.D.Dir.only_now c.args.self.now.dir image honest left)

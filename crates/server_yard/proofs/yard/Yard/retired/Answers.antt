@@ -22,7 +22,7 @@ invariant_of-self g c =
       phase = old.phase ∙ sym (ap (λ (u : ServerState). u.phase) noted.happens ∙ phase_stays old.roster.state e own);
       going = old.going;
       finds = old.finds;
-      installed = λ met. ∥∥₁_map (old.installed met) (λ k. kept_on own c.retire.ensures.lists refl refl (one_more_of j.told j.count j.stored e (yard_roll old) _ old.roster.small fits noted) k);
+      installed = λ met. ∥∥₁_map (old.installed met) (λ k. kept_on own c.retire.ensures.lists refl refl refl (one_more_of j.told j.count j.stored e (yard_roll old) _ old.roster.small fits noted) k);
     }
 
 pub returns-clause-step : goal.returns-clause-step

@@ -22,6 +22,6 @@ invariant_of-result g c =
       installed = λ met. ∣ record {
         history = [];
         is_history = history_same (ap j.told journal) (ap j.count journal) (ap j.stored journal) server [] (none_yet _ _ _ c.args.limit c.args.per_address none.tells none.stores);
-        installed = installed_same (ap j.lists journal) refl (ap (λ (u : ServerState). u.phase) server) refl refl (none_installed (j.lists c.args.journal) (g.D.Dir.state c.args.dir) (rules_of c.args.rules) c.args.limit c.args.per_address none.no_rules (c.requires.begins met).1);
+        installed = installed_same (ap j.lists journal) refl refl (ap (λ (u : ServerState). u.phase) server) refl refl (none_installed (j.lists c.args.journal) (g.D.Dir.state c.args.dir) (rules_of c.args.rules) c.args.limit c.args.per_address none.no_rules (c.requires.begins met).1);
       } ∣₁;
     }
