@@ -1,5 +1,5 @@
 //! Numbers and records at the end of a list of bytes.
-ghost use Rattle.std.specs.Prelude.{◌≡◌, ◌+◌, ◌*◌, ◌^◌, ◌<◌, ◌≤◌, ◌++◌, flat_map, length, vec_capacity, vec_len, OnErr, OnOk};
+ghost use Rattle.std.specs.Prelude.{◌≡◌, ◌+◌, ◌^◌, ◌<◌, ◌≤◌, ◌++◌, flat_map, length, vec_capacity, vec_len, OnErr, OnOk};
 ghost use Rattle.cdb_write.specs.Format.{number, record_bytes, two_numbers};
 
 use byteorder::{ByteOrder, LittleEndian};

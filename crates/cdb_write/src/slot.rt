@@ -1,5 +1,5 @@
 //! The slots of a table.
-ghost use Rattle.std.specs.Prelude.{◌≡◌, ◌<◌, length, IfOk};
+ghost use Rattle.std.specs.Prelude.{◌≡◌, ◌<◌, IfOk};
 ghost use Rattle.std.specs.List.{count_by, position_or_len};
 ghost use Rattle.cdb_write.specs.Image.{slots_of, with_entry};
 ghost use Rattle.cdb_write.specs.Slots.{is_empty};

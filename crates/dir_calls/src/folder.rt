@@ -2,7 +2,7 @@
 ghost use Rattle.std.specs.Prelude.{◌≡◌, ◌≤◌, ◌<◌, ◌+◌, ◌++◌, [], ◌∷◌, Some, None, length, map, IfOk, OnOk, OnErr, option_to_list, vec_len, vec_capacity};
 ghost use Rattle.std.specs.Option.{ForSome, option_map};
 ghost use Rattle.std.specs.FinMap.{get};
-ghost use Rattle.dir_calls.specs.NameTable.{after_changes, same_name, takes};
+ghost use Rattle.dir_calls.specs.NameTable.{after_changes, takes};
 ghost use Rattle.dir_calls.specs.Entries.{names_in, change_of};
 ghost use Rattle.dir_calls.specs.Same.{same_names-prop};
 

@@ -1,5 +1,5 @@
 //! Laws over the definitions alone.
-ghost use Rattle.std.specs.Prelude.{◌≡◌, ◌≢◌, ℕ, List, Some, Result, false};
+ghost use Rattle.std.specs.Prelude.{◌≡◌, List, Some, Result};
 ghost use Rattle.dir_calls.specs.Calls.{Call};
 ghost use Rattle.dir_calls.specs.Directory.{Directory};
 ghost use Rattle.dir_calls.specs.Outcomes.{Passes};

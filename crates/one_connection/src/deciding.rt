@@ -1,5 +1,5 @@
 //! The decision of a connection by what it opened.
-ghost use Rattle.std.specs.Prelude.{◌≡◌, IfOk, IfErr};
+ghost use Rattle.std.specs.Prelude.{IfOk, IfErr};
 ghost use Rattle.one_connection.specs.Openings.{Decides, FailsToDecide, opening_of};
 
 use dir_calls::RulesFile;

@@ -1,5 +1,5 @@
 //! The code of an instruction: the bytes under which a rule is stored in a compiled file.
-ghost use Rattle.std.specs.Prelude.{◌≡◌, ◌∷◌, ◌++◌, length, drop, true, false, IfOk, IfErr, OnOk, OnErr, MatchOption};
+ghost use Rattle.std.specs.Prelude.{◌≡◌, ◌∷◌, ◌++◌, length, drop, true, false, IfOk, IfErr, OnOk, MatchOption};
 ghost use Rattle.std.specs.Str.{is_utf8};
 ghost use Rattle.rule_lines.specs.Codes.{code_of, verdict_code, verdict_in, setting_code, setting_in, settings_in, decoded, IsInstr, RefusesCode};
 ghost use Rattle.rule_lines.specs.Lines.{pieces_of, has_byte};

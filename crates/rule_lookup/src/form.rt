@@ -1,8 +1,7 @@
 //! The lookup forms of a peer.
-ghost use Rattle.std.specs.Prelude.{◌≡◌, ◌++◌, ◌∷◌, [], map, option_map, string_bytes, IfOk, OnOk};
+ghost use Rattle.std.specs.Prelude.{◌≡◌, ◌++◌, ◌∷◌, [], map, string_bytes, IfOk, OnOk};
 ghost use Rattle.rule_lines.specs.Spread.{folded};
 ghost use Rattle.rule_lookup.specs.Forms.{AddsForms, forms_of, dotted_fronts, user_at_address, user_at_host, host_alone, host_ends, any_host};
-ghost use Rattle.rule_lookup.specs.Peers.{given};
 
 use crate::peer::Peer;
 use std::alloc::{AllocError, Global};

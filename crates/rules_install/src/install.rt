@@ -1,12 +1,12 @@
 //! An installation, step by step.
-ghost use Rattle.std.specs.Prelude.{◌≡◌, ◌≢◌, ◌^◌, ◌≤◌, ◌<◌, ◌⊎◌, ◌||◌, List, length, IsTrue, true, false, None, Some, is_some, IfOk, IfErr, OnOk};
+ghost use Rattle.std.specs.Prelude.{◌≡◌, ◌≢◌, ◌^◌, ◌≤◌, ◌<◌, ◌⊎◌, ◌||◌, length, IsTrue, true, false, None, Some, is_some, IfOk, IfErr, OnOk};
 ghost use Rattle.cdb_write.specs.Image.{finished_length};
 ghost use Rattle.cdb_write.specs.Making.{limit_of};
 ghost use Rattle.cdb_read.specs.Compiled.{stored};
 ghost use Rattle.rules_install.specs.Filled.{IsWritten, blank_file};
 ghost use Rattle.rules_install.specs.Pieces.{IsLeft};
 ghost use Rattle.rules_install.specs.Installing.{IsConsistent, IsUnfilled, begun, next_phase, FillsMore, Fits, HasForGood};
-ghost use Rattle.rules_install.specs.Steps.{IsSame, HasFilled, IsOfDevice, StepsTo, BlamesDevice, answer_of, noted};
+ghost use Rattle.rules_install.specs.Steps.{IsSame, HasFilled, IsOfDevice, BlamesDevice, answer_of, noted};
 ghost use Rattle.rules_install.specs.declared.Phase.TheVariants.{Fresh, Filling, Synced, Named, Done};
 ghost use Rattle.rules_install.specs.declared.fault.InstallFault.TheVariants.{Over, OutOfMemory, TooLarge};
 

@@ -1,5 +1,5 @@
 //! `rulesim`: questions about rule texts and lists of events, and stops during installations, by a script.
-ghost use Rattle.std.specs.Prelude.{◌≡◌, ◌⊎◌, None, Err, OnOk, IfOk, IfErr, IfSome};
+ghost use Rattle.std.specs.Prelude.{◌≡◌, ◌⊎◌, None, Err, OnOk, IfOk, IfSome};
 ghost use Rattle.std.specs.Io.BufRead.{strip_last};
 ghost use Rattle.std.specs.Io.KnownBytes.{Appends};
 ghost use Rattle.script_tool.specs.Commands.{Carries};

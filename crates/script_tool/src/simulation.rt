@@ -9,7 +9,6 @@ ghost use Rattle.rules_install.specs.Installing.{begun};
 ghost use Rattle.rules_install.specs.Installs.{installing};
 ghost use Rattle.rules_install.specs.Whole.{Begins, RefusesText};
 ghost use Rattle.script_tool.specs.Commands.{Obeys};
-ghost use Rattle.script_words.specs.Events.{with_event};
 ghost use Rattle.script_tool.specs.Kept.{GoesOn, HasTexts, IsAt, IsFileOf, IsInstalling, Reads, Steps, sim_names, steps_left};
 ghost use Rattle.script_words.specs.Readings.{meaning};
 ghost use Rattle.script_words.specs.Scripts.{Add, Install as InstallText, Begin, To, Stop, Ask, Open, AskBy, BeginEvents, AddEvent, Replay};

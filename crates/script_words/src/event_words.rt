@@ -1,7 +1,6 @@
 //! Events in the words of a script.
 ghost use Rattle.std.specs.Borrow.{Bor};
 ghost use Rattle.std.specs.Prelude.{◌≡◌, ℕ, List, Some, IfOk, IfErr, codes, option_map};
-ghost use Rattle.rule_lookup.specs.Peers.{given};
 ghost use Rattle.server_events.specs.declared.event.Event.TheVariants.{Ended, Opened, Retired, Started, StepFailed, Stepped, Stop};
 ghost use Rattle.script_words.specs.Readings.{RefusesAs, texts};
 ghost use Rattle.script_words.specs.Events.{alone, decided_as, decision_with, dropped_by_directory, event_in, event_named, limit_in, only_phase, only_serial, other_event, phase_in, serial_and, serial_and_word, serial_in, start_failed_otherwise, status_in, there_in, verdict_in};

@@ -1,6 +1,5 @@
 //! The lines of a script of `rulesim`.
-ghost use Rattle.std.specs.Prelude.{◌≡◌, ◌==◌, length, Some, IfOk, IfErr, option_map};
-ghost use Rattle.std.specs.List.{slice_split};
+ghost use Rattle.std.specs.Prelude.{◌≡◌, ◌==◌, Some, IfOk, IfErr, option_map};
 ghost use Rattle.rule_lookup.specs.Peers.{given};
 ghost use Rattle.script_words.specs.Readings.{meaning, RefusesAs, RefusesLine, texts};
 ghost use Rattle.script_words.specs.Events.{alone, event_in, limits_in, only_phase};

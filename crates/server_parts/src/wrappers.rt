@@ -1,5 +1,5 @@
 //! The line wrappers that a server's words name.
-ghost use Rattle.std.specs.Prelude.{◌≡◌, map, IfOk, OnOk, false};
+ghost use Rattle.std.specs.Prelude.{◌≡◌, map, IfOk, false};
 ghost use Rattle.server_parts.specs.Wrappers.{changed_by, told_by};
 ghost use Rattle.wrapper_chain.specs.Chains.{has_failed, stages_of};
 

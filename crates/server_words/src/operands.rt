@@ -1,5 +1,5 @@
 //! The words after the options: host, port, program.
-ghost use Rattle.std.specs.Prelude.{◌≡◌, option_map};
+ghost use Rattle.std.specs.Prelude.{◌≡◌};
 ghost use Rattle.server_words.specs.Operands.{address_in, operands_in, port_in, texts};
 
 use rule_lookup::parse_address;

@@ -1,6 +1,5 @@
 //! The words of `tcpserver`, and what they ask for.
-ghost use Rattle.std.specs.Prelude.{◌≡◌, ◌==◌, Ok, IfOk, IfErr, map, string_bytes};
-ghost use Rattle.std.specs.Str.{chars};
+ghost use Rattle.std.specs.Prelude.{◌≡◌, ◌==◌, Ok, IfOk, IfErr};
 ghost use Rattle.ucspi_words.specs.Options.{text_of};
 ghost use Rattle.ucspi_words.specs.Words.{Refuses};
 ghost use Rattle.server_words.specs.Operands.{texts};

@@ -1,16 +1,13 @@
 //! The connections of a server with their places, and the journal of all events.
-ghost use Rattle.std.specs.Prelude.{◌≡◌, ◌≢◌, ◌<◌, ◌+◌, ◌-◌, ◌^◌, ◌++◌, ◌∷◌, ◌↔◌, ℕ, List, [], true, false, Err, Some, None, IsTrue, IsSome, IfOk, IfErr, IfSome, OnOk, OnErr, length, option_map};
+ghost use Rattle.std.specs.Prelude.{◌≡◌, ◌≢◌, ◌<◌, ◌+◌, ◌-◌, ◌^◌, ◌++◌, ◌∷◌, ◌↔◌, ℕ, List, [], true, false, Err, Some, None, IfOk, IfErr, IfSome, OnOk, OnErr, length, option_map};
 ghost use Rattle.std.specs.List.{count_by};
 ghost use Rattle.std.specs.BTreeMap.{get};
 ghost use Rattle.std.specs.Ordering.{nat_cmp};
 ghost use Rattle.child_jobs.specs.Runs.{place_of};
-ghost use Rattle.child_table.specs.Seats.{Seats, empty_seats, is_used, live_at, live_of, OneMoreAt, RefusesLimits, with_place, without_place};
+ghost use Rattle.child_table.specs.Seats.{is_used, live_at, live_of, OneMoreAt, RefusesLimits, with_place};
 ghost use Rattle.child_table.specs.declared.table.TableFault.{TableFault};
 ghost use Rattle.event_journals.specs.Journals.{TellsOf, without_last};
-ghost use Rattle.rule_lookup.specs.Peers.{Client};
-ghost use Rattle.server_events.specs.ServerState.{ServerState, after, count_from, is_retired, may_admit, may_happen, stage_of, start};
-ghost use Rattle.server_events.specs.Worlds.{peer_of};
-ghost use Rattle.server_events.specs.declared.event.Event.{Event as HappenedEvent};
+ghost use Rattle.server_events.specs.ServerState.{after, count_from, is_retired, may_admit, may_happen, stage_of, start};
 ghost use Rattle.server_events.specs.declared.event.Event.TheVariants.{Admitted, Retired};
 ghost use Rattle.server_events.specs.declared.event.Stage.TheVariants as stage;
 ghost use Rattle.server_yard.specs.Rolls.{HasHistory, IsQuiet, Notes, StoresNothing, number_at, serial_at, stage_at};

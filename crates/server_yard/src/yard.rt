@@ -1,5 +1,5 @@
 //! The yard.
-ghost use Rattle.std.specs.Prelude.{◌≡◌, ◌≢◌, ◌+◌, ◌<◌, ◌∷◌, ◌↔◌, ℕ, List, [], true, false, Err, Ok, Some, None, IsTrue, IfOk, IfErr, IfNone, IfSome, OnOk, OnErr, Contains, is_some, length, option_map};
+ghost use Rattle.std.specs.Prelude.{◌≡◌, ◌≢◌, ◌+◌, ◌<◌, ◌∷◌, ◌↔◌, [], true, false, Err, Ok, Some, None, IsTrue, IfOk, IfErr, IfNone, IfSome, OnErr, Contains, is_some, length, option_map};
 ghost use Rattle.child_jobs.specs.Runs.{place_of};
 ghost use Rattle.child_table.specs.Seats.{RefusesLimits};
 ghost use Rattle.dir_calls.specs.Moments.{CountsFault};

@@ -1,5 +1,5 @@
 //! A yard under one lock, for many threads.
-ghost use Rattle.std.specs.Prelude.{◌≡◌, ◌+◌, ◌<◌, ◌↔◌, ℕ, None, Some, IsOk, IfOk, IfErr, IfSome, OnErr, option_map, is_some, vec_len};
+ghost use Rattle.std.specs.Prelude.{◌≡◌, ◌+◌, ◌<◌, ◌↔◌, None, Some, IsOk, IfOk, IfErr, IfSome, OnErr, option_map, is_some, vec_len};
 ghost use Rattle.rules_install.specs.Installs.{installing};
 ghost use Rattle.server_events.specs.declared.event.Event.TheVariants.{Admitted, Opened, Decided, Started, StartFailed, Ended, Retired, Dropped};
 ghost use Rattle.server_yard.specs.Passes.{IsDecidedBy, pass_file, pass_serial};

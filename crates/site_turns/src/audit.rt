@@ -1,5 +1,5 @@
 //! Receipts against the history.
-ghost use Rattle.std.specs.Prelude.{◌≡◌, ◌↔◌, ◌<◌, ℕ, IsTrue, IfErr, OnOk, length};
+ghost use Rattle.std.specs.Prelude.{◌↔◌, ◌<◌, IsTrue, IfErr, OnOk, length};
 ghost use Rattle.event_journals.specs.Full.{full_notes};
 ghost use Rattle.server_yard.specs.Yards.{yard_roll};
 ghost use Rattle.site_turns.specs.Audits.{AreRight, AreRightBefore, IsAbove, IsFirstWrong, IsRight, Rise, StandsAtItsPlace};

@@ -1,5 +1,5 @@
 //! Programs of the system.
-ghost use Rattle.std.specs.Prelude.{◌≡◌, false, is_some, IfOk, ⊤};
+ghost use Rattle.std.specs.Prelude.{◌≡◌, is_some, ⊤};
 
 use child_jobs::{Job, Launcher, NoEnds, Program, WaitFault};
 use rule_lookup::{StartFault, Status};

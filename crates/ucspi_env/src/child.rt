@@ -1,5 +1,5 @@
 //! The environment of a child.
-ghost use Rattle.std.specs.Prelude.{◌≡◌, ◌++◌, map, decimal, codes, IfOk, OnOk};
+ghost use Rattle.std.specs.Prelude.{◌≡◌, map, decimal, codes, IfOk, OnOk};
 ghost use Rattle.std.specs.Net.Text.{ipv4_text};
 ghost use Rattle.rule_lookup.specs.Peers.{given};
 ghost use Rattle.ucspi_env.specs.Child.{assigned, environment_of, of_connection, where_known, without_own};

@@ -1,5 +1,5 @@
 //! The host table.
-ghost use Rattle.std.specs.Prelude.{◌≡◌, ◌⊎◌, ◌||◌, ℕ, List, Some, None, IfOk, IfErr, IfSome, OnOk, OnErr, length};
+ghost use Rattle.std.specs.Prelude.{◌≡◌, ◌⊎◌, ◌||◌, ℕ, List, Some, None, IfOk, IfErr, IfSome, OnOk, length};
 ghost use Rattle.rule_lines.specs.Lines.{trimmed};
 ghost use Rattle.rule_lookup.specs.Addresses.{ipv4_in};
 ghost use Rattle.rule_lookup.specs.Peers.{given};
