@@ -1,18 +1,18 @@
 -- What goes through a chain in one turn.
-use Rattle.std.proofs.Common.{◌≡◌, ℕ, ◌<◌, ◌≤◌, Bool, false, true, List, [], ◌∷◌, ◌++◌, length, take, Result, Ok, Err, refl, sym, ap, subst, ◌∙◌, inl, inr, append_assoc, arith}
+use Rattle.std.proofs.Common.{◌≡◌, ℕ, ◌<◌, ◌≤◌, Bool, false, List, [], ◌∷◌, ◌++◌, length, take, Result, Ok, Err, refl, sym, ap, subst, ◌∙◌, inl, inr, append_assoc, arith}
 use Rattle.std.specs.Prelude.{IfErr}
 use Rattle.std.specs.List.{concat}
 use Rattle.std.proofs.lemmas.List.{append-nil}
 use Rattle.std.proofs.lemmas.Result.{MatchResult-at_ok}
 use Rattle.std.specs.declared.option.Option.{Option}
-use Rattle.std.specs.Io.KnownBytes.{Consumes, IsAtEnd, Keeps, ReadConsumes}
+use Rattle.std.specs.Io.KnownBytes.{Appends, Consumes, IsAtEnd, Keeps, ReadConsumes}
 use Rattle.std.proofs.KnownBytes.{Appends-nil, Consumes-kept, Consumes-nil}
 use Rattle.wrapper_chain.specs.Stages.{Feeds, Gives, through}
 use Rattle.wrapper_chain.specs.declared.recording.Way.{Way}
 use Rattle.wrapper_chain.specs.declared.recording.Way.TheVariants.{Input, Output}
 use Rattle.byte_pump.specs.Pumps.{Gave, IsWritten, is_end, pieces_by}
-use Rattle.byte_pump.specs.Taps.{IsTold, SeesAll, Watches}
-use Rattle.byte_pump.specs.Turns.{IsOfWriter, Passes, Turned, Wrote, pieces_of, why_of}
+use Rattle.byte_pump.specs.Taps.{IsTold, SeesAll, Shown, shown_to}
+use Rattle.byte_pump.specs.Turns.{CountsMore, IsOfWriter, Moment, Passes, Turned, Wrote, pieces_of, why_of}
 use Rattle.byte_pump.specs.declared.pumping.Why.{Why}
 use Rattle.byte_pump.specs.declared.pumping.Why.TheVariants.{End, ReadFault, WriteFault, ZeroWrite, TurnsOver, Failed, OutOfMemory}
 
@@ -103,98 +103,144 @@ not_told ends tap goes_on = subst (λ at_end. IsTold ends at_end tap tap) (sym g
 
 -- ---- a turn
 
-module _ {T : Type 0} (sees : T → List ℕ → T → Type 0) (ends : T → T → Type 0) where
+-- what was written and counted, where nothing was
+wrote_nothing : (old new : Moment) → new.ends.writer ≡ old.ends.writer → Appends old.ends.writer new.ends.writer []
+wrote_nothing old new same = subst (λ writer. Appends old.ends.writer writer []) (sym same) (Appends-nil old.ends.writer)
+
+counted_nothing : (old new : ℕ) → new ≡ old → CountsMore old new []
+counted_nothing old new same = λ fits. omega (arith, same)
+
+module _ {T : Type 0} (watches : T → Way) (sees : T → List ℕ → T → Type 0) (ends : T → T → Type 0) where
   -- a piece went through, and the writer took what it could
-  pub passes_given : (tap mid tap' : T) {way way' : Way} {writer writer' : Option (List ℕ)} {chain chain' : List ℕ → List ℕ} (text given : List ℕ) {result : Result (Unit {0}) Why} {put put' : ℕ} → SeesAll sees tap (pieces_of way Input text) mid → way' ≡ way → SeesAll sees mid (pieces_of way' Output given) tap' → Gives chain chain' text given → Wrote writer writer' given result put put' → (left : Option (List ℕ)) → Passes text left writer writer' chain chain' way (λ pieces. Watches sees ends (is_end (why_of result)) tap pieces tap') 1 (why_of result) put put'
-  passes_given tap mid tap' {way} {way'} {writer} {writer'} {chain} {chain'} text given {result} read same gave gives wrote left = record {
-    given = given;
-    written = wrote.written;
-    pieces = pieces_of way Input text ++ pieces_of way Output given;
-    writes = wrote.writes;
-    counts_written = wrote.counts_written;
-    gave = gave_now result left chain chain' text given wrote.reason gives;
-    all = wrote.all;
-    shown = (tap', SeesAll-append sees tap mid tap' (pieces_of way Input text) (pieces_of way Output given) read (subst (λ w. SeesAll sees mid (pieces_of w Output given) tap') same gave), not_told ends tap' (no_end result wrote.reason));
-    joined = joined_both way text given;
-    few = few_both way text given;
-  }
+  pub passes_given : (tap mid tap' : T) {old new : Moment} (text given : List ℕ) {result : Result (Unit {0}) Why}
+      → SeesAll sees tap (pieces_of (watches tap) Input text) mid → watches mid ≡ watches tap → SeesAll sees mid (pieces_of (watches mid) Output given) tap'
+      → Gives old.ends.chain new.ends.chain text given → Wrote old.ends.writer new.ends.writer given result old.given new.given
+      → Passes text old new (shown_to watches sees ends tap tap') 1 (why_of result)
+  passes_given tap mid tap' {old} {new} text given {result} read same gave gives wrote =
+      let way = watches tap in
+      record {
+        given = given;
+        written = wrote.written;
+        pieces = pieces_of way Input text ++ pieces_of way Output given;
+        writes = wrote.writes;
+        counts_written = wrote.counts_written;
+        gave = gave_now result new.ends.reader old.ends.chain new.ends.chain text given wrote.reason gives;
+        all = wrote.all;
+        shown = (tap', SeesAll-append sees tap mid tap' (pieces_of way Input text) (pieces_of way Output given) read (subst (λ w. SeesAll sees mid (pieces_of w Output given) tap') same gave), not_told ends tap' (no_end result wrote.reason));
+        joined = joined_both way text given;
+        few = few_both way text given;
+      }
 
   -- the chain had no memory for a piece
-  pub passes_none : (tap tap' : T) {way : Way} (writer : Option (List ℕ)) (chain chain' : List ℕ → List ℕ) {text : List ℕ} {put : ℕ} → SeesAll sees tap (pieces_of way Input text) tap' → (left : Option (List ℕ)) → Passes text left writer writer chain chain' way (λ pieces. Watches sees ends false tap pieces tap') 1 OutOfMemory put put
-  passes_none tap tap' {way} writer chain chain' {text} {put} read left = record {
+  pub passes_none : (tap tap' : T) {old new : Moment} {text : List ℕ}
+      → SeesAll sees tap (pieces_of (watches tap) Input text) tap' → new.ends.writer ≡ old.ends.writer → new.given ≡ old.given
+      → Passes text old new (shown_to watches sees ends tap tap') 1 OutOfMemory
+  passes_none tap tap' {old} {new} {text} read writer put = record {
     given = [];
     written = [];
-    pieces = pieces_of way Input text;
-    writes = Appends-nil writer;
-    counts_written = λ fits. omega arith;
-    gave = (λ later. chain (text ++ later), λ later. refl);
+    pieces = pieces_of (watches tap) Input text;
+    writes = wrote_nothing old new writer;
+    counts_written = counted_nothing old.given new.given put;
+    gave = (λ later. old.ends.chain (text ++ later), λ later. refl);
     all = refl;
     shown = (tap', read, refl);
-    joined = joined_read way text;
-    few = few_one way Input text;
+    joined = joined_read (watches tap) text;
+    few = few_one (watches tap) Input text;
   }
 
   -- nothing went through
-  pub passes_nothing : (tap : T) (way : Way) (left writer : Option (List ℕ)) (chain chain' : List ℕ → List ℕ) (most : ℕ) (why : Why) (put : ℕ) → Gave why left chain chain' [] [] → IsWritten why [] [] → is_end why ≡ false → Passes [] left writer writer chain chain' way (λ pieces. Watches sees ends (is_end why) tap pieces tap) most why put put
-  passes_nothing tap way left writer chain chain' most why put gave all goes_on = record {
+  pub passes_nothing : (tap : T) {old new : Moment} (most : ℕ) (why : Why) → new.ends.writer ≡ old.ends.writer → new.given ≡ old.given
+      → Gave why new.ends.reader old.ends.chain new.ends.chain [] [] → IsWritten why [] [] → is_end why ≡ false
+      → Passes [] old new (shown_to watches sees ends tap tap) most why
+  passes_nothing tap {old} {new} most why writer put gave all goes_on = record {
     given = [];
     written = [];
     pieces = [];
-    writes = Appends-nil writer;
-    counts_written = λ fits. omega arith;
+    writes = wrote_nothing old new writer;
+    counts_written = counted_nothing old.given new.given put;
     gave = gave;
     all = all;
     shown = (tap, refl, not_told ends tap goes_on);
-    joined = nothing_joined way;
+    joined = nothing_joined (watches tap);
     few = omega arith;
   }
 
   -- the writer did not take all of the chain's rest
-  pub passes_rest : (tap tap' : T) {way : Way} {writer writer' : Option (List ℕ)} {chain chain' : List ℕ → List ℕ} {given : List ℕ} {why : Why} {put put' : ℕ} → SeesAll sees tap (pieces_of way Output given) tap' → given ≡ chain [] → Wrote writer writer' given (Err why) put put' → (left : Option (List ℕ)) → IsAtEnd left → Passes [] left writer writer' chain chain' way (λ pieces. Watches sees ends (is_end why) tap pieces tap') 1 why put put'
-  passes_rest tap tap' {way} {chain = chain} {chain' = chain'} {given} {why = why} gave is wrote left at_end = record {
+  pub passes_rest : (tap tap' : T) {old new : Moment} {given : List ℕ} {why : Why}
+      → SeesAll sees tap (pieces_of (watches tap) Output given) tap' → given ≡ old.ends.chain []
+      → Wrote old.ends.writer new.ends.writer given (Err why) old.given new.given → IsAtEnd new.ends.reader
+      → Passes [] old new (shown_to watches sees ends tap tap') 1 why
+  passes_rest tap tap' {old} {new} {given} {why} gave is wrote at_end = record {
     given = given;
     written = wrote.written;
-    pieces = pieces_of way Output given;
+    pieces = pieces_of (watches tap) Output given;
     writes = wrote.writes;
     counts_written = wrote.counts_written;
-    gave = gave_rest why left chain chain' given wrote.reason at_end is;
+    gave = gave_rest why new.ends.reader old.ends.chain new.ends.chain given wrote.reason at_end is;
     all = wrote.all;
     shown = (tap', gave, not_told ends tap' (no_end (Err why) wrote.reason));
-    joined = joined_given way given;
-    few = few_one way Output given;
+    joined = joined_given (watches tap) given;
+    few = few_one (watches tap) Output given;
   }
 
   -- it took all, and the tap was told
-  pub passes_end : (tap tap' tap'' : T) {way : Way} {writer writer' : Option (List ℕ)} {chain chain' : List ℕ → List ℕ} {given : List ℕ} {put put' : ℕ} → SeesAll sees tap (pieces_of way Output given) tap' → ends tap' tap'' → given ≡ chain [] → Wrote writer writer' given (Ok tt) put put' → (left : Option (List ℕ)) → IsAtEnd left → Passes [] left writer writer' chain chain' way (λ pieces. Watches sees ends true tap pieces tap'') 1 End put put'
-  passes_end tap tap' tap'' {way} {given = given} gave told is wrote left at_end = record {
+  pub passes_end : (tap tap' tap'' : T) {old new : Moment} {given : List ℕ}
+      → SeesAll sees tap (pieces_of (watches tap) Output given) tap' → ends tap' tap'' → given ≡ old.ends.chain []
+      → Wrote old.ends.writer new.ends.writer given (Ok tt) old.given new.given → IsAtEnd new.ends.reader
+      → Passes [] old new (shown_to watches sees ends tap tap'') 1 End
+  passes_end tap tap' tap'' {given = given} gave told is wrote at_end = record {
     given = given;
     written = wrote.written;
-    pieces = pieces_of way Output given;
+    pieces = pieces_of (watches tap) Output given;
     writes = wrote.writes;
     counts_written = wrote.counts_written;
     gave = (at_end, is);
     all = wrote.all;
     shown = (tap', gave, told);
-    joined = joined_given way given;
-    few = few_one way Output given;
+    joined = joined_given (watches tap) given;
+    few = few_one (watches tap) Output given;
   }
 
   -- a read that failed took nothing
-  pub turned_nothing : (tap : T) (way : Way) (reader reader' writer : Option (List ℕ)) (chain : List ℕ → List ℕ) (steps : ℕ) (why : Why) (taken put : ℕ) → Keeps reader reader' → Gave why reader' chain chain [] [] → IsWritten why [] [] → is_end why ≡ false → Turned reader reader' writer writer chain chain way (λ pieces. Watches sees ends (is_end why) tap pieces tap) steps why taken taken put put
-  turned_nothing tap way reader reader' writer chain steps why taken put keeps gave all goes_on = record {
+  pub turned_nothing : (tap : T) {old new : Moment} (steps : ℕ) (why : Why)
+      → Keeps old.ends.reader new.ends.reader → new.ends.writer ≡ old.ends.writer → new.taken ≡ old.taken → new.given ≡ old.given
+      → Gave why new.ends.reader old.ends.chain new.ends.chain [] [] → IsWritten why [] [] → is_end why ≡ false
+      → Turned old new (shown_to watches sees ends tap tap) steps why
+  turned_nothing tap {old} {new} steps why keeps writer taken put gave all goes_on = record {
     text = [];
-    reads = Consumes-kept reader reader reader' [] (Consumes-nil reader) keeps;
-    counts_text = λ fits. omega arith;
-    passes = passes_nothing tap way reader' writer chain chain steps why put gave all goes_on;
+    reads = Consumes-kept old.ends.reader old.ends.reader new.ends.reader [] (Consumes-nil old.ends.reader) keeps;
+    counts_text = counted_nothing old.taken new.taken taken;
+    passes = passes_nothing tap steps why writer put gave all goes_on;
   }
 
+-- whatever the reader had left before
+pub passes_after : {text : List ℕ} {old new : Moment} {tap : Shown} {most : ℕ} {why : Why} (reader : Option (List ℕ))
+    → Passes text old new tap most why
+    → Passes text (record old { ends = record { reader = reader; writer = old.ends.writer; chain = old.ends.chain } }) new tap most why
+passes_after reader passes = record {
+  given = passes.given;
+  written = passes.written;
+  pieces = passes.pieces;
+  writes = passes.writes;
+  counts_written = passes.counts_written;
+  gave = passes.gave;
+  all = passes.all;
+  shown = passes.shown;
+  joined = passes.joined;
+  few = passes.few;
+}
+
 -- a read that gave no byte found the end, and then the stream was ended
-pub turned_end : {E : Type 0} {reader reader' writer writer' : Option (List ℕ)} {chain chain' : List ℕ → List ℕ} {way : Way} {Shows : List (List ℕ) → Type 0} {why : Why} {taken taken' put put' n : ℕ} (result : Result ℕ E) (buffer : List ℕ) → result ≡ Ok n → n ≡ 0 → ReadConsumes reader reader' result buffer → 0 < length buffer → taken' ≡ taken → ((left : Option (List ℕ)) → IsAtEnd left → Passes [] left writer writer' chain chain' way Shows 1 why put put') → Turned reader reader' writer writer' chain chain' way Shows 1 why taken taken' put put'
-turned_end {reader = reader} {reader'} result buffer took none read room same passes =
+pub turned_end : {E : Type 0} {old new : Moment} {tap : Shown} {why : Why} {n : ℕ} (result : Result ℕ E) (buffer : List ℕ)
+    → result ≡ Ok n → n ≡ 0 → ReadConsumes old.ends.reader new.ends.reader result buffer → 0 < length buffer → new.taken ≡ old.taken
+    → (IsAtEnd new.ends.reader → Passes [] old new tap 1 why) → Turned old new tap 1 why
+turned_end {old = old} {new} result buffer took none read room same passes =
+    let reader = old.ends.reader in
+    let reader' = new.ends.reader in
     let consumed = MatchResult-at_ok (λ k. Consumes reader reader' (take k buffer) × (k ≡ 0 → 0 < length buffer → IsAtEnd reader')) (λ _. Keeps reader reader') 0 (took ∙ ap Ok none) read in
     record {
       text = [];
       reads = consumed.0;
-      counts_text = λ fits. same ∙ omega arith;
-      passes = passes reader' (consumed.1 refl room);
+      counts_text = counted_nothing old.taken new.taken same;
+      passes = passes (consumed.1 refl room);
     }

@@ -8,8 +8,8 @@ use Rattle.wrapper_chain.specs.Stages.{Gives}
 use Rattle.wrapper_chain.specs.declared.recording.Way.{Way}
 use Rattle.wrapper_chain.specs.declared.recording.Way.TheVariants.{Input, Output}
 use Rattle.byte_pump.specs.Pumps.{Ends, Gave, IsWritten, Pumped, is_end, pieces_by}
-use Rattle.byte_pump.specs.Taps.{SeesAll, Watches}
-use Rattle.byte_pump.specs.Turns.{CountsMore, Passes, StaysOpen, Turned}
+use Rattle.byte_pump.specs.Taps.{SeesAll, Shown, Watches, shown_to}
+use Rattle.byte_pump.specs.Turns.{CountsMore, Moment, Passes, StaysOpen, Turned}
 use Rattle.byte_pump.proofs.PassLemmas.{SeesAll-append, concat-append}
 use Rattle.byte_pump.specs.declared.pumping.PumpEnd.{PumpEnd}
 use Rattle.byte_pump.specs.declared.pumping.Why.{Why}
@@ -73,47 +73,50 @@ pieces_by-append Output text given text' given' = refl
 
 -- ---- turns
 
-module _ {T : Type 0} (sees : T → List ℕ → T → Type 0) (ends : T → T → Type 0) where
+module _ {T : Type 0} (watches : T → Way) (sees : T → List ℕ → T → Type 0) (ends : T → T → Type 0) where
   -- what was seen in turns that went on, and then in others
   watches_more : (why : Why) (tap mid tap' : T) (pieces pieces' : List (List ℕ)) → Watches sees ends false tap pieces mid → Watches sees ends (is_end why) mid pieces' tap' → Watches sees ends (is_end why) tap (pieces ++ pieces') tap'
   watches_more why tap mid tap' pieces pieces' first then =
       let seen : SeesAll sees tap pieces mid = subst (λ (t : T). SeesAll sees tap pieces t) (sym first.2) first.1 in
       (then.0, SeesAll-append sees tap mid then.0 pieces pieces' seen then.1, then.2)
 
-  passes_more : (tap mid tap' : T) {way way' : Way} {left left' writer writer' writer'' : Option (List ℕ)} {chain chain' chain'' : List ℕ → List ℕ} {text text' : List ℕ} {most most' put put' put'' : ℕ} (why : Why) → way' ≡ way → Passes text left writer writer' chain chain' way (λ pieces. Watches sees ends false tap pieces mid) most TurnsOver put put' → Passes text' left' writer' writer'' chain' chain'' way' (λ pieces. Watches sees ends (is_end why) mid pieces tap') most' why put' put'' → Passes (text ++ text') left' writer writer'' chain chain'' way (λ pieces. Watches sees ends (is_end why) tap pieces tap') (most + most') why put put''
-  passes_more tap mid tap' {way} {way'} {left} {left'} {writer} {writer'} {writer''} {chain} {chain'} {chain''} {text} {text'} {most} {most'} {put} {put'} {put''} why same one two = record {
+  passes_more : (tap mid tap' : T) {old now new : Moment} {text text' : List ℕ} {most most' : ℕ} (why : Why) → watches mid ≡ watches tap
+      → Passes text old now (shown_to watches sees ends tap mid) most TurnsOver → Passes text' now new (shown_to watches sees ends mid tap') most' why
+      → Passes (text ++ text') old new (shown_to watches sees ends tap tap') (most + most') why
+  passes_more tap mid tap' {old} {now} {new} {text} {text'} why same one two = record {
     given = one.given ++ two.given;
     written = one.written ++ two.written;
     pieces = one.pieces ++ two.pieces;
-    writes = Appends-trans writer writer' writer'' one.written two.written one.writes two.writes;
-    counts_written = CountsMore-trans put put' put'' one.written two.written one.counts_written two.counts_written;
-    gave = Gave-trans chain chain' text one.given text' two.given one.gave why left' chain'' two.gave;
+    writes = Appends-trans old.ends.writer now.ends.writer new.ends.writer one.written two.written one.writes two.writes;
+    counts_written = CountsMore-trans old.given now.given new.given one.written two.written one.counts_written two.counts_written;
+    gave = Gave-trans old.ends.chain now.ends.chain text one.given text' two.given one.gave why new.ends.reader new.ends.chain two.gave;
     all = IsWritten-append why one.given one.written two.given two.written one.all two.all;
     shown = watches_more why tap mid tap' one.pieces two.pieces one.shown two.shown;
     joined =
         concat-append one.pieces two.pieces ∙ ap (λ l. l ++ concat two.pieces) one.joined
-        ∙ ap (λ l. pieces_by way text one.given ++ l) (two.joined ∙ ap (λ w. pieces_by w text' two.given) same)
-        ∙ pieces_by-append way text one.given text' two.given;
+        ∙ ap (λ l. pieces_by (watches tap) text one.given ++ l) (two.joined ∙ ap (λ w. pieces_by w text' two.given) same)
+        ∙ pieces_by-append (watches tap) text one.given text' two.given;
     few = omega (arith, length-append one.pieces two.pieces, one.few, two.few);
   }
 
-  pub turned_more : (tap mid tap' : T) {way way' : Way} {reader reader' reader'' writer writer' writer'' : Option (List ℕ)} {chain chain' chain'' : List ℕ → List ℕ} {steps steps' taken taken' taken'' put put' put'' : ℕ} (why : Why) → way' ≡ way → Turned reader reader' writer writer' chain chain' way (λ pieces. Watches sees ends false tap pieces mid) steps TurnsOver taken taken' put put' → Turned reader' reader'' writer' writer'' chain' chain'' way' (λ pieces. Watches sees ends (is_end why) mid pieces tap') steps' why taken' taken'' put' put'' → Turned reader reader'' writer writer'' chain chain'' way (λ pieces. Watches sees ends (is_end why) tap pieces tap') (steps + steps') why taken taken'' put put''
-  turned_more tap mid tap' {reader = reader} {reader'} {reader''} {taken = taken} {taken'} {taken''} why same one two = record {
+  pub turned_more : (tap mid tap' : T) {old now new : Moment} {steps steps' : ℕ} (why : Why) → watches mid ≡ watches tap
+      → Turned old now (shown_to watches sees ends tap mid) steps TurnsOver → Turned now new (shown_to watches sees ends mid tap') steps' why
+      → Turned old new (shown_to watches sees ends tap tap') (steps + steps') why
+  turned_more tap mid tap' {old} {now} {new} why same one two = record {
     text = one.text ++ two.text;
-    reads = Consumes-trans reader reader' reader'' one.text two.text one.reads two.reads;
-    counts_text = CountsMore-trans taken taken' taken'' one.text two.text one.counts_text two.counts_text;
+    reads = Consumes-trans old.ends.reader now.ends.reader new.ends.reader one.text two.text one.reads two.reads;
+    counts_text = CountsMore-trans old.taken now.taken new.taken one.text two.text one.counts_text two.counts_text;
     passes = passes_more tap mid tap' why same one.passes two.passes;
   }
 
 -- the same number of turns
-pub turned_steps : {reader reader' writer writer' : Option (List ℕ)} {chain chain' : List ℕ → List ℕ} {way : Way} {Shows : List (List ℕ) → Type 0} {steps steps' : ℕ} {why : Why} {taken taken' put put' : ℕ} → steps ≡ steps' → Turned reader reader' writer writer' chain chain' way Shows steps why taken taken' put put' → Turned reader reader' writer writer' chain chain' way Shows steps' why taken taken' put put'
-turned_steps {reader} {reader'} {writer} {writer'} {chain} {chain'} {way} {Shows} {steps} {steps'} {why} {taken} {taken'} {put} {put'} same turned =
-    subst (λ n. Turned reader reader' writer writer' chain chain' way Shows n why taken taken' put put') same turned
+pub turned_steps : {old new : Moment} {tap : Shown} {steps steps' : ℕ} {why : Why} → steps ≡ steps' → Turned old new tap steps why → Turned old new tap steps' why
+turned_steps {old} {new} {tap} {why = why} same turned = subst (λ n. Turned old new tap n why) same turned
 
 -- a pump that began with nothing counted
-pub pumped_of_turned : {old new : Ends} {way : Way} {Shows : List (List ℕ) → Type 0} {steps steps' : ℕ} {end : PumpEnd}
-    → steps ≤ steps' → Turned old.reader new.reader old.writer new.writer old.chain new.chain way Shows steps end.why 0 end.taken 0 end.given
-    → Pumped old new way Shows steps' end
+pub pumped_of_turned : {old new : Ends} {tap : Shown} {steps steps' : ℕ} {end : PumpEnd} → steps ≤ steps'
+    → Turned (record { ends = old; taken = 0; given = 0 }) (record { ends = new; taken = end.taken; given = end.given }) tap steps end.why
+    → Pumped old new tap steps' end
 pumped_of_turned more turned =
     let passes = turned.passes in
     let counted = turned.counts_text (omega arith) in
@@ -135,8 +138,8 @@ pumped_of_turned more turned =
     }
 
 -- a pump that is allowed more turns
-pub pumped_within : {old new : Ends} {way : Way} {Shows : List (List ℕ) → Type 0} {steps steps' : ℕ} {end : PumpEnd}
-    → steps ≤ steps' → Pumped old new way Shows steps end → Pumped old new way Shows steps' end
+pub pumped_within : {old new : Ends} {tap : Shown} {steps steps' : ℕ} {end : PumpEnd}
+    → steps ≤ steps' → Pumped old new tap steps end → Pumped old new tap steps' end
 pumped_within more pumped = record {
   text = pumped.text;
   given = pumped.given;

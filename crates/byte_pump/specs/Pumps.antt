@@ -8,6 +8,7 @@ use Rattle.wrapper_chain.specs.Stages.{Gives, through}
 use Rattle.wrapper_chain.specs.declared.chain.Chain.{Chain}
 use Rattle.wrapper_chain.specs.declared.recording.Way.{Way}
 use Rattle.wrapper_chain.specs.declared.recording.Way.TheVariants.{Input, Output}
+use Rattle.byte_pump.specs.Taps.{Shown}
 use Rattle.byte_pump.specs.declared.pumping.PumpEnd.{PumpEnd}
 use Rattle.byte_pump.specs.declared.pumping.Why.{Why}
 use Rattle.byte_pump.specs.declared.pumping.Why.TheVariants.{End, ReadFault, WriteFault, ZeroWrite, TurnsOver, Failed, OutOfMemory}
@@ -68,7 +69,7 @@ ends_of remaining contents rest reader writer chain =
     record { reader = remaining reader; writer = contents writer; chain = through rest (stages_of chain) }
 
 -- A pump read a text, the chain gave bytes of it, and a front of these was written. `steps` is how often the pump read at most.
-pub record Pumped (old new : Ends) (way : Way) (Shows : List (List ℕ) → Type 0) (steps : ℕ) (end : PumpEnd) : Type 0 where
+pub record Pumped (old new : Ends) (tap : Shown) (steps : ℕ) (end : PumpEnd) : Type 0 where
   pub text : List ℕ
   pub given : List ℕ
   pub written : List ℕ
@@ -79,6 +80,6 @@ pub record Pumped (old new : Ends) (way : Way) (Shows : List (List ℕ) → Type
   pub counts_written : end.given ≡ count_of written
   pub gave : Gave end.why new.reader old.chain new.chain text given
   pub all : IsWritten end.why given written
-  pub shown : Shows pieces
-  pub joined : concat pieces ≡ pieces_by way text given
+  pub shown : tap.shows (is_end end.why) pieces
+  pub joined : concat pieces ≡ pieces_by tap.way text given
   pub one_each : length pieces ≤ steps

@@ -3,11 +3,14 @@ use Rattle.std.specs.Prelude.{◌≡◌, ◌+◌, ◌-◌, ◌^◌, ◌<◌, ◌
 use Rattle.std.specs.List.{concat}
 use Rattle.std.specs.declared.option.Option.{Option}
 use Rattle.std.specs.Io.KnownBytes.{Appends, Consumes}
+use Rattle.wrapper_chain.specs.declared.chain.Chain.{Chain}
 use Rattle.wrapper_chain.specs.declared.recording.Way.{Way}
 use Rattle.wrapper_chain.specs.declared.recording.Way.TheVariants.{Input, Output}
-use Rattle.byte_pump.specs.Pumps.{Gave, IsWritten, pieces_by}
+use Rattle.byte_pump.specs.Pumps.{Ends, Gave, IsWritten, ends_of, is_end, pieces_by}
+use Rattle.byte_pump.specs.Taps.{Shown}
 use Rattle.byte_pump.specs.declared.pumping.Why.{Why}
 use Rattle.byte_pump.specs.declared.pumping.Why.TheVariants.{End, ReadFault, WriteFault, ZeroWrite, TurnsOver, Failed, OutOfMemory}
+use Rattle.byte_pump.specs.declared.turns.Work.{Work}
 
 -- the pieces that a tap of the first way is shown where a piece goes the second
 abbrev pub pieces_of : Way → Way → List ℕ → List (List ℕ)
@@ -73,22 +76,37 @@ pub record Wrote (writer writer' : Option (List ℕ)) (given : List ℕ) (result
   pub all : IsWritten (why_of result) given written
   pub reason : IfErr result IsOfWriter
 
--- a text went through the chain to the writer, and the tap saw at most so many pieces; `left` is what the reader has left
-pub record Passes (text : List ℕ) (left writer writer' : Option (List ℕ)) (chain chain' : List ℕ → List ℕ) (way : Way) (Shows : List (List ℕ) → Type 0) (most : ℕ) (why : Why) (put put' : ℕ) : Type 0 where
+-- a moment of a pump: what it works on, and how many bytes it has read and written
+pub record Moment : Type 0 where
+  pub ends : Ends
+  pub taken : ℕ
+  pub given : ℕ
+
+-- that of these four; the functions are those of `ends_of`
+abbrev pub moment_of : {R W S : Type 0} → (R → Option (List ℕ)) → (W → Option (List ℕ)) → (S → List ℕ → List ℕ) → R → W → Chain S → Work → Moment
+moment_of remaining contents rest reader writer chain work =
+    record { ends = ends_of remaining contents rest reader writer chain; taken = work.taken; given = work.given }
+
+-- the same of a reader that has this left
+abbrev pub moment_with : {W S : Type 0} → Option (List ℕ) → (W → Option (List ℕ)) → (S → List ℕ → List ℕ) → W → Chain S → Work → Moment
+moment_with left contents rest writer chain work = moment_of (λ known. known) contents rest left writer chain work
+
+-- a text that was read went through the chain to the writer, and the tap saw at most so many pieces
+pub record Passes (text : List ℕ) (old new : Moment) (tap : Shown) (most : ℕ) (why : Why) : Type 0 where
   pub given : List ℕ
   pub written : List ℕ
   pub pieces : List (List ℕ)
-  pub writes : Appends writer writer' written
-  pub counts_written : CountsMore put put' written
-  pub gave : Gave why left chain chain' text given
+  pub writes : Appends old.ends.writer new.ends.writer written
+  pub counts_written : CountsMore old.given new.given written
+  pub gave : Gave why new.ends.reader old.ends.chain new.ends.chain text given
   pub all : IsWritten why given written
-  pub shown : Shows pieces
-  pub joined : concat pieces ≡ pieces_by way text given
+  pub shown : tap.shows (is_end why) pieces
+  pub joined : concat pieces ≡ pieces_by tap.way text given
   pub few : length pieces ≤ most
 
 -- so many turns: a text was read, and went through
-pub record Turned (reader reader' writer writer' : Option (List ℕ)) (chain chain' : List ℕ → List ℕ) (way : Way) (Shows : List (List ℕ) → Type 0) (steps : ℕ) (why : Why) (taken taken' put put' : ℕ) : Type 0 where
+pub record Turned (old new : Moment) (tap : Shown) (steps : ℕ) (why : Why) : Type 0 where
   pub text : List ℕ
-  pub reads : Consumes reader reader' text
-  pub counts_text : CountsMore taken taken' text
-  pub passes : Passes text reader' writer writer' chain chain' way Shows steps why put put'
+  pub reads : Consumes old.ends.reader new.ends.reader text
+  pub counts_text : CountsMore old.taken new.taken text
+  pub passes : Passes text old new tap steps why

@@ -2,9 +2,9 @@
 ghost use Rattle.std.specs.Prelude.{◌≡◌, ◌≢◌, ◌⊎◌, ◌+◌, ◌-◌, ◌<◌, ◌≤◌, length, true, false};
 ghost use Rattle.wrapper_chain.specs.Chains.{has_failed, stages_of};
 ghost use Rattle.wrapper_chain.specs.Stages.{through};
-ghost use Rattle.byte_pump.specs.Pumps.{Pumped, ends_of, is_end};
-ghost use Rattle.byte_pump.specs.Taps.{Watches};
-ghost use Rattle.byte_pump.specs.Turns.{StaysOpen, Turned};
+ghost use Rattle.byte_pump.specs.Pumps.{Pumped, ends_of};
+ghost use Rattle.byte_pump.specs.Taps.{shown_to};
+ghost use Rattle.byte_pump.specs.Turns.{StaysOpen, Turned, moment_of};
 
 use crate::steps::Steps;
 use crate::tap::Tap;
@@ -68,8 +68,7 @@ pub fn pump<R: Read, W: Write, S: LineStage, T: Tap>(
 ) -> PumpEnd
     ensures pumped { Pumped (ends_of R.remaining W.contents S.rest reader.old writer.old chain.old)
         (ends_of R.remaining W.contents S.rest reader.new writer.new chain.new)
-        (T.watches tap.old) (λ pieces. Watches T.sees T.ends (is_end result.why) tap.old pieces tap.new)
-        turns result }
+        (shown_to T.watches T.sees T.ends tap.old tap.new) turns result }
     ensures failed { result.why ≡ Why.Failed → has_failed chain.old ≡ true }
     ensures gives_none { has_failed chain.old ≡ true → (result.why ≢ Why.End) × (result.given ≡ 0) }
     ensures unfinished { (result.why ≡ Why.ReadFault) ⊎ (result.why ≡ Why.TurnsOver)
@@ -91,8 +90,7 @@ pub fn pump_counted<R: Read, W: Write, S: LineStage, T: Tap, L: Ledger>(
 ) -> PumpEnd
     ensures pumped { Pumped (ends_of R.remaining W.contents S.rest reader.old writer.old chain.old)
         (ends_of R.remaining W.contents S.rest reader.new writer.new chain.new)
-        (T.watches tap.old) (λ pieces. Watches T.sees T.ends (is_end result.why) tap.old pieces tap.new)
-        (steps.new - steps.old) result }
+        (shown_to T.watches T.sees T.ends tap.old tap.new) (steps.new - steps.old) result }
     ensures over { result.why ≡ Why.TurnsOver → steps.new ≡ steps.old + turns }
     ensures within { (steps.old ≤ steps.new) × (steps.new ≤ steps.old + turns) }
     ensures failed { result.why ≡ Why.Failed → has_failed chain.old ≡ true }
@@ -150,11 +148,9 @@ fn run<R: Read, W: Write, S: LineStage, T: Tap, L: Ledger>(
 ) -> Why
     requires room { 0 < length buffer.old.items }
     requires goes_on { has_failed chain.old ≡ false }
-    ensures turned { Turned (R.remaining reader.old) (R.remaining reader.new)
-        (W.contents writer.old) (W.contents writer.new)
-        (through S.rest (stages_of chain.old)) (through S.rest (stages_of chain.new))
-        (T.watches tap.old) (λ pieces. Watches T.sees T.ends (is_end result) tap.old pieces tap.new)
-        (steps.new - steps.old) result work.old.taken work.new.taken work.old.given work.new.given }
+    ensures turned { Turned (moment_of R.remaining W.contents S.rest reader.old writer.old chain.old work.old)
+        (moment_of R.remaining W.contents S.rest reader.new writer.new chain.new work.new)
+        (shown_to T.watches T.sees T.ends tap.old tap.new) (steps.new - steps.old) result }
     ensures over { result ≡ Why.TurnsOver → steps.new ≡ steps.old + turns }
     ensures within { (steps.old ≤ steps.new) × (steps.new ≤ steps.old + turns) }
     ensures not_failed { result ≢ Why.Failed }
@@ -194,8 +190,7 @@ fn pump_from<R: Read, W: Write, S: LineStage, T: Tap, L: Ledger>(
     requires parts { (blank.parts ≡ L.parts) × (0 < blank.parts) }
     ensures pumped { Pumped (ends_of R.remaining W.contents S.rest reader.old writer.old chain.old)
         (ends_of R.remaining W.contents S.rest reader.new writer.new chain.new)
-        (T.watches tap.old) (λ pieces. Watches T.sees T.ends (is_end result.why) tap.old pieces tap.new)
-        turns result }
+        (shown_to T.watches T.sees T.ends tap.old tap.new) turns result }
     ensures failed { result.why ≡ Why.Failed → has_failed chain.old ≡ true }
     ensures gives_none { has_failed chain.old ≡ true → (result.why ≢ Why.End) × (result.given ≡ 0) }
     ensures unfinished { (result.why ≡ Why.ReadFault) ⊎ (result.why ≡ Why.TurnsOver)

@@ -6,9 +6,8 @@ ghost use Rattle.std.specs.Io.KnownBytes.{IsAtEnd, ReadConsumes};
 ghost use Rattle.wrapper_chain.specs.Chains.{has_failed, stages_of};
 ghost use Rattle.wrapper_chain.specs.Stages.{through};
 ghost use Rattle.wrapper_chain.specs.declared.recording.Way.TheVariants.{Output};
-ghost use Rattle.byte_pump.specs.Pumps.{is_end};
-ghost use Rattle.byte_pump.specs.Taps.{SeesAll, Watches};
-ghost use Rattle.byte_pump.specs.Turns.{CountsMore, IsOfEnd, IsOfTurn, Passes, StaysOpen, Turned, Wrote, pieces_of, why_of};
+ghost use Rattle.byte_pump.specs.Taps.{SeesAll, shown_to};
+ghost use Rattle.byte_pump.specs.Turns.{CountsMore, IsOfEnd, IsOfTurn, Passes, StaysOpen, Turned, Wrote, moment_of, moment_with, pieces_of, why_of};
 
 use crate::pumping::Why;
 use crate::steps::Steps;
@@ -41,11 +40,9 @@ pub fn turn<R: Read, W: Write, S: LineStage, T: Tap, L: Ledger>(
 ) -> Result<(), Why>
     requires room { 0 < length buffer.old }
     requires goes_on { has_failed chain.old ≡ false }
-    ensures turned { Turned (R.remaining reader.old) (R.remaining reader.new)
-        (W.contents writer.old) (W.contents writer.new)
-        (through S.rest (stages_of chain.old)) (through S.rest (stages_of chain.new))
-        (T.watches tap.old) (λ pieces. Watches T.sees T.ends (is_end (why_of result)) tap.old pieces tap.new)
-        1 (why_of result) work.old.taken work.new.taken work.old.given work.new.given }
+    ensures turned { Turned (moment_of R.remaining W.contents S.rest reader.old writer.old chain.old work.old)
+        (moment_of R.remaining W.contents S.rest reader.new writer.new chain.new work.new)
+        (shown_to T.watches T.sees T.ends tap.old tap.new) 1 (why_of result) }
     ensures step { steps.new ≡ steps.old + 1 }
     ensures reason { IfErr result IsOfTurn }
     ensures stays_open { StaysOpen (why_of result) (has_failed chain.old) (has_failed chain.new) }
@@ -83,10 +80,10 @@ fn pass<W: Write, S: LineStage, T: Tap>(
     work: &mut Work,
 ) -> Result<(), Why>
     requires { has_failed chain.old ≡ false }
-    ensures passed { (left : Option (List ℕ)) → Passes piece.now left (W.contents writer.old) (W.contents writer.new)
-        (through S.rest (stages_of chain.old)) (through S.rest (stages_of chain.new))
-        (T.watches tap.old) (λ pieces. Watches T.sees T.ends (is_end (why_of result)) tap.old pieces tap.new)
-        1 (why_of result) work.old.given work.new.given }
+    ensures passed { (left : Option (List ℕ)) → Passes piece.now
+        (moment_with left W.contents S.rest writer.old chain.old work.old)
+        (moment_with left W.contents S.rest writer.new chain.new work.new)
+        (shown_to T.watches T.sees T.ends tap.old tap.new) 1 (why_of result) }
     ensures taken { CountsMore work.old.taken work.new.taken piece.now }
     ensures reason { IfErr result IsOfTurn }
     ensures stays_open { StaysOpen (why_of result) (has_failed chain.old) (has_failed chain.new) }
@@ -114,11 +111,10 @@ fn end<W: Write, S: LineStage, T: Tap>(
     work: &mut Work,
 ) -> Why
     requires { has_failed chain.old ≡ false }
-    ensures passed { (left : Option (List ℕ)) → IsAtEnd left
-        → Passes [] left (W.contents writer.old) (W.contents writer.new)
-        (through S.rest (stages_of chain.old)) (through S.rest (stages_of chain.new))
-        (T.watches tap.old) (λ pieces. Watches T.sees T.ends (is_end result) tap.old pieces tap.new)
-        1 result work.old.given work.new.given }
+    ensures passed { (left : Option (List ℕ)) → IsAtEnd left → Passes []
+        (moment_with left W.contents S.rest writer.old chain.old work.old)
+        (moment_with left W.contents S.rest writer.new chain.new work.new)
+        (shown_to T.watches T.sees T.ends tap.old tap.new) 1 result }
     ensures taken { work.new.taken ≡ work.old.taken }
     ensures reason { IsOfEnd result }
     ensures wholes { through S.whole (stages_of chain.new) ≡ through S.whole (stages_of chain.old) }

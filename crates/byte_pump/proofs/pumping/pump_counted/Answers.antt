@@ -8,11 +8,11 @@ use Rattle.byte_pump.proofs.pumping.pump_counted.Goals as goal
 
 pub returns-then-has_failed-clause-pumped : goal.returns-then-has_failed-clause-pumped
 returns-then-has_failed-clause-pumped g c =
-    pumped_of_turned (omega arith) (turned_nothing g.T.Tap.sees g.T.Tap.ends _ _ _ _ _ _ 0 Failed 0 0 (Keeps-refl _) (_, λ later. refl) refl refl)
+    pumped_of_turned (omega arith) (turned_nothing g.T.Tap.watches g.T.Tap.sees g.T.Tap.ends c.args.tap.now 0 Failed (Keeps-refl _) refl refl refl (_, λ later. refl) refl refl)
 
 pub returns-in_default-clause-pumped : goal.returns-in_default-clause-pumped
 returns-in_default-clause-pumped g c =
-    pumped_of_turned (omega arith) (turned_nothing g.T.Tap.sees g.T.Tap.ends _ _ _ _ _ _ 0 OutOfMemory 0 0 (Keeps-refl _) (_, λ later. refl) refl refl)
+    pumped_of_turned (omega arith) (turned_nothing g.T.Tap.watches g.T.Tap.sees g.T.Tap.ends c.args.tap.now 0 OutOfMemory (Keeps-refl _) refl refl refl (_, λ later. refl) refl refl)
 
 pub returns-clause-pumped : goal.returns-clause-pumped
 returns-clause-pumped g c = pumped_of_turned (omega arith) c.run-why.ensures.turned

@@ -9,7 +9,7 @@ use Rattle.byte_pump.proofs.pumping.run.Goals as goal
 
 pub loop-turn-init : goal.loop-turn-init
 loop-turn-init g c = record {
-  turned = turned_nothing g.T.Tap.sees g.T.Tap.ends _ _ _ _ _ _ 0 TurnsOver _ _ (Keeps-refl _) (λ later. refl) refl refl;
+  turned = turned_nothing g.T.Tap.watches g.T.Tap.sees g.T.Tap.ends c.args.tap.now 0 TurnsOver (Keeps-refl _) refl refl refl (λ later. refl) refl refl;
   steps = omega arith;
   room = c.requires.room;
   goes_on = c.requires.goes_on;
@@ -22,7 +22,7 @@ loop-turn-preserved g c =
     let so_far = c.loop-turn.invariant in
     let told = c.in_default.ensures in
     record {
-      turned = turned_more g.T.Tap.sees g.T.Tap.ends c.args.tap.now c.loop-turn.tap c.turn.new.tap TurnsOver so_far.same so_far.turned told.turned;
+      turned = turned_more g.T.Tap.watches g.T.Tap.sees g.T.Tap.ends c.args.tap.now c.loop-turn.tap c.turn.new.tap TurnsOver so_far.same so_far.turned told.turned;
       steps = omega arith;
       room = c.widen.ensures (omega (
         arith,
@@ -44,7 +44,7 @@ returns-in-Err g c =
     let told = c.in-Err.ensures in
     let went_on = so_far.goes_on ∙ sym c.requires.goes_on in
     record {
-      turned = turned_steps (omega arith) (turned_more g.T.Tap.sees g.T.Tap.ends c.args.tap.now c.loop-turn.tap c.turn.new.tap c.in-Err.why so_far.same so_far.turned told.turned);
+      turned = turned_steps (omega arith) (turned_more g.T.Tap.watches g.T.Tap.sees g.T.Tap.ends c.args.tap.now c.loop-turn.tap c.turn.new.tap c.in-Err.why so_far.same so_far.turned told.turned);
       over = λ is. absurd (subst IsOfTurn is told.reason);
       within = (omega arith, omega arith);
       not_failed = λ is. subst IsOfTurn is told.reason;

@@ -6,12 +6,13 @@ pub returns-then-is_empty-clause-passed : goal.returns-then-is_empty-clause-pass
 returns-then-is_empty-clause-passed g c =
     let none = c.if-is_empty.ensures.0 refl in
     let piece = c.args.piece.now in
-    passes_given g.T.Tap.sees g.T.Tap.ends c.args.tap.now c.show.new.tap c.give.new.tap piece piece c.show.ensures.shown c.show.ensures.same c.give.ensures.shown (gives_same g.S.LineStage.rest none piece) c.give.ensures.wrote
+    λ left. passes_given g.T.Tap.watches g.T.Tap.sees g.T.Tap.ends c.args.tap.now c.show.new.tap c.give.new.tap piece piece c.show.ensures.shown c.show.ensures.same c.give.ensures.shown (gives_same g.S.LineStage.rest none piece) c.give.ensures.wrote
 
 pub returns-in-Ok-clause-passed : goal.returns-in-Ok-clause-passed
 returns-in-Ok-clause-passed g c =
     let fed = c.in-Ok.ensures.fed in
-    passes_given g.T.Tap.sees g.T.Tap.ends c.args.tap.now c.show.new.tap c.give-in-Ok.new.tap c.args.piece.now c.deref.result.now c.show.ensures.shown c.show.ensures.same c.give-in-Ok.ensures.shown (gives_added c.clear.ensures.items fed c.deref.ensures.value) c.give-in-Ok.ensures.wrote
+    λ left. passes_given g.T.Tap.watches g.T.Tap.sees g.T.Tap.ends c.args.tap.now c.show.new.tap c.give-in-Ok.new.tap c.args.piece.now c.deref.result.now c.show.ensures.shown c.show.ensures.same c.give-in-Ok.ensures.shown (gives_added c.clear.ensures.items fed c.deref.ensures.value) c.give-in-Ok.ensures.wrote
 
 pub returns-in-Err-OutOfMemory-clause-passed : goal.returns-in-Err-OutOfMemory-clause-passed
-returns-in-Err-OutOfMemory-clause-passed g c = passes_none g.T.Tap.sees g.T.Tap.ends _ _ _ _ _ c.show.ensures.shown
+returns-in-Err-OutOfMemory-clause-passed g c =
+    λ left. passes_none g.T.Tap.watches g.T.Tap.sees g.T.Tap.ends c.args.tap.now c.show.new.tap c.show.ensures.shown refl refl

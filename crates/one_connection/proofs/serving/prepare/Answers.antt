@@ -1,0 +1,40 @@
+-- The environment that is made is that of the decision; a decision that fails is a drop for its cause.
+use Rattle.std.specs.Prelude.{ℕ, Bool, []}
+use Rattle.std.proofs.Common.{refl, sym, subst, ◌∙◌, ap}
+use Rattle.rule_lines.specs.declared.source.FindFault.TheVariants as find
+use Rattle.rule_lookup.specs.declared.decision.DecideFault.{DecideFault}
+use Rattle.rule_lookup.specs.declared.decision.DecideFault.TheVariants.{Find, Code, OutOfMemory}
+use Rattle.rule_lookup.specs.declared.outcome.DropCause.{DropCause}
+use Rattle.ucspi_env.specs.Child.{environment_of}
+use Rattle.one_connection.specs.Servings.{Drops, FailsFor, cause_of}
+use Rattle.one_connection.proofs.serving.prepare.Goals as goal
+
+-- a decision that fails is a drop, whatever its fault
+drops_for : (fails : DropCause → Type 0) (is_shared : Bool) (before now : ℕ) (fault : DecideFault) → fails (cause_of fault) → Drops fails is_shared before now [] (cause_of fault)
+drops_for fails is_shared before now (Find find.Short) failed = failed
+drops_for fails is_shared before now (Find find.Device) failed = failed
+drops_for fails is_shared before now (Find find.OutOfMemory) failed = _
+drops_for fails is_shared before now (Code fault) failed = failed
+drops_for fails is_shared before now OutOfMemory failed = _
+
+pub returns-in-Ok-decided-clause-prepared : goal.returns-in-Ok-decided-clause-prepared
+returns-in-Ok-decided-clause-prepared g c = record {
+  decision = c.in-Ok-decide.decision;
+  decided = record { found = g.D.Desk.opening c.in-Ok.pass; was_found = c.in-Ok.ensures.found; by_rules = c.in-Ok-decide.ensures.decided };
+  same = refl;
+  given =
+      c.in-Ok-build.ensures
+      ∙ ap (λ inherited. environment_of inherited c.local.result.now c.args.peer.now c.in-Ok-decide.decision) c.inherited.ensures
+      ∙ ap (λ local. environment_of c.args.plan.now.inherited local c.args.peer.now c.in-Ok-decide.decision) c.local.ensures;
+}
+
+pub returns-in-Err-decide-clause-dropped : goal.returns-in-Err-decide-clause-dropped
+returns-in-Err-decide-clause-dropped g c =
+    let fails = FailsFor (g.D.Desk.finds c.args.desk.now) g.D.Desk.honest g.D.Desk.sound c.args.peer.now in
+    let is_shared = g.D.Desk.is_shared in
+    let before = g.D.Desk.failures c.args.desk.now in
+    let now = g.D.Desk.failures c.open.new.self in
+    let fault = c.in-Err-decide.fault in
+    let failed : fails (cause_of fault) =
+    record { found = g.D.Desk.opening c.in-Ok.pass; was_found = c.in-Ok.ensures.found; fault = fault; fails = c.in-Err-decide.ensures.refused; for_it = refl } in
+    subst (Drops fails is_shared before now []) (sym c.cause_of.ensures) (drops_for fails is_shared before now fault failed)

@@ -1,0 +1,36 @@
+-- The banner is written before all else; a child is started only of an allowed connection.
+use Rattle.std.specs.Prelude.{ℕ, Bool, List, [], Option}
+use Rattle.std.specs.Io.KnownBytes.{Appends}
+use Rattle.std.proofs.Common.{refl, subst}
+use Rattle.rule_lookup.specs.declared.outcome.DropCause.{DropCause}
+use Rattle.rule_lookup.specs.declared.outcome.DropCause.TheVariants as cause
+use Rattle.server_events.specs.declared.event.Stage.TheVariants as stage
+use Rattle.one_connection.specs.Servings.{Drops, FailsFor, Greets, is_banner}
+use Rattle.one_connection.proofs.serving.serve_one.Goals as goal
+
+-- a drop with no banner to write is for another cause
+greets_dropped : (old new : Option (List ℕ)) (banner : List ℕ) (fails : DropCause → Type 0) (is_shared : Bool) (before now : ℕ) (why : DropCause)
+    → Appends old new banner → Drops fails is_shared before now [] why → Greets old new banner (is_banner why)
+greets_dropped old new banner fails is_shared before now cause.Denied wrote drops = wrote
+greets_dropped old new banner fails is_shared before now cause.Banner wrote drops = absurd (drops refl)
+greets_dropped old new banner fails is_shared before now cause.Directory wrote drops = wrote
+greets_dropped old new banner fails is_shared before now cause.ReadFault wrote drops = wrote
+greets_dropped old new banner fails is_shared before now cause.Damaged wrote drops = wrote
+greets_dropped old new banner fails is_shared before now cause.Memory wrote drops = wrote
+greets_dropped old new banner fails is_shared before now cause.NoThread wrote drops = wrote
+
+pub returns-in-Deny-clause-greeted : goal.returns-in-Deny-clause-greeted
+returns-in-Deny-clause-greeted g c =
+    subst (λ banner. Appends (g.W.Write.contents c.args.writer.now) (g.W.Write.contents c.greet.new.writer) banner) c.banner.ensures c.in_default.ensures.greeted
+
+pub returns-in-Err-prepare-clause-greeted : goal.returns-in-Err-prepare-clause-greeted
+returns-in-Err-prepare-clause-greeted g c =
+    let old = g.W.Write.contents c.args.writer.now in
+    let new = g.W.Write.contents c.greet.new.writer in
+    let wrote : Appends old new c.args.plan.now.banner = subst (λ banner. Appends old new banner) c.banner.ensures c.in_default.ensures.greeted in
+    let fails = FailsFor (g.D.Desk.finds c.args.desk.now) g.D.Desk.honest g.D.Desk.sound c.args.peer.now in
+    greets_dropped old new c.args.plan.now.banner fails g.D.Desk.is_shared (g.D.Desk.failures c.args.desk.now) (g.D.Desk.failures c.prepare.new.desk) c.in-Err-prepare.cause wrote c.in-Err-prepare.ensures.dropped
+
+pub run-requires-clause-stands : goal.run-requires-clause-stands
+run-requires-clause-stands g c =
+    subst (λ verdict. g.D.Desk.stands c.prepare.new.desk c.args.place c.args.serial c.args.peer.now (stage.Decided verdict)) c.in-Allow.is c.in-Ok.ensures.decided
