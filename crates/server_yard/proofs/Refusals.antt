@@ -1,5 +1,5 @@
 -- A step that is refused as over is no event; which installation is kept under a number.
-use Rattle.std.proofs.Common.{◌≡◌, ℕ, Bool, true, false, List, Option, None, Some, refl, sym}
+use Rattle.std.proofs.Common.{◌≡◌, ℕ, Bool, true, false, List, Option, None, Some, refl}
 use Rattle.std.specs.Prelude.{Err, if◌then◌else◌}
 use Rattle.event_journals.specs.declared.journal.Noted.{Noted}
 use Rattle.rules_install.specs.Installing.{Installing}
