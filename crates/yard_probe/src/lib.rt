@@ -79,7 +79,7 @@ fn run_with_number<R: Input>(
     }
 }
 
-/// Runs the case that the first word names, and prints what its calls answer.
+/// Runs the case that the first word names, and prints what its calls answer: nothing where one of them failed.
 ///
 /// # Errors
 /// The words name no case, a call failed, or the standard output did.
@@ -92,5 +92,6 @@ pub fn run<R: Input + Print>(rt: &R, alloc: Global, words: &mut Args) -> io::Res
         Some(case) => run_case(alloc, case, &mut out),
         None => run_with_number(rt, alloc, name.as_str(), words, &mut out),
     }
+    out.keep_whole();
     out.print(rt)
 }
