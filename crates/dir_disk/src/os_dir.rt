@@ -299,9 +299,11 @@ impl<D: Disk + Drop> Dir for DiskDir<D> {
 
     ghost failed = { λ dir. dir.failures };
 
-    ghost counts_now = { λ dir earlier image honest le now. D.counts_now dir.disk earlier image honest le (disk_image D.number (D.state dir.disk) dir.scratch dir.written dir.pending.items image (dir.holds honest) now) };
+    ghost counts_now = { λ dir earlier image honest le now. D.counts_now dir.disk earlier image honest le
+        (disk_image D.number (D.state dir.disk) dir.scratch dir.written dir.pending.items image (dir.holds honest) now) };
 
-    ghost only_now = { λ dir image honest left. kept_image D.number (D.state dir.disk) dir.scratch dir.written dir.pending.items image (dir.holds honest) (D.only_now dir.disk image honest left) };
+    ghost only_now = { λ dir image honest left. kept_image D.number (D.state dir.disk) dir.scratch dir.written
+        dir.pending.items image (dir.holds honest) (D.only_now dir.disk image honest left) };
 
     ghost honest_files = { λ honest. subst (λ known. IsTrue known) (sym D.honest_files) honest };
 
