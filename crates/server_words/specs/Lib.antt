@@ -2,6 +2,7 @@
 pub mod Checks
 pub mod Faults
 pub mod Limits
+pub mod Modes
 pub mod Operands
 pub mod Options
 pub mod Plans
