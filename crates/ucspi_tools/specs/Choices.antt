@@ -3,17 +3,19 @@ use Rattle.std.specs.Prelude.{◌≡◌, ◌+◌, ℕ, ◌&&◌, drop, List, [],
 use Rattle.std.specs.List.{list_all}
 use Rattle.std.specs.Str.{is_utf8}
 use Rattle.memchr.specs.Find.{IsLastByte, is_byte}
+use Rattle.server_words.specs.declared.mode.Mode.{Mode}
+use Rattle.server_words.specs.declared.mode.Mode.TheVariants.{HandedOver, Pumped}
 use Rattle.stream_tools.specs.Programs.{texts_of}
 use Rattle.ucspi_tools.specs.declared.choice.Choice.{Choice}
 use Rattle.ucspi_tools.specs.declared.choice.Choice.TheVariants as choice
 use Rattle.ucspi_tools.specs.declared.tool.Tool.{Tool}
 use Rattle.ucspi_tools.specs.declared.tool.Tool.TheVariants.{Tcpserver, Rulesim, Tcprules, Tcprulescheck, Addcr, Delcr, Fixcrio, Recordio}
 
--- a run of `tcpserver` with its words; of `rulesim`; of `tcprules` with the paths of the rules file and of the scratch file; of `tcprulescheck` with that of the rules
+-- a run of `tcpserver` with its words, and how its connections are passed where these don't say it; of `rulesim`; of `tcprules` with the paths of the rules file and of the scratch file; of `tcprulescheck` with that of the rules
 -- file; of `addcr`; of `delcr`; of `fixcrio` and of `recordio` with a program and its arguments; the usage line of a tool; or that of
 -- `ucspi`
 pub data Wanted : Type 0 where
-  serves : List (List ℕ) → Wanted
+  serves : Mode → List (List ℕ) → Wanted
   simulates : Wanted
   installs : List ℕ → List ℕ → Wanted
   checks : List ℕ → Wanted
@@ -26,7 +28,7 @@ pub data Wanted : Type 0 where
 
 -- what a choice that was read is
 abbrev pub wanted : Choice → Wanted
-wanted (choice.Tcpserver words) = serves (texts_of words.now)
+wanted (choice.Tcpserver mode words) = serves mode (texts_of words.now)
 wanted choice.Rulesim = simulates
 wanted (choice.Tcprules cdb tmp) = installs cdb.now tmp.now
 wanted (choice.Tcprulescheck cdb) = checks cdb.now
@@ -43,8 +45,8 @@ alone run tool [] = run
 alone run tool (word ∷ words) = usage_of tool
 
 -- the words of `tcpserver` are text; what they have to be beside that `read_server_words` tells
-abbrev pub tcpserver_by : List (List ℕ) → Wanted
-tcpserver_by words = if list_all is_utf8 words then serves words else usage_of Tcpserver
+abbrev pub tcpserver_by : Mode → List (List ℕ) → Wanted
+tcpserver_by mode words = if list_all is_utf8 words then serves mode words else usage_of Tcpserver
 
 -- `tcprules` has two paths, which are text
 abbrev pub tcprules_by : List (List ℕ) → Wanted
@@ -61,15 +63,16 @@ abbrev pub with_program : Wanted → Tool → List (List ℕ) → Wanted
 with_program run tool [] = usage_of tool
 with_program run tool (word ∷ words) = if list_all is_utf8 (word ∷ words) then run else usage_of tool
 
-abbrev pub run_of : Tool → List (List ℕ) → Wanted
-run_of Tcpserver words = tcpserver_by words
-run_of Rulesim words = alone simulates Rulesim words
-run_of Tcprules words = tcprules_by words
-run_of Tcprulescheck words = tcprulescheck_by words
-run_of Addcr words = alone adds Addcr words
-run_of Delcr words = alone deletes Delcr words
-run_of Fixcrio words = with_program (fixes words) Fixcrio words
-run_of Recordio words = with_program (records words) Recordio words
+-- the mode is that of a server whose words don't say it
+abbrev pub run_of : Mode → Tool → List (List ℕ) → Wanted
+run_of mode Tcpserver words = tcpserver_by mode words
+run_of mode Rulesim words = alone simulates Rulesim words
+run_of mode Tcprules words = tcprules_by words
+run_of mode Tcprulescheck words = tcprulescheck_by words
+run_of mode Addcr words = alone adds Addcr words
+run_of mode Delcr words = alone deletes Delcr words
+run_of mode Fixcrio words = with_program (fixes words) Fixcrio words
+run_of mode Recordio words = with_program (records words) Recordio words
 
 -- the name of a tool
 abbrev pub name_of : Tool → List ℕ
@@ -105,9 +108,9 @@ tool_of name =
     else (if bytes_eq name (name_of Fixcrio) then Some Fixcrio
     else (if bytes_eq name (name_of Recordio) then Some Recordio else None)))))))
 
--- the first word names the tool
+-- the first word names the tool; `tcpserver` as a word of `ucspi` pumps its connections
 abbrev pub run_by : Option Tool → List (List ℕ) → Wanted
-run_by (Some tool) words = run_of tool words
+run_by (Some tool) words = run_of Pumped tool words
 run_by None words = usage
 
 -- with no words it is `rulesim`
@@ -115,9 +118,10 @@ abbrev pub choice_by_word : List (List ℕ) → Wanted
 choice_by_word [] = simulates
 choice_by_word (tool ∷ words) = run_by (tool_of tool) words
 
--- the tool by whose name the program was called, with all words; else the one that the first word names
+-- the tool by whose name the program was called, with all words; else the one that the first word names. `tcpserver` by its own name hands its
+-- connections over
 abbrev pub choice_called : Option Tool → List (List ℕ) → Wanted
-choice_called (Some tool) words = run_of tool words
+choice_called (Some tool) words = run_of HandedOver tool words
 choice_called None words = choice_by_word words
 
 -- what stands after a slash of a path
@@ -139,7 +143,7 @@ pub record CallsFor (path : List ℕ) (words : List (List ℕ)) (asked : Wanted)
 
 -- the tool that is asked for, if it is one
 abbrev pub tool_in : Wanted → Option Tool
-tool_in (serves words) = Some Tcpserver
+tool_in (serves mode words) = Some Tcpserver
 tool_in simulates = Some Rulesim
 tool_in (installs cdb tmp) = Some Tcprules
 tool_in (checks cdb) = Some Tcprulescheck

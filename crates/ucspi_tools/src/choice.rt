@@ -7,12 +7,15 @@ ghost use Rattle.ucspi_tools.specs.Choices.{CallsFor, IsLastPart, alone, choice_
 
 use crate::tool::Tool;
 use memchr::memrchr;
+use server_words::Mode;
 
 /// What words ask for.
 #[derive(Clone, Copy, PartialEq, Eq, Debug)]
 pub enum Choice<'a> {
     /// A run of `tcpserver`.
     Tcpserver {
+        /// How connections are passed to programs where the words don't say it.
+        by_name: Mode,
         /// Its words, each UTF-8.
         words: &'a [Vec<u8>],
     },
@@ -71,12 +74,13 @@ impl Choice<'_> {
 }
 
 /// What a command line asks for: the path by which the program was called, and the words after it. Where the last part of that path is a
-/// tool's name, that is the tool, and all words are its own; else the first word names the tool.
+/// tool's name, that is the tool, and all words are its own; else the first word names the tool. `tcpserver` hands connections over by its own
+/// name, and pumps them as a word of `ucspi`, where its words don't say it.
 pub fn choose<'a>(path: &[u8], words: &'a [Vec<u8>]) -> Choice<'a>
     ensures { CallsFor path.now (texts_of words.now) (wanted result) }
 {
     match Tool::named(last_part(path)) {
-        Some(tool) => choose_tool(tool, words),
+        Some(tool) => choose_tool(tool, words, Mode::HandedOver),
         None => choose_by_word(words),
     }
 }
@@ -99,17 +103,17 @@ fn choose_by_word(words: &[Vec<u8>]) -> Choice<'_>
         return Choice::Rulesim;
     };
     match Tool::named(tool) {
-        Some(tool) => choose_tool(tool, words),
+        Some(tool) => choose_tool(tool, words, Mode::Pumped),
         None => Choice::Usage,
     }
 }
 
-/// What the words of a tool ask for.
-fn choose_tool(tool: Tool, words: &[Vec<u8>]) -> Choice<'_>
-    ensures { wanted result ≡ run_of tool (texts_of words.now) }
+/// What the words of a tool ask for, of a server in this mode where they don't say it.
+fn choose_tool(tool: Tool, words: &[Vec<u8>], by_name: Mode) -> Choice<'_>
+    ensures { wanted result ≡ run_of by_name tool (texts_of words.now) }
 {
     match tool {
-        Tool::Tcpserver => choose_texts(words),
+        Tool::Tcpserver => choose_texts(words, by_name),
         Tool::Rulesim => choose_alone(Choice::Rulesim, tool, words),
         Tool::Addcr => choose_alone(Choice::Addcr, tool, words),
         Tool::Delcr => choose_alone(Choice::Delcr, tool, words),
@@ -132,11 +136,11 @@ fn choose_alone<'a>(run: Choice<'a>, tool: Tool, words: &[Vec<u8>]) -> Choice<'a
 }
 
 /// The run of `tcpserver`, whose words have to be text.
-fn choose_texts(words: &[Vec<u8>]) -> Choice<'_>
-    ensures { wanted result ≡ tcpserver_by (texts_of words.now) }
+fn choose_texts(words: &[Vec<u8>], by_name: Mode) -> Choice<'_>
+    ensures { wanted result ≡ tcpserver_by by_name (texts_of words.now) }
 {
     if are_texts(words) {
-        Choice::Tcpserver { words }
+        Choice::Tcpserver { by_name, words }
     } else {
         Choice::UsageOf(Tool::Tcpserver)
     }

@@ -9,6 +9,7 @@ use std::fs::{File, Files};
 use std::io;
 use std::io::Write;
 use std::net::{Net, TcpStream};
+use std::os::fd::AsRawFd;
 use std::process::{ChildStdin, OpenProcess, Processes};
 use std::rt::Env;
 use std::sync::Wait;
@@ -34,7 +35,7 @@ where
     R::Dir: Send + Sync,
     R::Listener: Send + Sync,
     R::Started: OpenProcess<Stdin = ChildStdin> + Send,
-    <R::Started as OpenProcess>::Stdout: Send,
+    <R::Started as OpenProcess>::Stdout: AsRawFd + Send,
     <R::Started as OpenProcess>::Stderr: Send,
 {
     let alloc = rt.alloc();
@@ -56,11 +57,13 @@ where
     R::Dir: Send + Sync,
     R::Listener: Send + Sync,
     R::Started: OpenProcess<Stdin = ChildStdin> + Send,
-    <R::Started as OpenProcess>::Stdout: Send,
+    <R::Started as OpenProcess>::Stdout: AsRawFd + Send,
     <R::Started as OpenProcess>::Stderr: Send,
 {
     match choice {
-        Choice::Tcpserver { words } => run_tcpserver(rt, Patient::new(rt, errors), words)?,
+        Choice::Tcpserver { by_name, words } => {
+            run_tcpserver(rt, Patient::new(rt, errors), words, by_name)?
+        }
         Choice::Rulesim => run_script(rt)?,
         Choice::Tcprules { cdb, tmp } => run_tcprules(rt.alloc(), &mut rt.reader(), rt, cdb, tmp)?,
         Choice::Tcprulescheck { cdb } => run_tcprulescheck(rt, rt, &mut io::writer(rt), cdb)?,
