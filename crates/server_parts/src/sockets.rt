@@ -46,9 +46,11 @@ impl<T: OpenListener<Stream = TcpStream>> Listening<T> {
         let Ok(local) = stream.local_addr() else {
             return Err(AcceptFault::Other);
         };
-        let (Some((ip, port)), Some(local)) = (ipv4(peer), ipv4(local)) else {
+        let (Some(peer), Some(local)) = (ipv4(peer), ipv4(local)) else {
             return Err(AcceptFault::Other);
         };
+        let (ip, port) = peer;
+        let (local_ip, local_port) = local;
         if self.sends_at_once {
             let _ = stream.set_nodelay(true);
         }
@@ -56,7 +58,7 @@ impl<T: OpenListener<Stream = TcpStream>> Listening<T> {
             stream,
             ip,
             port,
-            local: Local::new(local.0, local.1, None),
+            local: Local::new(local_ip, local_port, None),
         })
     }
 }

@@ -6,4 +6,5 @@ pub mod Modes
 pub mod Operands
 pub mod Options
 pub mod Plans
+pub mod Usages
 pub mod Wrappings

@@ -7,6 +7,7 @@ pub mod level;
 pub mod limits;
 pub mod mode;
 pub mod operands;
+pub mod usage;
 pub mod words;
 pub mod wrapping;
 
@@ -15,5 +16,6 @@ pub use level::Level;
 pub use limits::Limits;
 pub use mode::Mode;
 pub use operands::Operands;
+pub use usage::{Lacking, UsageCause, usage_cause};
 pub use words::{ServerWords, read_server_words};
 pub use wrapping::{StageName, Wrapping};
