@@ -24,13 +24,13 @@ const PROGRAM: &str = "ucspi";
 const USAGE: &str = "ucspi TOOL ...";
 
 /// Runs the tool that the command line asks for, over the standard streams and the system's files and programs, and answers the exit
-/// code. `errors` is standard error, for lines that are no text.
+/// code. `errors` is standard error. A standard stream that was left non-blocking is waited for, so that nothing is lost.
 pub fn run_program<R, E>(rt: &R, errors: E) -> u8
 where
-    R: Env + Input + Print + Eprint + AllocGlobal,
+    R: Env + Input + Print + AllocGlobal,
     R: Files<File = File> + Processes + Threads + Wait + Sync + Clock + Net<Stream = TcpStream>,
     R::Reader: Send,
-    E: Write + Send + Drop,
+    E: Write + Send + Copy,
     R::Dir: Send + Sync,
     R::Listener: Send + Sync,
     R::Started: OpenProcess<Stdin = ChildStdin> + Send,
@@ -38,12 +38,13 @@ where
     <R::Started as OpenProcess>::Stderr: Send,
 {
     let alloc = rt.alloc();
+    let mut faults = Patient::new(rt, errors);
     let (Ok(path), Ok(words)) = (program_path(alloc, rt), command_words(alloc, rt)) else {
-        return end(rt, PROGRAM, Err(ToolFault::OutOfMemory));
+        return end(&mut faults, PROGRAM, Err(ToolFault::OutOfMemory));
     };
     let choice = choose(path.as_slice(), words.as_slice());
     let name = choice.tool().map_or(PROGRAM, |tool| tool.name());
-    end(rt, name, run(rt, errors, choice))
+    end(&mut faults, name, run(rt, errors, choice))
 }
 
 /// Runs what words ask for, and answers the exit code.
@@ -52,7 +53,7 @@ where
     R: Env + Input + Print + AllocGlobal,
     R: Files<File = File> + Processes + Threads + Wait + Sync + Clock + Net<Stream = TcpStream>,
     R::Reader: Send,
-    E: Write + Send + Drop,
+    E: Write + Send + Copy,
     R::Dir: Send + Sync,
     R::Listener: Send + Sync,
     R::Started: OpenProcess<Stdin = ChildStdin> + Send,
@@ -62,12 +63,18 @@ where
     match choice {
         Choice::Tcpserver { words } => run_tcpserver(rt, Patient::new(rt, errors), words)?,
         Choice::Rulesim => run_script(rt)?,
-        Choice::Tcprules { cdb, tmp } => run_tcprules(rt.alloc(), &mut rt.reader(), rt, cdb, tmp)?,
-        Choice::Tcprulescheck { cdb } => run_tcprulescheck(rt, rt, &mut io::writer(rt), cdb)?,
+        Choice::Tcprules { cdb, tmp } => {
+            let mut reader = Patient::new(rt, rt.reader());
+            run_tcprules(rt.alloc(), &mut reader, rt, cdb, tmp)?;
+        },
+        Choice::Tcprulescheck { cdb } => {
+            let mut writer = Patient::new(rt, io::writer(rt));
+            run_tcprulescheck(rt, rt, &mut writer, cdb)?;
+        },
         Choice::Addcr => run_addcr(rt)?,
         Choice::Delcr => run_delcr(rt)?,
         Choice::Fixcrio { words } => return Ok(status_code(run_fixcrio(rt, words)?)),
-        Choice::Recordio { words } => return Ok(status_code(run_recordio(rt, errors, words)?)),
+        Choice::Recordio { words } => return Ok(status_code(run_recordio(rt, Patient::new(rt, errors), words)?)),
         Choice::UsageOf(tool) => return Err(ToolFault::Usage(tool.usage())),
         Choice::Usage => return Err(ToolFault::Usage(USAGE)),
     }
