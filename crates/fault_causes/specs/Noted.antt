@@ -5,3 +5,7 @@ use Rattle.fault_causes.specs.declared.noted.Noted.{Noted}
 -- the number that it has noted
 abbrev pub noted_error : {S : Type 0} → Noted S → Option ℤ
 noted_error noted = noted.error
+
+-- the stream that it passes on
+abbrev pub noted_stream : {S : Type 0} → Noted S → S
+noted_stream noted = noted.stream

@@ -1,6 +1,7 @@
 //! Streams that note the error of a call that fails.
-ghost use Rattle.std.specs.Prelude.{◌≡◌, None, IfErr, OnOk, IsErrAnd};
-ghost use Rattle.std.specs.IoError.{raw_os_error};
+ghost use Rattle.std.specs.Prelude.{◌≡◌, None};
+ghost use Rattle.std.specs.Io.{ReadsAtMost, WritesAtMost};
+ghost use Rattle.std.specs.Io.KnownBytes.{Keeps, ReadConsumes, WriteAppends};
 ghost use Rattle.fault_causes.specs.Numbers.{number_of};
 
 use std::io::{Read, Result, Write};
@@ -14,11 +15,12 @@ pub struct Noted<S> {
 }
 
 impl<S> Noted<S> {
-    ghost use Rattle.fault_causes.specs.Noted.{noted_error};
+    ghost use Rattle.fault_causes.specs.Noted.{noted_error, noted_stream};
 
     /// A stream of which no call has failed.
     pub fn new(stream: S) -> Noted<S>
-        ensures { noted_error result ≡ None }
+        ensures error { noted_error result ≡ None }
+        ensures stream { noted_stream result ≡ stream }
     {
         Noted {
             stream,
@@ -45,11 +47,14 @@ fn error_of<T>(outcome: &Result<T>) -> Option<i32>
 }
 
 impl<S: Read> Read for Noted<S> {
-    ghost use Rattle.fault_causes.specs.Noted.{noted_error};
+    ghost use Rattle.fault_causes.specs.Noted.{noted_error, noted_stream};
 
     ghost remaining = { λ noted. S.remaining noted.stream };
 
     fn read(&mut self, buf: &mut [u8]) -> Result<usize>
+        ensures bound { ReadsAtMost result buf.new }
+        ensures bytes { ReadConsumes (S.remaining (noted_stream self.old)) (S.remaining (noted_stream self.new))
+            result buf.new }
         ensures noted { noted_error self.new ≡ number_of result }
     {
         let outcome = self.stream.read(buf);
@@ -59,11 +64,14 @@ impl<S: Read> Read for Noted<S> {
 }
 
 impl<S: Write> Write for Noted<S> {
-    ghost use Rattle.fault_causes.specs.Noted.{noted_error};
+    ghost use Rattle.fault_causes.specs.Noted.{noted_error, noted_stream};
 
     ghost contents = { λ noted. S.contents noted.stream };
 
     fn write(&mut self, buf: &[u8]) -> Result<usize>
+        ensures bound { WritesAtMost result buf.now }
+        ensures bytes { WriteAppends (S.contents (noted_stream self.old)) (S.contents (noted_stream self.new))
+            result buf.now }
         ensures noted { noted_error self.new ≡ number_of result }
     {
         let outcome = self.stream.write(buf);
@@ -72,6 +80,7 @@ impl<S: Write> Write for Noted<S> {
     }
 
     fn flush(&mut self) -> Result<()>
+        ensures bytes { Keeps (S.contents (noted_stream self.old)) (S.contents (noted_stream self.new)) }
         ensures noted { noted_error self.new ≡ number_of result }
     {
         let outcome = self.stream.flush();
