@@ -1,4 +1,6 @@
 //! What failed last on a disk of the system.
+ghost use Rattle.std.specs.Prelude.{◌≡◌};
+
 use std::alloc::{AllocError, Global};
 use std::cell::Cell;
 use std::io;
@@ -42,7 +44,9 @@ impl Notes {
     }
 
     /// Notes how a call ended, and passes it on.
-    pub(crate) fn note<T>(&self, on: FailedOn, outcome: io::Result<T>) -> io::Result<T> {
+    pub(crate) fn note<T>(&self, on: FailedOn, outcome: io::Result<T>) -> io::Result<T>
+        ensures { result ≡ outcome }
+    {
         self.on.set(on);
         store(&self.error, &outcome);
         outcome

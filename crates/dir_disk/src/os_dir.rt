@@ -11,8 +11,8 @@ ghost use Rattle.dir_disk.specs.KeptImages.{kept_image, disk_image};
 ghost use Rattle.std.proofs.Common.{subst, sym};
 
 use crate::disk::Disk;
-use crate::os_file::OsFile;
 use crate::lock::LockTry;
+use crate::os_file::OsFile;
 use crate::patient::{TRIES, is_file, move_name, not_opened, opened, remove_name, settle};
 use crate::scratch::{BUFFER, give_up, make_room, overwrite, renew, sync_kept};
 use crate::system_disk::SystemDisk;

@@ -1,5 +1,5 @@
 //! Folders of the system, call by call.
-ghost use Rattle.std.specs.Prelude.{[], ⊤, true, false, refl};
+ghost use Rattle.std.specs.Prelude.{◌≡◌, [], ⊤, true, false, refl};
 ghost use Rattle.dir_calls.specs.NoDirectory.{no_directory, not_honest};
 
 use crate::disk::{Disk, DiskFile, Look};
@@ -99,7 +99,9 @@ impl<R: Files + Drop> SystemDisk<R> {
     }
 
     // Notes how a call ended, and passes it on.
-    fn note<T>(&self, on: FailedOn, outcome: io::Result<T>) -> io::Result<T> {
+    fn note<T>(&self, on: FailedOn, outcome: io::Result<T>) -> io::Result<T>
+        ensures { result ≡ outcome }
+    {
         self.notes.note(on, outcome)
     }
 
@@ -111,7 +113,10 @@ impl<R: Files + Drop> SystemDisk<R> {
 }
 
 /// Whether what was opened is what stands at a path, by their looks.
-pub(crate) fn is_same(opened: io::Result<Metadata>, stands: io::Result<Metadata>) -> io::Result<bool> {
+pub(crate) fn is_same(
+    opened: io::Result<Metadata>,
+    stands: io::Result<Metadata>,
+) -> io::Result<bool> {
     let (opened, stands) = (opened?, stands?);
     Ok(opened.dev() == stands.dev() && opened.ino() == stands.ino())
 }

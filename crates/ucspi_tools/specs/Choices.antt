@@ -9,14 +9,14 @@ use Rattle.ucspi_tools.specs.declared.choice.Choice.TheVariants as choice
 use Rattle.ucspi_tools.specs.declared.tool.Tool.{Tool}
 use Rattle.ucspi_tools.specs.declared.tool.Tool.TheVariants.{Tcpserver, Rulesim, Tcprules, Tcprulescheck, Addcr, Delcr, Fixcrio, Recordio}
 
--- a run of `tcpserver` with its words; of `rulesim`; of `tcprules` with the paths of the rules file and of the scratch file; of `tcprulescheck` with that of the rules
--- file; of `addcr`; of `delcr`; of `fixcrio` and of `recordio` with a program and its arguments; the usage line of a tool; or that of
+-- a run of `tcpserver` with its words; of `rulesim`; of `tcprules`, whether it is to tell causes, and the paths of the rules file and of the
+-- scratch file; of `tcprulescheck`, whether it is to tell causes, and the path of the rules file; of `addcr`; of `delcr`; of `fixcrio` and of `recordio` with a program and its arguments; the usage line of a tool; or that of
 -- `ucspi`
 pub data Wanted : Type 0 where
   serves : List (List ℕ) → Wanted
   simulates : Wanted
-  installs : List ℕ → List ℕ → Wanted
-  checks : List ℕ → Wanted
+  installs : Bool → List ℕ → List ℕ → Wanted
+  checks : Bool → List ℕ → Wanted
   adds : Wanted
   deletes : Wanted
   fixes : List (List ℕ) → Wanted
@@ -28,8 +28,8 @@ pub data Wanted : Type 0 where
 abbrev pub wanted : Choice → Wanted
 wanted (choice.Tcpserver words) = serves (texts_of words.now)
 wanted choice.Rulesim = simulates
-wanted (choice.Tcprules cdb tmp) = installs cdb.now tmp.now
-wanted (choice.Tcprulescheck cdb) = checks cdb.now
+wanted (choice.Tcprules cdb tmp verbose) = installs verbose cdb.now tmp.now
+wanted (choice.Tcprulescheck cdb verbose) = checks verbose cdb.now
 wanted choice.Addcr = adds
 wanted choice.Delcr = deletes
 wanted (choice.Fixcrio words) = fixes (texts_of words.now)
@@ -46,15 +46,34 @@ alone run tool (word ∷ words) = usage_of tool
 abbrev pub tcpserver_by : List (List ℕ) → Wanted
 tcpserver_by words = if list_all is_utf8 words then serves words else usage_of Tcpserver
 
+-- a first word `-v` asks for causes
+abbrev pub is_verbose : List (List ℕ) → Bool
+is_verbose [] = false
+is_verbose (word ∷ words) = bytes_eq word (codes "-v")
+
+-- the words but for that one
+abbrev pub operands_by : Bool → List (List ℕ) → List (List ℕ)
+operands_by true words = drop 1 words
+operands_by false words = words
+
+abbrev pub operands : List (List ℕ) → List (List ℕ)
+operands words = operands_by (is_verbose words) words
+
 -- `tcprules` has two paths, which are text
+abbrev pub tcprules_at : Bool → List (List ℕ) → Wanted
+tcprules_at verbose (cdb ∷ tmp ∷ []) = if is_utf8 cdb && is_utf8 tmp then installs verbose cdb tmp else usage_of Tcprules
+tcprules_at verbose words = usage_of Tcprules
+
 abbrev pub tcprules_by : List (List ℕ) → Wanted
-tcprules_by (cdb ∷ tmp ∷ []) = if is_utf8 cdb && is_utf8 tmp then installs cdb tmp else usage_of Tcprules
-tcprules_by words = usage_of Tcprules
+tcprules_by words = tcprules_at (is_verbose words) (operands words)
 
 -- `tcprulescheck` has one
+abbrev pub tcprulescheck_at : Bool → List (List ℕ) → Wanted
+tcprulescheck_at verbose (cdb ∷ []) = if is_utf8 cdb then checks verbose cdb else usage_of Tcprulescheck
+tcprulescheck_at verbose words = usage_of Tcprulescheck
+
 abbrev pub tcprulescheck_by : List (List ℕ) → Wanted
-tcprulescheck_by (cdb ∷ []) = if is_utf8 cdb then checks cdb else usage_of Tcprulescheck
-tcprulescheck_by words = usage_of Tcprulescheck
+tcprulescheck_by words = tcprulescheck_at (is_verbose words) (operands words)
 
 -- a tool whose words are a program and its arguments, which are text
 abbrev pub with_program : Wanted → Tool → List (List ℕ) → Wanted
@@ -141,8 +160,8 @@ pub record CallsFor (path : List ℕ) (words : List (List ℕ)) (asked : Wanted)
 abbrev pub tool_in : Wanted → Option Tool
 tool_in (serves words) = Some Tcpserver
 tool_in simulates = Some Rulesim
-tool_in (installs cdb tmp) = Some Tcprules
-tool_in (checks cdb) = Some Tcprulescheck
+tool_in (installs verbose cdb tmp) = Some Tcprules
+tool_in (checks verbose cdb) = Some Tcprulescheck
 tool_in adds = Some Addcr
 tool_in deletes = Some Delcr
 tool_in (fixes words) = Some Fixcrio

@@ -1,12 +1,11 @@
 //! The program `ucspi`: its words, and the tool that they ask for.
 use crate::choice::{Choice, choose};
 use crate::fault::{ToolFault, end, status_code};
+use crate::rules::{Causes, check, install};
 use patient_streams::Patient;
-use rules_tools::{run_tcprules, run_tcprulescheck};
 use script_tool::run_script;
 use server_tool::run_tcpserver;
 use std::fs::{File, Files};
-use std::io;
 use std::io::Write;
 use std::net::{Net, TcpStream};
 use std::process::{ChildStdin, OpenProcess, Processes};
@@ -44,11 +43,19 @@ where
     };
     let choice = choose(path.as_slice(), words.as_slice());
     let name = choice.tool().map_or(PROGRAM, |tool| tool.name());
-    end(&mut faults, name, run(rt, errors, choice))
+    let mut causes = Vec::new(alloc);
+    let code = end(&mut faults, name, run(rt, errors, &mut causes, choice));
+    let _ = faults.write_all(causes.as_slice());
+    code
 }
 
-/// Runs what words ask for, and answers the exit code.
-fn run<R, E>(rt: &R, errors: E, choice: Choice<'_>) -> Result<u8, ToolFault>
+/// Runs what words ask for, and answers the exit code. The line of a cause is left in `causes`, where words ask for it.
+fn run<R, E>(
+    rt: &R,
+    errors: E,
+    causes: &mut Vec<u8>,
+    choice: Choice<'_>,
+) -> Result<u8, ToolFault>
 where
     R: Env + Input + Print + AllocGlobal,
     R: Files<File = File> + Processes + Threads + Wait + Sync + Clock + Net<Stream = TcpStream>,
@@ -60,21 +67,22 @@ where
     <R::Started as OpenProcess>::Stdout: Send,
     <R::Started as OpenProcess>::Stderr: Send,
 {
+    let mut log = Patient::new(rt, errors);
     match choice {
-        Choice::Tcpserver { words } => run_tcpserver(rt, Patient::new(rt, errors), words)?,
+        Choice::Tcpserver { words } => run_tcpserver(rt, log, words)?,
         Choice::Rulesim => run_script(rt)?,
-        Choice::Tcprules { cdb, tmp } => {
-            let mut reader = Patient::new(rt, rt.reader());
-            run_tcprules(rt.alloc(), &mut reader, rt, cdb, tmp)?;
-        },
-        Choice::Tcprulescheck { cdb } => {
-            let mut writer = Patient::new(rt, io::writer(rt));
-            run_tcprulescheck(rt, rt, &mut writer, cdb)?;
-        },
+        Choice::Tcprules { cdb, tmp, verbose } => {
+            let lines = causes;
+            install(rt, &mut log, (cdb, tmp), Causes { verbose, lines })?;
+        }
+        Choice::Tcprulescheck { cdb, verbose } => {
+            let lines = causes;
+            check(rt, cdb, Causes { verbose, lines })?;
+        }
         Choice::Addcr => run_addcr(rt)?,
         Choice::Delcr => run_delcr(rt)?,
         Choice::Fixcrio { words } => return Ok(status_code(run_fixcrio(rt, words)?)),
-        Choice::Recordio { words } => return Ok(status_code(run_recordio(rt, Patient::new(rt, errors), words)?)),
+        Choice::Recordio { words } => return Ok(status_code(run_recordio(rt, log, words)?)),
         Choice::UsageOf(tool) => return Err(ToolFault::Usage(tool.usage())),
         Choice::Usage => return Err(ToolFault::Usage(USAGE)),
     }
