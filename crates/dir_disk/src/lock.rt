@@ -41,22 +41,25 @@ impl<F: Drop> LockFile<F> {
 }
 
 impl LockFile<File> {
-    /// Tries to take the lock file, if it is not held yet, and then the folder itself. A call that a signal interrupts has taken nothing.
+    /// Tries to take the lock file, if it is not held yet, and then the folder itself.
     pub(crate) fn try_take<R: Files<File = File>>(
         &mut self,
         files: &R,
         folder: &File,
     ) -> io::Result<LockTry> {
         if self.held.is_none() {
-            match self.try_file(files) {
-                Ok(file) => self.held = file,
-                Err(error) => return self.refused(files, folder, error),
+            match open(files, self.path.as_str())? {
+                Opened::File(file) => self.held = self.hold(files, file)?,
+                Opened::Gone => {}
+                Opened::Denied => self.take_away(files, folder)?,
             }
         }
-        match (&self.held, try_hold(folder)?) {
-            (None, _) => Ok(LockTry::Held),
-            (Some(_), false) => Ok(LockTry::FolderHeld),
-            (Some(_), true) => Ok(LockTry::Taken),
+        if self.held.is_none() {
+            return Ok(LockTry::Held);
+        }
+        match try_hold(folder)? {
+            true => Ok(LockTry::Taken),
+            false => Ok(LockTry::FolderHeld),
         }
     }
 
@@ -70,42 +73,38 @@ impl LockFile<File> {
         }
     }
 
-    // The lock file, opened and held, or `None` where another process has it.
-    fn try_file<R: Files<File = File>>(&self, files: &R) -> io::Result<Option<File>> {
-        let path = self.path.as_str();
-        let file = open(files, path)?;
-        // whoever had it may have taken it away since it was opened
-        if try_hold(&file)? && is_at(files, &file, path)? {
-            Ok(Some(file))
-        } else {
-            Ok(None)
-        }
+    // The lock file, held, or `None` where another process has it, or had it and has taken it away since it was opened.
+    fn hold<R: Files<File = File>>(&self, files: &R, file: File) -> io::Result<Option<File>> {
+        let ours = try_hold(&file)? && is_at(files, &file, self.path.as_str())?;
+        Ok(ours.then_some(file))
     }
 
-    // What comes of an error of the lock file. One that belongs to another user may be left by a process that was killed: since whoever has it
-    // takes the folder too, it is taken away where nobody has that, and the next try makes another.
-    fn refused<R: Files<File = File>>(
-        &self,
-        files: &R,
-        folder: &File,
-        error: io::Error,
-    ) -> io::Result<LockTry> {
-        match error.kind() {
-            ErrorKind::NotFound | ErrorKind::Interrupted => Ok(LockTry::Held),
-            ErrorKind::PermissionDenied => {
-                if try_hold(folder)? {
-                    files.remove_file(self.path.as_str())?;
-                }
-                Ok(LockTry::Held)
-            }
-            _ => Err(error),
+    // Takes a lock file away that belongs to another user, unless it is held: it may be left by a process that was killed. Whoever holds it
+    // holds the folder too.
+    fn take_away<R: Files<File = File>>(&self, files: &R, folder: &File) -> io::Result<()> {
+        if !try_hold(folder)? {
+            return Ok(());
+        }
+        match files.remove_file(self.path.as_str()) {
+            Err(error) if error.kind() == ErrorKind::NotFound => Ok(()),
+            outcome => outcome,
         }
     }
 }
 
-// Opens the lock file, and makes it where it is not there. A link is not followed, and what is no file is refused; a pipe that is put there
-// meanwhile does not block, since it is opened to be read and written.
-fn open<R: Files<File = File>>(files: &R, path: &str) -> io::Result<File> {
+// What comes of opening a lock file.
+#[derive(Drop)]
+enum Opened {
+    // It is open.
+    File(File),
+    // It was there, and was taken away meanwhile.
+    Gone,
+    // It is there, and belongs to another user.
+    Denied,
+}
+
+// Opens a lock file, and makes it where it is not there.
+fn open<R: Files<File = File>>(files: &R, path: &str) -> io::Result<Opened> {
     let made = OpenOptions::new()
         .read(true)
         .write(true)
@@ -113,13 +112,32 @@ fn open<R: Files<File = File>>(files: &R, path: &str) -> io::Result<File> {
         .mode(MODE)
         .open(files, path);
     match made {
-        Err(error) if error.kind() == ErrorKind::AlreadyExists => {
-            if !files.symlink_metadata(path)?.is_file() {
-                return Err(error);
-            }
-            OpenOptions::new().read(true).write(true).open(files, path)
-        }
-        made => made,
+        Ok(file) => Ok(Opened::File(file)),
+        Err(error) if error.kind() == ErrorKind::AlreadyExists => open_there(files, path, error),
+        Err(error) => Err(error),
+    }
+}
+
+// Opens a lock file that is there. A link is not followed, and what is no file is refused, by the error that something is there; a pipe that is
+// put there meanwhile does not block, since it is opened to be read and written.
+fn open_there<R: Files<File = File>>(
+    files: &R,
+    path: &str,
+    there: io::Error,
+) -> io::Result<Opened> {
+    match files.symlink_metadata(path) {
+        Ok(found) if !found.is_file() => return Err(there),
+        Err(error) if error.kind() == ErrorKind::NotFound => return Ok(Opened::Gone),
+        Err(error) => return Err(error),
+        Ok(_) => {}
+    }
+    match OpenOptions::new().read(true).write(true).open(files, path) {
+        Ok(file) => Ok(Opened::File(file)),
+        Err(error) => match error.kind() {
+            ErrorKind::NotFound => Ok(Opened::Gone),
+            ErrorKind::PermissionDenied => Ok(Opened::Denied),
+            _ => Err(error),
+        },
     }
 }
 
@@ -136,7 +154,6 @@ fn try_hold(file: &File) -> io::Result<bool> {
     match file.try_lock() {
         Ok(()) => Ok(true),
         Err(TryLockError::WouldBlock) => Ok(false),
-        Err(TryLockError::Error(error)) if error.kind() == ErrorKind::Interrupted => Ok(false),
         Err(TryLockError::Error(error)) => Err(error),
     }
 }

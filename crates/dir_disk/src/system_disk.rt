@@ -131,10 +131,12 @@ fn unless_other(same: bool) -> io::Result<()> {
 }
 
 impl<R: Files<File = File> + Drop> SystemDisk<R> {
-    /// Tries to take the lock of the folder, which was opened.
+    /// Tries to take the lock of the folder, which was opened. A try that a signal interrupts is one that finds it held.
     pub(crate) fn try_lock(&mut self, folder: &File) -> io::Result<LockTry> {
-        let outcome = self.lock.try_take(&self.files, folder);
-        self.note(FailedOn::Folder, outcome)
+        match self.lock.try_take(&self.files, folder) {
+            Err(error) if error.kind() == ErrorKind::Interrupted => Ok(LockTry::Held),
+            outcome => self.note(FailedOn::Folder, outcome),
+        }
     }
 
     /// Gives the lock file back, and takes it away.

@@ -15,12 +15,7 @@ const NUMBER: &str = " (os error ";
 ///
 /// # Errors
 /// There was no memory, and nothing was appended.
-pub fn append_cause(
-    out: &mut Vec<u8>,
-    tool: &str,
-    what: &[u8],
-    why: &str,
-) -> Result<(), AllocError>
+pub fn append_cause(out: &mut Vec<u8>, tool: &str, what: &[u8], why: &str) -> Result<(), AllocError>
     ensures { AppendsLine (cause_text tool.now what.now why.now) out.old.items out.new.items result }
 {
     let whole = out.len();
@@ -59,5 +54,7 @@ pub fn append_os_cause(
 
 // The words of an error of the system, without its number.
 fn without_number(shown: &str) -> &str {
-    shown.rsplit_once(NUMBER).map_or(shown, |(words, _number)| words)
+    shown
+        .rsplit_once(NUMBER)
+        .map_or(shown, |(words, _number)| words)
 }

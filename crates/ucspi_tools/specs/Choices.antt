@@ -10,8 +10,8 @@ use Rattle.ucspi_tools.specs.declared.tool.Tool.{Tool}
 use Rattle.ucspi_tools.specs.declared.tool.Tool.TheVariants.{Tcpserver, Rulesim, Tcprules, Tcprulescheck, Addcr, Delcr, Fixcrio, Recordio}
 
 -- a run of `tcpserver` with its words; of `rulesim`; of `tcprules`, whether it is to tell causes, and the paths of the rules file and of the
--- scratch file; of `tcprulescheck`, whether it is to tell causes, and the path of the rules file; of `addcr`; of `delcr`; of `fixcrio` and of `recordio` with a program and its arguments; the usage line of a tool; or that of
--- `ucspi`
+-- scratch file; of `tcprulescheck`, whether it is to tell causes, and the path of the rules file; of `addcr`; of `delcr`; of `fixcrio` and of `recordio` with a program and its arguments; the version of the program; a line for each tool; the usage
+-- line of a tool; or that of `ucspi`
 pub data Wanted : Type 0 where
   serves : List (List ℕ) → Wanted
   simulates : Wanted
@@ -21,6 +21,8 @@ pub data Wanted : Type 0 where
   deletes : Wanted
   fixes : List (List ℕ) → Wanted
   records : List (List ℕ) → Wanted
+  version : Wanted
+  help : Wanted
   usage_of : Tool → Wanted
   usage : Wanted
 
@@ -34,6 +36,8 @@ wanted choice.Addcr = adds
 wanted choice.Delcr = deletes
 wanted (choice.Fixcrio words) = fixes (texts_of words.now)
 wanted (choice.Recordio words) = records (texts_of words.now)
+wanted choice.Version = version
+wanted choice.Help = help
 wanted (choice.UsageOf tool) = usage_of tool
 wanted choice.Usage = usage
 
@@ -112,6 +116,17 @@ usage_text Delcr = codes "delcr"
 usage_text Fixcrio = codes "fixcrio prog [args]"
 usage_text Recordio = codes "recordio prog [args]"
 
+-- what it is for
+abbrev pub purpose_text : Tool → List ℕ
+purpose_text Tcpserver = codes "starts a program for each connection that rules allow"
+purpose_text Rulesim = codes "tries rules, crashes and lists of events on paper"
+purpose_text Tcprules = codes "compiles and installs the rules of who may connect"
+purpose_text Tcprulescheck = codes "tells which rule decides a connection"
+purpose_text Addcr = codes "puts a carriage return before each line feed"
+purpose_text Delcr = codes "takes carriage returns at ends of lines away"
+purpose_text Fixcrio = codes "runs a program and puts missing carriage returns into its streams"
+purpose_text Recordio = codes "runs a program and records what it reads and writes"
+
 -- the tool with a name
 abbrev pub tool_of : List ℕ → Option Tool
 tool_of name =
@@ -124,15 +139,20 @@ tool_of name =
     else (if bytes_eq name (name_of Fixcrio) then Some Fixcrio
     else (if bytes_eq name (name_of Recordio) then Some Recordio else None)))))))
 
+-- a word that names no tool, which may ask for the version or for help where it stands alone
+abbrev pub asked_by : List ℕ → List (List ℕ) → Wanted
+asked_by word [] = if bytes_eq word (codes "--version") then version else (if bytes_eq word (codes "--help") then help else usage)
+asked_by word (other ∷ words) = usage
+
 -- the first word names the tool
-abbrev pub run_by : Option Tool → List (List ℕ) → Wanted
-run_by (Some tool) words = run_of tool words
-run_by None words = usage
+abbrev pub run_by : Option Tool → List ℕ → List (List ℕ) → Wanted
+run_by (Some tool) word words = run_of tool words
+run_by None word words = asked_by word words
 
 -- with no words it is `rulesim`
 abbrev pub choice_by_word : List (List ℕ) → Wanted
 choice_by_word [] = simulates
-choice_by_word (tool ∷ words) = run_by (tool_of tool) words
+choice_by_word (tool ∷ words) = run_by (tool_of tool) tool words
 
 -- the tool by whose name the program was called, with all words; else the one that the first word names
 abbrev pub choice_called : Option Tool → List (List ℕ) → Wanted
@@ -166,5 +186,7 @@ tool_in adds = Some Addcr
 tool_in deletes = Some Delcr
 tool_in (fixes words) = Some Fixcrio
 tool_in (records words) = Some Recordio
+tool_in version = None
+tool_in help = None
 tool_in (usage_of tool) = Some tool
 tool_in usage = None

@@ -3,7 +3,7 @@ ghost use Rattle.std.specs.Prelude.{◌≡◌};
 ghost use Rattle.std.specs.List.{list_all};
 ghost use Rattle.std.specs.Str.{is_utf8};
 ghost use Rattle.stream_tools.specs.Programs.{texts_of};
-ghost use Rattle.ucspi_tools.specs.Choices.{CallsFor, IsLastPart, alone, choice_by_word, is_verbose, operands, run_of, tcprules_by, tcprules_at, tcprulescheck_by, tcprulescheck_at, tcpserver_by, tool_in, wanted, with_program};
+ghost use Rattle.ucspi_tools.specs.Choices.{CallsFor, IsLastPart, alone, asked_by, choice_by_word, is_verbose, operands, run_of, tcprules_by, tcprules_at, tcprulescheck_by, tcprulescheck_at, tcpserver_by, tool_in, wanted, with_program};
 
 use crate::tool::Tool;
 use memchr::memrchr;
@@ -48,6 +48,10 @@ pub enum Choice<'a> {
         /// Its path and arguments: at least the path, and each is UTF-8.
         words: &'a [Vec<u8>],
     },
+    /// The version of the program.
+    Version,
+    /// A line for each tool.
+    Help,
     /// The usage line of a tool.
     UsageOf(Tool),
     /// The usage line of `ucspi`.
@@ -69,7 +73,7 @@ impl Choice<'_> {
             Choice::Fixcrio { .. } => Some(Tool::Fixcrio),
             Choice::Recordio { .. } => Some(Tool::Recordio),
             Choice::UsageOf(tool) => Some(*tool),
-            Choice::Usage => None,
+            Choice::Version | Choice::Help | Choice::Usage => None,
         }
     }
 }
@@ -104,7 +108,27 @@ fn choose_by_word(words: &[Vec<u8>]) -> Choice<'_>
     };
     match Tool::named(tool) {
         Some(tool) => choose_tool(tool, words),
-        None => Choice::Usage,
+        None => choose_about(tool, words),
+    }
+}
+
+/// The words that ask for the version and for help, where they stand alone.
+const VERSION: &str = "--version";
+
+const HELP: &str = "--help";
+
+/// What a first word asks for that names no tool, and those behind it.
+fn choose_about<'a>(word: &[u8], words: &'a [Vec<u8>]) -> Choice<'a>
+    ensures { wanted result ≡ asked_by word.now (texts_of words.now) }
+{
+    if !words.is_empty() {
+        Choice::Usage
+    } else if word == VERSION.as_bytes() {
+        Choice::Version
+    } else if word == HELP.as_bytes() {
+        Choice::Help
+    } else {
+        Choice::Usage
     }
 }
 

@@ -43,6 +43,9 @@ pub enum ToolFault {
     /// A program could not be run between two streams.
     #[error("{0}")]
     Between(#[from] BetweenFault),
+    /// What is told of the program could not be written.
+    #[error("write fault")]
+    WriteFault,
     /// There was no memory for the words.
     #[error("out of memory")]
     OutOfMemory,
@@ -59,7 +62,8 @@ impl ToolFault {
             ToolFault::Script(fault) => script_code(fault),
             ToolFault::Rules(fault) => rules_code(fault),
             ToolFault::Check(fault) => check_code(fault),
-            ToolFault::Filter(_) | ToolFault::Between(_) | ToolFault::OutOfMemory => SYSTEM_FAULT,
+            ToolFault::Filter(_) | ToolFault::Between(_) => SYSTEM_FAULT,
+            ToolFault::WriteFault | ToolFault::OutOfMemory => SYSTEM_FAULT,
         }
     }
 }

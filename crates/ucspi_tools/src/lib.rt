@@ -2,6 +2,7 @@
 //! with which it exits then.
 #![tactic(auto)]
 
+mod about;
 pub mod choice;
 pub mod fault;
 pub mod program;

@@ -1,4 +1,5 @@
 //! The program `ucspi`: its words, and the tool that they ask for.
+use crate::about::{tell_tools, tell_version};
 use crate::choice::{Choice, choose};
 use crate::fault::{ToolFault, end, status_code};
 use crate::rules::{Causes, check, install};
@@ -6,6 +7,7 @@ use patient_streams::Patient;
 use script_tool::run_script;
 use server_tool::run_tcpserver;
 use std::fs::{File, Files};
+use std::io;
 use std::io::Write;
 use std::net::{Net, TcpStream};
 use std::process::{ChildStdin, OpenProcess, Processes};
@@ -50,12 +52,7 @@ where
 }
 
 /// Runs what words ask for, and answers the exit code. The line of a cause is left in `causes`, where words ask for it.
-fn run<R, E>(
-    rt: &R,
-    errors: E,
-    causes: &mut Vec<u8>,
-    choice: Choice<'_>,
-) -> Result<u8, ToolFault>
+fn run<R, E>(rt: &R, errors: E, causes: &mut Vec<u8>, choice: Choice<'_>) -> Result<u8, ToolFault>
 where
     R: Env + Input + Print + AllocGlobal,
     R: Files<File = File> + Processes + Threads + Wait + Sync + Clock + Net<Stream = TcpStream>,
@@ -83,6 +80,8 @@ where
         Choice::Delcr => run_delcr(rt)?,
         Choice::Fixcrio { words } => return Ok(status_code(run_fixcrio(rt, words)?)),
         Choice::Recordio { words } => return Ok(status_code(run_recordio(rt, log, words)?)),
+        Choice::Version => tell_version(&mut Patient::new(rt, io::writer(rt)))?,
+        Choice::Help => tell_tools(&mut Patient::new(rt, io::writer(rt)))?,
         Choice::UsageOf(tool) => return Err(ToolFault::Usage(tool.usage())),
         Choice::Usage => return Err(ToolFault::Usage(USAGE)),
     }
