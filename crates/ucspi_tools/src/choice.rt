@@ -3,7 +3,7 @@ ghost use Rattle.std.specs.Prelude.{◌≡◌};
 ghost use Rattle.std.specs.List.{list_all};
 ghost use Rattle.std.specs.Str.{is_utf8};
 ghost use Rattle.stream_tools.specs.Programs.{texts_of};
-ghost use Rattle.ucspi_tools.specs.Choices.{CallsFor, IsLastPart, alone, choice_by_word, run_of, tcprules_by, tcprulescheck_by, tcpserver_by, tool_in, wanted, with_program};
+ghost use Rattle.ucspi_tools.specs.Choices.{CallsFor, IsLastPart, alone, asked_by, choice_by_word, is_verbose, operands, run_of, tcprules_by, tcprules_at, tcprulescheck_by, tcprulescheck_at, tcpserver_by, tool_in, wanted, with_program};
 
 use crate::tool::Tool;
 use memchr::memrchr;
@@ -27,11 +27,15 @@ pub enum Choice<'a> {
         cdb: &'a str,
         /// The path of the scratch file.
         tmp: &'a str,
+        /// Whether the cause of a fault of the system is told.
+        verbose: bool,
     },
     /// A run of `tcprulescheck` with the path of the rules file.
     Tcprulescheck {
         /// That path.
         cdb: &'a str,
+        /// Whether the cause of a fault of the system is told.
+        verbose: bool,
     },
     /// A run of `addcr`.
     Addcr,
@@ -47,6 +51,10 @@ pub enum Choice<'a> {
         /// Its path and arguments: at least the path, and each is UTF-8.
         words: &'a [Vec<u8>],
     },
+    /// The version of the program.
+    Version,
+    /// A line for each tool.
+    Help,
     /// The usage line of a tool.
     UsageOf(Tool),
     /// The usage line of `ucspi`.
@@ -68,7 +76,7 @@ impl Choice<'_> {
             Choice::Fixcrio { .. } => Some(Tool::Fixcrio),
             Choice::Recordio { .. } => Some(Tool::Recordio),
             Choice::UsageOf(tool) => Some(*tool),
-            Choice::Usage => None,
+            Choice::Version | Choice::Help | Choice::Usage => None,
         }
     }
 }
@@ -104,7 +112,27 @@ fn choose_by_word(words: &[Vec<u8>]) -> Choice<'_>
     };
     match Tool::named(tool) {
         Some(tool) => choose_tool(tool, words, Mode::Pumped),
-        None => Choice::Usage,
+        None => choose_about(tool, words),
+    }
+}
+
+/// The words that ask for the version and for help, where they stand alone.
+const VERSION: &str = "--version";
+
+const HELP: &str = "--help";
+
+/// What a first word asks for that names no tool, and those behind it.
+fn choose_about<'a>(word: &[u8], words: &'a [Vec<u8>]) -> Choice<'a>
+    ensures { wanted result ≡ asked_by word.now (texts_of words.now) }
+{
+    if !words.is_empty() {
+        Choice::Usage
+    } else if word == VERSION.as_bytes() {
+        Choice::Version
+    } else if word == HELP.as_bytes() {
+        Choice::Help
+    } else {
+        Choice::Usage
     }
 }
 
@@ -179,24 +207,56 @@ fn is_text(word: &[u8]) -> bool
     }
 }
 
+/// The run of `tcprules`.
 fn choose_tcprules(words: &[Vec<u8>]) -> Choice<'_>
     ensures { wanted result ≡ tcprules_by (texts_of words.now) }
 {
-    match words {
+    let (verbose, paths) = split_verbose(words);
+    choose_installation(verbose, paths)
+}
+
+/// The run of `tcprulescheck`.
+fn choose_tcprulescheck(words: &[Vec<u8>]) -> Choice<'_>
+    ensures { wanted result ≡ tcprulescheck_by (texts_of words.now) }
+{
+    let (verbose, paths) = split_verbose(words);
+    choose_check(verbose, paths)
+}
+
+/// The word that asks for causes, where it stands first.
+const VERBOSE: &str = "-v";
+
+/// Whether a first word asks for causes, and the words but for that one.
+fn split_verbose(words: &[Vec<u8>]) -> (bool, &[Vec<u8>])
+    ensures verbose { result.0 ≡ is_verbose (texts_of words.now) }
+    ensures operands { texts_of result.1.now ≡ operands (texts_of words.now) }
+{
+    match words.split_first() {
+        Some((word, rest)) if word.as_slice() == VERBOSE.as_bytes() => (true, rest),
+        _ => (false, words),
+    }
+}
+
+/// The run of `tcprules` for these paths.
+fn choose_installation(verbose: bool, paths: &[Vec<u8>]) -> Choice<'_>
+    ensures { wanted result ≡ tcprules_at verbose (texts_of paths.now) }
+{
+    match paths {
         [cdb, tmp] => match (str::from_utf8(cdb), str::from_utf8(tmp)) {
-            (Ok(cdb), Ok(tmp)) => Choice::Tcprules { cdb, tmp },
+            (Ok(cdb), Ok(tmp)) => Choice::Tcprules { cdb, tmp, verbose },
             _ => Choice::UsageOf(Tool::Tcprules),
         },
         _ => Choice::UsageOf(Tool::Tcprules),
     }
 }
 
-fn choose_tcprulescheck(words: &[Vec<u8>]) -> Choice<'_>
-    ensures { wanted result ≡ tcprulescheck_by (texts_of words.now) }
+/// The run of `tcprulescheck` for this path.
+fn choose_check(verbose: bool, paths: &[Vec<u8>]) -> Choice<'_>
+    ensures { wanted result ≡ tcprulescheck_at verbose (texts_of paths.now) }
 {
-    match words {
+    match paths {
         [cdb] => match str::from_utf8(cdb) {
-            Ok(cdb) => Choice::Tcprulescheck { cdb },
+            Ok(cdb) => Choice::Tcprulescheck { cdb, verbose },
             Err(_) => Choice::UsageOf(Tool::Tcprulescheck),
         },
         _ => Choice::UsageOf(Tool::Tcprulescheck),
