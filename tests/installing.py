@@ -71,6 +71,7 @@ class Place:
         given = ["DESTDIR=" + self.folder, "PREFIX=" + self.prefix] + list(words)
         if self.script:
             command = [self.script, action] + given
+            how["env"] = dict(how["env"], **({"PROGRAM": self.program} if self.program else {}))
         else:
             command = ["make", "-s", "-o", self.program, "PROGRAM=" + self.program, action] + given
         ended = subprocess.run(command, cwd=TOP, stdin=subprocess.DEVNULL, stdout=subprocess.PIPE, stderr=subprocess.STDOUT, timeout=LIMIT, **how)
@@ -243,8 +244,10 @@ def check(program, failures):
         check_no_program(checks, place)
         check_clean(checks, place, "into nothing")
         check_clean(checks, Place(os.path.join(room, "a folder"), place.program, "/opt/it's here"), "into a folder with a blank")
+        script = Place(place.folder, place.program, script=os.path.join(TOP, "scripts", "install"))
         for path in wanted_files():
-            check_foreign(checks, place, path)
+            # (what make does is call the script)
+            check_foreign(checks, place if path.startswith("bin/") else script, path)
         for path in ("bin/tcprules", "bin/ucspi", "share/man/man1/tcprules.1"):
             for kind in ("/usr/bin/ucspi", "absent", "../share", "folder"):
                 check_foreign(checks, place, path, kind)
