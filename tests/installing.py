@@ -245,9 +245,11 @@ def check(program, failures):
         check_clean(checks, place, "into nothing")
         check_clean(checks, Place(os.path.join(room, "a folder"), place.program, "/opt/it's here"), "into a folder with a blank")
         script = Place(place.folder, place.program, script=os.path.join(TOP, "scripts", "install"))
-        for path in wanted_files():
-            # (what make does is call the script)
-            check_foreign(checks, place if path.startswith("bin/") else script, path)
+        for name in TOOLS + ("ucspi", "ucspi-log-events"):
+            check_foreign(checks, place, "bin/" + name)
+        # (what make does is call the script)
+        for path in ("man/man1/ucspi.1", "man/man5/tcprules.5", "bash-completion/completions/ucspi", "bash-completion/completions/tcprules"):
+            check_foreign(checks, script, "share/" + path)
         for path in ("bin/tcprules", "bin/ucspi", "share/man/man1/tcprules.1"):
             for kind in ("/usr/bin/ucspi", "absent", "../share", "folder"):
                 check_foreign(checks, place, path, kind)
