@@ -317,13 +317,13 @@ def place_of_files():
     return None
 
 
-def run_group(module, program, failures, original=False, part=(0, 1)):
-    """Runs a group, or a part of it, as `(0, 3)` is the first of three, and gives the number of its checks."""
+def run_group(module, program, failures, original=False):
+    """Runs a group, and gives the number of its checks."""
     found = []
     with tempfile.TemporaryDirectory(dir=place_of_files()) as folder:
         os.chmod(folder, 0o755)
         suite = Suite(program, found, folder, original)
-        for check in (module.COMMON if original else module.CHECKS)[part[0]::part[1]]:
+        for check in module.COMMON if original else module.CHECKS:
             run_check(suite, check)
     name = module.__name__ if module.__name__ != "__main__" else os.path.basename(sys.argv[0])[:-3]
     failures += ["%s: %s" % (name, failure) for failure in found]
