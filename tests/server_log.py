@@ -226,8 +226,7 @@ def bursts(suite):
                 threads = [threading.Thread(target=burst_client, args=(server, source, orders[n % 5])) for n, source in enumerate(sources)]
                 for thread in threads:
                     thread.start()
-                come = time.monotonic() + 2
-                server_runs.wait_until("the clients", lambda: waiting_at(server.port) >= 60 or time.monotonic() > come)
+                all_have_come(server.port, 60)
                 os.kill(server.process.pid, signal.SIGCONT)
                 for thread in threads:
                     thread.join(server_runs.WAIT)
@@ -238,6 +237,15 @@ def bursts(suite):
             suite.expect("those of a burst under %r" % options, events.admitted + events.full, 120)
             if per is None:
                 suite.expect("a burst fills the server under %r" % options, events.most, events.limit)
+
+
+def all_have_come(port, number):
+    """Waits until so many connections wait at a port, or none has come for two seconds, as where the system's queue takes no more."""
+    came, last = time.monotonic(), 0
+    while last < number and time.monotonic() < came + 2:
+        time.sleep(0.005)
+        if waiting_at(port) != last:
+            came, last = time.monotonic(), waiting_at(port)
 
 
 def waiting_at(port):
