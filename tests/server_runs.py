@@ -1,7 +1,8 @@
 """What the tests of the server share: a server that runs, its clients, its log, and a group of checks.
 
-Each group is a module with a list CHECKS of functions that take a Suite, and a list COMMON of those of them that hold of djb's tcpserver
-too. `python3 tests/server_NAME.py [PROGRAM]` runs one group alone, and with `--original [PATH]` its common checks against the original.
+Each group is a module with a list CHECKS of functions that take a Suite, a list COMMON of those of them that hold of djb's tcpserver too, and it
+may have a list HANDED of those that are made again of a server that hands connections over (`-s`); all others pass the bytes on.
+`python3 tests/server_NAME.py [PROGRAM]` runs one group alone, and with `--original [PATH]` its common checks against the original.
 """
 import os
 import re
@@ -65,11 +66,11 @@ def reset(connection):
 class Server:
     """A server that runs, with its log in a file. It listens on a port that it chose itself; one that `may_end` may have none, as it ended."""
 
-    def __init__(self, suite, options, program, host="127.0.0.1", port="0", may_end=False, **how):
+    def __init__(self, suite, options, program, host="127.0.0.1", port="0", may_end=False, command=None, **how):
         self.suite = suite
         self.host = "127.0.0.1" if host == "0" else host
         self.path = suite.last_log = tempfile.mktemp(prefix="log-", dir=suite.folder)
-        words = suite.command + ["-1"] + list(options) + [host, str(port)] + list(program)
+        words = (command or suite.command) + ["-1"] + list(options) + [host, str(port)] + list(program)
         how.setdefault("cwd", suite.folder)
         with open(self.path, "wb") as log:
             self.process = subprocess.Popen(words, stdin=subprocess.DEVNULL, stdout=subprocess.PIPE, stderr=log, **how)
@@ -186,10 +187,12 @@ class Server:
 class Suite:
     """A group of checks of one server: what it counts, and what is amiss."""
 
-    def __init__(self, program, failures, folder, original=False):
+    def __init__(self, program, failures, folder, original=False, handed=False):
         self.program = program
         self.original = original
-        self.command = [program] if original else [program, "tcpserver"]
+        # whether programs have the connection itself
+        self.handed = handed or original
+        self.command = [program] if original else [program, "tcpserver"] + (["-s"] if handed else [])
         self.failures = failures
         self.folder = folder
         self.running = []
@@ -226,6 +229,13 @@ class Suite:
             return "still running", output, errors
         return process.returncode, output, errors
 
+    def compiled(self, source):
+        """The path of a small program of the tests, which is compiled where it is not yet."""
+        program = self.path(source[:-2])
+        if not os.path.exists(program):
+            subprocess.run(["gcc", "-O1", "-o", program, os.path.join(TOP, "tests", source)], check=True)
+        return program
+
     def path(self, name, text=None):
         """The path of a file in the folder of this group; with a text the file is made."""
         path = os.path.join(self.folder, name)
@@ -244,10 +254,7 @@ class Suite:
 
     def child(self):
         """The program that counts those that run at once, and a new table for it."""
-        program = self.path("server_child")
-        if not os.path.exists(program):
-            source = os.path.join(TOP, "tests", "server_child.c")
-            subprocess.run(["gcc", "-O1", "-o", program, source], check=True)
+        program = self.compiled("server_child.c")
         table = tempfile.mktemp(prefix="table-", dir=self.folder)
         with open(table, "wb") as file:
             file.truncate(4 * (4 + 2 * 65536))
@@ -310,17 +317,25 @@ def place_of_files():
     return None
 
 
-def run_group(module, program, failures, original=False):
-    """Runs a group, and gives the number of its checks."""
+def run_checks(checks, name, program, failures, original=False, handed=False):
+    """Runs some checks in a folder of their own, and gives their number."""
     found = []
     with tempfile.TemporaryDirectory(dir=place_of_files()) as folder:
         os.chmod(folder, 0o755)
-        suite = Suite(program, found, folder, original)
-        for check in module.COMMON if original else module.CHECKS:
+        suite = Suite(program, found, folder, original, handed)
+        for check in checks:
             run_check(suite, check)
-    name = module.__name__ if module.__name__ != "__main__" else os.path.basename(sys.argv[0])[:-3]
     failures += ["%s: %s" % (name, failure) for failure in found]
     return suite.tests
+
+
+def run_group(module, program, failures, original=False):
+    """Runs a group, and gives the number of its checks."""
+    name = module.__name__ if module.__name__ != "__main__" else os.path.basename(sys.argv[0])[:-3]
+    if original:
+        return run_checks(module.COMMON, name, program, failures, True)
+    tests = run_checks(module.CHECKS, name, program, failures)
+    return tests + run_checks(getattr(module, "HANDED", []), name + ", handed over", program, failures, handed=True)
 
 
 def main(module):
