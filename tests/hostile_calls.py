@@ -230,6 +230,7 @@ def each_call(suite):
     calls.one("none", "EIO", 1, [], [])
     reached = []
     for call, errors, faults, forms in CALLS:
+        forms = [form for form in forms if not (suite.handed and form == NO_PIPES)]
         for error in errors:
             found = []
             runs, whole = failed_calls.one_after_another(
@@ -238,7 +239,8 @@ def each_call(suite):
             reached += [call] if any(found) else []
             if not any(found):
                 break
-    for call in ("socket", "bind", "listen", "accept4", "pipe2", "posix_spawn", "pthread_create", "waitpid", "open", "read", "write"):
+    of_pumps = () if suite.handed else ("pipe2", "recv", "send")
+    for call in ("socket", "bind", "listen", "accept4", "posix_spawn", "pthread_create", "waitpid", "open", "read", "write") + of_pumps:
         suite.holds("%s is called" % call, call in reached, sorted(set(reached)))
     suite.holds("what failures did: %r" % calls.told, len(calls.told) >= 8, calls.told)
 
@@ -265,6 +267,8 @@ def while_calls_fail(suite):
         ("posix_spawn", "EAGAIN", "start N failed"), ("posix_spawn", "ENOENT", "start N not found"), ("posix_spawn", "EACCES", "start N refused"),
         ("pthread_create", "EAGAIN", "drop N no thread"),
     ]
+    if suite.handed:
+        cases = [case for case in cases if case[0] != "pipe2"]
     for call, error, line in cases:
         run = library.run_while(call, error)
         variables = dict(os.environ, **run.environment)
@@ -496,6 +500,7 @@ def tools(suite):
 
 CHECKS = [each_call, bytes_one_by_one, while_calls_fail, no_places, faults_of_accepting, tools, below_the_library]
 COMMON = []
+HANDED = [each_call, bytes_one_by_one, while_calls_fail, no_places, faults_of_accepting, below_the_library]
 
 if __name__ == "__main__":
     sys.exit(server_runs.main(sys.modules["__main__"]))

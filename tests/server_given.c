@@ -4,7 +4,9 @@
        N KIND DEVICE:INODE FLAGS [peer ADDRESS local ADDRESS OPTIONS]
    KIND is `socket`, `pipe`, `file` or `other`; FLAGS is `blocking` or `nonblocking`. What begins with `peer` stands for a socket alone: ADDRESS is
    IP:PORT, or the number of an error; OPTIONS are the socket's: nodelay, keepalive, linger, and the timeouts of receiving and sending in seconds.
-   server_given pairs: for each byte of input one `a`, and two milliseconds later one `b`. */
+   server_given pairs: for each byte of input one `a`, and two milliseconds later one `b`.
+   server_given fill PATH: numbers of eight digits, until for a second no more is taken; then it writes to PATH how many bytes it wrote, and ends with
+   what it wrote still on its way. */
 #include <arpa/inet.h>
 #include <dirent.h>
 #include <errno.h>
@@ -131,8 +133,31 @@ static int pairs(void)
     return 0;
 }
 
+static int fill(const char *path)
+{
+    struct timespec time = {0, 50000000};
+    long written = 0;
+    fcntl(1, F_SETFL, fcntl(1, F_GETFL) | O_NONBLOCK);
+    for (int rounds = 0; rounds < 20; rounds++) {
+        for (;;) {
+            char number[9];
+            snprintf(number, sizeof number, "%08ld", written / 8 % 100000000);
+            ssize_t size = write(1, number + written % 8, (size_t)(8 - written % 8));
+            if (size <= 0)
+                break;
+            written += size;
+            rounds = 0;
+        }
+        nanosleep(&time, NULL);
+    }
+    FILE *file = fopen(path, "w");
+    return !file || fprintf(file, "%ld\n", written) < 0 || fclose(file);
+}
+
 int main(int words, char **word)
 {
+    if (words > 2 && strcmp(word[1], "fill") == 0)
+        return fill(word[2]);
     if (words > 1 && strcmp(word[1], "pairs") == 0)
         return pairs();
     int code = say_all();

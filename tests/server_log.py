@@ -311,6 +311,7 @@ CHECKS = [
     plain_log, ends, start_faults, denied, dropped, lost_banner, address_full, retired, fields, levels, bursts, audits, audits_of_ends,
 ]
 COMMON = [plain_log]
+HANDED = [plain_log, ends, start_faults, denied, dropped, lost_banner, address_full, retired, levels, bursts]
 
 if __name__ == "__main__":
     sys.exit(server_runs.main(sys.modules["__main__"]))

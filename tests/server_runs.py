@@ -136,10 +136,14 @@ class Server:
         with open(self.path, "rb") as log:
             return log.read()
 
-    def lines(self):
+    def all_lines(self):
         """The lines of the log, without the server's name in front."""
         lines = self.log().decode("latin-1").split("\n")
         return [line[len("tcpserver: "):] if line.startswith("tcpserver: ") else line for line in (lines if lines[-1] else lines[:-1])]
+
+    def lines(self):
+        """The same, without those of causes (group `server_causes`)."""
+        return [line for line in self.all_lines() if not line.startswith("cause: ")]
 
     def wait_line(self, form, times=1, seconds=WAIT):
         """Waits until so many lines of the log have this form."""
@@ -329,13 +333,18 @@ def run_checks(checks, name, program, failures, original=False, handed=False):
     return suite.tests
 
 
+def name_of(module):
+    return module.__name__ if module.__name__ != "__main__" else os.path.basename(sys.argv[0])[:-3]
+
+
 def run_group(module, program, failures, original=False):
     """Runs a group, and gives the number of its checks."""
-    name = module.__name__ if module.__name__ != "__main__" else os.path.basename(sys.argv[0])[:-3]
-    if original:
-        return run_checks(module.COMMON, name, program, failures, True)
-    tests = run_checks(module.CHECKS, name, program, failures)
-    return tests + run_checks(getattr(module, "HANDED", []), name + ", handed over", program, failures, handed=True)
+    return run_checks(module.COMMON if original else module.CHECKS, name_of(module), program, failures, original)
+
+
+def run_handed(module, program, failures):
+    """Runs those checks of a group that are made again where connections are handed over."""
+    return run_checks(getattr(module, "HANDED", []), name_of(module) + ", handed over", program, failures, handed=True)
 
 
 def main(module):
@@ -345,7 +354,7 @@ def main(module):
     words = words[1:] if original else words
     program = os.path.abspath(words[0]) if words else (ORIGINAL if original else PROGRAM)
     failures = []
-    tests = run_group(module, program, failures, original)
+    tests = run_group(module, program, failures, original) + (0 if original else run_handed(module, program, failures))
     for failure in failures:
         print("FAILED " + failure)
     print("%d passed, %d failed" % (tests - len(failures), len(failures)))
