@@ -17,7 +17,7 @@ import failed_calls
 import server_runs
 from server_runs import read_all
 
-HANDED, PUMPED = "handed", "pumped"
+OVER, PUMPED = "handed over", "pumped"
 # of 40 connections at once, in bytes, as the number of `softlimit -m`
 LITTLE_MEMORY = 30000000
 FEW_DESCRIPTORS = 256
@@ -33,7 +33,8 @@ class Given:
             piece = client.recv(65536)
             if not piece:
                 raise server_runs.Amiss("it was told %r" % told)
-            told += piece
+            # a wrapper may put carriage returns
+            told = (told + piece).replace(b"\r", b"")
         self.descriptors = {}
         for line in told.decode().splitlines()[:-1]:
             words = line.split(" ")
@@ -46,7 +47,7 @@ class Given:
     def mode(self):
         """Whether the connection was handed over or is pumped; else the kinds."""
         kinds = self.kinds()
-        return {("socket", "socket", "file"): HANDED, ("pipe", "pipe", "file"): PUMPED}.get(tuple(kinds), kinds)
+        return {("socket", "socket", "file"): OVER, ("pipe", "pipe", "file"): PUMPED}.get(tuple(kinds), kinds)
 
 
 def given(suite):
@@ -69,9 +70,9 @@ def linked(suite, name="tcpserver"):
 
 # the words, and how the program gets its connection under them; where nothing is said, the name decides
 SPELLINGS = [
-    ([], None), (["-v"], None), (["-s"], HANDED), (["-S"], PUMPED), (["-s", "-S"], PUMPED), (["-S", "-s"], HANDED), (["-sS"], PUMPED),
-    (["-Ss"], HANDED), (["-vs"], HANDED), (["-Sv"], PUMPED), (["-s", "-v", "-S", "-s"], HANDED), (["-sc5"], HANDED), (["-Sc", "5"], PUMPED),
-    (["-s", "--"], HANDED), (["-sDd", "-o"], HANDED), (["-l", "-S"], None), (["-l", "-s"], None), (["-l-s", "-S"], PUMPED),
+    ([], None), (["-v"], None), (["-s"], OVER), (["-S"], PUMPED), (["-s", "-S"], PUMPED), (["-S", "-s"], OVER), (["-sS"], PUMPED),
+    (["-Ss"], OVER), (["-vs"], OVER), (["-Sv"], PUMPED), (["-s", "-v", "-S", "-s"], OVER), (["-sc5"], OVER), (["-Sc", "5"], PUMPED),
+    (["-s", "--"], OVER), (["-sDd", "-o"], OVER), (["-l", "-S"], None), (["-l", "-s"], None), (["-l-s", "-S"], PUMPED),
     (["-w", "recordio"], PUMPED), (["-w", "addcr"], PUMPED), (["-wrecordio,fixcrio"], PUMPED), (["-w", "delcr", "-S"], PUMPED),
     (["-S", "-w", "addcr"], PUMPED), (["-s", "-S", "-w", "addcr"], PUMPED), (["-s", "-w", "addcr", "-S"], PUMPED), (["-w", "addcr", "-sS"], PUMPED),
 ]
@@ -82,14 +83,14 @@ def spellings(suite):
     link, other = linked(suite), linked(suite, "other")
     for options, wanted in SPELLINGS:
         suite.expect("ucspi tcpserver %r" % options, mode_under(suite, options), wanted or PUMPED)
-        suite.expect("tcpserver %r" % options, mode_under(suite, options, [link]), wanted or HANDED)
+        suite.expect("tcpserver %r" % options, mode_under(suite, options, [link]), wanted or OVER)
     suite.expect("a link of another name", mode_under(suite, [], [other, "tcpserver"]), PUMPED)
-    suite.expect("a link of another name, and -s", mode_under(suite, ["-s"], [other, "tcpserver"]), HANDED)
+    suite.expect("a link of another name, and -s", mode_under(suite, ["-s"], [other, "tcpserver"]), OVER)
     how = {"env": dict(os.environ, PATH=suite.folder + ":" + os.environ["PATH"])}
     with suite.start([], given(suite), command=["tcpserver"], **how) as server, server.connect() as client:
-        suite.expect("tcpserver along the path", Given(client).mode(), HANDED)
+        suite.expect("tcpserver along the path", Given(client).mode(), OVER)
     with suite.start([], given(suite), command=["./tcpserver"], executable=suite.program) as server, server.connect() as client:
-        suite.expect("word 0 by itself", Given(client).mode(), HANDED)
+        suite.expect("word 0 by itself", Given(client).mode(), OVER)
 
 
 def wrappers(suite):
@@ -254,23 +255,22 @@ def sessions(suite):
 
 
 def ends_by_itself(suite):
-    """Sessions go on when the server ends by itself, for faults of accepting."""
+    """Sessions go on when the server is to end for faults of accepting; it has given its port back then."""
     run = failed_calls.Library(suite.folder).run_while("accept4", "EIO")
     with suite.start(["-v"], TALK, env=dict(os.environ, **run.environment)) as server, server.connect() as first:
         suite.expect("before faults of accepting", first.recv(3), b"hi\n")
         run.turn(True)
-        # the server may wait in `accept` already, which then succeeds
-        with server.connect() as second:
-            second.settimeout(2)
-            try:
-                answer = second.recv(3)
-            except (TimeoutError, ConnectionError):
-                answer = b""
-            suite.expect("the end for faults of accepting", (server.end(), server.lines()[-1]), (111, "accept fault"))
+        # the server may wait in `accept` already, which then succeeds; the third is never taken
+        with server.connect() as second, server.connect():
+            server_runs.wait_until("the port after faults of accepting", lambda: refuses(server.port), 10)
             talk(suite, "a session after faults of accepting", first, b"one")
-            if answer:
-                talk(suite, "the last session before them", second, b"two")
-            suite.holds("the last session before them begins, or is turned away", answer in (b"hi\n", b""), answer)
+            if len(server.lines()) > 5:
+                suite.expect("the last session before them", second.recv(3), b"hi\n")
+                talk(suite, "that session after them", second, b"two")
+        first.shutdown(socket.SHUT_WR)
+        suite.expect("the end of a session after them", read_all(first), b"bye\n")
+        suite.expect("the end for faults of accepting", (server.end(), server.lines()[-1]), (111, "accept fault"))
+        suite.audit("faults of accepting", server)
     run.end()
 
 
