@@ -237,7 +237,9 @@ def bursts(suite):
             events = suite.audit("a burst under %r" % options, server, per)
             suite.expect("those of a burst under %r" % options, events.admitted + events.full, 120)
             if per is None:
-                suite.expect("a burst fills the server under %r" % options, events.most, events.limit)
+                # a program that has its connection itself may be over before the last of them is started
+                least = events.limit - 2 if suite.handed else events.limit
+                suite.holds("a burst fills the server under %r" % options, least <= events.most <= events.limit, events.most)
 
 
 def waiting_at(port):

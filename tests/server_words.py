@@ -311,7 +311,7 @@ CHECKS = [
     the_port, any_address, accepted_options, whole_environments, names, rules, rules_of_names, absent_rules, banners,
 ]
 COMMON = [the_port, any_address, accepted_options, whole_environments, rules, absent_rules, banners]
-HANDED = [the_port, any_address, accepted_options, whole_environments, names, rules, rules_of_names, absent_rules, banners]
+HANDED = [the_port, any_address, whole_environments, names, rules, rules_of_names, absent_rules, banners]
 
 if __name__ == "__main__":
     sys.exit(server_runs.main(sys.modules["__main__"]))
