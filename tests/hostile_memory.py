@@ -174,6 +174,7 @@ class Serving:
                 pass
             answer = read_all(client)
         self.wait_for_lines()
+        self.server.settle(self.seen + self.is_first)
         lines, serial = self.piece(), self.counted + 1
         wanted = kind.wanted(serial, self.servers.limit, self.server.port, peer)
         change = change_of(kind, serial, answer, lines, wanted, self.servers.suite.handed)
@@ -285,6 +286,7 @@ def full_addresses(suite):
                 # it was not served
                 pass
             read_all(first)
+        server.settle(1)
         lines = server.lines()
         told = lines.count(full), sum(line == "out of memory" for line in lines)
         served = (answered == b"hi\n") + (others[1] == b"hi\n")

@@ -170,6 +170,16 @@ class Server:
         except Amiss:
             raise Amiss("%d connections are still alive: %r" % (self.live(), self.log()[-600:]))
 
+    def settle(self, seen, seconds=2):
+        """Waits for the lines of a connection behind those that were seen: a client sees its end before the server has told it, where it is handed
+        over even before the server knows of it."""
+        end = time.monotonic() + seconds
+        while time.monotonic() < end:
+            lines = self.lines()
+            if len(lines) > max(seen, 1) and re.match("status: 0/|out of memory", lines[-1]):
+                return
+            time.sleep(0.002)
+
     def descriptors(self):
         return len(os.listdir("/proc/%d/fd" % self.process.pid))
 
