@@ -141,7 +141,7 @@ class Storm:
 def storm(suite):
     """Nine hundred clients, two of three of them bad, and programs of each kind."""
     for options in ([], ["-w", "recordio,delcr,addcr"]):
-        if options and suite.original:
+        if options and suite.handed:
             continue
         ends = b"\r\n" if options else b"\n"
         number = STORM // 3 if options else STORM
@@ -444,7 +444,7 @@ def writing_on(suite):
                 client.recv(1)
                 reset(client)
                 server.idle()
-            if not suite.original:
+            if not suite.handed:
                 ends = [line.split()[3] for line in server.lines() if line.startswith("end ")]
                 suite.expect("ends of %r" % script, ends, [wanted] * 3)
             suite.audit("programs that write on", server)
@@ -454,6 +454,7 @@ CHECKS = [
     storm, stages, unread_banner, slow_clients, never_reading, half_closed, stopped_programs, writing_on, burst, full_queue,
 ]
 COMMON = [storm, stages, slow_clients, never_reading, half_closed, stopped_programs, writing_on, burst, full_queue]
+HANDED = [storm, stages, unread_banner, slow_clients, never_reading, half_closed, stopped_programs, writing_on, burst, full_queue]
 
 if __name__ == "__main__":
     sys.exit(server_runs.main(sys.modules["__main__"]))

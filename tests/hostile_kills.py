@@ -296,6 +296,7 @@ def both_killed(suite):
 
 CHECKS = [killed_installations, killed_servers, both_killed]
 COMMON = CHECKS
+HANDED = [killed_servers, both_killed]
 
 if __name__ == "__main__":
     sys.exit(server_runs.main(sys.modules["__main__"]))

@@ -18,6 +18,8 @@ import re
 import sys
 
 NAME = b"tcpserver: "
+# the cause of a fault, in a line behind its own: no event
+CAUSE = NAME + b"cause: "
 NUMBER = rb"(\d+)"
 ADDRESS = rb"(\d+\.\d+\.\d+\.\d+)"
 CAUSES = rb"(banner fault|directory fault|rules read fault|rules damaged|out of memory|no thread)"
@@ -62,7 +64,7 @@ class Connection:
 def line_of(number, text):
     """The server's own line in a line of its log, if there is one: all of it, or what stands behind the beginning of a program's line."""
     begins = text.find(NAME)
-    if begins < 0 or RECORDED.match(text):
+    if begins < 0 or RECORDED.match(text) or text.startswith(CAUSE, begins):
         return None
     for kind, form in FORMS:
         match = form.fullmatch(text, begins + len(NAME))

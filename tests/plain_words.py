@@ -6,8 +6,10 @@ import re
 import plain_rules
 
 VALUED = "ckmxBlNwtb"
-ALONE = "vQq1XhHpPROodD"
+ALONE = "vQq1XhHpPROodDsS"
 REFUSED = "rugU"
+# options of which the last given counts, by the letter under which it is kept
+LAST_OF = {"S": "s", "s": "s", "v": "v", "Q": "v", "q": "v"}
 USAGE = "usage: tcpserver [options] host port prog [args]"
 PHASES = ("fresh", "filling", "synced", "named", "done")
 LAST_SERIAL = 2 ** 64 - 1
@@ -30,12 +32,18 @@ def address_in(word):
 
 # the words of tcpserver
 
+# the causes of a usage line, and of a fault of the system
+NO_WORD = r"tcpserver: cause: (no program|[^\n]*: no (host|port))\n"
+SYSTEM = r"tcpserver: cause: [^\n]+: [A-Z][^\n]+\n"
+
+
 class WordFault(Exception):
     """What is wrong with the words."""
 
 
 def options_in(words):
-    """The options with their values, and the words that are left."""
+    """The options with their values, of which the last counts, and the words that are left. Under `s` stands which of `-s` and `-S` was given last,
+    under `v` which of `-v`, `-Q` and `-q`."""
     options, place = [], 0
     while place < len(words):
         word = words[place]
@@ -57,7 +65,7 @@ def options_in(words):
                 letters = ""
                 options.append((letter, value))
             elif letter in ALONE:
-                options.append((letter, ""))
+                options.append((LAST_OF.get(letter, letter), letter))
             else:
                 raise WordFault("unknown option -%s" % letter)
     return dict(options), words[place:]
@@ -71,16 +79,26 @@ def is_wrapped(names):
 
 
 def fault_of_words(words, folder):
-    """The fault of the words of a server that can't listen at its port, as a text and an exit code."""
+    """The fault of the words of a server that can't listen at its port, as a text, an exit code, and the form of the line of its cause, if there is
+    to be one."""
+    options = {}
+    text, code = first_fault(words, folder, options)
+    is_told = options.get("v") == "v" and (code == 111 or text == USAGE)
+    return text, code, (NO_WORD if code == 100 else SYSTEM) if is_told else None
+
+
+def first_fault(words, folder, options):
+    """The first fault of the words, and its exit code; the options are added to `options`, once they are read."""
     try:
-        options, words = options_in(words)
+        found, words = options_in(words)
+        options.update(found)
         for letter, most in (("c", 10000), ("k", 4294967295), ("m", 10000)):
             if letter in options and number_in(options[letter], 1, most) is None:
                 raise WordFault("option -%s has a bad number" % letter)
         is_host = len(words) > 2 and (words[0] in ("0", "localhost") or address_in(words[0]))
         if not is_host or number_in(words[1], 0, 65535) is None:
             raise WordFault(USAGE)
-        if "w" in options and not is_wrapped(options["w"]):
+        if "w" in options and (not is_wrapped(options["w"]) or options.get("s") == "s"):
             raise WordFault("bad wrappers")
     except WordFault as fault:
         return str(fault), 100

@@ -94,7 +94,7 @@ def terminated(suite):
                 suite.holds("the end by signal %d" % number, code == -number or (suite.original and code == 0), code)
                 with suite.start(["-v"] + server_runs.QUIET, ["sh", "-c", "echo again"], port=port) as after:
                     suite.expect("at the same port after signal %d" % number, (after.port, after.ask()), (port, b"again\n"))
-                if not suite.original:
+                if not suite.handed:
                     suite.expect("the client of a server that ended by signal %d" % number, read_all(client), b"")
 
 
@@ -320,7 +320,8 @@ def failed_accepts(suite):
 
 
 def failed_threads(suite):
-    """A connection that gets no thread is dropped, a program whose input gets none is ended; the server goes on."""
+    """A connection that gets no thread is dropped, a program whose input gets none is ended; the server goes on. One that is handed over needs
+    no thread for its input."""
     causes = set()
     for number in range(1, 7):
         with suite.start(["-v", "-k", "4"], ["sh", "-c", "echo hi; cat"], **faults(suite, FAILED_THREAD=number)) as server:
@@ -331,7 +332,7 @@ def failed_threads(suite):
             suite.holds("the line of thread %d" % number, told in ([], ["no thread"], ["no pipe ends"]), told)
             causes.update(told)
             suite.audit("thread %d refused" % number, server)
-    suite.expect("what refused threads do", causes, {"no thread", "no pipe ends"})
+    suite.expect("what refused threads do", causes, {"no thread"} if suite.handed else {"no thread", "no pipe ends"})
 
 
 def missing_descriptors(suite):
@@ -410,6 +411,10 @@ CHECKS = [
     failed_accepts, failed_threads, missing_descriptors, lost_log, log_that_does_not_block,
 ]
 COMMON = [terminated, descriptors_of_programs, signals_of_programs, folders_of_programs, errors_of_programs, nothing_left]
+HANDED = [
+    terminated, descriptors_of_programs, signals_of_programs, folders_of_programs, errors_of_programs, nothing_left, few_descriptors, failed_accepts,
+    failed_threads, missing_descriptors, lost_log,
+]
 
 if __name__ == "__main__":
     sys.exit(server_runs.main(sys.modules["__main__"]))

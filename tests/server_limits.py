@@ -270,6 +270,7 @@ CHECKS = [
     many_connections_of_all, many_at_once,
 ]
 COMMON = [one_after_another, gate, many_connections_of_all, many_at_once]
+HANDED = CHECKS
 
 if __name__ == "__main__":
     sys.exit(server_runs.main(sys.modules["__main__"]))

@@ -236,7 +236,9 @@ def bursts(suite):
             events = suite.audit("a burst under %r" % options, server, per)
             suite.expect("those of a burst under %r" % options, events.admitted + events.full, 120)
             if per is None:
-                suite.expect("a burst fills the server under %r" % options, events.most, events.limit)
+                # a program that has its connection itself may be over before the last of them is started
+                least = events.limit - 2 if suite.handed else events.limit
+                suite.holds("a burst fills the server under %r" % options, least <= events.most <= events.limit, events.most)
 
 
 def all_have_come(port, number):
@@ -319,6 +321,7 @@ CHECKS = [
     plain_log, ends, start_faults, denied, dropped, lost_banner, address_full, retired, fields, levels, bursts, audits, audits_of_ends,
 ]
 COMMON = [plain_log]
+HANDED = [plain_log, ends, start_faults, denied, dropped, lost_banner, address_full, retired, levels, bursts]
 
 if __name__ == "__main__":
     sys.exit(server_runs.main(sys.modules["__main__"]))

@@ -3,7 +3,8 @@
 
 Each run serves two connections, one that the rules allow and one that they deny. A refusal may end the server with `out of memory` and exit
 code 111, or change what happens to one connection: it is closed and not counted, dropped, not started, or its streams end early, either
-way. It never gets more than it should, no other connection changes, and the server ends as it does with ample memory.
+way. It never gets more than it should, no other connection changes, and the server ends as it does with ample memory. Where connections are
+handed over no stream ends early, and there are no pipe ends to be missed.
 """
 import os
 import re
@@ -39,7 +40,8 @@ class Refusals:
         self.answers = {ALLOWED: answer, DENIED: BANNER.encode()}
         # what the program says where its input ended before it got any
         self.early = answer if early is None else early
-        self.forms = [re.compile(form) for form in MORE + ([r"\d+ [<>] .*"] if recorded else [])]
+        more = [form for form in MORE if not (suite.handed and "no pipe ends" in form)]
+        self.forms = [re.compile(form) for form in more + ([r"\d+ [<>] .*"] if recorded else [])]
         text = refused_memory.SOURCE.replace("++requests", "__sync_add_and_fetch(&requests, 1)")
         self.preload = refused_memory.library(suite.folder, text, "refuse")
         self.mark = suite.path("mark")
@@ -102,10 +104,21 @@ class Refusals:
         self.suite.fail(self.name, "more than %d requests" % MOST_REQUESTS)
 
 
+def rules_and_names(suite):
+    """The options and the program of a connection that has all but wrappers: names, rules with settings, a banner."""
+    options = ["-v", "-k", "2", "-c", "2", "-m", "2", "-N", suite.path("table", TABLE), "-p", "-x", suite.install(RULES), "-B", BANNER, "-l", "me"]
+    return options, ["sh", "-c", 'read a; echo "$a$A$B$TCPREMOTEHOST"']
+
+
+def handed_over(suite):
+    """All that a connection may have that is handed over."""
+    options, program = rules_and_names(suite)
+    Refusals(suite, "names and rules", options, program, BANNER.encode() + b"aonetwo wordsmail.example\n", BANNER.encode()).run_all()
+
+
 def rules_names_and_wrappers(suite):
     """All that a connection may have: names, rules with settings, a banner, wrappers, a recorder."""
-    options = ["-v", "-k", "2", "-c", "2", "-m", "2", "-N", suite.path("table", TABLE), "-p", "-x", suite.install(RULES), "-B", BANNER, "-l", "me"]
-    program = ["sh", "-c", 'read a; echo "$a$A$B$TCPREMOTEHOST"']
+    options, program = rules_and_names(suite)
     early = b"onetwo wordsmail.example\r\n"
     wrapped = options + ["-w", "recordio,fixcrio"]
     answer = BANNER.encode() + b"a\r" + early
@@ -122,6 +135,7 @@ def starts_that_fail(suite):
 
 CHECKS = [rules_names_and_wrappers, starts_that_fail]
 COMMON = []
+HANDED = [handed_over, starts_that_fail]
 
 if __name__ == "__main__":
     sys.exit(server_runs.main(sys.modules["__main__"]))

@@ -262,6 +262,7 @@ CHECKS = [
     new_rules, old_rules, each_address, many_rules, damaged, changing_places, folder_that_goes, unreadable, installed_meanwhile,
 ]
 COMMON = [new_rules, old_rules, each_address, many_rules, installed_meanwhile]
+HANDED = [new_rules, old_rules, each_address, installed_meanwhile]
 
 if __name__ == "__main__":
     sys.exit(server_runs.main(sys.modules["__main__"]))

@@ -1,7 +1,8 @@
 """What the tests of the server share: a server that runs, its clients, its log, and a group of checks.
 
-Each group is a module with a list CHECKS of functions that take a Suite, and a list COMMON of those of them that hold of djb's tcpserver
-too. `python3 tests/server_NAME.py [PROGRAM]` runs one group alone, and with `--original [PATH]` its common checks against the original.
+Each group is a module with a list CHECKS of functions that take a Suite, a list COMMON of those of them that hold of djb's tcpserver too, and it
+may have a list HANDED of those that are made again of a server that hands connections over (`-s`); all others pass the bytes on.
+`python3 tests/server_NAME.py [PROGRAM]` runs one group alone, and with `--original [PATH]` its common checks against the original.
 """
 import os
 import re
@@ -68,11 +69,11 @@ def reset(connection):
 class Server:
     """A server that runs, with its log in a file. It listens on a port that it chose itself; one that `may_end` may have none, as it ended."""
 
-    def __init__(self, suite, options, program, host="127.0.0.1", port="0", may_end=False, **how):
+    def __init__(self, suite, options, program, host="127.0.0.1", port="0", may_end=False, command=None, **how):
         self.suite = suite
         self.host = "127.0.0.1" if host == "0" else host
         self.path = suite.last_log = tempfile.mktemp(prefix="log-", dir=suite.folder)
-        words = suite.command + ["-1"] + list(options) + [host, str(port)] + list(program)
+        words = (command or suite.command) + ["-1"] + list(options) + [host, str(port)] + list(program)
         how.setdefault("cwd", suite.folder)
         with open(self.path, "wb") as log:
             self.process = subprocess.Popen(words, stdin=subprocess.DEVNULL, stdout=subprocess.PIPE, stderr=log, **how)
@@ -138,10 +139,14 @@ class Server:
         with open(self.path, "rb") as log:
             return log.read()
 
-    def lines(self):
+    def all_lines(self):
         """The lines of the log, without the server's name in front."""
         lines = self.log().decode("latin-1").split("\n")
         return [line[len("tcpserver: "):] if line.startswith("tcpserver: ") else line for line in (lines if lines[-1] else lines[:-1])]
+
+    def lines(self):
+        """The same, without those of causes (group `server_causes`)."""
+        return [line for line in self.all_lines() if not line.startswith("cause: ")]
 
     def wait_line(self, form, times=1, seconds=WAIT):
         """Waits until so many lines of the log have this form."""
@@ -172,6 +177,16 @@ class Server:
         except Amiss:
             raise Amiss("%d connections are still alive: %r" % (self.live(), self.log()[-600:]))
 
+    def settle(self, seen, seconds=2):
+        """Waits for the lines of a connection behind those that were seen: a client sees its end before the server has told it, where it is handed
+        over even before the server knows of it."""
+        end = time.monotonic() + seconds
+        while time.monotonic() < end:
+            lines = self.lines()
+            if len(lines) > max(seen, 1) and re.match("status: 0/|out of memory", lines[-1]):
+                return
+            time.sleep(0.002)
+
     def descriptors(self):
         return len(os.listdir("/proc/%d/fd" % self.process.pid))
 
@@ -193,10 +208,12 @@ class Server:
 class Suite:
     """A group of checks of one server: what it counts, and what is amiss."""
 
-    def __init__(self, program, failures, folder, original=False):
+    def __init__(self, program, failures, folder, original=False, handed=False):
         self.program = program
         self.original = original
-        self.command = [program] if original else [program, "tcpserver"]
+        # whether programs have the connection itself
+        self.handed = handed or original
+        self.command = [program] if original else [program, "tcpserver"] + (["-s"] if handed else [])
         self.failures = failures
         self.folder = folder
         self.running = []
@@ -233,6 +250,13 @@ class Suite:
             return "still running", output, errors
         return process.returncode, output, errors
 
+    def compiled(self, source):
+        """The path of a small program of the tests, which is compiled where it is not yet."""
+        program = self.path(source[:-2])
+        if not os.path.exists(program):
+            subprocess.run(["gcc", "-O1", "-o", program, os.path.join(TOP, "tests", source)], check=True)
+        return program
+
     def path(self, name, text=None):
         """The path of a file in the folder of this group; with a text the file is made."""
         path = os.path.join(self.folder, name)
@@ -251,10 +275,7 @@ class Suite:
 
     def child(self):
         """The program that counts those that run at once, and a new table for it."""
-        program = self.path("server_child")
-        if not os.path.exists(program):
-            source = os.path.join(TOP, "tests", "server_child.c")
-            subprocess.run(["gcc", "-O1", "-o", program, source], check=True)
+        program = self.compiled("server_child.c")
         table = tempfile.mktemp(prefix="table-", dir=self.folder)
         with open(table, "wb") as file:
             file.truncate(4 * (4 + 2 * 65536))
@@ -317,17 +338,30 @@ def place_of_files():
     return None
 
 
-def run_group(module, program, failures, original=False):
-    """Runs a group, and gives the number of its checks."""
+def run_checks(checks, name, program, failures, original=False, handed=False):
+    """Runs some checks in a folder of their own, and gives their number."""
     found = []
     with tempfile.TemporaryDirectory(dir=place_of_files()) as folder:
         os.chmod(folder, 0o755)
-        suite = Suite(program, found, folder, original)
-        for check in module.COMMON if original else module.CHECKS:
+        suite = Suite(program, found, folder, original, handed)
+        for check in checks:
             run_check(suite, check)
-    name = module.__name__ if module.__name__ != "__main__" else os.path.basename(sys.argv[0])[:-3]
     failures += ["%s: %s" % (name, failure) for failure in found]
     return suite.tests
+
+
+def name_of(module):
+    return module.__name__ if module.__name__ != "__main__" else os.path.basename(sys.argv[0])[:-3]
+
+
+def run_group(module, program, failures, original=False):
+    """Runs a group, and gives the number of its checks."""
+    return run_checks(module.COMMON if original else module.CHECKS, name_of(module), program, failures, original)
+
+
+def run_handed(module, program, failures):
+    """Runs those checks of a group that are made again where connections are handed over."""
+    return run_checks(getattr(module, "HANDED", []), name_of(module) + ", handed over", program, failures, handed=True)
 
 
 def main(module):
@@ -337,7 +371,7 @@ def main(module):
     words = words[1:] if original else words
     program = os.path.abspath(words[0]) if words else (ORIGINAL if original else PROGRAM)
     failures = []
-    tests = run_group(module, program, failures, original)
+    tests = run_group(module, program, failures, original) + (0 if original else run_handed(module, program, failures))
     for failure in failures:
         print("FAILED " + failure)
     print("%d passed, %d failed" % (tests - len(failures), len(failures)))

@@ -153,7 +153,7 @@ def input_ends_first(suite):
     with suite.start(["-v"] + server_runs.QUIET, ["sh", "-c", "exec <&-; sleep 0.3; echo out; exit 2"]) as server:
         with server.connect() as client:
             suite.expect("a program that closes its input", read_all(client), b"out\n")
-        if not suite.original:
+        if not suite.handed:
             with server.connect() as client:
                 client.sendall(b"x" * 100000)
                 time.sleep(0.1)
@@ -190,7 +190,7 @@ def client_that_does_not_read(suite):
         suite.holds("the flood goes on", server.process.poll() is None)
         reset(client)
         server.idle()
-        suite.holds("the end of a flood", suite.original or "end 1 status signal" in server.lines(), server.log())
+        suite.holds("the end of a flood", suite.handed or "end 1 status signal" in server.lines(), server.log())
         with server.connect("127.0.0.2") as client:
             client.recv(1000)
         server.idle()
@@ -247,7 +247,7 @@ def grandchildren(suite):
             suite.expect("a program left behind", read_all(client), b"hi\nlate\n")
         server.idle()
         suite.audit("a program left behind", server)
-    if suite.original:
+    if suite.handed:
         return
     # they read nothing until somebody opens this
     gate = suite.path("gate")
@@ -393,6 +393,7 @@ COMMON = [
     big_echo, every_byte, slow_reader, client_ends_first, program_ends_first, output_ends_first, input_ends_first, program_that_does_not_read,
     client_that_does_not_read, vanishing_clients, vanished_before, grandchildren, faulty_programs,
 ]
+HANDED = COMMON
 
 if __name__ == "__main__":
     sys.exit(server_runs.main(sys.modules["__main__"]))

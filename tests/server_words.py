@@ -1,6 +1,7 @@
 #!/usr/bin/env python3
 """The words of `tcpserver`: each option, the order of checks, each text with its exit code, and the environment that a program is given."""
 import os
+import re
 import shutil
 import socket
 import subprocess
@@ -25,8 +26,10 @@ INHERITED = {
 
 
 def refused(suite, name, words, text, code=100, **how):
-    """These words end the server with one line, and nothing on standard output."""
-    suite.expect(name, suite.run(words, **how), (code, b"", ("tcpserver: %s\n" % text).encode()))
+    """These words end the server with one line, and nothing on standard output; of a cause the group `server_causes` tells."""
+    ended, output, errors = suite.run(words, **how)
+    errors = re.sub(rb"(?m)^tcpserver: cause: .*\n", b"", errors)
+    suite.expect(name, (ended, output, errors), (code, b"", ("tcpserver: %s\n" % text).encode()))
 
 
 def usage(suite):
@@ -189,7 +192,7 @@ def any_address(suite):
 
 def accepted_options(suite):
     """Options that change nothing here."""
-    words = ["-ROod", "-D", "-t", "5", "-b3", "-c5", "-l", "0", "-H", "--"]
+    words = ["-ROo", "-t", "5", "-b3", "-c5", "-l", "0", "-H", "--"]
     with suite.start(words, ["cat"]) as server:
         suite.expect("options of no effect", server.ask(b"abc"), b"abc")
     if suite.original:
@@ -296,7 +299,7 @@ def banners(suite):
     with suite.start(["-B", "220 hello\r\n", "-x", path] + server_runs.QUIET, ["echo", "hi"]) as server:
         suite.expect("a banner", server.ask(), b"220 hello\r\nhi\n")
         suite.expect("a banner comes before the rules", server.ask(source="127.0.0.2"), b"220 hello\r\n")
-    if suite.original:
+    if suite.handed:
         return
     with suite.start(["-B", "a\nb", "-w", "recordio,fixcrio,addcr"], ["echo", "c"]) as server:
         suite.expect("a banner passes no wrapper", server.ask(), b"a\nbc\r\n")
@@ -308,6 +311,7 @@ CHECKS = [
     the_port, any_address, accepted_options, whole_environments, names, rules, rules_of_names, absent_rules, banners,
 ]
 COMMON = [the_port, any_address, accepted_options, whole_environments, rules, absent_rules, banners]
+HANDED = [the_port, any_address, whole_environments, names, rules, rules_of_names, absent_rules, banners]
 
 if __name__ == "__main__":
     sys.exit(server_runs.main(sys.modules["__main__"]))
