@@ -34,12 +34,14 @@ def fixed(text):
 
 
 def recorded(number, way, text):
-    """The lines of a text that came in one piece, and that of its end."""
+    """The lines of a text that came in one read, which is recorded in pieces of 256 bytes, and that of its end."""
     mark = b"%d %s " % (number, way)
-    lines = text.split(b"\n")
-    out = b"".join(mark + line + b" \n" for line in lines[:-1])
-    if lines[-1]:
-        out += mark + lines[-1] + b"+\n"
+    out = b""
+    for start in range(0, len(text), 256):
+        lines = text[start:start + 256].split(b"\n")
+        out += b"".join(mark + line + b" \n" for line in lines[:-1])
+        if lines[-1]:
+            out += mark + lines[-1] + b"+\n"
     return out + mark + b"[EOF]\n"
 
 
@@ -182,13 +184,47 @@ class Streams:
             self.tests += 1
             if (ended.returncode, ended.stdout, got) != (0, b"x\ny", wanted):
                 self.failures.append("recordio at port %r: %r" % (port, (ended.stdout, ended.stderr)))
-        for given in (b"", b"ab\ncd", b"\n\n", b"\0\xff\r\n"):
+        long = (b"a" * 256, b"a" * 300 + b"\n", b"x" * 255 + b"\n" + b"y" * 300, b"\n" * 300)
+        for given in (b"", b"ab\ncd", b"\n\n", b"\0\xff\r\n") + long:
             ended = self.run(["recordio", "cat"], given)
             lines = lines_in(ended.stderr)
             got = tuple(b"".join(line for line in lines if line.startswith(mark)) for mark in (b"0 < ", b"0 > "))
             self.tests += 1
             if (ended.returncode, ended.stdout) != (0, given) or got != (recorded(0, b"<", given), recorded(0, b">", given)):
                 self.failures.append("recordio on %r: %r" % (given, (ended.stdout, ended.stderr)))
+
+    def check_shared_records(self):
+        """Two writers of one small pipe that is read slowly: no line of the other lands inside a record."""
+        reading, writing = os.pipe()
+        fcntl.fcntl(writing, fcntl.F_SETPIPE_SZ, 4096)
+        text = (b"a" * 60 + b"\n") * 3000 + b"b" * 40000 + b"\n" * 3000
+        got = []
+
+        def read():
+            with os.fdopen(reading, "rb", 0) as stream:
+                while piece := stream.read(700):
+                    got.append(piece)
+                    time.sleep(0.0002)
+
+        reader = threading.Thread(target=read)
+        reader.start()
+        tool = subprocess.Popen([self.program, "recordio", "cat"], stdin=subprocess.PIPE, stdout=subprocess.DEVNULL, stderr=writing)
+        giver = threading.Thread(target=tool.communicate, args=(text,))
+        giver.start()
+        told = 0
+        while giver.is_alive():
+            os.write(writing, b"other %d\n" % told)
+            told += 1
+            time.sleep(0.0005)
+        os.close(writing)
+        for thread in (giver, reader):
+            thread.join(60)
+        lines = b"".join(got).splitlines(True)
+        others = [line for line in lines if line.startswith(b"other")]
+        wrong = [line for line in lines if not re.fullmatch(rb"other \d+\n|0 [<>] (a*|b*|\[EOF\])[ +]?\n", line)]
+        self.tests += 1
+        if wrong or others != [b"other %d\n" % n for n in range(told)] or told < 20:
+            self.failures.append("a pipe that recordio shares: %d lines of the other, wrong ones %r" % (told, wrong[:3]))
 
     def check_one_by_one(self):
         """A line comes out before the next one goes in."""
@@ -345,6 +381,7 @@ def check(program, failures):
     streams.check_what_programs_get()
     streams.check_streams()
     streams.check_records()
+    streams.check_shared_records()
     streams.check_one_by_one()
     streams.check_end_with_the_program()
     streams.check_non_blocking()
