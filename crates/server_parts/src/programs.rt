@@ -68,7 +68,7 @@ where
     P: OpenProcess + Drop,
     H: Wait,
 {
-    type Job = OsJob<P>;
+    type Job = OsJob;
 
     /// As of the trait; a connection that was given before is `Other`.
     fn start_for(
@@ -77,7 +77,7 @@ where
         connection: &Handle<'a, H>,
         program: &Program,
         environment: &Environment,
-    ) -> Result<OsJob<P>, StartFault> {
+    ) -> Result<OsJob, StartFault> {
         let stream = connection.take().ok_or(StartFault::Other)?;
         self.launcher.start_on(alloc, program, environment, stream)
     }
@@ -88,7 +88,7 @@ where
 pub struct ServiceJob<'a, R, P: OpenProcess> {
     rt: &'a R,
     alloc: Global,
-    job: OsJob<P>,
+    job: OsJob,
     over: Arc<Mutex<bool>, Global>,
 }
 
@@ -128,11 +128,11 @@ where
 
     type Output = P::Stdout;
 
-    ghost program = { λ job. ⟦<OsJob<P> as Job>⟧.program job.job };
+    ghost program = { λ job. ⟦<OsJob as Job>⟧.program job.job };
 
-    ghost environment = { λ job. ⟦<OsJob<P> as Job>⟧.environment job.job };
+    ghost environment = { λ job. ⟦<OsJob as Job>⟧.environment job.job };
 
-    ghost has_ends = { λ job. ⟦<OsJob<P> as Job>⟧.has_ends job.job };
+    ghost has_ends = { λ job. ⟦<OsJob as Job>⟧.has_ends job.job };
 
     ghost killed = { λ _ _ _. ⊤ };
 
