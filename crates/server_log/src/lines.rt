@@ -95,7 +95,7 @@ pub(crate) fn add_start(
 
 /// Adds the line of why the system refused something, if it is told.
 fn add_cause(level: Level, cause: Option<Cause<'_>>, out: &mut Vec<u8>) -> Result<(), AllocError>
-    ensures { Adds (cause_lines level cause) out.old.items out.new.items result }
+    ensures { Adds (cause_lines level cause.entry) out.old.items out.new.items result }
 {
     match (level, cause) {
         (Level::All, Some(cause)) => append_cause(out, "tcpserver", cause.what(), cause.why()),
@@ -111,7 +111,7 @@ pub(crate) fn add_refused(
     cause: Option<Cause<'_>>,
     out: &mut Vec<u8>,
 ) -> Result<(), AllocError>
-    ensures { Adds (refused_lines level serial fault cause) out.old.items out.new.items result }
+    ensures { Adds (refused_lines level serial fault cause.entry) out.old.items out.new.items result }
 {
     let start = add_start(level, serial, Some(fault), out);
     let why = add_cause(level, cause, out);

@@ -97,7 +97,7 @@ impl<W: Write> Log<W> {
         cause: Option<Cause<'_>>,
         live: u64,
     ) -> Result<(), LogFault>
-        ensures lines { Logged (start_failed_lines (level_of self.old) (limit_of self.old) serial fault cause live)
+        ensures lines { Logged (start_failed_lines (level_of self.old) (limit_of self.old) serial fault cause.entry live)
             (held W.contents self.old) (held W.contents self.new) result }
         ensures same { KeepsSettings self.old self.new }
     {
