@@ -225,7 +225,10 @@ def found_by(program, case):
     with tempfile.TemporaryDirectory() as place:
         os.chmod(place, 0o755)
         folder = Folder(program, place)
-        case(folder)
+        try:
+            case(folder)
+        except Exception as fault:  # noqa: BLE001
+            folder.expect("it goes on", repr(fault), None)
         return folder.found
 
 
