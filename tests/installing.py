@@ -130,13 +130,14 @@ def check_foreign(checks, place, path, kind="file"):
         if when == "before":
             checks.expect("%s: FORCE=1" % name, place.call("install", "FORCE=1"), (0, ""))
             checks.expect("%s: all stands there" % name, files(place.root), wanted_files())
-            checks.holds("%s: it was replaced" % name, tree(place.root)[path] != OTHERS)
+            checks.holds("%s: it was replaced" % name, tree(place.root).get(path) != OTHERS)
             place.put(path, kind)
     code, said = place.call("uninstall")
     checks.expect("%s: uninstall" % name, (code, re.findall(r": (/.*)$", said, re.M)), (0, [place.path(path)]))
     checks.expect("%s: it alone is left" % name, files(place.root), [path])
-    checks.expect("%s: as it was" % name, tree(place.root)[path], OTHERS if kind == "file" else kind)
-    os.unlink(place.path(path))
+    checks.expect("%s: as it was" % name, tree(place.root).get(path), OTHERS if kind == "file" else kind)
+    if os.path.lexists(place.path(path)):
+        os.unlink(place.path(path))
 
 
 def check_all_foreign(checks, place):
