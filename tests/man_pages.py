@@ -21,12 +21,12 @@ FAULTS = {
     "recordio": ("stream_tools/src/between.rt", "BetweenFault", "Between"),
     "rulesim": ("script_tool/src/sim.rt", "SimFault", "Script"),
 }
-# pages of others that ours refer to, which need not be installed here
-OUTSIDE = {"flock(2)", "multilog(8)", "runsv(8)", "setpriv(1)", "supervise(8)", "svlogd(8)"}
 # the tools that tell causes
 VERBOSE = ("tcprules", "tcprulescheck")
 # what a page writes for a part of a text that changes
 PLACES = {"u64": "N", "char": "L", "Phase": "PHASE", "LineFault": "line N: KIND"}
+# pages of others that ours refer to, which need not be installed here
+OUTSIDE = {"flock(2)", "multilog(8)", "runsv(8)", "setpriv(1)", "supervise(8)", "svlogd(8)"}
 # the sections that say whose a tool is
 LATER = ("HISTORY", "AUTHORS")
 WITH_LATER = {"addcr.1", "delcr.1", "fixcrio.1", "recordio.1", "tcprules.5", "ucspi.1"}
