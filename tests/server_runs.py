@@ -142,7 +142,7 @@ class Server:
         return [line[len("tcpserver: "):] if line.startswith("tcpserver: ") else line for line in (lines if lines[-1] else lines[:-1])]
 
     def lines(self):
-        """The same, without those of causes (group `server_causes`)."""
+        """The same, without those of causes (of a fault, under -v)."""
         return [line for line in self.all_lines() if not line.startswith("cause: ")]
 
     def wait_line(self, form, times=1, seconds=WAIT):
