@@ -1,19 +1,17 @@
-# make          proves and builds the program ucspi
-# make run      runs the stored run of rulesim
-# make check    proves everything from nothing, and runs all tests
-# make bench    times the tools and the server, and measures their memory
-# make install  PREFIX=..  puts the program and a link of each tool's name into PREFIX/bin, and the man pages into MANDIR/man1; DESTDIR
-#               stands in front of both
-# make uninstall  takes them away
+# make            proves and builds the program ucspi: within 25 minutes on four quiet cores with 16 GB, and what out/ has of it is used
+# make try        builds it without proofs within two minutes, and makes the stored run of rulesim; ARGS="tcprulescheck x" runs any tool of it
+# make run        makes the stored run on the proved program
+# make install    PREFIX=..  puts the program, a link of each tool's name, the man pages, bash's completion and the log reader in place; it builds
+#                 nothing. MANDIR is the folder of the pages, DESTDIR stands in front of all, FORCE=1 replaces files of others
+# make uninstall  takes them away, and no file of others
+# make dist       packs an archive for any x86-64 Linux into dist/, and its SHA-256
+# make deb        packs a Debian package into dist/, which stands beside Debian's ucspi-tcp
+# make check      proves everything from nothing, and runs all tests
+# make bench      times the tools and the server, and measures their memory
 
 PREFIX ?= /usr/local
-MANDIR ?= $(PREFIX)/share/man
-BIN = $(DESTDIR)$(PREFIX)/bin
-MAN1 = $(DESTDIR)$(MANDIR)/man1
-PAGES := $(wildcard man/*.1)
-# each tool has a page; the program looks at the name by which it is called
-NAMES := $(filter-out ucspi,$(basename $(notdir $(PAGES))))
 PROGRAM := crates/ucspi/out/ucspi
+TRIED := out/try/ucspi
 # the small programs of the tests and of the benchmarks: one program, which looks at the name by which it is called
 PROBE := crates/probes/out/probes
 PROBES := $(foreach name,call_probe disk_probe service_probe text_probe ucspi_bench yard_probe,crates/probes/out/$(name))
@@ -22,22 +20,30 @@ PROBES := $(foreach name,call_probe disk_probe service_probe text_probe ucspi_be
 RT_JOBS ?= $(shell awk -v most=$$(nproc) '/^MemAvailable/ { room = int($$2 / 4000000); print room < 1 ? 1 : room < most ? room : most }' /proc/meminfo)
 SOURCES := HANDLES crates.txt $(shell find crates -name out -prune -o -type f -print)
 
-.PHONY: all run check probes bench install uninstall
+.PHONY: all try run check probes bench install uninstall dist deb
 
 all: $(PROGRAM)
 
 $(PROGRAM): $(SOURCES)
-	cd crates/ucspi && rt run </dev/null
-	touch $@
+	@RT_JOBS=$(RT_JOBS) scripts/prove ucspi
+	@touch $@
 
 $(PROBE): $(SOURCES)
-	cd crates/probes && rt run </dev/null
-	touch $@
+	@RT_JOBS=$(RT_JOBS) scripts/prove probes
+	@touch $@
 
 $(PROBES): $(PROBE)
 	ln -f $< $@
 
-run: $(PROGRAM)
+$(TRIED): $(SOURCES)
+	@scripts/try build $@
+
+try: $(TRIED)
+	@scripts/try run $(TRIED) $(ARGS)
+
+run:
+	@test -e $(PROGRAM) || echo "There is no proved program yet: it is proved and built first, in about 25 minutes on four cores; make try takes two."
+	@$(MAKE) -s $(PROGRAM)
 	$(PROGRAM) rulesim <crates/ucspi/stdin
 
 check:
@@ -51,14 +57,14 @@ bench: $(PROGRAM) $(PROBES)
 	bench/run
 	bench/server
 
-install: $(PROGRAM)
-	install -d "$(BIN)" "$(MAN1)"
-	install -m 755 $(PROGRAM) "$(BIN)/ucspi"
-	for name in $(NAMES); do ln -sf ucspi "$(BIN)/$$name" || exit 1; done
-	install -m 644 $(PAGES) "$(MAN1)"
+install:
+	@PROGRAM="$(PROGRAM)" scripts/install PREFIX="$(PREFIX)" MANDIR="$(MANDIR)" DESTDIR="$(DESTDIR)" FORCE="$(FORCE)"
 
-# a program of such a name that is no link to this one stays
 uninstall:
-	for name in $(NAMES); do if [ "$$(readlink "$(BIN)/$$name")" = ucspi ]; then rm -f "$(BIN)/$$name"; fi; done
-	rm -f "$(BIN)/ucspi"
-	for page in $(notdir $(PAGES)); do rm -f "$(MAN1)/$$page"; done
+	@scripts/install uninstall PREFIX="$(PREFIX)" MANDIR="$(MANDIR)" DESTDIR="$(DESTDIR)"
+
+dist: $(PROGRAM)
+	@PROGRAM="$(PROGRAM)" scripts/package dist
+
+deb: $(PROGRAM)
+	@PROGRAM="$(PROGRAM)" scripts/package deb

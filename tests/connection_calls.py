@@ -39,7 +39,7 @@ MOST_REQUESTS = 2000
 
 
 def run(probe, name, environment):
-    ended = subprocess.run([probe, name], env=environment, stdout=subprocess.PIPE, stderr=subprocess.PIPE, timeout=60)
+    ended = subprocess.run([probe, name], env=environment, stdout=subprocess.PIPE, stderr=subprocess.PIPE, timeout=600)
     return ended.returncode, ended.stdout.decode().split("\n")[:-1]
 
 

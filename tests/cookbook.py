@@ -20,7 +20,8 @@ from checks import TOP, Checks, run_alone
 COOKBOOK = os.path.join(TOP, "docs", "COOKBOOK.md")
 TOOLS = ("tcpserver", "tcprules", "tcprulescheck", "addcr", "delcr", "fixcrio", "recordio", "rulesim")
 ACCOUNT = "nobody"
-WAIT = 30
+# how long a service or a command is waited for, in seconds: daemontools looks for services every five
+WAIT = 300
 # longer than a step of the times of files, in seconds
 STEP = 0.03
 # what `ssh` is in the recipe for many machines: an account's home is a folder of the machine's name

@@ -4,7 +4,6 @@ import errno
 import os
 import subprocess
 import tempfile
-import time
 
 SOURCE = os.path.join(os.path.dirname(os.path.abspath(__file__)), "failed_calls.c")
 # how many runs stand beside one another, and how many without a failure in succession end a series
@@ -67,12 +66,12 @@ class Run:
         return bool(failed)
 
 
-def one_after_another(most, till, try_one):
-    """Tries 1, 2 and so on, a few at a time, until so many in succession met no failure, or the time is over: how many runs there were, and
+def one_after_another(most, try_one):
+    """Tries 1, 2 and so on, a few at a time, until so many in succession met no failure, or so many were tried: how many runs there were, and
     whether all was tried. `try_one` tells whether a call failed."""
     runs = 0
     with concurrent.futures.ThreadPoolExecutor(WORKERS) as pool:
-        while runs < most and time.monotonic() < till:
+        while runs < most:
             numbers = range(runs + 1, runs + 1 + LAST * WORKERS)
             met = list(pool.map(try_one, numbers))
             runs += len(numbers)

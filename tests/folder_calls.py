@@ -33,7 +33,7 @@ class Probe:
     def answers(self, folder, words, **how):
         """The lines that these calls answer."""
         command = [self.program, "folder", folder] + words.split()
-        ended = subprocess.run(command, stdout=subprocess.PIPE, stderr=subprocess.STDOUT, timeout=60, **how)
+        ended = subprocess.run(command, stdout=subprocess.PIPE, stderr=subprocess.STDOUT, timeout=600, **how)
         lines = ended.stdout.decode().split("\n")[:-1]
         return lines if ended.returncode == 0 else lines + ["exit %d" % ended.returncode]
 
@@ -103,7 +103,7 @@ def system_calls(probe, folder, words):
     """The system calls on the folder and its files, each as its name and its file."""
     trace = os.path.join(folder, "..", "trace")
     calls = "trace=openat,unlink,unlinkat,write,pwrite64,fsync,close,rename,renameat,renameat2"
-    subprocess.run(["strace", "-y", "-o", trace, "-e", calls, probe.program, "folder", folder] + words.split(), stdout=subprocess.DEVNULL, timeout=60, check=True)
+    subprocess.run(["strace", "-y", "-o", trace, "-e", calls, probe.program, "folder", folder] + words.split(), stdout=subprocess.DEVNULL, timeout=600, check=True)
     found = []
     with open(trace) as lines:
         for line in lines:
@@ -125,7 +125,7 @@ def trace_cases(probe, folder):
 def opened_flags(probe, folder):
     """The flags and the permissions with which a scratch file is made."""
     trace = os.path.join(folder, "..", "trace")
-    subprocess.run(["strace", "-o", trace, "-e", "trace=openat", probe.program, "folder", folder, "fresh", "tmp"], stdout=subprocess.DEVNULL, timeout=60, check=True)
+    subprocess.run(["strace", "-o", trace, "-e", "trace=openat", probe.program, "folder", folder, "fresh", "tmp"], stdout=subprocess.DEVNULL, timeout=600, check=True)
     with open(trace) as lines:
         return [re.findall(r"O_WRONLY\|O_CREAT\|O_EXCL|0[0-7]+", line) for line in lines if "/tmp\"" in line]
 
@@ -134,7 +134,7 @@ def injected(probe, folder, call, how, words, on=()):
     """What is answered where a system call has a mishap; `on` names the file whose calls alone count."""
     inject = [*on, "-e", "trace=" + call, "-e", "inject=%s:%s" % (call, how)]
     command = ["strace", "-qq", "-o", os.devnull] + inject + [probe.program, "folder", folder] + words.split()
-    return subprocess.run(command, stdout=subprocess.PIPE, timeout=60, check=True).stdout.decode().split("\n")[:-1]
+    return subprocess.run(command, stdout=subprocess.PIPE, timeout=600, check=True).stdout.decode().split("\n")[:-1]
 
 
 def injected_cases(probe, folder):
@@ -170,7 +170,7 @@ def full_cases(probe, folder):
     small = os.path.join(folder, "small")
     os.mkdir(small)
     mount = ["mount", "-t", "tmpfs", "-o", "size=64k", "tmpfs", small]
-    if os.geteuid() != 0 or not shutil.which("mount") or subprocess.run(mount, stderr=subprocess.DEVNULL, timeout=60).returncode != 0:
+    if os.geteuid() != 0 or not shutil.which("mount") or subprocess.run(mount, stderr=subprocess.DEVNULL, timeout=600).returncode != 0:
         print("skipped: a file system that is full, since none can be mounted here")
         os.rmdir(small)
         return
@@ -184,14 +184,14 @@ def full_cases(probe, folder):
         yield "one that has room again", probe.answers(small, REPLACEMENT.replace("fresh tmp", "fresh t fresh tmp", 1)), ["done"] + ANSWERS
         yield "what it holds", sorted(os.listdir(small)), ["rules", "t"]
     finally:
-        subprocess.run(["umount", small], timeout=60, check=True)
+        subprocess.run(["umount", small], timeout=600, check=True)
         os.rmdir(small)
 
 
 def install_cases(bench, folder):
     """An installation of many rules writes once for each 65,536 bytes of its file, and then its header of 2,048 bytes in front."""
     trace = os.path.join(folder, "..", "writes")
-    subprocess.run(["strace", "-y", "-o", trace, "-e", "trace=pwrite64", bench, "install", "100000"], cwd=folder, stdout=subprocess.DEVNULL, timeout=60, check=True)
+    subprocess.run(["strace", "-y", "-o", trace, "-e", "trace=pwrite64", bench, "install", "100000"], cwd=folder, stdout=subprocess.DEVNULL, timeout=600, check=True)
     with open(trace) as lines:
         writes = [re.search(r", (\d+), (\d+)\) += (\d+)$", line).groups() for line in lines if "/tmp>" in line]
     size = os.path.getsize(os.path.join(folder, "rules"))

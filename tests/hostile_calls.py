@@ -22,14 +22,11 @@ import rule_files
 import server_runs
 from server_runs import read_all
 
-SERIES_TIME = 30
 MOST = 300
 TABLE = "127.0.0.1 Mail.Example\n=mail.example 127.0.0.1\n"
 RULES = '127.0.0.1:allow,A="one"\n:deny\n'
 ALLOWED, DENIED = "127.0.0.1", "127.0.0.2"
 ANSWERS = {ALLOWED: b"a\n", DENIED: b""}
-# how often the log has to come to its end, in a server that runs under strace
-STRACE_TIME = 20
 
 DIRECTORY = r"drop \d+ directory fault"
 FAILED = r"start \d+ failed"
@@ -217,11 +214,11 @@ class Calls:
         if self.idle is None:
             self.idle = server.descriptors()
         try:
-            server_runs.wait_until("descriptors", lambda: server.descriptors() <= self.idle, 10)
+            server_runs.wait_until("descriptors", lambda: server.descriptors() <= self.idle)
         except server_runs.Amiss:
             return "%d descriptors, and %d when idle" % (server.descriptors(), self.idle)
         words = [self.suite.program, "rulesim"]
-        ended = subprocess.run(words, input=events.script().encode(), stdout=subprocess.PIPE, timeout=60)
+        ended = subprocess.run(words, input=events.script().encode(), stdout=subprocess.PIPE, timeout=server_runs.WAIT)
         return "" if ended.stdout.decode() == events.report() else "the replay of its log: %r" % ended.stdout
 
 
@@ -235,7 +232,7 @@ def each_call(suite):
         for error in errors:
             found = []
             runs, whole = failed_calls.one_after_another(
-                MOST, time.monotonic() + SERIES_TIME, lambda n: found.append(calls.one(call, error, n, faults, forms)) or found[-1])
+                MOST, lambda n: found.append(calls.one(call, error, n, faults, forms)) or found[-1])
             suite.holds("%s, %s: each call was tried, %d of them" % (call, error, runs), whole)
             reached += [call] if any(found) else []
             if not any(found):
@@ -365,7 +362,7 @@ def can_trace():
     if not shutil.which("strace"):
         return False
     words = ["strace", "-qq", "-o", "/dev/null", "-e", "inject=getpid:error=EIO", "true"]
-    return subprocess.run(words, stdout=subprocess.DEVNULL, stderr=subprocess.DEVNULL, timeout=60).returncode == 0
+    return subprocess.run(words, stdout=subprocess.DEVNULL, stderr=subprocess.DEVNULL, timeout=server_runs.WAIT).returncode == 0
 
 
 def below_the_library(suite):
@@ -394,9 +391,9 @@ def fail_below(suite, rules, call, error):
         suite.holds("clients under " + name, all(b"a\n".startswith(answer) for answer in answers), answers)
         suite.holds("the server lives after " + name, server.process.poll() is None, server.log()[-400:])
         if call != "write":
-            server.idle(STRACE_TIME)
+            server.idle()
         suite.expect("after " + name, [server.ask(b"a\n") for _ in range(4)], [b"a\n"] * 4)
-        server_runs.wait_until("descriptors after " + name, lambda: server.descriptors() <= idle, STRACE_TIME)
+        server_runs.wait_until("descriptors after " + name, lambda: server.descriptors() <= idle)
         others = [line for line in server.lines() if not re.fullmatch(ANY_LINE, line) and not line.startswith(("cat: ", cat))]
         suite.expect("the lines under " + name, [line for line in others if "error while loading" not in line], [])
         if call != "write":
@@ -497,7 +494,7 @@ def tools(suite):
             for error in errors:
                 found = []
                 runs, whole = failed_calls.one_after_another(
-                    MOST, time.monotonic() + SERIES_TIME, lambda n: found.append(calls.one(call, error, n)) or found[-1])
+                    MOST, lambda n: found.append(calls.one(call, error, n)) or found[-1])
                 suite.holds("%s: %s, %s: each call was tried, %d of them" % (words[0], call, error, runs), whole)
                 if not any(found):
                     break

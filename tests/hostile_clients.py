@@ -340,14 +340,16 @@ class Burst:
         else:
             self.amiss.append(repr(fault))
 
-    def finish(self, seconds):
-        till = time.monotonic() + seconds
+    def finish(self):
+        """Goes on until all are served, or nothing has moved for a while."""
+        till = time.monotonic() + server_runs.WAIT
         while (self.clients or self.later) and time.monotonic() < till:
             now = time.monotonic()
             for place in [place for when, place in self.later if when <= now]:
                 self.add(place)
             self.later = [one for one in self.later if one[0] > now]
             for descriptor, events in self.poll.poll(0.1):
+                till = now + server_runs.WAIT
                 try:
                     if self.ready(descriptor, events):
                         self.clients.pop(descriptor)[0].close()
@@ -372,10 +374,10 @@ def burst(suite):
     """Five thousand clients at once: each is served."""
     number = room_for(BURST)
     with suite.start(["-v", "-c", "40"] + server_runs.QUIET, ["cat"]) as server:
-        clients = Burst(server, number).finish(150)
+        clients = Burst(server, number).finish()
         suite.expect("a burst of %d" % number, (clients.whole, clients.amiss[:3], len(clients.clients)), (number, [], 0))
         # a client that was reset in the queue may have left a connection of which the system thinks that it stands
-        server_runs.wait_until("the ends of a burst", lambda: server.live() <= half_open(server.port), 30)
+        server_runs.wait_until("the ends of a burst", lambda: server.live() <= half_open(server.port), moves=server.written)
         events = suite.audit("a burst", server)
         # a client may be reset while it waits in the queue; it is then let in, and found to be gone
         right = events is None or number <= events.admitted <= number + clients.again
@@ -399,7 +401,7 @@ def full_queue(suite):
             time.sleep(1)
             first.shutdown(socket.SHUT_WR)
             suite.expect("its end", read_all(first), b"")
-        clients.finish(100)
+        clients.finish()
         suite.expect("those of a full queue", (clients.whole, clients.amiss[:3]), (QUEUED, []))
         server.idle()
         suite.audit("a full queue", server)

@@ -146,7 +146,10 @@ def killed_installations(suite):
     installer = Installer(suite, path)
     with suite.start(["-v", "-x", path] + server_runs.QUIET, SHOW) as server:
         askers = Askers(server.port, installer, False)
-        for _ in range(KILLED_INSTALLATIONS):
+        for number in range(10 * KILLED_INSTALLATIONS):
+            # (as many more as it takes until enough have come)
+            if number >= KILLED_INSTALLATIONS and askers.whole > 200 and installer.killed > 100:
+                break
             installer.install_or_kill()
         askers.finish()
         installer.install()
@@ -179,7 +182,7 @@ class Killer:
         old = self.server
         old.process.send_signal(self.series.choice(ENDING))
         code = old.process.wait(server_runs.WAIT)
-        self.server = server_runs.wait_until("the port", self.start, 5)
+        self.server = server_runs.wait_until("the port", self.start)
         if self.suite.original:
             return None
         self.suite.holds("it ended by the signal", code < 0, code)
@@ -196,7 +199,7 @@ class Killer:
         return None
 
     def replay(self, events):
-        ended = subprocess.run([self.suite.program, "rulesim"], input=events.script().encode(), stdout=subprocess.PIPE, timeout=60)
+        ended = subprocess.run([self.suite.program, "rulesim"], input=events.script().encode(), stdout=subprocess.PIPE, timeout=server_runs.WAIT)
         return None if ended.stdout.decode() == events.report() else events
 
 
@@ -249,7 +252,7 @@ def killed_servers(suite):
     suite.expect("what clients of killed servers got", answers - {b"hi\n", b"hi", b"h", b""}, set())
     killer.server.idle()
     # one that was killed by the end of its pipe is still in the table
-    server_runs.wait_until("the ends of programs", lambda: running_of(program) == 0, 20)
+    server_runs.wait_until("the ends of programs", lambda: running_of(program) == 0)
     suite.expect("programs left behind", running_of(program), 0)
     suite.expect("the rules file", rule_files.content(path), before)
     suite.audit("the last server", killer.server)
@@ -270,7 +273,10 @@ def both_killed(suite):
     thread = threading.Thread(target=install, daemon=True)
     thread.start()
     illegal = []
-    for _ in range(KILLED_SERVERS // 2):
+    for number in range(5 * KILLED_SERVERS):
+        # (as many more as it takes until enough have come)
+        if number >= KILLED_SERVERS // 2 and askers.whole > 50 and installer.killed > 20:
+            break
         events = killer.kill()
         illegal += [events.faults or events.script()[-300:]] if events else []
     over.set()

@@ -9,7 +9,6 @@ import os
 import re
 import socket
 import sys
-import time
 
 import failed_calls
 import refused_memory
@@ -17,11 +16,12 @@ import rule_files
 import server_runs
 from server_runs import read_all
 
-# the most requests of one series, and its time in seconds
+# the most requests of one series
 MOST = 4000
-# how long the first line of a connection is waited for after its end
-LINE_TIME = 2
-SERIES_TIME = 60
+# how long the first line of a connection is waited for after its end: one is missing only where the server is amiss
+LINE_TIME = 60
+# how long an answer is waited for, in seconds, once a request was refused: it may never come
+REFUSED_TIME = 5
 BANNER = "hello\n"
 TABLE = "127.0.0.1 Mail.Example\n127.0.0.2 two.example\n=mail.example 127.0.0.1\n=two.example 127.0.0.2\n"
 RULES = '=mail.example:allow,A="one",B=/two words/\n127.0.0.2:deny\n127.0.0.3:deny\n'
@@ -127,8 +127,8 @@ class Servers:
         self.suite.holds("%s, request %d %s" % (self.name, request, "refused" if failed else "of none refused"), not amiss, amiss)
         return failed
 
-    def run_all(self, seconds=SERIES_TIME):
-        runs, whole = failed_calls.one_after_another(MOST, time.monotonic() + seconds, self.try_one)
+    def run_all(self):
+        runs, whole = failed_calls.one_after_another(MOST, self.try_one)
         self.suite.holds("%s: each request was tried, %d of them; %r" % (self.name, runs, self.changes), whole)
         silent = self.changes.get("refused silently", 0)
         self.suite.holds("%s: a connection that is closed for want of memory has a line" % self.name, not silent, "%d had none" % silent)
@@ -159,9 +159,12 @@ class Serving:
 
     def wait_for_lines(self):
         """Waits for a line of the last connection: one that found no memory may end before its line is written."""
-        before, end = self.seen + self.is_first, time.monotonic() + LINE_TIME
-        while len(self.server.lines()) <= before and time.monotonic() < end:
-            time.sleep(0.002)
+        before = self.seen + self.is_first
+        try:
+            server_runs.wait_until("a line", lambda: len(self.server.lines()) > before, LINE_TIME)
+        except server_runs.Amiss:
+            # (it is told below that there was none)
+            pass
 
     def ask(self, kind):
         """Asks as a client of this kind: what is amiss, and whether the connection counts."""
@@ -247,15 +250,15 @@ def plain_connections(suite):
 def wrappers(suite):
     """Each wrapper, and all of them."""
     for names, answer in (("addcr", b"a\r\n"), ("delcr", b"a\n"), ("fixcrio", b"a\r\n"), ("recordio,fixcrio,delcr,addcr", b"a\r\n")):
-        Servers(suite, "-w " + names, ["-w", names], ECHO, [allowed(answer), allowed(answer)]).run_all(30)
+        Servers(suite, "-w " + names, ["-w", names], ECHO, [allowed(answer), allowed(answer)]).run_all()
 
 
 def absent_rules(suite):
     """A rules file that is not there, which denies, and allows under -X."""
     path = suite.path("absent.cdb")
     denied = Kind("127.0.0.1", b"", ["deny N :127.0.0.1:LOCAL :127.0.0.1::PEER"])
-    Servers(suite, "absent rules", ["-x", path], ECHO, [denied, denied]).run_all(30)
-    Servers(suite, "absent rules under -X", ["-X", "-x", path], ECHO, [allowed(), allowed()]).run_all(30)
+    Servers(suite, "absent rules", ["-x", path], ECHO, [denied, denied]).run_all()
+    Servers(suite, "absent rules under -X", ["-X", "-x", path], ECHO, [allowed(), allowed()]).run_all()
 
 
 def starts_that_fail(suite):
@@ -263,21 +266,30 @@ def starts_that_fail(suite):
     plain = suite.path("plain-file", "x")
     for program, fault in (("/nonexistent", "not found"), (plain, "refused")):
         failed = Kind("127.0.0.1", b"", ["ok N :127.0.0.1:LOCAL :127.0.0.1::PEER", "start N " + fault])
-        Servers(suite, "a program that is " + fault, [], [program], [failed, failed]).run_all(30)
+        Servers(suite, "a program that is " + fault, [], [program], [failed, failed]).run_all()
+
+
+def answer_or_refusal(client, run):
+    """What comes to a client, or nothing, where a request for memory was refused and nothing came for a while after that."""
+    client.settimeout(REFUSED_TIME)
+    for _ in range(server_runs.WAIT // REFUSED_TIME):
+        refused = run.failed()
+        try:
+            return client.recv(3)
+        except TimeoutError:
+            if refused:
+                break
+    return b""
 
 
 def full_addresses(suite):
     """A client whose address is full beside one that is served."""
     library, changes, full = failed_calls.Library(suite.folder), {}, "drop 127.0.0.1 address full"
 
-    def serve(server):
+    def serve(server, run):
         with server.connect() as first:
-            first.settimeout(3)
-            try:
-                answered = first.recv(3)
-            except TimeoutError:
-                # what its program says is passed on no more, and its program waits for it
-                answered = b""
+            # what its program says is passed on no more where a request of its streams was refused, and its program waits for it
+            answered = answer_or_refusal(first, run)
             others = [server.ask(), server.ask(b"\n", source="127.0.0.2")]
             try:
                 first.sendall(b"\n")
@@ -302,8 +314,8 @@ def full_addresses(suite):
         with suite.start(["-v", "-c", "3", "-m", "1"], ["sh", "-c", "echo hi; read a"], may_end=True, env=variables) as server:
             try:
                 if server.port is not None:
-                    amiss = serve(server)
-                    server_runs.wait_until("an answer afterwards", lambda: server.ask(b"\n", source="127.0.0.3") == b"hi\n", 10)
+                    amiss = serve(server, run)
+                    server_runs.wait_until("an answer afterwards", lambda: server.ask(b"\n", source="127.0.0.3") == b"hi\n")
             except ConnectionError:
                 amiss = Servers.ended_early(server, [b"tcpserver: out of memory\n", b"tcpserver: status: 0/3\ntcpserver: out of memory\n"])
             except (server_runs.Amiss, OSError) as fault:
@@ -312,7 +324,7 @@ def full_addresses(suite):
         suite.holds("a full address, request %d" % request, not amiss, amiss)
         return failed
 
-    runs, whole = failed_calls.one_after_another(MOST, time.monotonic() + 30, try_one)
+    runs, whole = failed_calls.one_after_another(MOST, try_one)
     suite.holds("a full address: each request was tried, %d of them; %r" % (runs, changes), whole)
 
 
@@ -329,7 +341,7 @@ def no_memory_for_a_while(suite):
             run.turn(True)
             suite.expect("while there is no memory", [server.ask(b"a\n") for _ in range(12)], [b""] * 12)
             run.turn(False)
-            server.wait_line("out of memory", 12 * (round_ + 1), 10)
+            server.wait_line("out of memory", 12 * (round_ + 1))
             suite.expect("the lines while there is no memory", server.lines()[before:], ["out of memory"] * 12)
             suite.expect("after there was no memory", [server.ask(b"a\n") for _ in range(3)], [b"a\n"] * 3)
             server.idle()
@@ -368,12 +380,11 @@ def beside_a_long_connection(suite):
         suite.expect("one without memory", server.ask(b"a\n"), b"")
         run.turn(False)
         with server.connect() as client:
-            client.settimeout(10)
             client.sendall(b"c")
             try:
                 got = client.recv(1)
             except TimeoutError:
-                got = b"nothing in ten seconds"
+                got = b"nothing"
             suite.expect("the next one beside a long connection", got, b"c")
 
 
@@ -398,7 +409,7 @@ def series_without_memory(suite):
         suite.holds("a series from request %d on" % (number * 7), not amiss, amiss)
         return run.end()
 
-    failed_calls.one_after_another(150, time.monotonic() + 30, try_one)
+    failed_calls.one_after_another(150, try_one)
 
 
 def refused_series(server, wanted):

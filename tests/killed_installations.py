@@ -91,7 +91,7 @@ def check(program, failures):
                 failures.append("an installation after the kills")
             # time for the reader to see this file
             time.sleep(0.5)
-        said, errors = reader.communicate(b"end\n", timeout=60)
+        said, errors = reader.communicate(b"end\n", timeout=600)
         if reader.returncode != 0 or said.split()[1:] != [b"2", b"files"]:
             failures.append("a reader of installed files: %r" % ((said, errors),))
         if killed < KILLS or unfinished == 0:

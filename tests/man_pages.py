@@ -21,8 +21,13 @@ FAULTS = {
     "recordio": ("stream_tools/src/between.rt", "BetweenFault", "Between"),
     "rulesim": ("script_tool/src/sim.rt", "SimFault", "Script"),
 }
+# pages of others that ours refer to, which need not be installed here
+OUTSIDE = {"flock(2)", "multilog(8)", "runsv(8)", "setpriv(1)", "supervise(8)", "svlogd(8)"}
 # what a page writes for a part of a text that changes
 PLACES = {"u64": "N", "char": "L", "Phase": "PHASE", "LineFault": "line N: KIND"}
+# the sections that say whose a tool is
+LATER = ("HISTORY", "AUTHORS")
+WITH_LATER = {"addcr.1", "delcr.1", "fixcrio.1", "recordio.1", "tcprules.5", "ucspi.1"}
 SERVER_FAULT = "server_parts/src/fault.rt"
 
 
@@ -37,9 +42,9 @@ def plain(text):
 class Page:
     """A man page: its sections, each a list of lines."""
 
-    def __init__(self, name):
+    def __init__(self, name, number=1):
         self.name = name
-        self.path = os.path.join(TOP, "man", name + ".1")
+        self.path = os.path.join(TOP, "man", "%s.%d" % (name, number))
         self.sections, here = {}, []
         with open(self.path, encoding="ascii") as file:
             for line in file.read().split("\n"):
@@ -353,14 +358,20 @@ def check_log_lines(checks):
     checks.expect("tcpserver: faults of a start", page.below("tcpserver: start N FAULT"), faults)
 
 
-def check_form(checks, name, names):
-    """What the programs that show pages say of one."""
-    path = os.path.join(TOP, "man", name + ".1")
+def check_form(checks, page, pages):
+    """What the programs that show pages say of one, and that it has the sections that each has."""
+    name, path = page.name, page.path
+    for section in ("NAME", "DESCRIPTION", "EXAMPLES", "COMPATIBILITY", "SEE ALSO") + tuple(LATER if os.path.basename(path) in WITH_LATER else ()):
+        checks.holds("%s: section %s" % (name, section), page.section(section))
+    known = {"%s(%s)" % (one.name, one.path[-1]) for one in pages} | OUTSIDE
+    with open(path, encoding="ascii") as file:
+        named = {"%s(%s)" % found for found in re.findall(r"^\.Xr ([\w-]+) (\d)", file.read(), re.M)}
+    checks.expect("%s: pages that it refers to and nobody knows" % name, sorted(named - known), [])
     if shutil.which("mandoc"):
         ended = subprocess.run(["mandoc", "-T", "lint", path], stdout=subprocess.PIPE, stderr=subprocess.DEVNULL, timeout=60)
         said = ended.stdout.decode().splitlines()
-        # where these pages are not installed their names are not known
-        said = [line for line in said if not re.search(r"referenced manual not found: Xr (%s) 1" % "|".join(names), line)]
+        # (what is not installed here is looked at above)
+        said = [line for line in said if "referenced manual not found: Xr " not in line]
         checks.expect(name + ": mandoc -T lint", said, [])
     if shutil.which("man"):
         words = ["man", "-l", path]
@@ -384,7 +395,15 @@ def examples(page):
     return found
 
 
-def check_examples(checks, program, name):
+def check_rules_page(checks):
+    """The page of the language: the limits of the code, and its kinds of rules."""
+    page, source = Page("tcprules", 5), read("rule_lines/src/limits.rt")
+    numbers = {int(number.replace("_", "")) for number in re.findall(r"\b(\d[\d_]{4,})\b", source)}
+    told = {int(number.replace(",", "")) for number in re.findall(r"\b(\d[\d,]{4,})\b", " ".join(page.section("DESCRIPTION")))}
+    checks.expect("tcprules(5): limits", told & numbers, {67108864, 65536, 1073741824})
+
+
+def check_examples(checks, program, page):
     """Each example gives the lines below it. Two streams may come in any order, and a blank at a line's end is not seen on a page."""
     rules = '10.0.0-3.:allow,RELAYCLIENT=""\n=.example.org:allow,RELAYCLIENT=""\n192.0.2.66:deny\n:allow\n'
     with tempfile.TemporaryDirectory() as folder:
@@ -395,12 +414,12 @@ def check_examples(checks, program, name):
             os.chmod(os.path.join(folder, tool), 0o755)
         subprocess.run([program, "tcprules", "rules.cdb", "rules.tmp"], input=rules.encode(), cwd=folder, check=True, timeout=60)
         environment = {"PATH": folder + ":" + os.environ["PATH"]}
-        for command, wanted in examples(Page(name)):
+        for command, wanted in examples(page):
             ended = subprocess.run(
                 ["sh", "-c", command], cwd=folder, env=environment, stdout=subprocess.PIPE, stderr=subprocess.STDOUT, timeout=60
             )
             lines = ended.stdout.decode().splitlines()
-            checks.expect("%s: %s" % (name, command), sorted(line.rstrip() for line in wanted), sorted(line.rstrip() for line in lines))
+            checks.expect("%s: %s" % (page.name, command), sorted(line.rstrip() for line in wanted), sorted(line.rstrip() for line in lines))
 
 
 def check(program, failures):
@@ -410,6 +429,7 @@ def check(program, failures):
     server = os.path.exists(os.path.join(TOP, "crates", SERVER_FAULT))
     wanted = set(usages()) | {"ucspi"} | ({"tcpserver"} if "tcpserver" in names else set())
     checks.expect("one page for each tool", set(names), wanted)
+    pages = [Page(name) for name in names] + [Page("tcprules", 5)]
     for tool in sorted(FAULTS):
         check_tool(checks, tool)
     check_rule_texts(checks)
@@ -425,11 +445,12 @@ def check(program, failures):
             print("man_pages: the program has no tcpserver yet: the texts of its start and end but those of its words are skipped")
     for missing in [tool for tool in ("mandoc", "man") if not shutil.which(tool)]:
         print("man_pages: %s is not installed: what it says of the pages is skipped" % missing)
-    for name in names:
-        check_form(checks, name, names)
+    check_rules_page(checks)
+    for page in pages:
+        check_form(checks, page, pages)
     if os.path.exists(program):
-        for name in names:
-            check_examples(checks, program, name)
+        for page in pages:
+            check_examples(checks, program, page)
     else:
         print("man_pages: there is no program: the examples of the pages are skipped")
     return checks.tests

@@ -230,7 +230,7 @@ def check_scripts(program, failures, kinds):
             answers = [b"no file\n" if rules is None else decision(rules, peer) for peer in PEERS]
             wanted.append(answer + b"".join(answers))
             tests += 1 + len(PEERS)
-        ended = subprocess.run([program, "rulesim"], input=b"".join(script), env={}, stdout=subprocess.PIPE, stderr=subprocess.PIPE, timeout=120)
+        ended = subprocess.run([program, "rulesim"], input=b"".join(script), env={}, stdout=subprocess.PIPE, stderr=subprocess.PIPE, timeout=600)
         if (ended.stdout, ended.stderr, ended.returncode) != (b"".join(wanted), b"", 0):
             failures.append("plain rules, script %d: %s" % (number, first_difference(ended.stdout, script, wanted)))
     return tests
@@ -257,7 +257,7 @@ def check_files(program, failures):
             if fault is None:
                 old = rule_files.cdb([(address, code(verdict, settings)) for address, verdict, settings in rules])
             words = [program, "tcprules", "rules", "rules.tmp"]
-            ended = subprocess.run(words, cwd=folder, input=text, env={}, stdout=subprocess.PIPE, stderr=subprocess.PIPE, timeout=60)
+            ended = subprocess.run(words, cwd=folder, input=text, env={}, stdout=subprocess.PIPE, stderr=subprocess.PIPE, timeout=600)
             if (ended.stdout, ended.stderr, ended.returncode) != (b"", errors, 0 if fault is None else 100):
                 failures.append("plain rules, %r: %r, not %r" % (text[:300], ended.stderr, errors))
             elif rule_files.content(path) != old:
@@ -289,7 +289,7 @@ def check_long_text(program, failures):
         for host, answer in questions:
             variables = {"TCPREMOTEIP": "10.0.0.1", "TCPREMOTEHOST": host}
             words = [program, "tcprulescheck", "rules"]
-            ended = subprocess.run(words, cwd=folder, env=variables, stdout=subprocess.PIPE, stderr=subprocess.PIPE, timeout=60)
+            ended = subprocess.run(words, cwd=folder, env=variables, stdout=subprocess.PIPE, stderr=subprocess.PIPE, timeout=600)
             if (ended.stdout, ended.stderr, ended.returncode) != (answer, b"", 0):
                 failures.append("the host %s among %d rules: %r" % (host, count, (ended.stdout, ended.stderr, ended.returncode)))
     return 1 + len(questions)

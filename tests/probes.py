@@ -4,7 +4,7 @@ import subprocess
 
 def run(words, given=b""):
     """Runs a program once; answers its exit code, and what it wrote to both of its outputs."""
-    ended = subprocess.run(words, input=given, stdout=subprocess.PIPE, stderr=subprocess.STDOUT, timeout=60)
+    ended = subprocess.run(words, input=given, stdout=subprocess.PIPE, stderr=subprocess.STDOUT, timeout=600)
     return ended.returncode, ended.stdout
 
 

@@ -1,8 +1,11 @@
 #!/usr/bin/env python3
-"""Compares the table of promises in the README with the sources: each crate is there, and each function, law and clause that a row names stands in it.
+"""Compares the table of promises in docs/PROOFS.md with the sources: each crate is there, and each function, law and clause that a row names stands in
+it; and so is what would notice a breach, which each row names: a must-fail edit, or a group of `tests/run`.
 
 A row's contracts are parts with a `;` or `and` between them: the name of a function, of a law, of a module or of a crate, then those of its clauses.
 """
+import importlib.machinery
+import importlib.util
 import os
 import re
 import sys
@@ -11,13 +14,13 @@ TOP = os.path.dirname(os.path.dirname(os.path.abspath(__file__)))
 
 
 def rows():
-    """The rows of the table: the crate and its contracts."""
-    with open(os.path.join(TOP, "README.md"), encoding="utf-8") as file:
+    """The rows of the table: the crate, its contracts, and what would notice a breach."""
+    with open(os.path.join(TOP, "docs", "PROOFS.md"), encoding="utf-8") as file:
         text = file.read()
     table = text[text.index("| Promise | Crate |"):]
     lines = table[:table.index("\n\n")].split("\n")[2:]
-    cells = [line.strip("|").split(" | ")[-2:] for line in lines]
-    return [(crate.strip(" `"), contract.strip()) for crate, contract in cells]
+    cells = [line.strip("|").split(" | ")[-3:] for line in lines]
+    return [(crate.strip(" `"), contract.strip(), notice.strip()) for crate, contract, notice in cells]
 
 
 def is_crate(name):
@@ -55,10 +58,23 @@ def amiss(crate, part):
     return [clause for clause in clauses if not re.search(r"\bensures %s\b" % clause, text)]
 
 
-def check(failures):
-    """How many parts were looked at."""
+def unknown(notice, groups):
+    """The names of a last cell that are neither an edit nor a group; the cell itself where it names nothing."""
+    names = re.findall(r"`([^`]+)`", notice)
+
+    def is_known(name):
+        crate, _, edit = name.partition("/")
+        return os.path.isfile(os.path.join(TOP, "crates", crate, "must-fail", edit)) if edit.endswith(".edit") else name in groups
+
+    return [name for name in names if not is_known(name)] if names else [notice]
+
+
+def check(failures, groups):
+    """How many parts and names were looked at."""
     tests = 0
-    for crate, contract in rows():
+    for crate, contract, notice in rows():
+        tests += 1
+        failures += ["promises: %s: no edit or group %s would notice" % (crate, name) for name in unknown(notice, groups)]
         if not is_crate(crate):
             failures.append("promises: there is no crate " + crate)
             continue
@@ -70,9 +86,18 @@ def check(failures):
     return tests
 
 
+def groups_of_tests():
+    """The groups of `tests/run`."""
+    loader = importlib.machinery.SourceFileLoader("run", os.path.join(TOP, "tests", "run"))
+    module = importlib.util.module_from_spec(importlib.util.spec_from_loader("run", loader))
+    sys.modules["run"] = module
+    loader.exec_module(module)
+    return [*module.GROUPS, *module.PARTS]
+
+
 if __name__ == "__main__":
     FAILURES = []
-    TESTS = check(FAILURES)
+    TESTS = check(FAILURES, groups_of_tests())
     for failure in FAILURES:
         print("FAILED " + failure)
     print("%d passed, %d failed" % (TESTS - len(FAILURES), len(FAILURES)))

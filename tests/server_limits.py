@@ -155,7 +155,7 @@ def two_at_once(suite):
 def gate(suite):
     """The first program ends only once a second one was started: a server that waits for the first one alone never ends."""
     mark = suite.path("gate")
-    waits = "n=0; until test -e '%s/open' || test $n = 1000; do sleep 0.01; n=$((n+1)); done" % mark
+    waits = "n=0; until test -e '%s/open' || test $n = 20000; do sleep 0.01; n=$((n+1)); done" % mark
     script = "if mkdir '%s' 2>/dev/null; then %s; else : > '%s/open'; fi; test -e '%s/open'" % (mark, waits, mark, mark)
     with suite.start(["-v", "-c", "2"] + server_runs.QUIET, ["sh", "-c", script]) as server:
         first = server.connect()

@@ -226,8 +226,7 @@ def bursts(suite):
                 threads = [threading.Thread(target=burst_client, args=(server, source, orders[n % 5])) for n, source in enumerate(sources)]
                 for thread in threads:
                     thread.start()
-                come = time.monotonic() + 2
-                server_runs.wait_until("the clients", lambda: waiting_at(server.port) >= 60 or time.monotonic() > come)
+                all_have_come(server.port, 60)
                 os.kill(server.process.pid, signal.SIGCONT)
                 for thread in threads:
                     thread.join(server_runs.WAIT)
@@ -240,6 +239,15 @@ def bursts(suite):
                 # a program that has its connection itself may be over before the last of them is started
                 least = events.limit - 2 if suite.handed else events.limit
                 suite.holds("a burst fills the server under %r" % options, least <= events.most <= events.limit, events.most)
+
+
+def all_have_come(port, number):
+    """Waits until so many connections wait at a port, or none has come for two seconds, as where the system's queue takes no more."""
+    came, last = time.monotonic(), 0
+    while last < number and time.monotonic() < came + 2:
+        time.sleep(0.005)
+        if waiting_at(port) != last:
+            came, last = time.monotonic(), waiting_at(port)
 
 
 def waiting_at(port):

@@ -20,9 +20,10 @@ import log_events
 TOP = os.path.dirname(os.path.dirname(os.path.abspath(__file__)))
 PROGRAM = os.path.join(TOP, "crates", "ucspi", "out", "ucspi")
 ORIGINAL = "/usr/bin/tcpserver"
-# how long one check may take (a few seconds where the machine is idle), and how long a client or a line of the log is waited for, in seconds
-CHECK_TIME = 240
-WAIT = 60
+# Limits of time find what hangs, and not what is slow: how long one check may take (some seconds where the machine is idle), and how long a client,
+# a line of the log or the end of a program is waited for (some milliseconds there), in seconds.
+CHECK_TIME = 3600
+WAIT = 300
 # what keeps the original from asking name servers and peers, and lets enough clients wait; here it has no effect but a name
 QUIET = ["-R", "-H", "-l", "0", "-b", "1000"]
 LIVE = re.compile(rb"^tcpserver: status: (\d+)/\d+$", re.M)
@@ -32,13 +33,15 @@ class Amiss(Exception):
     """What a check can't go on after."""
 
 
-def wait_until(what, true, seconds=WAIT):
-    """Waits until this is true."""
-    end = time.monotonic() + seconds
+def wait_until(what, true, seconds=WAIT, moves=lambda: None):
+    """Waits until this is true. The time begins anew as often as `moves` gives something else."""
+    end, seen = time.monotonic() + seconds, moves()
     while True:
         found = true()
         if found:
             return found
+        if moves() != seen:
+            end, seen = time.monotonic() + seconds, moves()
         if time.monotonic() > end:
             raise Amiss("waited %s seconds for %s" % (seconds, what))
         time.sleep(0.005)
@@ -156,6 +159,10 @@ class Server:
         except Amiss:
             raise Amiss("no line like %r in %r" % (form, self.log()[-600:]))
 
+    def written(self):
+        """How many bytes of the log are written."""
+        return os.path.getsize(self.path)
+
     def live(self):
         """How many connections the last status line has."""
         log = self.log()
@@ -166,7 +173,7 @@ class Server:
     def idle(self, seconds=WAIT):
         """Waits until no connection is alive."""
         try:
-            wait_until("the end of each connection", lambda: self.live() == 0, seconds)
+            wait_until("the end of each connection", lambda: self.live() == 0, seconds, self.written)
         except Amiss:
             raise Amiss("%d connections are still alive: %r" % (self.live(), self.log()[-600:]))
 
@@ -263,7 +270,7 @@ class Suite:
         path = self.path(name)
         words = ["tcprules"] if self.original else [self.program, "tcprules"]
         given = text if isinstance(text, bytes) else text.encode()
-        subprocess.run(words + [path, path + ".tmp"], input=given, check=True, timeout=60)
+        subprocess.run(words + [path, path + ".tmp"], input=given, check=True, timeout=WAIT)
         return path
 
     def child(self):
@@ -281,7 +288,7 @@ class Suite:
         events = log_events.Events(server.log(), per)
         self.expect(name + ": what does not fit in the log", events.faults, [])
         words = [self.program, "rulesim"]
-        ended = subprocess.run(words, input=events.script().encode(), stdout=subprocess.PIPE, stderr=subprocess.STDOUT, timeout=120)
+        ended = subprocess.run(words, input=events.script().encode(), stdout=subprocess.PIPE, stderr=subprocess.STDOUT, timeout=WAIT)
         self.expect(name + ": replay", (ended.returncode, ended.stdout.decode()), (0, events.report()))
         self.expect(name + ": the last status", server.live(), events.last_live)
         return events

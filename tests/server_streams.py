@@ -62,7 +62,7 @@ def big_echo(suite):
         for thread in threads:
             thread.start()
         for thread in threads:
-            thread.join(60)
+            thread.join(server_runs.WAIT)
         suite.expect("three at once", got, [(8 * MIB, hashlib.sha256(part).hexdigest())] * 3)
         suite.holds("memory after 88 MiB", server.memory() < 60 * 1024, server.memory())
         server.idle()
@@ -210,7 +210,7 @@ def vanishing_clients(suite):
                 if number % 4 == 3:
                     client.shutdown(socket.SHUT_WR)
                 reset(client)
-            server.idle(40)
+            server.idle()
             with server.connect() as client:
                 client.sendall(b"y\n")
                 suite.expect("%r after clients that vanished" % program, client.recv(1) in (b"y", b"h"), True)

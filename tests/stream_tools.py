@@ -1,4 +1,6 @@
 """Runs addcr, delcr, fixcrio and recordio: what they make of streams, how they end, and what their programs are given."""
+import contextlib
+import fcntl
 import os
 import random
 import re
@@ -32,12 +34,14 @@ def fixed(text):
 
 
 def recorded(number, way, text):
-    """The lines of a text that came in one piece, and that of its end."""
+    """The lines of a text that came in one read, which is recorded in pieces of 256 bytes, and that of its end."""
     mark = b"%d %s " % (number, way)
-    lines = text.split(b"\n")
-    out = b"".join(mark + line + b" \n" for line in lines[:-1])
-    if lines[-1]:
-        out += mark + lines[-1] + b"+\n"
+    out = b""
+    for start in range(0, len(text), 256):
+        lines = text[start:start + 256].split(b"\n")
+        out += b"".join(mark + line + b" \n" for line in lines[:-1])
+        if lines[-1]:
+            out += mark + lines[-1] + b"+\n"
     return out + mark + b"[EOF]\n"
 
 
@@ -180,13 +184,47 @@ class Streams:
             self.tests += 1
             if (ended.returncode, ended.stdout, got) != (0, b"x\ny", wanted):
                 self.failures.append("recordio at port %r: %r" % (port, (ended.stdout, ended.stderr)))
-        for given in (b"", b"ab\ncd", b"\n\n", b"\0\xff\r\n"):
+        long = (b"a" * 256, b"a" * 300 + b"\n", b"x" * 255 + b"\n" + b"y" * 300, b"\n" * 300)
+        for given in (b"", b"ab\ncd", b"\n\n", b"\0\xff\r\n") + long:
             ended = self.run(["recordio", "cat"], given)
             lines = lines_in(ended.stderr)
             got = tuple(b"".join(line for line in lines if line.startswith(mark)) for mark in (b"0 < ", b"0 > "))
             self.tests += 1
             if (ended.returncode, ended.stdout) != (0, given) or got != (recorded(0, b"<", given), recorded(0, b">", given)):
                 self.failures.append("recordio on %r: %r" % (given, (ended.stdout, ended.stderr)))
+
+    def check_shared_records(self):
+        """Two writers of one small pipe that is read slowly: no line of the other lands inside a record."""
+        reading, writing = os.pipe()
+        fcntl.fcntl(writing, fcntl.F_SETPIPE_SZ, 4096)
+        text = (b"a" * 60 + b"\n") * 3000 + b"b" * 40000 + b"\n" * 3000
+        got = []
+
+        def read():
+            with os.fdopen(reading, "rb", 0) as stream:
+                while piece := stream.read(700):
+                    got.append(piece)
+                    time.sleep(0.0002)
+
+        reader = threading.Thread(target=read)
+        reader.start()
+        tool = subprocess.Popen([self.program, "recordio", "cat"], stdin=subprocess.PIPE, stdout=subprocess.DEVNULL, stderr=writing)
+        giver = threading.Thread(target=tool.communicate, args=(text,))
+        giver.start()
+        told = 0
+        while giver.is_alive():
+            os.write(writing, b"other %d\n" % told)
+            told += 1
+            time.sleep(0.0005)
+        os.close(writing)
+        for thread in (giver, reader):
+            thread.join(60)
+        lines = b"".join(got).splitlines(True)
+        others = [line for line in lines if line.startswith(b"other")]
+        wrong = [line for line in lines if not re.fullmatch(rb"other \d+\n|0 [<>] (a*|b*|\[EOF\])[ +]?\n", line)]
+        self.tests += 1
+        if wrong or others != [b"other %d\n" % n for n in range(told)] or told < 20:
+            self.failures.append("a pipe that recordio shares: %d lines of the other, wrong ones %r" % (told, wrong[:3]))
 
     def check_one_by_one(self):
         """A line comes out before the next one goes in."""
@@ -228,37 +266,84 @@ class Streams:
                     self.failures.append("%s over a socket that stays open: %r" % (tool, (tied.returncode, got)))
             here.close()
 
-    def check_non_blocking(self):
-        """A descriptor that was left non-blocking is waited for, and nothing is lost."""
-        text = b"".join(b"line %d\n" % n for n in range(60000))
-        for words, wanted in ((["addcr"], added(text)), (["delcr"], text), (["fixcrio", "cat"], fixed(text)), (["recordio", "cat"], text)):
-            given, giving = os.pipe()
-            taking, taken = os.pipe()
-            for descriptor in (given, taken):
-                os.set_blocking(descriptor, False)
-            process = subprocess.Popen([self.program] + words, stdin=given, stdout=taken, stderr=subprocess.DEVNULL)
-            os.close(given)
-            os.close(taken)
-            got = []
+    def run_slowly(self, words, text, left=None):
+        """Runs a tool over pipes of 4,096 bytes, which give late and take late. The descriptor `left`, if any, was left non-blocking. Answers
+        the exit code, and what it wrote on the other two."""
+        pipes = [os.pipe() for _ in range(3)]
+        own = [pipes[0][0], pipes[1][1], pipes[2][1]]
+        others = [pipes[0][1], pipes[1][0], pipes[2][0]]
+        for descriptor in own:
+            fcntl.fcntl(descriptor, fcntl.F_SETPIPE_SZ, 4096)
+        if left is not None:
+            os.set_blocking(own[left], False)
+        with tempfile.TemporaryDirectory() as folder:
+            process = subprocess.Popen([self.program] + words, cwd=folder, stdin=own[0], stdout=own[1], stderr=own[2], env={"PATH": os.environ["PATH"]})
+            for descriptor in own:
+                os.close(descriptor)
+            got = {}
 
             def give():
-                with os.fdopen(giving, "wb", 0) as stream:
+                with contextlib.suppress(BrokenPipeError), os.fdopen(others[0], "wb", 0) as stream:
                     time.sleep(0.05)
-                    for start in range(0, len(text), 100000):
-                        stream.write(text[start:start + 100000])
+                    for start in range(0, len(text), 50_000):
+                        stream.write(text[start:start + 50_000])
                         time.sleep(0.01)
 
-            def take():
-                with os.fdopen(taking, "rb", 0) as stream:
+            def take(number):
+                with os.fdopen(others[number], "rb", 0) as stream:
                     time.sleep(0.3)
-                    got.append(stream.readall())
+                    got[number] = stream.readall()
 
-            threads = [threading.Thread(target=give), threading.Thread(target=take)]
+            threads = [threading.Thread(target=give)] + [threading.Thread(target=take, args=(n,)) for n in (1, 2)]
             for thread in threads:
                 thread.start()
             for thread in threads:
                 thread.join(60)
-            self.expect("%s on non-blocking descriptors" % words[0], subprocess.CompletedProcess(words, process.wait(60), b"".join(got), b""), 0, wanted)
+            return process.wait(60), got[1], got[2]
+
+    def check_non_blocking(self):
+        """A standard descriptor that was left non-blocking is waited for: each tool does what it does over those that block."""
+        text = b"".join(b"line %d\n" % n for n in range(10_000))
+        rules = b"".join(b"10.%d.%d.:allow\n" % (n >> 8, n & 255) for n in range(10_000))
+        script = b"|:deny\ninstall\n" + b"ask 10.0.0.1\n" * 1_000
+        # a program that ends by itself: what it has not read is not recorded
+        records = ["recordio", "sh", "-c", "cat >&2 && seq 2000"]
+        for words, given in (
+            (["addcr"], text), (["delcr"], text), (["fixcrio", "cat"], text), (records, b""), (["recordio", "cat"], b"a\n" * 3000),
+            (["rulesim"], script), (["tcprules", "rules", "tmp"], rules), (["tcprules", "rules", "tmp"], rules + b"10.0.0.1:no\n"),
+        ):
+            wanted = self.run_slowly(words, given)
+            # the two ways of a record are written by two threads, in any order
+            ends = (wanted[0], wanted[1], sorted(wanted[2].split(b"\n")))
+            for left in range(3):
+                code, output, errors = self.run_slowly(words, given, left)
+                self.tests += 1
+                if (code, output, sorted(errors.split(b"\n"))) != ends:
+                    short = (code, len(output), len(errors), errors[:200])
+                    self.failures.append("%s with descriptor %d left non-blocking: %r, not %r" % (words, left, short, (ends[0], len(wanted[1]), len(wanted[2]))))
+
+    def check_full_errors(self):
+        """The line of a fault stands on a standard error that was left non-blocking and is full when it is written."""
+        for words, line in (([], b"rulesim: line 1: bad command\n"), (["tcprulescheck"], b"tcprulescheck: usage: tcprulescheck cdb\n"), (["addcr", "x"], USAGE["addcr"])):
+            taking, taken = os.pipe()
+            os.set_blocking(taken, False)
+            full = 0
+            try:
+                while True:
+                    full += os.write(taken, b"x" * 4096)
+            except BlockingIOError:
+                pass
+            with subprocess.Popen([self.program] + words, stdin=subprocess.PIPE, stdout=subprocess.DEVNULL, stderr=taken) as process:
+                os.close(taken)
+                with contextlib.suppress(BrokenPipeError):
+                    process.stdin.write(b"no command\n")
+                    process.stdin.close()
+                time.sleep(0.2)
+                with os.fdopen(taking, "rb") as stream:
+                    found = stream.read()
+                self.tests += 1
+                if (process.wait(60), found) != (100, b"x" * full + line):
+                    self.failures.append("%s with a full standard error: %r" % (words, found[full:]))
 
     def check_ignored_children(self):
         """Where whoever started the tool ignores SIGCHLD, the system forgets how the program ended."""
@@ -296,9 +381,11 @@ def check(program, failures):
     streams.check_what_programs_get()
     streams.check_streams()
     streams.check_records()
+    streams.check_shared_records()
     streams.check_one_by_one()
     streams.check_end_with_the_program()
     streams.check_non_blocking()
+    streams.check_full_errors()
     streams.check_ignored_children()
     streams.check_big()
     return streams.tests

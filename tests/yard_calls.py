@@ -42,7 +42,7 @@ def cases():
 
 
 def lines_of(words, given=b""):
-    ended = subprocess.run(words, input=given, stdout=subprocess.PIPE, stderr=subprocess.STDOUT, timeout=60)
+    ended = subprocess.run(words, input=given, stdout=subprocess.PIPE, stderr=subprocess.STDOUT, timeout=600)
     return ended.returncode, ended.stdout.decode().split("\n")[:-1]
 
 

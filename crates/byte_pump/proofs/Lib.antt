@@ -1,3 +1,4 @@
 pub mod PassLemmas
+pub mod RecordLemmas
 pub mod TurnLemmas
 pub mod WriteLemmas

@@ -1,7 +1,9 @@
 -- What a recorder writes.
-use Rattle.std.specs.Prelude.{◌≡◌, Bool, true, false, ℕ, List}
+use Rattle.std.specs.Prelude.{◌≡◌, Bool, true, false, ℕ, zero, suc, List, [], ◌∷◌, length, map, take, drop}
+use Rattle.std.specs.List.{concat}
 use Rattle.std.specs.declared.option.Option.{Option}
 use Rattle.std.specs.Io.KnownBytes.{Appends}
+use Rattle.wrapper_chain.specs.Records.{longest_piece, record_text}
 use Rattle.wrapper_chain.specs.declared.recording.Way.{Way}
 use Rattle.byte_pump.specs.declared.tap.Recorder.{Recorder}
 
@@ -24,3 +26,17 @@ pub record Writes {W : Type 0} (contents : W → Option (List ℕ)) (old : Recor
   pub way : way_of new ≡ way_of old
   pub stays : has_failed old ≡ true → (has_failed new ≡ true) × (writer_of new ≡ writer_of old)
   pub wrote : has_failed new ≡ false → Appends (contents (writer_of old)) (contents (writer_of new)) text
+
+-- the front of a text, cut into so many pieces of the given length, of which the last may be shorter
+abbrev pub first_pieces : (count longest : ℕ) → List ℕ → List (List ℕ)
+first_pieces zero longest text = []
+first_pieces (suc count) longest [] = []
+first_pieces (suc count) longest (b ∷ bs) = take longest (b ∷ bs) ∷ first_pieces count longest (drop longest (b ∷ bs))
+
+-- a text, cut into pieces of this length, which is not 0: the last may be shorter, and none is empty
+abbrev pub pieces_in : (longest : ℕ) → List ℕ → List (List ℕ)
+pieces_in longest text = first_pieces (length text) longest text
+
+-- the records of the pieces of a text, each as long as the piece of a record with this number may be
+abbrev pub records_text : ℕ → Way → List ℕ → List ℕ
+records_text number way text = concat (map (record_text number way) (pieces_in (longest_piece number) text))

@@ -1,14 +1,15 @@
 //! Taps: what watches a stream as it goes through a pump.
 ghost use Rattle.std.specs.Io.KnownBytes.{Appends};
-ghost use Rattle.std.specs.Prelude.{◌≡◌, false, true, ℕ, List, ⊤};
+ghost use Rattle.std.specs.Prelude.{◌≡◌, ◌≤◌, false, length, true, ℕ, List, ⊤};
 ghost use Rattle.wrapper_chain.specs.declared.recording.Way.{Way};
 ghost use Rattle.wrapper_chain.specs.declared.recording.Way.TheVariants.{Input};
-ghost use Rattle.wrapper_chain.specs.Records.{end_text, record_text};
-ghost use Rattle.byte_pump.specs.Recorders.{Writes, has_failed, number_of, way_of, writer_of};
+ghost use Rattle.wrapper_chain.specs.Records.{end_text, longest_piece, record_text};
+ghost use Rattle.wrapper_chain.specs.declared.recording.TheConstants.{PIPE_BUF};
+ghost use Rattle.byte_pump.specs.Recorders.{Writes, has_failed, number_of, records_text, way_of, writer_of};
 
 use std::alloc::Global;
 use std::io::Write;
-use wrapper_chain::{Way, record, record_end};
+use wrapper_chain::{Way, longest_piece, record, record_end};
 
 /// Watches one way of a stream. A pump shows it each piece once, in order: with way in the pieces that it reads, with way out
 /// those that its chain gives.
@@ -57,8 +58,9 @@ impl Tap for NoTap {
     fn ended(&mut self) {}
 }
 
-/// A tap that writes the lines of `record` for each piece, by one write, and that of `record_end` at the end. Once a growth or a
-/// write failed it writes no more.
+/// A tap that writes the lines of `record` for each piece and that of `record_end` at the end. It cuts what it is shown into pieces of
+/// `longest_piece` bytes and writes the lines of each by one write, which a pipe takes whole: no line of another process lands among them.
+/// Once a growth or a write failed it writes no more.
 #[derive(Drop)]
 pub struct Recorder<W> {
     number: u64,
@@ -97,7 +99,7 @@ impl<W: Write> Recorder<W> {
 impl<W: Write> Tap for Recorder<W> {
     ghost watches = { way_of };
 
-    ghost sees = { λ old piece new. Writes W.contents old (record_text (number_of old) (way_of old) piece) new };
+    ghost sees = { λ old text new. Writes W.contents old (records_text (number_of old) (way_of old) text) new };
 
     ghost ends = { λ old new. Writes W.contents old (end_text (number_of old) (way_of old)) new };
 
@@ -106,12 +108,13 @@ impl<W: Write> Tap for Recorder<W> {
     }
 
     fn seen(&mut self, piece: &[u8]) {
-        if self.failed {
-            return;
+        let longest = longest_piece(self.number);
+        let mut rest = piece;
+        while !self.failed && !rest.is_empty() {
+            let (front, behind) = rest.split_at(longest.min(rest.len()));
+            self.record_piece(front);
+            rest = behind;
         }
-        self.lines.clear();
-        let done = record(self.number, self.way, piece, &mut self.lines);
-        self.write_lines(done.is_ok());
     }
 
     fn ended(&mut self) {
@@ -125,8 +128,20 @@ impl<W: Write> Tap for Recorder<W> {
 }
 
 impl<W: Write> Recorder<W> {
-    /// Writes the lines that were made, if they could be made.
+    /// Writes the lines that record a piece.
+    fn record_piece(&mut self, piece: &[u8])
+        requires goes_on { has_failed self.old ≡ false }
+        requires short { length piece.now ≤ longest_piece (number_of self.old) }
+        ensures { Writes W.contents self.old (record_text (number_of self.old) (way_of self.old) piece.now) self.new }
+    {
+        self.lines.clear();
+        let done = record(self.number, self.way, piece, &mut self.lines);
+        self.write_lines(done.is_ok());
+    }
+
+    /// Writes the lines that were made, if they could be made, by one write.
     fn write_lines(&mut self, made: bool)
+        requires fits { length self.old.lines.items ≤ PIPE_BUF }
         ensures number { number_of self.new ≡ number_of self.old }
         ensures way { way_of self.new ≡ way_of self.old }
         ensures wrote { has_failed self.new ≡ false → (made ≡ true)

@@ -2,6 +2,8 @@
 #![tactic(auto)]
 
 pub mod disk;
+pub mod failure;
+pub mod lock;
 pub mod os_dir;
 pub mod os_file;
 mod patient;
@@ -13,6 +15,8 @@ pub use dir_calls::{
     replace_file,
 };
 pub use disk::{Disk, DiskFile, Look};
-pub use os_dir::{DiskDir, FolderFault, OsDir};
+pub use failure::{DiskFailure, FailedOn};
+pub use lock::LockTry;
+pub use os_dir::{DiskDir, FolderError, FolderFault, OsDir};
 pub use os_file::OsFile;
 pub use system_disk::{SystemDisk, SystemFile, SystemPath};

@@ -11,6 +11,7 @@ ghost use Rattle.dir_disk.specs.KeptImages.{kept_image, disk_image};
 ghost use Rattle.std.proofs.Common.{subst, sym};
 
 use crate::disk::Disk;
+use crate::lock::LockTry;
 use crate::os_file::OsFile;
 use crate::patient::{TRIES, is_file, move_name, not_opened, opened, remove_name, settle};
 use crate::scratch::{BUFFER, give_up, make_room, overwrite, renew, sync_kept};
@@ -39,6 +40,24 @@ pub enum FolderFault {
 impl From<AllocError> for FolderFault {
     fn from(_: AllocError) -> Self {
         FolderFault::OutOfMemory
+    }
+}
+
+/// Why a folder can't be used, with the system's number of its error (`errno`), where it has told one.
+#[derive(Clone, Copy, PartialEq, Eq, Debug)]
+pub struct FolderError {
+    /// Why.
+    pub fault: FolderFault,
+    /// The system's error.
+    pub error: Option<i32>,
+}
+
+impl From<AllocError> for FolderError {
+    fn from(_: AllocError) -> Self {
+        FolderError {
+            fault: FolderFault::OutOfMemory,
+            error: None,
+        }
     }
 }
 
@@ -139,57 +158,86 @@ where
     /// `NoFolder` where nothing stands there, or no folder; `Device` where the system does not say what stands there, as where it may
     /// not be looked at; `OutOfMemory`.
     pub fn new(alloc: Global, files: R, folder: &str) -> Result<Self, FolderFault> {
+        DiskDir::find(alloc, files, folder).map_err(|error| error.fault)
+    }
+
+    /// The same, with the system's error where it fails.
+    ///
+    /// # Errors
+    /// As of `new`.
+    pub fn find(alloc: Global, files: R, folder: &str) -> Result<Self, FolderError> {
         find_folder(&files, folder)?;
-        let folder = String::from_str(alloc, folder)?;
-        Ok(DiskDir::over(alloc, SystemDisk::new(files, folder))?)
+        let disk = SystemDisk::new(alloc, files, folder)?;
+        Ok(DiskDir::over(alloc, disk)?)
     }
 }
 
+/// The system's error for a path on which something is no folder.
+const NO_FOLDER: i32 = 20;
+
 // Sees that a folder stands at a path.
-fn find_folder<R: Files>(files: &R, folder: &str) -> Result<(), FolderFault> {
+fn find_folder<R: Files>(files: &R, folder: &str) -> Result<(), FolderError> {
     for _ in 0..TRIES {
         match files.metadata(folder) {
             Ok(found) if found.is_dir() => return Ok(()),
-            Ok(_) => return Err(FolderFault::NoFolder),
-            Err(error) => match error.kind() {
-                ErrorKind::NotFound | ErrorKind::NotADirectory => {
-                    return Err(FolderFault::NoFolder);
-                }
-                ErrorKind::Interrupted => {}
-                _ => return Err(FolderFault::Device),
-            },
+            Ok(_) => return Err(unusable(&io::Error::from_raw_os_error(NO_FOLDER))),
+            Err(error) if error.kind() == ErrorKind::Interrupted => {}
+            Err(error) => return Err(unusable(&error)),
         }
     }
-    Err(FolderFault::Device)
+    Err(unusable(&io::Error::from(ErrorKind::Interrupted)))
+}
+
+// What an error of the look at a folder means.
+fn unusable(error: &io::Error) -> FolderError {
+    let fault = match error.kind() {
+        ErrorKind::NotFound | ErrorKind::NotADirectory => FolderFault::NoFolder,
+        _ => FolderFault::Device,
+    };
+    FolderError {
+        fault,
+        error: error.raw_os_error(),
+    }
 }
 
 impl<R: Files<File = File> + Drop> DiskDir<SystemDisk<R>> {
-    /// Waits until no other process holds the folder, and holds it until this value is dropped (`flock` on the folder itself): of
-    /// programs that all take it only one at a time changes names there. It tells nothing of programs that don't take it, nor of
-    /// another machine over a network file system.
+    ghost use Rattle.dir_disk.specs.OsParts.{os_failed};
+
+    /// Tries to take the lock of the folder, without waiting; it is held until `unlock`, or until this value is dropped. Of programs that
+    /// all take it only one at a time changes names there. It is a file beside the names of the folder, `.tcprules.lock`, that only its owner can
+    /// open, and the folder itself (both by `flock`): that one for the sake of programs that take it alone, as a `tcprules` that knows
+    /// no lock file. It tells nothing of programs that take neither, nor of another machine over a network file system.
+    ///
+    /// A process that was killed holds nothing any more: the file that it left is taken by the next one.
     ///
     /// # Errors
-    /// `Device`, where the folder can't be opened for reading, or its file system has no such locks. Nothing has changed then.
-    pub fn lock(&mut self) -> Result<(), DirFault>
+    /// `Device`, where the folder can't be opened for reading, or its file system has no such locks, or the lock file can't be made. Nothing has
+    /// changed then.
+    pub fn try_lock(&mut self) -> Result<LockTry, DirFault>
         ensures faults { IfErr result (λ fault. fault ≡ DirFault.Device) }
+        ensures counted { CountsFault (os_failed self.old) (os_failed self.new) result }
     {
         let outcome = match opened(&self.disk, &mut self.folder) {
-            Some(folder) => locked(folder),
+            Some(folder) => self.disk.try_lock(folder),
             None => Err(not_opened()),
         };
         told(&mut self.failures, outcome)
     }
-}
 
-// Waits for the lock on a file, once more after each signal.
-fn locked(file: &File) -> io::Result<()> {
-    for _ in 0..TRIES {
-        match file.lock() {
-            Err(error) if error.kind() == ErrorKind::Interrupted => {}
-            outcome => return outcome,
+    /// Gives the lock file back, if it is held, and takes it away, as well as that can be done. The folder itself is held until this value is
+    /// dropped.
+    pub fn unlock(&mut self) {
+        self.disk.unlock();
+    }
+
+    /// Whether something stands under a name, or may stand there where the system doesn't say.
+    pub fn may_stand(&mut self, name: &Name) -> bool {
+        self.disk.put_path(&mut self.path, name);
+        match is_file(&self.disk, &self.path) {
+            Ok(_) => true,
+            Err(error) => error.kind() != ErrorKind::NotFound,
         }
     }
-    Err(io::Error::from(ErrorKind::Interrupted))
 }
 
 // What the disk answered, where its faults are the device's, which are counted.

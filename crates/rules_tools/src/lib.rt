@@ -1,9 +1,12 @@
 //! The tools for rules: `tcprules` installs them, and `tcprulescheck` tells which of them decides.
 #![tactic(auto)]
 
+pub mod cause;
 pub mod path;
 pub mod tcprules;
 pub mod tcprulescheck;
+pub mod turn;
 
-pub use tcprules::{TcprulesFault, run_tcprules};
-pub use tcprulescheck::{CheckFault, run_tcprulescheck};
+pub use cause::{Cause, CauseOf};
+pub use tcprules::{RulesFailure, TcprulesFault, run_tcprules};
+pub use tcprulescheck::{CheckFailure, CheckFault, run_tcprulescheck};

@@ -9,15 +9,19 @@ ghost use Rattle.rules_tools.specs.Paths.{PlacesOf};
 ghost use Rattle.rules_tools.specs.Rules.{told_fault};
 ghost use Rattle.rules_tools.specs.declared.tcprules.TcprulesFault.TheVariants.{OutOfMemory};
 
+use crate::cause::{Cause, CauseOf};
 use crate::path::{folder_path, split_path};
+use crate::turn::{NoTurn, take_turn};
 use dir_calls::{Name, NameFault};
-use dir_disk::{Disk, DiskDir, FolderFault, OsDir};
+use dir_disk::{Disk, DiskDir, FolderError, FolderFault, OsDir};
+use fault_causes::Noted;
 use rule_lines::{Limits, LineFault, LineKind, ParseFault, RuleList, parse};
 use rules_install::whole::finish;
 use rules_install::{Install, InstallFault, Names, Phase};
 use std::alloc::{AllocError, Global};
 use std::fs::{File, Files};
-use std::io::{ErrorKind, Read};
+use std::io::{ErrorKind, Read, Write};
+use std::time::Clock;
 use thiserror::Error;
 
 /// Why `tcprules` fails. Of several the first in this order is told.
@@ -85,6 +89,21 @@ impl From<ParseFault> for TcprulesFault {
     }
 }
 
+/// Why a run of `tcprules` failed, and of what a fault of the system came, where the system has told that.
+#[derive(Clone, Copy, PartialEq, Eq, Debug)]
+pub struct RulesFailure {
+    /// Why.
+    pub fault: TcprulesFault,
+    /// Of what it came.
+    pub cause: Option<Cause>,
+}
+
+impl From<TcprulesFault> for RulesFailure {
+    fn from(fault: TcprulesFault) -> Self {
+        RulesFailure { fault, cause: None }
+    }
+}
+
 /// Reads a rule text, compiles it, and installs the compiled file under the path `cdb`, with `tmp` as its scratch file.
 ///
 /// # Errors
@@ -92,17 +111,53 @@ impl From<ParseFault> for TcprulesFault {
 /// the rules file is the old one, or with the phases `Named` and `Done` possibly the new one. After a fault of the disk on the way to any
 /// phase the scratch file is taken away, as well as that can be done; after want of memory it may be left.
 ///
-/// From before its first change on it holds the lock of the folder (`OsDir::lock`), and waits for it where another `tcprules` has it.
-pub fn run_tcprules<R: Read, F: Files<File = File> + Drop>(
+/// From before its first change on it holds the lock of the folder (`OsDir::try_lock`). Where another `tcprules` has it, that is waited for:
+/// after three seconds `errors` is told so, and after a minute it is `Device` on the way to `Fresh`.
+pub fn run_tcprules<S, R, E>(
     alloc: Global,
+    system: &S,
     reader: &mut R,
-    files: F,
+    errors: &mut E,
     cdb: &str,
     tmp: &str,
-) -> Result<(), TcprulesFault> {
+) -> Result<(), RulesFailure>
+where
+    S: Files<File = File> + Clock,
+    R: Read,
+    E: Write,
+{
     let (folder, names) = read_places(alloc, cdb, tmp)?;
-    let mut install = compile(alloc, reader, names)?;
-    install_at(alloc, files, folder, &mut install, cdb, tmp)
+    let (_same, scratch) = read_places(alloc, cdb, tmp)?;
+    let mut install = compile_noted(alloc, reader, names)?;
+    let mut dir = open_folder(alloc, system, folder)?;
+    match take_turn(&mut dir, system, errors, scratch.tmp()) {
+        Ok(()) => {}
+        Err(fault) => return Err(no_turn(&dir, fault)),
+    }
+    let outcome = install_in(alloc, &mut dir, &mut install, &scratch);
+    dir.unlock();
+    outcome
+}
+
+/// Reads a rule text and compiles it. Where it can't be read, the system's error is noted.
+fn compile_noted<R: Read>(
+    alloc: Global,
+    reader: &mut R,
+    names: Names,
+) -> Result<Install, RulesFailure>
+    ensures { IfOk result (λ install. (installing install).over ≡ false) }
+{
+    let mut reader = Noted::new(reader);
+    match compile(alloc, &mut reader, names) {
+        Ok(install) => Ok(install),
+        Err(fault) => Err(RulesFailure {
+            fault,
+            cause: match fault {
+                TcprulesFault::ReadFault => Cause::of(CauseOf::Input, reader.error()),
+                _ => None,
+            },
+        }),
+    }
 }
 
 /// Reads a rule text and compiles it, for an installation under these names.
@@ -121,55 +176,60 @@ fn read_list<R: Read>(alloc: Global, reader: &mut R) -> Result<RuleList, Tcprule
 }
 
 /// The folder of the rules file.
-fn open_folder<F: Files<File = File> + Drop>(
+fn open_folder<'a, S: Files<File = File>>(
     alloc: Global,
-    files: F,
+    system: &'a S,
     folder: &str,
-) -> Result<OsDir<F>, TcprulesFault> {
-    match OsDir::new(alloc, files, folder_path(folder)) {
+) -> Result<OsDir<&'a S>, RulesFailure> {
+    match OsDir::find(alloc, system, folder_path(folder)) {
         Ok(dir) => Ok(dir),
-        Err(FolderFault::NoFolder | FolderFault::Device) => {
-            Err(TcprulesFault::Device(Phase::Fresh))
-        }
-        Err(FolderFault::OutOfMemory) => Err(TcprulesFault::OutOfMemory),
+        Err(FolderError { fault, error }) => Err(RulesFailure {
+            fault: match fault {
+                FolderFault::NoFolder | FolderFault::Device => TcprulesFault::Device(Phase::Fresh),
+                FolderFault::OutOfMemory => TcprulesFault::OutOfMemory,
+            },
+            cause: Cause::of(CauseOf::Folder, error),
+        }),
     }
 }
 
-/// Installs what was compiled in the folder of the rules file.
-fn install_at<F: Files<File = File> + Drop>(
-    alloc: Global,
-    files: F,
-    folder: &str,
-    install: &mut Install,
-    cdb: &str,
-    tmp: &str,
-) -> Result<(), TcprulesFault>
-    requires { (installing install.old).over ≡ false }
-{
-    let mut dir = open_folder(alloc, files, folder)?;
-    if dir.lock().is_err() {
-        return Err(TcprulesFault::Device(Phase::Fresh));
+/// The system's error for a lock that another process has.
+const TAKEN: i32 = 11;
+
+/// That an installation had no turn in its folder.
+fn no_turn<S: Files<File = File>>(dir: &OsDir<&S>, fault: NoTurn) -> RulesFailure {
+    RulesFailure {
+        fault: TcprulesFault::Device(Phase::Fresh),
+        cause: match fault {
+            NoTurn::Others => Cause::of(CauseOf::Folder, Some(TAKEN)),
+            NoTurn::Device => Cause::of_installation(dir.disk().failure()),
+        },
     }
-    install_in(alloc, &mut dir, install, cdb, tmp)
 }
 
 /// Installs what was compiled in a folder whose lock is held. After a fault of the disk what stands under the scratch name is taken away.
-fn install_in<F: Files<File = File> + Drop>(
+fn install_in<S: Files<File = File>>(
     alloc: Global,
-    dir: &mut OsDir<F>,
+    dir: &mut OsDir<&S>,
     install: &mut Install,
-    cdb: &str,
-    tmp: &str,
-) -> Result<(), TcprulesFault>
+    names: &Names,
+) -> Result<(), RulesFailure>
     requires { (installing install.old).over ≡ false }
 {
-    let outcome = finish(alloc, dir, install);
-    if matches!(outcome, Err(InstallFault::Disk(_, _))) {
-        if let Ok((_folder, names)) = read_places(alloc, cdb, tmp) {
-            remove_scratch(dir, &names);
+    match finish(alloc, dir, install) {
+        Ok(()) => Ok(()),
+        Err(fault) => {
+            let mut cause = None;
+            if matches!(fault, InstallFault::Disk(_, _)) {
+                cause = Cause::of_installation(dir.disk().failure());
+                remove_scratch(dir, names);
+            }
+            Err(RulesFailure {
+                fault: fault.into(),
+                cause,
+            })
         }
     }
-    Ok(outcome?)
 }
 
 /// Takes what stands under the scratch name away, as well as that can be done: a fault of that is told to nobody. What lasts under the name of

@@ -5,11 +5,13 @@ ghost use Rattle.dir_calls.specs.Directory.{content};
 ghost use Rattle.rules_tools.specs.Checks.{Blames, DecidesBy, FailsBy};
 ghost use Rattle.rules_tools.specs.declared.tcprulescheck.CheckFault.TheVariants.{OutOfMemory};
 
+use crate::cause::{Cause, CauseOf};
 use crate::path::{folder_path, split_path};
 use answer_lines::append_answer;
 use cdb_read::CdbFile;
 use dir_calls::{Dir, DirFault, Name, NameFault};
-use dir_disk::{FolderFault, OsDir};
+use dir_disk::{FolderError, FolderFault, OsDir};
+use fault_causes::Noted;
 use rule_lines::FindFault;
 use rule_lookup::{DecideFault, Decision, Found, Missing, Peer, PeerFault, decide, parse_address};
 use std::alloc::{AllocError, Global};
@@ -80,6 +82,21 @@ impl From<AllocError> for CheckFault {
     }
 }
 
+/// Why a run of `tcprulescheck` failed, and of what a fault of the system came, where the system has told that.
+#[derive(Clone, Copy, PartialEq, Eq, Debug)]
+pub struct CheckFailure {
+    /// Why.
+    pub fault: CheckFault,
+    /// Of what it came.
+    pub cause: Option<Cause>,
+}
+
+impl From<CheckFault> for CheckFailure {
+    fn from(fault: CheckFault) -> Self {
+        CheckFailure { fault, cause: None }
+    }
+}
+
 /// Writes what the compiled file at a path decides for the peer of the variables `TCPREMOTEIP`, `TCPREMOTEHOST` and `TCPREMOTEINFO`. One
 /// that is unset, empty or not UTF-8 counts as unknown; an unknown address is `0.0.0.0`.
 ///
@@ -90,24 +107,28 @@ pub fn run_tcprulescheck<E: Env + AllocGlobal, F: Files + Drop, W: Write>(
     files: F,
     writer: &mut W,
     cdb: &str,
-) -> Result<(), CheckFault>
+) -> Result<(), CheckFailure>
 where
     F::File: FileExt,
 {
     let peer = read_peer(env)?;
     let decision = decide_in(env.alloc(), files, cdb, &peer)?;
-    write_decision(env.alloc(), writer, &decision)
+    let mut writer = Noted::new(writer);
+    match write_decision(env.alloc(), &mut writer, &decision) {
+        Err(CheckFault::WriteFault) => Err(CheckFailure {
+            fault: CheckFault::WriteFault,
+            cause: Cause::of(CauseOf::Output, writer.error()),
+        }),
+        written => Ok(written?),
+    }
 }
 
-/// Writes what a compiled file decides, unless there is none.
+/// Writes what a compiled file decides.
 fn write_decision<W: Write>(
     alloc: Global,
     writer: &mut W,
     decision: &Decision,
 ) -> Result<(), CheckFault> {
-    if matches!(decision.found, Found::NoFile) {
-        return Err(CheckFault::NoFile);
-    }
     let mut answer = Vec::new(alloc);
     append_answer(&mut answer, decision)?;
     write_answer(writer, answer.as_slice())
@@ -157,21 +178,32 @@ fn read_variable<E: Env + AllocGlobal>(env: &E, name: &str) -> Result<Option<Str
     }
 }
 
-/// What the compiled file at a path decides. A folder that is not there has no files, and there is no file at a path whose last part is
-/// no name.
+/// What the compiled file at a path decides, if there is one. A folder that is not there has no files, and there is no file at a path whose
+/// last part is no name.
 fn decide_in<F: Files + Drop>(
     alloc: Global,
     files: F,
     cdb: &str,
     peer: &Peer,
-) -> Result<Decision, CheckFault>
+) -> Result<Decision, CheckFailure>
 where
     F::File: FileExt,
 {
     let (folder, name) = split_path(cdb);
     let name = read_name(alloc, name)?;
     let mut dir = open_folder(alloc, files, folder)?;
-    decide_at(alloc, &mut dir, &name, peer)
+    let fault = match decide_at(alloc, &mut dir, &name, peer) {
+        Ok(decision) if matches!(decision.found, Found::NoFile) => CheckFault::NoFile,
+        Ok(decision) => return Ok(decision),
+        Err(fault) => fault,
+    };
+    let cause = match fault {
+        CheckFault::NoFile | CheckFault::Device | CheckFault::ReadFault => {
+            Cause::of_look_up(dir.disk().failure())
+        }
+        _ => None,
+    };
+    Err(CheckFailure { fault, cause })
 }
 
 /// The name of the compiled file.
@@ -188,15 +220,20 @@ fn open_folder<F: Files + Drop>(
     alloc: Global,
     files: F,
     folder: &str,
-) -> Result<OsDir<F>, CheckFault>
+) -> Result<OsDir<F>, CheckFailure>
 where
     F::File: FileExt,
 {
-    match OsDir::new(alloc, files, folder_path(folder)) {
+    match OsDir::find(alloc, files, folder_path(folder)) {
         Ok(dir) => Ok(dir),
-        Err(FolderFault::NoFolder) => Err(CheckFault::NoFile),
-        Err(FolderFault::Device) => Err(CheckFault::Device),
-        Err(FolderFault::OutOfMemory) => Err(CheckFault::OutOfMemory),
+        Err(FolderError { fault, error }) => Err(CheckFailure {
+            fault: match fault {
+                FolderFault::NoFolder => CheckFault::NoFile,
+                FolderFault::Device => CheckFault::Device,
+                FolderFault::OutOfMemory => CheckFault::OutOfMemory,
+            },
+            cause: Cause::of(CauseOf::Folder, error),
+        }),
     }
 }
 

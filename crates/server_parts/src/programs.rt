@@ -1,6 +1,7 @@
 //! Programs of the system, each with an input that holds up nothing once the program is over.
 ghost use Rattle.std.specs.Prelude.{⊤};
 
+use crate::sockets::Handle;
 use child_jobs::{Job, Launcher, NoEnds, Program, WaitFault};
 use mio::unix::SourceFd;
 use mio::{Events, Interest, Poll, Token};
@@ -15,6 +16,7 @@ use std::time::{Clock, Duration};
 use std::{io, thread};
 use stream_tools::OsLauncher;
 use stream_tools::launcher::OsJob;
+use tcp_connections::Starter;
 use ucspi_env::Environment;
 
 /// After so many milliseconds a write that waits looks whether its program is over.
@@ -44,6 +46,43 @@ impl<'a, R: Processes> ServiceLauncher<'a, R> {
     }
 }
 
+/// Starts programs that hold their connections themselves: the standard input and output of each is its connection, one socket twice, and this
+/// process holds that no more.
+#[derive(Drop)]
+pub struct HandingLauncher<'a, R> {
+    launcher: OsLauncher<'a, R>,
+}
+
+impl<'a, R: Processes> HandingLauncher<'a, R> {
+    /// A launcher over the system's processes.
+    pub fn new(rt: &'a R) -> HandingLauncher<'a, R> {
+        HandingLauncher {
+            launcher: OsLauncher::new(rt),
+        }
+    }
+}
+
+impl<'a, R, P, H> Starter<Handle<'a, H>> for HandingLauncher<'a, R>
+where
+    R: Processes<Started = P>,
+    P: OpenProcess + Drop,
+    H: Wait,
+{
+    type Job = OsJob<P>;
+
+    /// As of the trait; a connection that was given before is `Other`.
+    fn start_for(
+        &self,
+        alloc: Global,
+        connection: &Handle<'a, H>,
+        program: &Program,
+        environment: &Environment,
+    ) -> Result<OsJob<P>, StartFault> {
+        let stream = connection.take().ok_or(StartFault::Other)?;
+        self.launcher.start_on(alloc, program, environment, stream)
+    }
+}
+
 /// A program, and whether it is over: once it was waited for, or could not be.
 #[derive(Drop)]
 pub struct ServiceJob<'a, R, P: OpenProcess> {
@@ -53,16 +92,17 @@ pub struct ServiceJob<'a, R, P: OpenProcess> {
     over: Arc<Mutex<bool>, Global>,
 }
 
-impl<'a, R, P> Launcher for ServiceLauncher<'a, R>
+impl<'a, R, P, X> Starter<X> for ServiceLauncher<'a, R>
 where
     R: Processes<Started = P> + Net + Wait + Clock,
     P: OpenProcess<Stdin = ChildStdin> + Drop,
 {
     type Job = ServiceJob<'a, R, P>;
 
-    fn start(
+    fn start_for(
         &self,
         alloc: Global,
+        _connection: &X,
         program: &Program,
         environment: &Environment,
     ) -> Result<ServiceJob<'a, R, P>, StartFault> {

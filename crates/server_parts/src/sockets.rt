@@ -1,10 +1,13 @@
 //! Connections of the system's sockets.
+use crate::client::ClientWriter;
 use std::alloc::Global;
 use std::io;
 use std::io::{Error, ErrorKind, Read, Write};
-use std::net::{OpenListener, Shutdown, SocketAddr, TcpStream};
-use std::sync::Arc;
-use tcp_connections::{AcceptFault, Accepted, Acceptor, Shut};
+use std::net::{Net, OpenListener, Shutdown, SocketAddr, TcpStream};
+use std::os::fd::OwnedFd;
+use std::sync::{Arc, Mutex, Wait};
+use std::time::Clock;
+use tcp_connections::{AcceptFault, Accepted, Acceptor, Follow, Patience, Shut};
 use ucspi_env::Local;
 
 /// The system's faults of a process, and of the whole system, that has too many open files.
@@ -14,6 +17,51 @@ const TOO_MANY_FILES_AT_ALL: i32 = 23;
 
 /// The system's fault of a socket for which it has no memory.
 const NO_BUFFERS: i32 = 105;
+
+/// A socket that listens, until it is closed.
+#[derive(Drop)]
+struct Listening<T> {
+    listener: Option<T>,
+    // whether what is written to its connections is sent at once (TCP_NODELAY)
+    sends_at_once: bool,
+}
+
+/// A connection that was accepted, with its two ends.
+#[derive(Drop)]
+struct Incoming {
+    stream: TcpStream,
+    ip: [u8; 4],
+    port: u16,
+    local: Local,
+}
+
+impl<T: OpenListener<Stream = TcpStream>> Listening<T> {
+    // Waits for the next connection.
+    fn next(&self) -> Result<Incoming, AcceptFault> {
+        let listener = self.listener.as_ref().ok_or(AcceptFault::Other)?;
+        let (stream, peer) = match listener.accept() {
+            Ok(made) => made,
+            Err(error) => return Err(fault_of(&error)),
+        };
+        let Ok(local) = stream.local_addr() else {
+            return Err(AcceptFault::Other);
+        };
+        let (Some(peer), Some(local)) = (ipv4(peer), ipv4(local)) else {
+            return Err(AcceptFault::Other);
+        };
+        let (ip, port) = peer;
+        let (local_ip, local_port) = local;
+        if self.sends_at_once {
+            let _ = stream.set_nodelay(true);
+        }
+        Ok(Incoming {
+            stream,
+            ip,
+            port,
+            local: Local::new(local_ip, local_port, None),
+        })
+    }
+}
 
 /// One of those who hold a socket. Once all are let go it is closed.
 #[derive(Drop)]
@@ -28,57 +76,58 @@ impl Read for Holder {
     }
 }
 
-impl Write for Holder {
-    fn write(&mut self, buf: &[u8]) -> io::Result<usize> {
-        let mut stream: &TcpStream = &self.stream;
-        stream.write(buf)
-    }
-
-    fn flush(&mut self) -> io::Result<()> {
-        Ok(())
-    }
-}
-
 impl Shut for Holder {
     fn shut(&self) {
         let _ = self.stream.shutdown(Shutdown::Both);
     }
 }
 
-/// The connections that a listening socket accepts.
+/// The connections that a listening socket accepts, for a server that passes their bytes on.
 #[derive(Drop)]
-pub struct TcpAcceptor<T> {
+pub struct PumpedAcceptor<'a, R, T> {
+    rt: &'a R,
     alloc: Global,
-    listener: T,
+    listening: Listening<T>,
 }
 
-impl<T: OpenListener<Stream = TcpStream>> TcpAcceptor<T> {
-    /// Those of this listener.
-    pub fn new(alloc: Global, listener: T) -> TcpAcceptor<T> {
-        TcpAcceptor { alloc, listener }
+impl<'a, R, T: OpenListener<Stream = TcpStream>> PumpedAcceptor<'a, R, T> {
+    /// Those of this listener. What is written to them is sent at once where that is asked for (`-D`).
+    pub fn new(
+        rt: &'a R,
+        alloc: Global,
+        listener: T,
+        sends_at_once: bool,
+    ) -> PumpedAcceptor<'a, R, T> {
+        let listener = Some(listener);
+        PumpedAcceptor {
+            rt,
+            alloc,
+            listening: Listening {
+                listener,
+                sends_at_once,
+            },
+        }
     }
 }
 
-impl<T: OpenListener<Stream = TcpStream>> Acceptor for TcpAcceptor<T> {
+impl<'a, R, T> Acceptor for PumpedAcceptor<'a, R, T>
+where
+    R: Net + Clock + Sync,
+    T: OpenListener<Stream = TcpStream> + Drop,
+{
     type Reader = Holder;
 
-    type Writer = Holder;
+    type Writer = ClientWriter<'a, R>;
 
     type Shut = Holder;
 
-    fn accept(&mut self) -> Result<Accepted<Holder, Holder, Holder>, AcceptFault> {
-        let (stream, peer) = match self.listener.accept() {
-            Ok(made) => made,
-            Err(error) => return Err(fault_of(&error)),
-        };
-        let Ok(local) = stream.local_addr() else {
-            return Err(AcceptFault::Other);
-        };
-        let (Some(peer), Some(local)) = (ipv4(peer), ipv4(local)) else {
-            return Err(AcceptFault::Other);
-        };
-        let (ip, port) = peer;
-        let (local_ip, local_port) = local;
+    fn accept(&mut self) -> Result<Accepted<Holder, ClientWriter<'a, R>, Holder>, AcceptFault> {
+        let Incoming {
+            stream,
+            ip,
+            port,
+            local,
+        } = self.listening.next()?;
         let Ok(stream) = Arc::new(self.alloc, stream) else {
             return Err(AcceptFault::OutOfMemory);
         };
@@ -87,12 +136,135 @@ impl<T: OpenListener<Stream = TcpStream>> Acceptor for TcpAcceptor<T> {
         };
         Ok(Accepted {
             reader: Holder { stream: reader },
-            writer: Holder { stream: writer },
+            writer: ClientWriter::new(self.rt, self.alloc, writer),
             shut: Holder { stream },
             ip,
             port,
-            local: Local::new(local_ip, local_port, None),
+            local,
         })
+    }
+
+    fn close(&mut self) {
+        self.listening.listener = None;
+    }
+}
+
+/// A connection until its program is given it. Once all who hold it are let go, or it is given, this process has it no more.
+#[derive(Drop)]
+pub struct Handle<'a, R> {
+    rt: &'a R,
+    stream: Arc<Mutex<Option<TcpStream>>, Global>,
+}
+
+impl<R: Wait> Handle<'_, R> {
+    /// Takes the connection out, to be given to a program; it is there once.
+    pub fn take(&self) -> Option<OwnedFd> {
+        let stream = self.stream.lock(self.rt).take()?;
+        Some(OwnedFd::from(stream))
+    }
+}
+
+impl<R: Wait> Write for Handle<'_, R> {
+    fn write(&mut self, buf: &[u8]) -> io::Result<usize> {
+        match self.stream.lock(self.rt).as_mut() {
+            Some(stream) => stream.write(buf),
+            None => Err(Error::from(ErrorKind::NotConnected)),
+        }
+    }
+
+    fn flush(&mut self) -> io::Result<()> {
+        Ok(())
+    }
+}
+
+impl<R: Wait> Shut for Handle<'_, R> {
+    fn shut(&self) {
+        if let Some(stream) = self.stream.lock(self.rt).as_ref() {
+            let _ = stream.shutdown(Shutdown::Both);
+        }
+    }
+}
+
+/// Nothing that a program says passes through the server.
+impl<R, F> Follow<F> for Handle<'_, R> {
+    fn follow(&mut self, _source: &F, _patience: Patience) {}
+}
+
+/// What a server reads from a connection that its program holds: nothing.
+#[derive(Drop)]
+pub struct Unread;
+
+impl Read for Unread {
+    fn read(&mut self, _buf: &mut [u8]) -> io::Result<usize> {
+        Ok(0)
+    }
+}
+
+/// The connections that a listening socket accepts, for a server that hands them over.
+#[derive(Drop)]
+pub struct HandedAcceptor<'a, R, T> {
+    rt: &'a R,
+    alloc: Global,
+    listening: Listening<T>,
+}
+
+impl<'a, R, T: OpenListener<Stream = TcpStream>> HandedAcceptor<'a, R, T> {
+    /// Those of this listener. What is written to them is sent at once where that is asked for (`-D`).
+    pub fn new(
+        rt: &'a R,
+        alloc: Global,
+        listener: T,
+        sends_at_once: bool,
+    ) -> HandedAcceptor<'a, R, T> {
+        let listener = Some(listener);
+        HandedAcceptor {
+            rt,
+            alloc,
+            listening: Listening {
+                listener,
+                sends_at_once,
+            },
+        }
+    }
+}
+
+impl<'a, R, T> Acceptor for HandedAcceptor<'a, R, T>
+where
+    R: Wait + Sync,
+    T: OpenListener<Stream = TcpStream> + Drop,
+{
+    type Reader = Unread;
+
+    type Writer = Handle<'a, R>;
+
+    type Shut = Handle<'a, R>;
+
+    fn accept(&mut self) -> Result<Accepted<Unread, Handle<'a, R>, Handle<'a, R>>, AcceptFault> {
+        let Incoming {
+            stream,
+            ip,
+            port,
+            local,
+        } = self.listening.next()?;
+        let Ok(stream) = Arc::new(self.alloc, Mutex::new(Some(stream))) else {
+            return Err(AcceptFault::OutOfMemory);
+        };
+        let Ok(writer) = Arc::try_clone(&stream) else {
+            return Err(AcceptFault::OutOfMemory);
+        };
+        let rt = self.rt;
+        Ok(Accepted {
+            reader: Unread,
+            writer: Handle { rt, stream: writer },
+            shut: Handle { rt, stream },
+            ip,
+            port,
+            local,
+        })
+    }
+
+    fn close(&mut self) {
+        self.listening.listener = None;
     }
 }
 

@@ -3,5 +3,6 @@
 
 pub mod tool;
 
-pub use server_parts::{ServerFault, ServiceLauncher, TcpAcceptor, Wrapper};
+pub use server_parts::{ServerFault, ServiceLauncher, Wrapper};
+pub use server_words::Mode;
 pub use tool::run_tcpserver;

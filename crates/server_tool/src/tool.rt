@@ -1,15 +1,17 @@
 //! The tool: its words, what it opens, and the server.
 ghost use Rattle.std.specs.Prelude.{◌≡◌, ◌<◌, false};
 
-use child_jobs::Plan;
+use child_jobs::{Job, Plan};
 use dir_calls::{Dir, Name};
 use event_journals::Counts;
 use rule_lookup::Missing;
 use server_parts::opening::{
     listen, names_of, open_rules, plan_of, print_port, stand_in, texts_of,
 };
-use server_parts::{ServerFault, ServiceLauncher, TcpAcceptor, Wrapper, chain_of};
-use server_words::{Limits, ServerWords, Wrapping, read_server_words};
+use server_parts::{
+    HandedAcceptor, HandingLauncher, PumpedAcceptor, ServerFault, ServiceLauncher, Wrapper, chain_of,
+};
+use server_words::{Limits, Mode, ServerWords, Wrapping, read_server_words};
 use server_yard::{Premises, Yard};
 use site_lock::{Caller, Callers, Site};
 use std::alloc::{AllocError, Global};
@@ -17,20 +19,33 @@ use std::fs::{File, Files};
 use std::io::Write;
 use std::marker::Brand;
 use std::net::{Net, OpenListener, TcpStream};
+use std::os::fd::AsRawFd;
 use std::process::{ChildStdin, OpenProcess, Processes};
 use std::rt::Env;
 use std::sync::ledger::Blank;
 use std::sync::{Mutex, Wait};
 use std::thread::Threads;
-use std::time::Clock;
-use tcp_service::{Log, ServeEnd, Service, Worker, serve};
+use std::time::{Clock, Duration};
+use tcp_service::{Acceptor, Follow, Log, Patience, ServeEnd, Service, Starter, Worker, serve};
 
-/// Runs `tcpserver` with these words, over the system's sockets, files and programs; `errors` takes the lines of its log. It returns once
-/// as many connections were served as it was to serve, and all of them are over.
+/// For so many seconds in succession a client whose connection is pumped may take nothing of what its program left for it.
+const IDLE: u64 = 60;
+
+/// And for so many in all.
+const ALL: u64 = 600;
+
+/// Runs `tcpserver` with these words, over the system's sockets, files and programs; `errors` takes the lines of its log. Without `-s` and
+/// `-S` connections are handed over or pumped as `by_name` says. It returns once as many connections were served as it was to serve, and
+/// all of them are over.
 ///
 /// # Errors
 /// In the order of `ServerFault`.
-pub fn run_tcpserver<R, E>(rt: &R, errors: E, words: &[Vec<u8>]) -> Result<(), ServerFault>
+pub fn run_tcpserver<R, E>(
+    rt: &R,
+    errors: E,
+    words: &[Vec<u8>],
+    by_name: Mode,
+) -> Result<(), ServerFault>
 where
     R: Env + Print + AllocGlobal + Files<File = File> + Processes + Threads + Wait + Clock + Sync,
     R: Net<Stream = TcpStream>,
@@ -38,13 +53,13 @@ where
     R::Dir: Send + Sync,
     R::Listener: Send + Sync,
     R::Started: OpenProcess<Stdin = ChildStdin> + Send,
-    <R::Started as OpenProcess>::Stdout: Send,
+    <R::Started as OpenProcess>::Stdout: AsRawFd + Send,
     <R::Started as OpenProcess>::Stderr: Send,
 {
     let alloc = rt.alloc();
     let _held = [stand_in(rt), stand_in(rt), stand_in(rt)];
     let texts = texts_of(alloc, words)?;
-    run_words(rt, errors, texts.as_slice())
+    run_words(rt, errors, texts.as_slice(), by_name)
 }
 
 // What a server has but for its site and its socket.
@@ -56,7 +71,12 @@ struct House<E> {
 }
 
 // Runs the tool with these words. Here and below, what a function owns it lends to the calls that follow: they have the many ways out.
-fn run_words<R, E>(rt: &R, errors: E, words: &[String]) -> Result<(), ServerFault>
+fn run_words<R, E>(
+    rt: &R,
+    errors: E,
+    words: &[String],
+    by_name: Mode,
+) -> Result<(), ServerFault>
 where
     R: Env + Print + AllocGlobal + Files<File = File> + Processes + Threads + Wait + Clock + Sync,
     R: Net<Stream = TcpStream>,
@@ -64,10 +84,10 @@ where
     R::Dir: Send + Sync,
     R::Listener: Send + Sync,
     R::Started: OpenProcess<Stdin = ChildStdin> + Send,
-    <R::Started as OpenProcess>::Stdout: Send,
+    <R::Started as OpenProcess>::Stdout: AsRawFd + Send,
     <R::Started as OpenProcess>::Stderr: Send,
 {
-    let words = read_server_words(rt.alloc(), words)?;
+    let words = read_server_words(rt.alloc(), words, by_name)?;
     let house = house_of(rt, errors, &words)?;
     run_house(rt, &house, &words)
 }
@@ -98,6 +118,11 @@ fn service_of<R: AllocGlobal + Files>(
     Ok(Service {
         count: words.limits().count,
         names,
+        mode: words.mode(),
+        patience: Patience {
+            idle: Duration::from_secs(IDLE),
+            all: Duration::from_secs(ALL),
+        },
         recording: words.wrapping().records(),
     })
 }
@@ -111,7 +136,7 @@ where
     R::Dir: Send + Sync,
     R::Listener: Send + Sync,
     R::Started: OpenProcess<Stdin = ChildStdin> + Send,
-    <R::Started as OpenProcess>::Stdout: Send,
+    <R::Started as OpenProcess>::Stdout: AsRawFd + Send,
     <R::Started as OpenProcess>::Stderr: Send,
 {
     let limits = words.limits();
@@ -121,18 +146,9 @@ where
     let alloc = rt.alloc();
     let (dir, rules) = open_rules(alloc, rt, words)?;
     let listener = open_socket(rt, words)?;
-    let mut acceptor = TcpAcceptor::new(alloc, listener);
     let (places, parts) = (Blank::new(limits.connections), Blank::new(callers));
     run_site::<Brand, Brand, _, _, _, _>(
-        rt,
-        house,
-        &mut acceptor,
-        (dir, rules),
-        words.wrapping(),
-        limits,
-        places,
-        callers,
-        parts,
+        rt, house, listener, (dir, rules), words, places, callers, parts,
     )
 }
 
@@ -167,10 +183,9 @@ fn workers_of<N: Callers>(
 fn run_site<L, N, D, R, E, T>(
     rt: &R,
     house: &House<E>,
-    acceptor: &mut TcpAcceptor<T>,
+    listener: T,
     rules: (D, Option<(Name, Missing)>),
-    wrapping: &Wrapping,
-    limits: Limits,
+    words: &ServerWords<'_>,
     places: Blank,
     count: u64,
     parts: Blank,
@@ -186,9 +201,9 @@ where
     T: OpenListener<Stream = TcpStream> + Drop,
     E: Write + Send,
     R::Started: OpenProcess<Stdin = ChildStdin> + Send,
-    <R::Started as OpenProcess>::Stdout: Send,
+    <R::Started as OpenProcess>::Stdout: AsRawFd + Send,
     <R::Started as OpenProcess>::Stderr: Send,
-    requires places { (places.name ≡ L.name) × (places.parts ≡ L.parts) × (places.parts ≡ limits.connections) }
+    requires places { (places.name ≡ L.name) × (places.parts ≡ L.parts) × (places.parts ≡ words.now.limits.connections) }
     requires met { L.met ≡ false }
     requires parts { (parts.name ≡ N.name) × (parts.parts ≡ N.parts) × (parts.parts ≡ count) }
     requires callers { (N.all ≡ count) × (N.before ≡ 0) × (0 < count) }
@@ -197,12 +212,12 @@ where
         rt.alloc(),
         rules.0,
         rules.1,
-        limits,
+        words.limits(),
         places,
         count,
         parts,
     )?;
-    serve_site(rt, house, acceptor, &site, callers, wrapping)
+    serve_by_mode(rt, house, listener, &site, callers, words)
 }
 
 // A site, with so many callers, over a yard of this folder.
@@ -239,14 +254,14 @@ fn site_of<L: Premises, N: Callers, D: Dir + Drop>(
     }
 }
 
-// Serves at a site, with a worker for each caller.
-fn serve_site<L, N, D, R, E, T>(
+// Serves the connections of a socket at a site: their programs hold them, or the server passes their bytes on.
+fn serve_by_mode<L, N, D, R, E, T>(
     rt: &R,
     house: &House<E>,
-    acceptor: &mut TcpAcceptor<T>,
+    listener: T,
     site: &Site<L, N, D, Counts>,
     callers: Vec<Caller<N>>,
-    wrapping: &Wrapping,
+    words: &ServerWords<'_>,
 ) -> Result<(), ServerFault>
 where
     L: Premises + Send + Sync,
@@ -259,19 +274,55 @@ where
     T: OpenListener<Stream = TcpStream> + Drop,
     E: Write + Send,
     R::Started: OpenProcess<Stdin = ChildStdin> + Send,
-    <R::Started as OpenProcess>::Stdout: Send,
+    <R::Started as OpenProcess>::Stdout: AsRawFd + Send,
     <R::Started as OpenProcess>::Stderr: Send,
 {
-    let alloc = rt.alloc();
-    let workers = workers_of(alloc, callers, wrapping)?;
-    let launcher = ServiceLauncher::new(rt);
+    let workers = workers_of(rt.alloc(), callers, words.wrapping())?;
+    let at_once = words.sends_at_once();
+    match words.mode() {
+        Mode::HandedOver => {
+            let mut acceptor = HandedAcceptor::new(rt, rt.alloc(), listener, at_once);
+            let starter = HandingLauncher::new(rt);
+            serve_site(rt, house, &mut acceptor, site, workers.as_slice(), &starter)
+        }
+        Mode::Pumped => {
+            let mut acceptor = PumpedAcceptor::new(rt, rt.alloc(), listener, at_once);
+            let starter = ServiceLauncher::new(rt);
+            serve_site(rt, house, &mut acceptor, site, workers.as_slice(), &starter)
+        }
+    }
+}
+
+// Serves at a site by these workers.
+fn serve_site<L, N, D, R, E, A, S>(
+    rt: &R,
+    house: &House<E>,
+    acceptor: &mut A,
+    site: &Site<L, N, D, Counts>,
+    workers: &[Worker<N, Wrapper>],
+    starter: &S,
+) -> Result<(), ServerFault>
+where
+    L: Premises + Send + Sync,
+    N: Callers + Send + Sync,
+    D: Dir + Send + Drop,
+    D::File: Send,
+    R: AllocGlobal + Threads + Wait + Clock + Sync,
+    E: Write + Send,
+    A: Acceptor,
+    A::Writer: Follow<<S::Job as Job>::Output>,
+    S: Starter<A::Shut> + Sync,
+    S::Job: Send + Drop,
+    <S::Job as Job>::Input: Send + Drop,
+    <S::Job as Job>::Output: Send + Drop,
+{
     end_of(serve(
         rt,
-        alloc,
+        rt.alloc(),
         acceptor,
         site,
-        workers.as_slice(),
-        &launcher,
+        workers,
+        starter,
         &house.plan,
         &house.service,
         &house.log,

@@ -12,15 +12,17 @@ use Rattle.rule_lookup.specs.declared.decision.Missing.TheVariants.{Allow, Drop}
 use Rattle.server_words.specs.declared.fault.ServerWordsFault.{ServerWordsFault}
 use Rattle.server_words.specs.declared.fault.ServerWordsFault.TheVariants as fault
 use Rattle.server_words.specs.declared.level.Level.TheVariants.{Quiet, Errors}
+use Rattle.server_words.specs.declared.mode.Mode.{Mode}
+use Rattle.server_words.specs.declared.mode.Mode.TheVariants.{HandedOver, Pumped}
 use Rattle.server_words.specs.declared.wrapping.StageName.TheVariants.{AddCr, DelCr, FixCr}
 use Rattle.server_words.specs.Faults.{fault_line}
 use Rattle.server_words.specs.Operands.{address_in, port_in}
 use Rattle.server_words.specs.Plans.{ServerPlan, plan_of}
 use Rattle.server_words.specs.Wrappings.{wrapping_in}
 
--- what the words of a line ask for, a space between each two
+-- what the words of a line ask for, a space between each two, of a tool whose name says that connections are pumped
 plan : List ℕ → Result ServerPlan ServerWordsFault
-plan line = plan_of (slice_split (λ b. b == 32) line)
+plan line = plan_of Pumped (slice_split (λ b. b == 32) line)
 
 -- part of what they ask for
 part : {A : Type 0} → (ServerPlan → A) → List ℕ → Option A
@@ -38,6 +40,8 @@ without_options : plan (codes "0 25 cat -v") ≡ Ok (record {
   local = None;
   names_remote = true;
   confirms = false;
+  no_delay = false;
+  mode = Pumped;
   wrapping = record { records = false; input = []; output = [] };
   service = record { address = 0 ∷ 0 ∷ 0 ∷ 0 ∷ []; port = 25; path = codes "cat"; args = codes "-v" ∷ [] };
 })
@@ -60,6 +64,39 @@ last_name_of_the_other_end = refl
 last_confirmation : part (λ p. p.confirms) (codes "-pP 0 25 cat") ≡ Some false
 unfolding part plan chars encode meaning_of
 last_confirmation = refl
+
+last_delay : part (λ p. p.no_delay) (codes "-dD 0 25 cat") ≡ Some true
+unfolding part plan chars encode meaning_of
+last_delay = refl
+
+-- the last of `-s` and `-S` counts, and over the tool's name
+last_mode : part (λ p. p.mode) (codes "-Ss 0 25 cat") ≡ Some HandedOver
+unfolding part plan chars encode meaning_of
+last_mode = refl
+
+mode_of_wrappers : part (λ p. p.mode) (codes "-sSwrecordio 0 25 cat") ≡ Some Pumped
+unfolding part plan chars encode meaning_of
+mode_of_wrappers = refl
+
+handed_over_with_wrappers : plan (codes "-wrecordio -s 0 25 cat") ≡ Err fault.BadWrappers
+unfolding plan chars encode meaning_of
+handed_over_with_wrappers = refl
+
+-- a tool whose name says that connections are handed over
+named : Mode → List ℕ → Option Mode
+named by_name line = option_map (λ p. p.mode) (result_ok (plan_of by_name (slice_split (λ b. b == 32) line)))
+
+mode_of_the_name : named HandedOver (codes "0 25 cat") ≡ Some HandedOver
+unfolding named chars encode meaning_of
+mode_of_the_name = refl
+
+mode_over_the_name : named HandedOver (codes "-S 0 25 cat") ≡ Some Pumped
+unfolding named chars encode meaning_of
+mode_over_the_name = refl
+
+wrappers_over_the_name : named HandedOver (codes "-waddcr 0 25 cat") ≡ Some Pumped
+unfolding named chars encode meaning_of
+wrappers_over_the_name = refl
 
 -- a name that is known and empty
 empty_name : part (λ p. p.local) (codes "-l  0 25 cat") ≡ Some (Some [])

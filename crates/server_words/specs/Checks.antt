@@ -6,6 +6,8 @@ use Rattle.ucspi_words.specs.Options.{value_of}
 use Rattle.ucspi_words.specs.Words.{LetterGiven, Reading}
 use Rattle.server_words.specs.declared.fault.ServerWordsFault.{ServerWordsFault}
 use Rattle.server_words.specs.declared.fault.ServerWordsFault.TheVariants as fault
+use Rattle.server_words.specs.declared.mode.Mode.{Mode}
+use Rattle.server_words.specs.Modes.{mode_in}
 use Rattle.server_words.specs.Operands.{operands_in}
 use Rattle.server_words.specs.Options.{letter}
 use Rattle.server_words.specs.Wrappings.{wrapping_in}
@@ -30,14 +32,19 @@ operands_check rest = found (is_none (operands_in rest)) fault.Usage
 abbrev pub wrapping_check : List LetterGiven → Option ServerWordsFault
 wrapping_check options = found (is_none (wrapping_in (value_of options (letter (codes "w"))))) fault.BadWrappers
 
+-- `-w` is given, and a last `-s`
+abbrev pub mode_check : Mode → List LetterGiven → Option ServerWordsFault
+mode_check by_name options = found (is_none (mode_in by_name options)) fault.BadWrappers
+
 -- the checks
-abbrev pub checks : Reading → List (Option ServerWordsFault)
-checks read =
+abbrev pub checks : Mode → Reading → List (Option ServerWordsFault)
+checks by_name read =
     number_check read.options (letter (codes "c")) 10000
     ∷ number_check read.options (letter (codes "k")) 4294967295
     ∷ number_check read.options (letter (codes "m")) 10000
     ∷ operands_check read.rest
     ∷ wrapping_check read.options
+    ∷ mode_check by_name read.options
     ∷ []
 
 -- the first fault that is found

@@ -2,7 +2,9 @@
 pub mod Checks
 pub mod Faults
 pub mod Limits
+pub mod Modes
 pub mod Operands
 pub mod Options
 pub mod Plans
+pub mod Usages
 pub mod Wrappings

@@ -11,8 +11,10 @@ use Rattle.server_words.specs.declared.fault.ServerWordsFault.TheVariants as fau
 use Rattle.server_words.specs.declared.level.Level.{Level}
 use Rattle.server_words.specs.declared.level.Level.TheVariants.{Quiet, Errors, All}
 use Rattle.server_words.specs.declared.limits.Limits.{Limits}
+use Rattle.server_words.specs.declared.mode.Mode.{Mode}
 use Rattle.server_words.specs.Faults.{fault_of_word}
 use Rattle.server_words.specs.Limits.{limits_in}
+use Rattle.server_words.specs.Modes.{mode_in}
 use Rattle.server_words.specs.Operands.{Service, operands_in}
 use Rattle.server_words.specs.Options.{letter, is_last}
 use Rattle.server_words.specs.Wrappings.{Wrappers, wrapping_in}
@@ -37,6 +39,10 @@ pub record ServerPlan : Type 0 where
   -- whether the other end's name is taken from the host table, and whether it is removed where that does not confirm it
   pub names_remote : Bool
   pub confirms : Bool
+  -- whether a packet is sent at once, however small (TCP_NODELAY)
+  pub no_delay : Bool
+  -- what a program's standard input and output are
+  pub mode : Mode
   -- the wrappers
   pub wrapping : Wrappers
   -- where the server listens, and its program
@@ -56,9 +62,9 @@ level_of options = level_by (last_of options (codes "vQq"))
 abbrev pub missing_of : List LetterGiven → Missing
 missing_of options = if is_given options (letter (codes "X")) then Allow else Drop
 
--- what options ask for, with what was read of their numbers, of the wrappers and of the words after them
-abbrev pub plan_by : List LetterGiven → Limits → Service → Wrappers → ServerPlan
-plan_by options limits service wrapping = record {
+-- what options ask for, with what was read of their numbers, of the wrappers, of the mode and of the words after them
+abbrev pub plan_by : List LetterGiven → Limits → Service → Wrappers → Mode → ServerPlan
+plan_by options limits service wrapping mode = record {
   level = level_of options;
   prints_port = is_given options (letter (codes "1"));
   limits = limits;
@@ -69,6 +75,8 @@ plan_by options limits service wrapping = record {
   local = value_of options (letter (codes "l"));
   names_remote = not (is_last options (letter (codes "H")) (letter (codes "h")));
   confirms = is_last options (letter (codes "p")) (letter (codes "P"));
+  no_delay = is_last options (letter (codes "D")) (letter (codes "d"));
+  mode = mode;
   wrapping = wrapping;
   service = service;
 }
@@ -77,29 +85,36 @@ plan_by options limits service wrapping = record {
 abbrev pub options_in : List (List ℕ) → Result Reading WordFault
 options_in words = reading TCPSERVER_LETTERS.now words
 
--- the checks from the wrappers on, the last of which is theirs
-abbrev pub with_wrapping : List LetterGiven → Limits → Service → Option Wrappers → Result ServerPlan ServerWordsFault
-with_wrapping options limits service (Some wrapping) = Ok (plan_by options limits service wrapping)
-with_wrapping options limits service None = Err fault.BadWrappers
+-- the last check: with wrappers no connection is handed over
+abbrev pub with_mode : List LetterGiven → Limits → Service → Wrappers → Option Mode → Result ServerPlan ServerWordsFault
+with_mode options limits service wrapping (Some mode) = Ok (plan_by options limits service wrapping mode)
+with_mode options limits service wrapping None = Err fault.BadWrappers
+
+-- the checks from the wrappers on
+abbrev pub with_wrapping : Mode → List LetterGiven → Limits → Service → Option Wrappers → Result ServerPlan ServerWordsFault
+with_wrapping by_name options limits service (Some wrapping) =
+    with_mode options limits service wrapping (mode_in by_name options)
+with_wrapping by_name options limits service None = Err fault.BadWrappers
 
 -- from host, port and program on
-abbrev pub with_service : List LetterGiven → Limits → Option Service → Result ServerPlan ServerWordsFault
-with_service options limits (Some service) = with_wrapping options limits service (wrapping_in (value_of options (letter (codes "w"))))
-with_service options limits None = Err fault.Usage
+abbrev pub with_service : Mode → List LetterGiven → Limits → Option Service → Result ServerPlan ServerWordsFault
+with_service by_name options limits (Some service) =
+    with_wrapping by_name options limits service (wrapping_in (value_of options (letter (codes "w"))))
+with_service by_name options limits None = Err fault.Usage
 
 -- from the numbers on
-abbrev pub with_limits : Reading → Result Limits WordFault → Result ServerPlan ServerWordsFault
-with_limits read (Ok limits) = with_service read.options limits (operands_in read.rest)
-with_limits read (Err f) = Err (fault_of_word f)
+abbrev pub with_limits : Mode → Reading → Result Limits WordFault → Result ServerPlan ServerWordsFault
+with_limits by_name read (Ok limits) = with_service by_name read.options limits (operands_in read.rest)
+with_limits by_name read (Err f) = Err (fault_of_word f)
 
 -- from the option words on
-abbrev pub with_options : Result Reading WordFault → Result ServerPlan ServerWordsFault
-with_options (Ok read) = with_limits read (limits_in read.options)
-with_options (Err f) = Err (fault_of_word f)
+abbrev pub with_options : Mode → Result Reading WordFault → Result ServerPlan ServerWordsFault
+with_options by_name (Ok read) = with_limits by_name read (limits_in read.options)
+with_options by_name (Err f) = Err (fault_of_word f)
 
--- what words ask for, or the first fault that they have
-abbrev pub plan_of : List (List ℕ) → Result ServerPlan ServerWordsFault
-plan_of words = with_options (options_in words)
+-- what words ask for, or the first fault that they have; without `-s` and `-S` the mode is that of the tool's name
+abbrev pub plan_of : Mode → List (List ℕ) → Result ServerPlan ServerWordsFault
+plan_of by_name words = with_options by_name (options_in words)
 
 -- a refusal is the one that is expected, or for want of memory
 abbrev pub RefusesPlan : Result ServerPlan ServerWordsFault → ServerWordsFault → Type 0

@@ -9,6 +9,7 @@ ghost use Rattle.server_words.specs.Plans.{RefusesPlan, missing_of, options_in, 
 use crate::fault::ServerWordsFault;
 use crate::level::Level;
 use crate::limits::Limits;
+use crate::mode::Mode;
 use crate::operands::Operands;
 use crate::wrapping::Wrapping;
 use rule_lookup::Missing;
@@ -30,6 +31,8 @@ pub struct ServerWords<'a> {
     local: Option<&'a str>,
     names_remote: bool,
     confirms: bool,
+    no_delay: bool,
+    mode: Mode,
     wrapping: Wrapping,
     service: Operands<'a>,
 }
@@ -51,22 +54,26 @@ impl<'a> Model for ServerWords<'a> {
       local = text_of w.local;
       names_remote = w.names_remote;
       confirms = w.confirms;
+      no_delay = w.no_delay;
+      mode = w.mode;
       wrapping = w.wrapping;
       service = w.service;
     } };
 }
 
 /// Reads the words of `tcpserver` after its name. The checks are made in the order of the faults that `ServerWordsFault` tells; the host
-/// table, the folder of the rules and the socket come after them, and are the caller's. The options are those of `docs/OPTIONS.md`.
+/// table, the folder of the rules and the socket come after them, and are the caller's. The options are those of `docs/OPTIONS.md`; without
+/// `-s` and `-S` the mode is `by_name`, that of the name by which the tool was called.
 ///
 /// # Errors
 /// The first fault that the words have, or `OutOfMemory`.
 pub fn read_server_words(
     alloc: Global,
     words: &[String],
+    by_name: Mode,
 ) -> Result<ServerWords<'_>, ServerWordsFault>
-    ensures read { IfOk result (λ plan. plan_of (texts words.now) ≡ Ok plan) }
-    ensures refused { IfErr result (RefusesPlan (plan_of (texts words.now))) }
+    ensures read { IfOk result (λ plan. plan_of by_name (texts words.now) ≡ Ok plan) }
+    ensures refused { IfErr result (RefusesPlan (plan_of by_name (texts words.now))) }
 {
     let (options, rest) = read_options(alloc, words)?;
     let limits = Limits::of(&options)?;
@@ -74,11 +81,14 @@ pub fn read_server_words(
         return Err(ServerWordsFault::Usage);
     };
     let wrapping = Wrapping::of(alloc, options.value('w'))?;
-    Ok(ServerWords::of(&options, limits, service, wrapping))
+    let Some(mode) = Mode::of(&options, by_name) else {
+        return Err(ServerWordsFault::BadWrappers);
+    };
+    Ok(ServerWords::of(&options, limits, service, wrapping, mode))
 }
 
 /// The options at the start of the words, and the words after them.
-fn read_options(alloc: Global, words: &[String]) -> Result<(Options<'_>, &[String]), WordFault>
+pub(crate) fn read_options(alloc: Global, words: &[String]) -> Result<(Options<'_>, &[String]), WordFault>
     ensures read { IfOk result (λ r. options_in (texts words.now)
         ≡ Ok (record { options = r.0; rest = texts r.1.now })) }
     ensures refused { IfErr result (Refuses (options_in (texts words.now))) }
@@ -98,14 +108,15 @@ fn is_last(options: &Options<'_>, letter: char, other: char) -> bool
 }
 
 impl<'a> ServerWords<'a> {
-    /// What these options ask for, with what was read of their numbers, of the wrappers and of the words after them.
+    /// What these options ask for, with what was read of their numbers, of the wrappers, of the mode and of the words after them.
     fn of(
         options: &Options<'a>,
         limits: Limits,
         service: Operands<'a>,
         wrapping: Wrapping,
+        mode: Mode,
     ) -> ServerWords<'a>
-        ensures { result ≡ plan_by options.now limits service.entry wrapping }
+        ensures { result ≡ plan_by options.now limits service.entry wrapping mode }
     {
         ServerWords {
             level: Level::of(options),
@@ -118,6 +129,8 @@ impl<'a> ServerWords<'a> {
             local: options.value('l'),
             names_remote: !is_last(options, 'H', 'h'),
             confirms: is_last(options, 'p', 'P'),
+            no_delay: is_last(options, 'D', 'd'),
+            mode,
             wrapping,
             service,
         }
@@ -191,6 +204,20 @@ impl<'a> ServerWords<'a> {
         ensures { result ≡ self.now.confirms }
     {
         self.confirms
+    }
+
+    /// Whether a packet is sent at once, however small: TCP_NODELAY is set (`-D`) or not (`-d`, and without either).
+    pub fn sends_at_once(&self) -> bool
+        ensures { result ≡ self.now.no_delay }
+    {
+        self.no_delay
+    }
+
+    /// What a program's standard input and output are (`-s`, `-S`).
+    pub fn mode(&self) -> Mode
+        ensures { result ≡ self.now.mode }
+    {
+        self.mode
     }
 
     /// The wrappers (`-w`).

@@ -11,7 +11,7 @@ use std::sync::{Mutex, Wait};
 use std::time::{Clock, Duration};
 use std::{io, thread};
 use stream_tools::SharedWriter;
-use tcp_service::{AcceptFault, Accepted, Acceptor, Shut};
+use tcp_service::{AcceptFault, Accepted, Acceptor, Follow, Patience, Shut, Starter};
 use ucspi_env::{Environment, Local};
 
 /// How many milliseconds a job waits for another one's start at most.
@@ -39,6 +39,10 @@ impl Write for Silent {
 
 impl Shut for Silent {
     fn shut(&self) {}
+}
+
+impl<F> Follow<F> for Silent {
+    fn follow(&mut self, _source: &F, _patience: Patience) {}
 }
 
 /// So many connections that find no memory, then so many of 127.0.0.1:1024 at 127.0.0.1:25, and after them faults alone.
@@ -69,6 +73,10 @@ impl Acceptor for Clients {
             port: 1024,
             local: Local::new([127, 0, 0, 1], 25, None),
         })
+    }
+
+    fn close(&mut self) {
+        self.left = 0;
     }
 }
 
@@ -181,6 +189,20 @@ impl<'a, R: Clock + Wait> Launcher for Scripts<'a, R> {
             program: Snapshot::of(program),
             environment: Snapshot::of(environment),
         })
+    }
+}
+
+impl<'a, R: Clock + Wait> Starter<Silent> for Scripts<'a, R> {
+    type Job = ScriptedJob<'a, R>;
+
+    fn start_for(
+        &self,
+        alloc: Global,
+        _connection: &Silent,
+        program: &Program,
+        environment: &Environment,
+    ) -> Result<ScriptedJob<'a, R>, StartFault> {
+        self.start(alloc, program, environment)
     }
 }
 

@@ -15,8 +15,8 @@ use std::sync::atomic::Ordering;
 use std::sync::ledger::Blank;
 use std::sync::{Mutex, Wait};
 use std::thread::Threads;
-use std::time::Clock;
-use tcp_service::{Log, Names, ServeEnd, Service, Worker, serve};
+use std::time::{Clock, Duration};
+use tcp_service::{Log, Mode, Names, Patience, ServeEnd, Service, Worker, serve};
 use ucspi_env::{Environment, Local};
 use wrapper_chain::{Chain, FixCr};
 
@@ -166,6 +166,11 @@ fn service(count: Option<u32>) -> Service {
             local: None,
             remote: true,
             confirm: false,
+        },
+        mode: Mode::Pumped,
+        patience: Patience {
+            idle: Duration::from_secs(60),
+            all: Duration::from_secs(600),
         },
         recording: false,
     }

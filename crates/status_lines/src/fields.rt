@@ -48,8 +48,12 @@ pub fn push_field(out: &mut Vec<u8>, name: Option<&str>) -> Result<(), AllocErro
     }
 }
 
-/// Adds the bytes of a field, marked, and the sign that there are as many as are printed or more.
-fn push_marked(out: &mut Vec<u8>, bytes: &[u8]) -> Result<(), AllocError>
+/// Adds the bytes of a field, marked, and the sign that there are as many as are printed or more: so a text that anybody may choose can't be
+/// misread in a line.
+///
+/// # Errors
+/// There was no memory; some of the field may have been added.
+pub fn push_marked(out: &mut Vec<u8>, bytes: &[u8]) -> Result<(), AllocError>
     ensures { AppendsPart (field_text bytes.now) out.old.items out.new.items result }
 {
     let printed = &bytes[..bytes.len().min(FIELD)];

@@ -1,10 +1,11 @@
 //! Programs of the system.
-ghost use Rattle.std.specs.Prelude.{◌≡◌, is_some, ⊤};
+ghost use Rattle.std.specs.Prelude.{◌≡◌, is_some, ⊤, IfOk};
 
 use child_jobs::{Job, Launcher, NoEnds, Program, WaitFault};
 use rule_lookup::{StartFault, Status};
 use std::alloc::{AllocError, Global};
 use std::io::{Error, ErrorKind};
+use std::os::fd::OwnedFd;
 use std::process::{Child, Command, ExitStatus, OpenProcess, Processes, Stdio};
 use std::snapshot::Snapshot;
 use ucspi_env::Environment;
@@ -20,6 +21,34 @@ impl<'a, P: Processes> OsLauncher<'a, P> {
     /// A launcher over the system's processes.
     pub fn new(processes: &'a P) -> OsLauncher<'a, P> {
         OsLauncher { processes }
+    }
+
+    /// Starts a program whose standard input and output are both what this descriptor stands for, which this process holds no more then. The
+    /// job has no pipe ends to give.
+    ///
+    /// # Errors
+    /// As of `Launcher::start`; the descriptor is closed then too.
+    pub fn start_on(
+        &self,
+        alloc: Global,
+        program: &Program,
+        environment: &Environment,
+        stream: OwnedFd,
+    ) -> Result<OsJob<P::Started>, StartFault>
+        ensures program { IfOk result (λ job. ⟦<OsJob<P::Started> as Job>⟧.program job ≡ program.now) }
+        ensures environment { IfOk result (λ job. ⟦<OsJob<P::Started> as Job>⟧.environment job ≡ environment.now) }
+    {
+        let Ok(command) = command_of(alloc, program, environment) else {
+            return Err(StartFault::OutOfMemory);
+        };
+        let stream = Stdio::from(stream);
+        match self
+            .processes
+            .spawn(&command, &stream, &stream, &Stdio::inherit())
+        {
+            Ok(child) => Ok(job_of(child, program, environment)),
+            Err(error) => Err(start_fault(&error)),
+        }
     }
 }
 

@@ -1,5 +1,6 @@
 //! Where connections come from.
 use std::io::{Read, Write};
+use std::time::Duration;
 use thiserror::Error;
 use ucspi_env::Local;
 
@@ -21,6 +22,22 @@ pub enum AcceptFault {
 pub trait Shut {
     /// Ends it both ways: whoever reads from it or writes to it comes to an end. What the system answers is not told.
     fn shut(&self);
+}
+
+/// How long a client may take nothing of what is left for it, once nobody holds its program's output any more.
+#[derive(Clone, Copy, PartialEq, Eq, Debug)]
+pub struct Patience {
+    /// For so long in succession.
+    pub idle: Duration,
+    /// And for so long in all.
+    pub all: Duration,
+}
+
+/// What is sent to a client, whose program says it on an `F`.
+pub trait Follow<F> {
+    /// From now on what is written comes from this source. As long as somebody else holds the other end of that, a write waits for the client;
+    /// once nobody does, writes fail where the client takes nothing for too long.
+    fn follow(&mut self, source: &F, patience: Patience);
 }
 
 /// A connection that was made. Once all three of its parts are let go it is closed.
@@ -56,4 +73,7 @@ pub trait Acceptor {
     /// # Errors
     /// No connection is given; it may be asked again.
     fn accept(&mut self) -> Result<Accepted<Self::Reader, Self::Writer, Self::Shut>, AcceptFault>;
+
+    /// Gives back what connections come to: nobody comes any more, and whoever waits is turned away.
+    fn close(&mut self);
 }

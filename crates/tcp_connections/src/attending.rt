@@ -1,5 +1,5 @@
 //! The streams of a connection, and its child from its start to its end.
-use crate::accepting::Shut;
+use crate::accepting::{Follow, Patience, Shut};
 use crate::rounds::wait_in_rounds;
 use byte_pump::{NoTap, Recorder, Tap, pump};
 use child_jobs::{Job, Running};
@@ -90,9 +90,32 @@ pub struct Attendant<'a, R, W> {
     pub log: &'a Mutex<Log<W>>,
     /// Whether what goes both ways is recorded (`-w recordio`).
     pub recording: bool,
+    /// How long a client may take nothing of what its program left for it.
+    pub patience: Patience,
 }
 
 impl<R: Wait, W: Write> Attendant<'_, R, W> {
+    /// Lets a connection go that its child holds itself, and waits for the child: the connection ends when its last holder closes it, and the
+    /// place is given back once the child was waited for.
+    pub fn hand_over<L, C, E, I, O, X>(
+        &self,
+        endings: &mut E,
+        running: Running<L, C>,
+        line: Line<I, O, X>,
+    )
+    where
+        L: Ledger,
+        C: Job,
+        E: Endings<L, C, Place = Place<L>, Child = Running<L, C>>,
+        I: Drop,
+        O: Drop,
+        X: Drop,
+    {
+        let serial = line.serial;
+        drop(line);
+        tell_end(endings, wait_in_rounds(running, false), serial);
+    }
+
     /// Takes the pipe ends of a child that runs: what the client sends goes to it by `pass_up`, and what it says goes to the client by
     /// `pass_down`. A child without pipe ends is ended by force, and the connection with it: there is nothing to pass on then.
     pub fn begin<L, C, E, I, O, X>(
@@ -108,22 +131,22 @@ impl<R: Wait, W: Write> Attendant<'_, R, W> {
         C::Output: Drop,
         E: Endings<L, C, Place = Place<L>, Child = Running<L, C>>,
         I: Drop,
-        O: Drop,
+        O: Follow<C::Output> + Drop,
         X: Shut + Drop,
     {
         let Line {
             serial,
             port,
             reader,
-            writer,
+            mut writer,
             shut,
         } = line;
         let Ok((to, from)) = running.ends() else {
             let _ = self.log.lock(self.rt).no_pipe_ends(serial);
-            end_child(endings, running, serial, true);
-            shut.shut();
+            end_child(endings, running, serial, true, &shut);
             return None;
         };
+        writer.follow(&from, self.patience);
         let talk = Talk {
             held: Held {
                 running: Some(running),
@@ -186,9 +209,8 @@ impl<R: Wait, W: Write> Attendant<'_, R, W> {
             let _ = self.log.lock(self.rt).no_pipe_ends(serial);
         }
         if let Some(running) = held.running.take() {
-            end_child(endings, running, serial, !is_fed);
+            end_child(endings, running, serial, !is_fed, &shut);
         }
-        shut.shut();
     }
 
     // Pumps what a child says to its client; both ends are let go.
@@ -240,14 +262,37 @@ where
     pump(alloc, &mut reader, &mut writer, &mut chain, &mut tap, TURNS);
 }
 
-// Ends a child in its rounds, and tells how it ended.
-fn end_child<L, C, E>(endings: &mut E, running: Running<L, C>, serial: u64, by_force: bool)
+// Ends a child in its rounds, then its connection, and tells how the child ended: a log that is slow holds up no client.
+fn end_child<L, C, E, X>(
+    endings: &mut E,
+    running: Running<L, C>,
+    serial: u64,
+    by_force: bool,
+    shut: &X,
+)
+where
+    L: Ledger,
+    C: Job,
+    E: Endings<L, C, Place = Place<L>, Child = Running<L, C>>,
+    X: Shut,
+{
+    let ended = wait_in_rounds(running, by_force);
+    shut.shut();
+    tell_end(endings, ended, serial);
+}
+
+// Tells how a child ended, or that it could not be waited for.
+fn tell_end<L, C, E>(
+    endings: &mut E,
+    ended: Result<(Place<L>, Status), Running<L, C>>,
+    serial: u64,
+)
 where
     L: Ledger,
     C: Job,
     E: Endings<L, C, Place = Place<L>, Child = Running<L, C>>,
 {
-    match wait_in_rounds(running, by_force) {
+    match ended {
         Ok((place, status)) => endings.ended(place, serial, status),
         Err(running) => endings.retired(running, serial),
     }

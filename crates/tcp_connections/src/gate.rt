@@ -13,8 +13,11 @@ use std::time::{Clock, Duration};
 /// So many faults of accepting in succession end a server.
 const FAULTS: u32 = 100;
 
-/// For so many seconds a server without room for a connection waits for the end of another one before it tries again.
-const PAUSE: u64 = 1;
+/// For so many milliseconds a server without descriptors or memory for a connection waits before it tries again: at first, and at most. Each
+/// pause is twice the one before it, so a hundred in succession take over a minute.
+const FIRST_PAUSE: u64 = 10;
+
+const LONGEST_PAUSE: u64 = 1_000;
 
 /// How a server ended.
 #[derive(Clone, Copy, PartialEq, Eq, Debug)]
@@ -52,6 +55,9 @@ pub trait Door {
     /// # Errors
     /// No connection came; it may be asked again.
     fn next(&mut self) -> Result<Entry<Self::Work>, AcceptFault>;
+
+    /// Lets nobody in any more: whoever waits is turned away.
+    fn close(&mut self);
 }
 
 /// What serves the connections that were let in: so many workers, each of them one connection at a time.
@@ -76,8 +82,8 @@ pub trait Serving<T> {
 }
 
 /// Lets connections in through a door, each served in a thread of its own by one of so many workers, until `count` were let in or the door
-/// gives no more; then waits until all that were let in are over. What a client sends is passed on by a second thread. The first worker serves
-/// none: it lets connections in.
+/// gives no more; then closes the door, and waits until all that were let in are over. What a client sends is passed on by a second thread.
+/// The first worker serves none: it lets connections in.
 pub fn serve_through<R, V, Q>(
     rt: &R,
     alloc: Global,
@@ -105,6 +111,30 @@ where
     gate.open(door)
 }
 
+// The faults of accepting that came in succession.
+#[derive(Clone, Copy)]
+struct Faults {
+    count: u32,
+    // the pause after the next one for want of room, in milliseconds
+    pause: u64,
+}
+
+impl Faults {
+    fn none() -> Faults {
+        Faults {
+            count: 0,
+            pause: FIRST_PAUSE,
+        }
+    }
+
+    // The pause of now; the next one is twice as long.
+    fn next_pause(&mut self) -> Duration {
+        let pause = self.pause.min(LONGEST_PAUSE);
+        self.pause = pause.saturating_mul(2);
+        Duration::from_millis(pause)
+    }
+}
+
 // The place where one connection after another is let in and given to a worker.
 #[derive(Drop)]
 struct Gate<'a, R, V, T> {
@@ -130,8 +160,19 @@ where
             self.rt,
             |scope| -> ServeEnd
                 requires { IsSync R.row × IsSync V.row × IsSend T.row × IsSend V.Upward.row × IsSend V.Talk.row }
-            { self.run(scope, door) },
+            { self.run_and_close(scope, door) },
         )
+    }
+
+    // Lets connections in until the server comes to an end, and then nobody any more.
+    fn run_and_close<'s, E, Q>(&self, scope: &Scope<'s, E>, door: &mut Q) -> ServeEnd
+    where
+        Q: Door<Work = T>,
+        'a: 's,
+    {
+        let end = self.run(scope, door);
+        door.close();
+        end
     }
 
     // Lets connections in until the server comes to an end.
@@ -141,7 +182,7 @@ where
         'a: 's,
     {
         let mut admitted = 0u32;
-        let mut faults = 0u32;
+        let mut faults = Faults::none();
         for _ in self.rt.forever() {
             if self.count == Some(admitted) {
                 return ServeEnd::Count;
@@ -151,17 +192,14 @@ where
             }
             match self.next(scope, door) {
                 Ok(Entry::In(())) => {
-                    faults = 0;
+                    faults = Faults::none();
                     admitted = admitted.saturating_add(1);
                 }
-                Ok(Entry::Refused) => faults = 0,
+                Ok(Entry::Refused) => faults = Faults::none(),
                 Ok(Entry::Spent) => return ServeEnd::Count,
                 Err(fault) => {
-                    if self.has_waited(fault) {
-                        continue;
-                    }
-                    faults = faults.saturating_add(1);
-                    if faults >= FAULTS {
+                    self.pause(fault, &mut faults);
+                    if faults.count >= FAULTS {
                         return ServeEnd::AcceptFaults;
                     }
                 }
@@ -170,14 +208,18 @@ where
         unreachable!()
     }
 
-    // After a fault of accepting for want of room: waits until a connection is over, for no longer than a pause. Tells whether there
-    // was one to wait for: such a fault is none of the hundred.
-    fn has_waited(&self, fault: AcceptFault) -> bool {
-        fault == AcceptFault::NoRoom
-            && self
-                .hall
-                .free
-                .wait_for_one(self.rt, Duration::from_secs(PAUSE))
+    // Counts a fault of accepting. One for want of descriptors or memory waits for a pause, or until a connection is over; where there was
+    // one to wait for it is none of the hundred.
+    fn pause(&self, fault: AcceptFault, faults: &mut Faults) {
+        if fault != AcceptFault::NoRoom {
+            faults.count = faults.count.saturating_add(1);
+            return;
+        }
+        let pause = faults.next_pause();
+        if !self.hall.free.wait_for_one(self.rt, pause) {
+            thread::sleep(self.rt, pause);
+            faults.count = faults.count.saturating_add(1);
+        }
     }
 
     // Lets a connection in when a worker is free for it.

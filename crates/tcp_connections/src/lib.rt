@@ -8,11 +8,13 @@ pub mod gate;
 mod hall;
 pub mod names;
 pub mod rounds;
+pub mod starting;
 mod threads;
 
-pub use accepting::{AcceptFault, Accepted, Acceptor, Shut};
+pub use accepting::{AcceptFault, Accepted, Acceptor, Follow, Patience, Shut};
 pub use attending::{Attendant, Endings, Line, Talk, Upward};
 pub use gate::{Door, Entry, ServeEnd, Serving, serve_through};
 pub use names::Names;
 pub use rounds::wait_in_rounds;
 pub use server_log::Log;
+pub use starting::{ConnectionLauncher, Starter};

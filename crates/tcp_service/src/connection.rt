@@ -2,18 +2,21 @@
 use crate::logged_desk::LoggedDesk;
 use crate::service::Worker;
 use crate::site_desk::SiteDesk;
-use child_jobs::{Job, Launcher, Plan};
+use child_jobs::{Job, Plan};
 use child_table::Place;
 use dir_calls::Dir;
 use event_journals::Journal;
 use one_connection::{Desk, Served, serve_one};
 use rule_lookup::{DropCause, Peer};
+use server_words::Mode;
 use server_yard::Premises;
 use site_lock::{Caller, Callers, Site};
 use std::io::{Read, Write};
 use std::sync::Wait;
 use std::sync::ledger::Ledger;
-use tcp_connections::{Attendant, Line, Serving, Shut, Talk, Upward};
+use tcp_connections::{
+    Attendant, ConnectionLauncher, Follow, Line, Serving, Shut, Starter, Talk, Upward,
+};
 use wrapper_chain::LineStage;
 
 /// The place of a connection whose thread has not taken it yet. One that is let go stays counted for good.
@@ -44,7 +47,8 @@ pub(crate) struct Work<L: Ledger, I, O, X> {
 pub(crate) struct Server<'a, L: Premises, N: Callers, D: Dir + Drop, J: Journal, S, R, W, G> {
     pub site: &'a Site<L, N, D, J>,
     pub workers: &'a [Worker<N, G>],
-    pub launcher: &'a S,
+    pub starter: &'a S,
+    pub mode: Mode,
     pub attendant: Attendant<'a, R, W>,
 }
 
@@ -62,13 +66,11 @@ where
     N: Callers,
     D: Dir + Drop,
     J: Journal,
-    S: Launcher,
-    S::Job: Drop,
     R: Wait,
     W: Write,
 {
     // Begins to serve a connection by this worker.
-    fn begin_by<I: Drop, O: Write + Drop, X: Shut + Drop>(
+    fn begin_by<I: Drop, O, X>(
         &self,
         worker: &Worker<N, G>,
         mut work: Work<L, I, O, X>,
@@ -79,9 +81,13 @@ where
         ),
     >
     where
-        G: LineStage,
+        S: Starter<X>,
+        S::Job: Drop,
         <S::Job as Job>::Input: Drop,
         <S::Job as Job>::Output: Drop,
+        O: Write + Follow<<S::Job as Job>::Output> + Drop,
+        X: Shut + Drop,
+        G: LineStage,
     {
         let place = work.reserved.place.take()?;
         let Work {
@@ -102,8 +108,8 @@ where
         Some((upward, Begun { plan, serial, talk }))
     }
 
-    // Decides a connection, and starts its child where it is allowed.
-    fn decide<I: Drop, O: Write + Drop, X: Shut + Drop>(
+    // Decides a connection, and starts its child where it is allowed. One that is handed over is over then; one that is pumped has its ways.
+    fn decide<I: Drop, O, X>(
         &self,
         caller: &mut Caller<N>,
         place: Place<L>,
@@ -117,8 +123,12 @@ where
         ),
     >
     where
+        S: Starter<X>,
+        S::Job: Drop,
         <S::Job as Job>::Input: Drop,
         <S::Job as Job>::Output: Drop,
+        O: Write + Follow<<S::Job as Job>::Output> + Drop,
+        X: Shut + Drop,
     {
         let mut desk = LoggedDesk {
             rt: self.attendant.rt,
@@ -127,6 +137,10 @@ where
             serial: line.serial,
             local: plan.local(),
         };
+        let launcher = ConnectionLauncher {
+            starter: self.starter,
+            connection: &line.shut,
+        };
         let served = serve_one(
             self.attendant.alloc,
             &mut desk,
@@ -134,12 +148,18 @@ where
             line.serial,
             peer,
             plan,
-            self.launcher,
+            &launcher,
             &mut line.writer,
         );
-        match served {
-            Served::Running(running) => self.attendant.begin(&mut desk, running, line),
-            Served::Denied | Served::StartFailed(_) | Served::Dropped(_) => {
+        match (served, self.mode) {
+            (Served::Running(running), Mode::HandedOver) => {
+                self.attendant.hand_over(&mut desk, running, line);
+                None
+            }
+            (Served::Running(running), Mode::Pumped) => {
+                self.attendant.begin(&mut desk, running, line)
+            }
+            (Served::Denied | Served::StartFailed(_) | Served::Dropped(_), _) => {
                 line.shut.shut();
                 None
             }
@@ -154,6 +174,8 @@ where
         is_fed: bool,
     )
     where
+        S: Starter<X>,
+        S::Job: Drop,
         G: LineStage,
     {
         let Begun { plan, serial, talk } = begun;
@@ -200,7 +222,7 @@ where
     N: Callers,
     D: Dir + Drop,
     J: Journal,
-    S: Launcher,
+    S: Starter<X>,
     S::Job: Send + Drop,
     <S::Job as Job>::Input: Send + Drop,
     <S::Job as Job>::Output: Send + Drop,
@@ -208,7 +230,7 @@ where
     W: Write,
     G: LineStage,
     I: Read + Send + Drop,
-    O: Write + Send + Drop,
+    O: Write + Follow<<S::Job as Job>::Output> + Send + Drop,
     X: Shut + Send + Drop,
 {
     type Upward = Upward<I, <S::Job as Job>::Input>;

@@ -89,6 +89,10 @@ where
             Err(fault) => Err(fault),
         }
     }
+
+    fn close(&mut self) {
+        self.acceptor.close();
+    }
 }
 
 impl<A, L, N, D, J, R, W> Entrance<'_, A, L, N, D, J, R, W>

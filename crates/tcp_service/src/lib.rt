@@ -11,8 +11,10 @@ pub mod site_desk;
 
 pub use logged_desk::{Living, LoggedDesk};
 pub use server_log::Log;
-pub use server_words::Level;
+pub use server_words::{Level, Mode};
 pub use service::{Service, Worker};
 pub use serving::serve;
 pub use site_desk::SiteDesk;
-pub use tcp_connections::{AcceptFault, Accepted, Acceptor, Names, ServeEnd, Shut};
+pub use tcp_connections::{
+    AcceptFault, Accepted, Acceptor, Follow, Names, Patience, ServeEnd, Shut, Starter,
+};

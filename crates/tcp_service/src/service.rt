@@ -1,7 +1,8 @@
 //! What a server does for all of its connections.
+use server_words::Mode;
 use site_lock::{Caller, Callers};
 use std::sync::{Mutex, Wait};
-use tcp_connections::Names;
+use tcp_connections::{Names, Patience};
 use wrapper_chain::{Chain, LineStage};
 
 /// What a server does for all of its connections.
@@ -11,6 +12,10 @@ pub struct Service {
     pub count: Option<u32>,
     /// How the ends of a connection get their names.
     pub names: Names,
+    /// Whether programs hold their connections themselves (`-s`), or the server passes the bytes on (`-S`).
+    pub mode: Mode,
+    /// How long a client whose connection is pumped may take nothing of what its program left for it.
+    pub patience: Patience,
     /// Whether what goes both ways is recorded (`-w recordio`).
     pub recording: bool,
 }

@@ -2,7 +2,7 @@
 use crate::connection::Server;
 use crate::entrance::Entrance;
 use crate::service::{Service, Worker};
-use child_jobs::{Job, Launcher, Plan};
+use child_jobs::{Job, Plan};
 use dir_calls::Dir;
 use event_journals::Journal;
 use server_log::Log;
@@ -13,20 +13,21 @@ use std::io::Write;
 use std::sync::{Mutex, Wait};
 use std::thread::Threads;
 use std::time::Clock;
-use tcp_connections::{Acceptor, Attendant, ServeEnd, serve_through};
+use tcp_connections::{Acceptor, Attendant, Follow, ServeEnd, Starter, serve_through};
 use wrapper_chain::LineStage;
 
 /// Serves connections until it comes to an end, and then waits until all that were let in are over.
 ///
 /// `workers` are as many as the limit of connections says, and one more: the first lets connections in. `plan` is what each connection is
-/// served by, with the server's end of that connection in place of the plan's own.
+/// served by, with the server's end of that connection in place of the plan's own. `starter` starts programs that have what the service's mode
+/// says as their standard input and output. Once no more connections are let in, the acceptor is closed.
 pub fn serve<A, L, N, D, J, S, G, R, W>(
     rt: &R,
     alloc: Global,
     acceptor: &mut A,
     site: &Site<L, N, D, J>,
     workers: &[Worker<N, G>],
-    launcher: &S,
+    starter: &S,
     plan: &Plan,
     service: &Service,
     log: &Mutex<Log<W>>,
@@ -38,10 +39,11 @@ where
     D: Dir + Send + Drop,
     D::File: Send,
     J: Journal + Send,
-    S: Launcher + Sync,
+    S: Starter<A::Shut> + Sync,
     S::Job: Send + Drop,
     <S::Job as Job>::Input: Send + Drop,
     <S::Job as Job>::Output: Send + Drop,
+    A::Writer: Follow<<S::Job as Job>::Output>,
     G: LineStage + Send + Drop,
     R: Threads + Wait + Clock + Sync,
     W: Write + Send,
@@ -53,12 +55,14 @@ where
     let server = Server {
         site,
         workers,
-        launcher,
+        starter,
+        mode: service.mode,
         attendant: Attendant {
             rt,
             alloc,
             log,
             recording: service.recording,
+            patience: service.patience,
         },
     };
     let mut entrance = Entrance {

@@ -41,7 +41,7 @@ server_exit (server.Words fault) = words.exit_of fault
 server_exit (server.BadHosts line) = 100
 server_exit fault = 111
 
--- 100 for wrong words; a stream that fails, a program that can't be run, and want of memory are faults of the system
+-- 100 for wrong words; a stream or standard output that fails, a program that can't be run, and want of memory are faults of the system
 abbrev pub exit_of : ToolFault → ℕ
 exit_of (tool.Usage words) = 100
 exit_of (tool.Server fault) = server_exit fault
@@ -50,6 +50,7 @@ exit_of (tool.Rules fault) = rules_exit fault
 exit_of (tool.Check fault) = check_exit fault
 exit_of (tool.Filter fault) = 111
 exit_of (tool.Between fault) = 111
+exit_of tool.WriteFault = 111
 exit_of tool.OutOfMemory = 111
 
 -- the code of a program that was run, and 111 after a signal

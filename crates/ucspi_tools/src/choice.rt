@@ -3,16 +3,19 @@ ghost use Rattle.std.specs.Prelude.{◌≡◌};
 ghost use Rattle.std.specs.List.{list_all};
 ghost use Rattle.std.specs.Str.{is_utf8};
 ghost use Rattle.stream_tools.specs.Programs.{texts_of};
-ghost use Rattle.ucspi_tools.specs.Choices.{CallsFor, IsLastPart, alone, choice_by_word, run_of, tcprules_by, tcprulescheck_by, tcpserver_by, tool_in, wanted, with_program};
+ghost use Rattle.ucspi_tools.specs.Choices.{CallsFor, IsLastPart, alone, asked_by, choice_by_word, is_verbose, operands, run_of, tcprules_by, tcprules_at, tcprulescheck_by, tcprulescheck_at, tcpserver_by, tool_in, wanted, with_program};
 
 use crate::tool::Tool;
 use memchr::memrchr;
+use server_words::Mode;
 
 /// What words ask for.
 #[derive(Clone, Copy, PartialEq, Eq, Debug)]
 pub enum Choice<'a> {
     /// A run of `tcpserver`.
     Tcpserver {
+        /// How connections are passed to programs where the words don't say it.
+        by_name: Mode,
         /// Its words, each UTF-8.
         words: &'a [Vec<u8>],
     },
@@ -24,11 +27,15 @@ pub enum Choice<'a> {
         cdb: &'a str,
         /// The path of the scratch file.
         tmp: &'a str,
+        /// Whether the cause of a fault of the system is told.
+        verbose: bool,
     },
     /// A run of `tcprulescheck` with the path of the rules file.
     Tcprulescheck {
         /// That path.
         cdb: &'a str,
+        /// Whether the cause of a fault of the system is told.
+        verbose: bool,
     },
     /// A run of `addcr`.
     Addcr,
@@ -44,6 +51,10 @@ pub enum Choice<'a> {
         /// Its path and arguments: at least the path, and each is UTF-8.
         words: &'a [Vec<u8>],
     },
+    /// The version of the program.
+    Version,
+    /// A line for each tool.
+    Help,
     /// The usage line of a tool.
     UsageOf(Tool),
     /// The usage line of `ucspi`.
@@ -65,18 +76,19 @@ impl Choice<'_> {
             Choice::Fixcrio { .. } => Some(Tool::Fixcrio),
             Choice::Recordio { .. } => Some(Tool::Recordio),
             Choice::UsageOf(tool) => Some(*tool),
-            Choice::Usage => None,
+            Choice::Version | Choice::Help | Choice::Usage => None,
         }
     }
 }
 
 /// What a command line asks for: the path by which the program was called, and the words after it. Where the last part of that path is a
-/// tool's name, that is the tool, and all words are its own; else the first word names the tool.
+/// tool's name, that is the tool, and all words are its own; else the first word names the tool. `tcpserver` hands connections over by its own
+/// name, and pumps them as a word of `ucspi`, where its words don't say it.
 pub fn choose<'a>(path: &[u8], words: &'a [Vec<u8>]) -> Choice<'a>
     ensures { CallsFor path.now (texts_of words.now) (wanted result) }
 {
     match Tool::named(last_part(path)) {
-        Some(tool) => choose_tool(tool, words),
+        Some(tool) => choose_tool(tool, words, Mode::HandedOver),
         None => choose_by_word(words),
     }
 }
@@ -99,17 +111,37 @@ fn choose_by_word(words: &[Vec<u8>]) -> Choice<'_>
         return Choice::Rulesim;
     };
     match Tool::named(tool) {
-        Some(tool) => choose_tool(tool, words),
-        None => Choice::Usage,
+        Some(tool) => choose_tool(tool, words, Mode::Pumped),
+        None => choose_about(tool, words),
     }
 }
 
-/// What the words of a tool ask for.
-fn choose_tool(tool: Tool, words: &[Vec<u8>]) -> Choice<'_>
-    ensures { wanted result ≡ run_of tool (texts_of words.now) }
+/// The words that ask for the version and for help, where they stand alone.
+const VERSION: &str = "--version";
+
+const HELP: &str = "--help";
+
+/// What a first word asks for that names no tool, and those behind it.
+fn choose_about<'a>(word: &[u8], words: &'a [Vec<u8>]) -> Choice<'a>
+    ensures { wanted result ≡ asked_by word.now (texts_of words.now) }
+{
+    if !words.is_empty() {
+        Choice::Usage
+    } else if word == VERSION.as_bytes() {
+        Choice::Version
+    } else if word == HELP.as_bytes() {
+        Choice::Help
+    } else {
+        Choice::Usage
+    }
+}
+
+/// What the words of a tool ask for, of a server in this mode where they don't say it.
+fn choose_tool(tool: Tool, words: &[Vec<u8>], by_name: Mode) -> Choice<'_>
+    ensures { wanted result ≡ run_of by_name tool (texts_of words.now) }
 {
     match tool {
-        Tool::Tcpserver => choose_texts(words),
+        Tool::Tcpserver => choose_texts(words, by_name),
         Tool::Rulesim => choose_alone(Choice::Rulesim, tool, words),
         Tool::Addcr => choose_alone(Choice::Addcr, tool, words),
         Tool::Delcr => choose_alone(Choice::Delcr, tool, words),
@@ -132,11 +164,11 @@ fn choose_alone<'a>(run: Choice<'a>, tool: Tool, words: &[Vec<u8>]) -> Choice<'a
 }
 
 /// The run of `tcpserver`, whose words have to be text.
-fn choose_texts(words: &[Vec<u8>]) -> Choice<'_>
-    ensures { wanted result ≡ tcpserver_by (texts_of words.now) }
+fn choose_texts(words: &[Vec<u8>], by_name: Mode) -> Choice<'_>
+    ensures { wanted result ≡ tcpserver_by by_name (texts_of words.now) }
 {
     if are_texts(words) {
-        Choice::Tcpserver { words }
+        Choice::Tcpserver { by_name, words }
     } else {
         Choice::UsageOf(Tool::Tcpserver)
     }
@@ -175,24 +207,56 @@ fn is_text(word: &[u8]) -> bool
     }
 }
 
+/// The run of `tcprules`.
 fn choose_tcprules(words: &[Vec<u8>]) -> Choice<'_>
     ensures { wanted result ≡ tcprules_by (texts_of words.now) }
 {
-    match words {
+    let (verbose, paths) = split_verbose(words);
+    choose_installation(verbose, paths)
+}
+
+/// The run of `tcprulescheck`.
+fn choose_tcprulescheck(words: &[Vec<u8>]) -> Choice<'_>
+    ensures { wanted result ≡ tcprulescheck_by (texts_of words.now) }
+{
+    let (verbose, paths) = split_verbose(words);
+    choose_check(verbose, paths)
+}
+
+/// The word that asks for causes, where it stands first.
+const VERBOSE: &str = "-v";
+
+/// Whether a first word asks for causes, and the words but for that one.
+fn split_verbose(words: &[Vec<u8>]) -> (bool, &[Vec<u8>])
+    ensures verbose { result.0 ≡ is_verbose (texts_of words.now) }
+    ensures operands { texts_of result.1.now ≡ operands (texts_of words.now) }
+{
+    match words.split_first() {
+        Some((word, rest)) if word.as_slice() == VERBOSE.as_bytes() => (true, rest),
+        _ => (false, words),
+    }
+}
+
+/// The run of `tcprules` for these paths.
+fn choose_installation(verbose: bool, paths: &[Vec<u8>]) -> Choice<'_>
+    ensures { wanted result ≡ tcprules_at verbose (texts_of paths.now) }
+{
+    match paths {
         [cdb, tmp] => match (str::from_utf8(cdb), str::from_utf8(tmp)) {
-            (Ok(cdb), Ok(tmp)) => Choice::Tcprules { cdb, tmp },
+            (Ok(cdb), Ok(tmp)) => Choice::Tcprules { cdb, tmp, verbose },
             _ => Choice::UsageOf(Tool::Tcprules),
         },
         _ => Choice::UsageOf(Tool::Tcprules),
     }
 }
 
-fn choose_tcprulescheck(words: &[Vec<u8>]) -> Choice<'_>
-    ensures { wanted result ≡ tcprulescheck_by (texts_of words.now) }
+/// The run of `tcprulescheck` for this path.
+fn choose_check(verbose: bool, paths: &[Vec<u8>]) -> Choice<'_>
+    ensures { wanted result ≡ tcprulescheck_at verbose (texts_of paths.now) }
 {
-    match words {
+    match paths {
         [cdb] => match str::from_utf8(cdb) {
-            Ok(cdb) => Choice::Tcprulescheck { cdb },
+            Ok(cdb) => Choice::Tcprulescheck { cdb, verbose },
             Err(_) => Choice::UsageOf(Tool::Tcprulescheck),
         },
         _ => Choice::UsageOf(Tool::Tcprulescheck),

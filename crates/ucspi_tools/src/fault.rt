@@ -6,6 +6,7 @@ use rule_lookup::Status;
 use rules_tools::{CheckFault, TcprulesFault};
 use script_tool::SimFault;
 use server_parts::ServerFault;
+use std::io::{Cursor, Write};
 use stream_tools::{BetweenFault, FilterFault};
 use thiserror::Error;
 
@@ -14,6 +15,9 @@ pub const BAD_INPUT: u8 = 100;
 
 /// The exit code of faults of the system, want of memory among them.
 pub const SYSTEM_FAULT: u8 = 111;
+
+/// How many bytes the line of a fault may have: the longest has about a hundred.
+const LINE: usize = 512;
 
 /// Why a run of a tool fails. It prints as what stands behind the tool's name.
 #[derive(Clone, Copy, PartialEq, Eq, Debug, Error)]
@@ -39,6 +43,9 @@ pub enum ToolFault {
     /// A program could not be run between two streams.
     #[error("{0}")]
     Between(#[from] BetweenFault),
+    /// What is told of the program could not be written.
+    #[error("write fault")]
+    WriteFault,
     /// There was no memory for the words.
     #[error("out of memory")]
     OutOfMemory,
@@ -55,7 +62,8 @@ impl ToolFault {
             ToolFault::Script(fault) => script_code(fault),
             ToolFault::Rules(fault) => rules_code(fault),
             ToolFault::Check(fault) => check_code(fault),
-            ToolFault::Filter(_) | ToolFault::Between(_) | ToolFault::OutOfMemory => SYSTEM_FAULT,
+            ToolFault::Filter(_) | ToolFault::Between(_) => SYSTEM_FAULT,
+            ToolFault::WriteFault | ToolFault::OutOfMemory => SYSTEM_FAULT,
         }
     }
 }
@@ -108,15 +116,24 @@ pub fn status_code(status: Status) -> u8
     }
 }
 
-/// Prints why a tool failed, if it did, and answers the exit code.
-pub fn end<R: Eprint>(rt: &R, name: &str, end: Result<u8, ToolFault>) -> u8
+/// Writes why a tool failed, if it did, as one line, and answers the exit code.
+pub fn end<E: Write>(errors: &mut E, name: &str, end: Result<u8, ToolFault>) -> u8
     ensures { result ≡ end_code end }
 {
     match end {
         Ok(code) => code,
         Err(fault) => {
-            let _ = eprintln!(rt; "{name}: {fault}");
+            tell(errors, name, fault);
             fault.exit_code()
         }
     }
+}
+
+/// Writes the line of a fault by one call, so that no other writer's line stands inside it. It takes no memory. Where it can't be written
+/// nobody is told.
+fn tell<E: Write>(errors: &mut E, name: &str, fault: ToolFault) {
+    let mut line = Cursor::new([0u8; LINE]);
+    let _ = writeln!(line, "{name}: {fault}");
+    let end = line.position().min(LINE as u64) as usize;
+    let _ = errors.write_all(&line.get_ref()[..end]);
 }

@@ -2,13 +2,17 @@
 //! with which it exits then.
 #![tactic(auto)]
 
+mod about;
 pub mod choice;
 pub mod fault;
 pub mod program;
+mod rules;
 pub mod tool;
 
 pub use program::run_program;
-pub use rules_tools::{CheckFault, TcprulesFault, run_tcprules, run_tcprulescheck};
+pub use rules_tools::{
+    CheckFailure, CheckFault, RulesFailure, TcprulesFault, run_tcprules, run_tcprulescheck,
+};
 pub use script_tool::{SimFault, run_rulesim};
 pub use stream_tools::{
     BetweenFault, FilterFault, Lane, OsJob, OsLauncher, SharedWriter, run_between, run_filter,

@@ -1,14 +1,16 @@
 //! The program `ucspi`: its words, and the tool that they ask for.
+use crate::about::{tell_tools, tell_version};
 use crate::choice::{Choice, choose};
 use crate::fault::{ToolFault, end, status_code};
+use crate::rules::{Causes, check, install};
 use patient_streams::Patient;
-use rules_tools::{run_tcprules, run_tcprulescheck};
 use script_tool::run_script;
 use server_tool::run_tcpserver;
 use std::fs::{File, Files};
 use std::io;
 use std::io::Write;
 use std::net::{Net, TcpStream};
+use std::os::fd::AsRawFd;
 use std::process::{ChildStdin, OpenProcess, Processes};
 use std::rt::Env;
 use std::sync::Wait;
@@ -24,50 +26,63 @@ const PROGRAM: &str = "ucspi";
 const USAGE: &str = "ucspi TOOL ...";
 
 /// Runs the tool that the command line asks for, over the standard streams and the system's files and programs, and answers the exit
-/// code. `errors` is standard error, for lines that are no text.
+/// code. `errors` is standard error. A standard stream that was left non-blocking is waited for, so that nothing is lost.
 pub fn run_program<R, E>(rt: &R, errors: E) -> u8
-where
-    R: Env + Input + Print + Eprint + AllocGlobal,
-    R: Files<File = File> + Processes + Threads + Wait + Sync + Clock + Net<Stream = TcpStream>,
-    R::Reader: Send,
-    E: Write + Send + Drop,
-    R::Dir: Send + Sync,
-    R::Listener: Send + Sync,
-    R::Started: OpenProcess<Stdin = ChildStdin> + Send,
-    <R::Started as OpenProcess>::Stdout: Send,
-    <R::Started as OpenProcess>::Stderr: Send,
-{
-    let alloc = rt.alloc();
-    let (Ok(path), Ok(words)) = (program_path(alloc, rt), command_words(alloc, rt)) else {
-        return end(rt, PROGRAM, Err(ToolFault::OutOfMemory));
-    };
-    let choice = choose(path.as_slice(), words.as_slice());
-    let name = choice.tool().map_or(PROGRAM, |tool| tool.name());
-    end(rt, name, run(rt, errors, choice))
-}
-
-/// Runs what words ask for, and answers the exit code.
-fn run<R, E>(rt: &R, errors: E, choice: Choice<'_>) -> Result<u8, ToolFault>
 where
     R: Env + Input + Print + AllocGlobal,
     R: Files<File = File> + Processes + Threads + Wait + Sync + Clock + Net<Stream = TcpStream>,
     R::Reader: Send,
-    E: Write + Send + Drop,
+    E: Write + Send + Copy,
     R::Dir: Send + Sync,
     R::Listener: Send + Sync,
     R::Started: OpenProcess<Stdin = ChildStdin> + Send,
-    <R::Started as OpenProcess>::Stdout: Send,
+    <R::Started as OpenProcess>::Stdout: AsRawFd + Send,
     <R::Started as OpenProcess>::Stderr: Send,
 {
+    let alloc = rt.alloc();
+    let mut faults = Patient::new(rt, errors);
+    let (Ok(path), Ok(words)) = (program_path(alloc, rt), command_words(alloc, rt)) else {
+        return end(&mut faults, PROGRAM, Err(ToolFault::OutOfMemory));
+    };
+    let choice = choose(path.as_slice(), words.as_slice());
+    let name = choice.tool().map_or(PROGRAM, |tool| tool.name());
+    let mut causes = Vec::new(alloc);
+    let code = end(&mut faults, name, run(rt, errors, &mut causes, choice));
+    let _ = faults.write_all(causes.as_slice());
+    code
+}
+
+/// Runs what words ask for, and answers the exit code. The line of a cause is left in `causes`, where words ask for it.
+fn run<R, E>(rt: &R, errors: E, causes: &mut Vec<u8>, choice: Choice<'_>) -> Result<u8, ToolFault>
+where
+    R: Env + Input + Print + AllocGlobal,
+    R: Files<File = File> + Processes + Threads + Wait + Sync + Clock + Net<Stream = TcpStream>,
+    R::Reader: Send,
+    E: Write + Send + Copy,
+    R::Dir: Send + Sync,
+    R::Listener: Send + Sync,
+    R::Started: OpenProcess<Stdin = ChildStdin> + Send,
+    <R::Started as OpenProcess>::Stdout: AsRawFd + Send,
+    <R::Started as OpenProcess>::Stderr: Send,
+{
+    let mut log = Patient::new(rt, errors);
     match choice {
-        Choice::Tcpserver { words } => run_tcpserver(rt, Patient::new(rt, errors), words)?,
+        Choice::Tcpserver { by_name, words } => run_tcpserver(rt, log, words, by_name, causes)?,
         Choice::Rulesim => run_script(rt)?,
-        Choice::Tcprules { cdb, tmp } => run_tcprules(rt.alloc(), &mut rt.reader(), rt, cdb, tmp)?,
-        Choice::Tcprulescheck { cdb } => run_tcprulescheck(rt, rt, &mut io::writer(rt), cdb)?,
+        Choice::Tcprules { cdb, tmp, verbose } => {
+            let lines = causes;
+            install(rt, &mut log, (cdb, tmp), Causes { verbose, lines })?;
+        }
+        Choice::Tcprulescheck { cdb, verbose } => {
+            let lines = causes;
+            check(rt, cdb, Causes { verbose, lines })?;
+        }
         Choice::Addcr => run_addcr(rt)?,
         Choice::Delcr => run_delcr(rt)?,
         Choice::Fixcrio { words } => return Ok(status_code(run_fixcrio(rt, words)?)),
-        Choice::Recordio { words } => return Ok(status_code(run_recordio(rt, errors, words)?)),
+        Choice::Recordio { words } => return Ok(status_code(run_recordio(rt, log, words)?)),
+        Choice::Version => tell_version(&mut Patient::new(rt, io::writer(rt)))?,
+        Choice::Help => tell_tools(&mut Patient::new(rt, io::writer(rt)))?,
         Choice::UsageOf(tool) => return Err(ToolFault::Usage(tool.usage())),
         Choice::Usage => return Err(ToolFault::Usage(USAGE)),
     }

@@ -1,6 +1,6 @@
 //! The tools: their names, and the words that they take.
 ghost use Rattle.std.specs.Prelude.{◌≡◌, bytes_eq};
-ghost use Rattle.ucspi_tools.specs.Choices.{name_of, tool_of, usage_text};
+ghost use Rattle.ucspi_tools.specs.Choices.{name_of, purpose_text, tool_of, usage_text};
 
 /// A tool.
 #[derive(Clone, Copy, PartialEq, Eq, Debug)]
@@ -69,6 +69,22 @@ impl Tool {
             Tool::Delcr => "delcr",
             Tool::Fixcrio => "fixcrio",
             Tool::Recordio => "recordio",
+        }
+    }
+
+    /// What it is for, as a line of help tells it.
+    pub fn purpose(self) -> &'static str
+        ensures { result.now ≡ purpose_text self }
+    {
+        match self {
+            Tool::Tcpserver => "starts a program for each connection that rules allow",
+            Tool::Rulesim => "tries rules, crashes and lists of events on paper",
+            Tool::Tcprules => "compiles and installs the rules of who may connect",
+            Tool::Tcprulescheck => "tells which rule decides a connection",
+            Tool::Addcr => "puts a carriage return before each line feed",
+            Tool::Delcr => "takes carriage returns at ends of lines away",
+            Tool::Fixcrio => "runs a program and puts missing carriage returns into its streams",
+            Tool::Recordio => "runs a program and records what it reads and writes",
         }
     }
 

@@ -6,7 +6,7 @@ ghost use Rattle.ucspi_words.specs.Letters.{is_mark, listed_as, marked_by, meani
 
 /// The letters of `tcpserver`: one followed by `:` takes a value, one followed by `!` is not in this profile, which is to say
 /// that the original program has it and this one refuses it.
-pub const TCPSERVER_LETTERS: &str = "vQq1c:k:m:x:XB:l:N:hHpPw:ROodDt:b:r!u!g!U!";
+pub const TCPSERVER_LETTERS: &str = "vQq1c:k:m:x:XB:l:N:hHpPsSw:ROodDt:b:r!u!g!U!";
 
 /// What a character is as an option.
 #[derive(Clone, Copy, PartialEq, Eq, Debug)]

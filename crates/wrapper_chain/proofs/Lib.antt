@@ -1,4 +1,5 @@
 pub mod FeedLemmas
+pub mod FitLemmas
 pub mod PartLemmas
 pub mod RecordLemmas
 pub mod StageLemmas

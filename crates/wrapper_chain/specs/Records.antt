@@ -1,5 +1,5 @@
 -- The lines that record pieces of a stream.
-use Rattle.std.specs.Prelude.{ℕ, List, [], ◌∷◌, ◌++◌, codes, decimal}
+use Rattle.std.specs.Prelude.{ℕ, ◌^◌, List, [], ◌∷◌, ◌++◌, codes, decimal, nat_lt, if◌then◌else◌}
 use Rattle.wrapper_chain.specs.declared.recording.Way.{Way}
 use Rattle.wrapper_chain.specs.declared.recording.Way.TheVariants.{Input, Output}
 use Rattle.wrapper_chain.specs.Wrapped.{parts_of, written}
@@ -25,3 +25,8 @@ record_text number way piece = written (line_text number way) (rest_text number 
 
 abbrev pub end_text : ℕ → Way → List ℕ
 end_text number way = before_part number way ++ codes "[EOF]\n"
+
+-- how long the pieces of a record with this number are at most: their lines, of which a piece of line feeds alone has the most, fit into what a
+-- pipe takes whole. A number of more than ten digits stands in shorter pieces.
+abbrev pub longest_piece : ℕ → ℕ
+longest_piece number = if nat_lt number (10 ^ 10) then 256 else 160

@@ -6,5 +6,5 @@ pub mod recording;
 pub mod stages;
 
 pub use chain::{Chain, ChainFault, Stage};
-pub use recording::{Way, record, record_end};
+pub use recording::{PIPE_BUF, Way, longest_piece, record, record_end};
 pub use stages::{AddCr, DelCr, FixCr, LineStage};

@@ -1,6 +1,6 @@
 //! The lines that record pieces of a stream, as `recordio` prints them.
-ghost use Rattle.std.specs.Prelude.{◌≡◌, ◌++◌, OnOk, OnErr};
-ghost use Rattle.wrapper_chain.specs.Records.{before_part, end_text, record_text};
+ghost use Rattle.std.specs.Prelude.{◌≡◌, ◌++◌, ◌<◌, ◌≤◌, ◌+◌, length, OnOk, OnErr};
+ghost use Rattle.wrapper_chain.specs.Records.{before_part, end_text, longest_piece, record_text};
 ghost use Rattle.wrapper_chain.specs.Stages.{Extends};
 
 use byte_text::take_back;
@@ -17,6 +17,19 @@ pub enum Way {
     Output,
 }
 
+/// How many bytes a pipe takes whole: what another process writes into it lands before them or behind them.
+pub const PIPE_BUF: usize = 4096;
+
+/// How many bytes a piece of a record with this number has at most, so that its lines fit into `PIPE_BUF` even where each byte is a
+/// line feed: 256, and 160 where the number has more than ten digits. It takes no memory.
+pub fn longest_piece(number: u64) -> usize
+    ensures longest { result ≡ longest_piece number }
+    ensures some { 0 < result }
+    ensures most { result ≤ 256 }
+{
+    if number < 10_000_000_000 { 256 } else { 160 }
+}
+
 /// Adds the lines that record a piece: one for each line that a line feed ended, with a blank behind it, and one for the
 /// rest, with a plus.
 ///
@@ -24,6 +37,7 @@ pub enum Way {
 /// There was no memory: nothing was added.
 pub fn record(number: u64, way: Way, piece: &[u8], out: &mut Vec<u8>) -> Result<(), AllocError>
     ensures ok { OnOk result (out.new.items ≡ out.old.items ++ record_text number way piece.now) }
+    ensures fits { length piece.now ≤ longest_piece number → length out.new.items ≤ length out.old.items + PIPE_BUF }
     ensures err { OnErr result (out.new.items ≡ out.old.items) }
 {
     let before = out.len();
@@ -37,6 +51,7 @@ pub fn record(number: u64, way: Way, piece: &[u8], out: &mut Vec<u8>) -> Result<
 /// There was no memory: nothing was added.
 pub fn record_end(number: u64, way: Way, out: &mut Vec<u8>) -> Result<(), AllocError>
     ensures ok { OnOk result (out.new.items ≡ out.old.items ++ end_text number way) }
+    ensures fits { length out.new.items ≤ length out.old.items + PIPE_BUF }
     ensures err { OnErr result (out.new.items ≡ out.old.items) }
 {
     let before = out.len();

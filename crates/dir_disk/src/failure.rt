@@ -1,0 +1,93 @@
+//! What failed last on a disk of the system.
+ghost use Rattle.std.specs.Prelude.{◌≡◌};
+
+use std::alloc::{AllocError, Global};
+use std::cell::Cell;
+use std::io;
+use std::sync::Arc;
+use std::sync::atomic::{AtomicU32, Ordering};
+
+/// What a call was about that failed.
+#[derive(Clone, Copy, PartialEq, Eq, Debug)]
+pub enum FailedOn {
+    /// The folder itself, or its lock.
+    Folder,
+    /// The name that the call was given, or the file that stands there.
+    Name,
+    /// The name onto which one was to be moved.
+    Onto,
+}
+
+/// A call of the system that failed.
+#[derive(Clone, Copy, PartialEq, Eq, Debug)]
+pub struct DiskFailure {
+    /// What it was about.
+    pub on: FailedOn,
+    /// The system's number of its error (`errno`).
+    pub error: i32,
+}
+
+/// Notes of how the last call of a disk ended, its reads of opened files among them. The number of an error is 0 where none was told.
+#[derive(Drop)]
+pub(crate) struct Notes {
+    on: Cell<FailedOn>,
+    error: Arc<AtomicU32, Global>,
+}
+
+impl Notes {
+    /// Notes of a disk whose calls have not failed.
+    pub(crate) fn new(alloc: Global) -> Result<Notes, AllocError> {
+        Ok(Notes {
+            on: Cell::new(FailedOn::Folder),
+            error: Arc::new(alloc, AtomicU32::new(0))?,
+        })
+    }
+
+    /// Notes how a call ended, and passes it on.
+    pub(crate) fn note<T>(&self, on: FailedOn, outcome: io::Result<T>) -> io::Result<T>
+        ensures { result ≡ outcome }
+    {
+        self.on.set(on);
+        store(&self.error, &outcome);
+        outcome
+    }
+
+    /// Notes of the reads of a file that is opened, or `None` where there are too many files already.
+    pub(crate) fn of_file(&self) -> Option<FileNotes> {
+        self.on.set(FailedOn::Name);
+        let error = Arc::try_clone(&self.error).ok()?;
+        Some(FileNotes { error })
+    }
+
+    /// The last call, where it failed by an error of the system.
+    pub(crate) fn last(&self) -> Option<DiskFailure> {
+        match self.error.load(Ordering::SeqCst) {
+            0 => None,
+            error => Some(DiskFailure {
+                on: self.on.get(),
+                error: error.cast_signed(),
+            }),
+        }
+    }
+}
+
+/// Notes of the reads of an opened file, which are those of its disk.
+#[derive(Drop)]
+pub(crate) struct FileNotes {
+    error: Arc<AtomicU32, Global>,
+}
+
+impl FileNotes {
+    /// Notes how a read ended.
+    pub(crate) fn note<T>(&self, outcome: &io::Result<T>) {
+        store(&self.error, outcome);
+    }
+}
+
+fn store<T>(noted: &AtomicU32, outcome: &io::Result<T>) {
+    let error = match outcome {
+        Ok(_) => 0,
+        Err(error) => error.raw_os_error().map_or(0, i32::cast_unsigned),
+    };
+    noted.store(error, Ordering::SeqCst);
+}

@@ -1,0 +1,54 @@
+//! What a fault of the system was about, and the system's error.
+use dir_disk::{DiskFailure, FailedOn};
+
+/// What the system was asked for when it failed.
+#[derive(Clone, Copy, PartialEq, Eq, Debug)]
+pub enum CauseOf {
+    /// Bytes of standard input.
+    Input,
+    /// That standard output takes bytes.
+    Output,
+    /// The folder of the rules file, or its lock.
+    Folder,
+    /// The scratch file.
+    Scratch,
+    /// The rules file.
+    Rules,
+}
+
+/// Why a call of the system failed.
+#[derive(Clone, Copy, PartialEq, Eq, Debug)]
+pub struct Cause {
+    /// What it was asked for.
+    pub of: CauseOf,
+    /// The system's number of its error (`errno`).
+    pub error: i32,
+}
+
+impl Cause {
+    /// The cause that a call tells, if the system has a number for its error.
+    pub(crate) fn of(of: CauseOf, error: Option<i32>) -> Option<Cause> {
+        error.map(|error| Cause { of, error })
+    }
+
+    /// The cause of a call of an installation that failed: it names no file but the scratch file, and moves that onto the rules file.
+    pub(crate) fn of_installation(failure: Option<DiskFailure>) -> Option<Cause> {
+        let failure = failure?;
+        let of = match failure.on {
+            FailedOn::Folder => CauseOf::Folder,
+            FailedOn::Name => CauseOf::Scratch,
+            FailedOn::Onto => CauseOf::Rules,
+        };
+        Cause::of(of, Some(failure.error))
+    }
+
+    /// The cause of a call of a look-up that failed: it names no file but the rules file.
+    pub(crate) fn of_look_up(failure: Option<DiskFailure>) -> Option<Cause> {
+        let failure = failure?;
+        let of = match failure.on {
+            FailedOn::Folder => CauseOf::Folder,
+            FailedOn::Name | FailedOn::Onto => CauseOf::Rules,
+        };
+        Cause::of(of, Some(failure.error))
+    }
+}

@@ -1,0 +1,173 @@
+//! What is sent to a client, and how long it may take nothing of it.
+use mio::unix::SourceFd;
+use mio::{Events, Interest, Poll, Token};
+use std::alloc::Global;
+use std::io;
+use std::io::{Error, ErrorKind, Write};
+use std::net::{Net, TcpStream};
+use std::os::fd::{AsRawFd, RawFd};
+use std::sync::Arc;
+use std::time::{Clock, Duration, Instant};
+use tcp_connections::{Follow, Patience};
+
+/// A write to a client looks after so many milliseconds whether anybody still holds what it comes from.
+const LOOK: u64 = 1_000;
+
+/// The source, among the events.
+const SOURCE: Token = Token(0);
+
+/// What is sent to a client. While somebody holds the program's output a write waits as long as the client does; once nobody does, what is left
+/// is still written, until the client has taken nothing for too long: then writes fail with `TimedOut`.
+#[derive(Drop)]
+pub struct ClientWriter<'a, R> {
+    rt: &'a R,
+    alloc: Global,
+    stream: Arc<TcpStream, Global>,
+    followed: Option<Followed>,
+}
+
+// What is written comes from this descriptor, and what is left of it is bounded.
+#[derive(Drop)]
+struct Followed {
+    source: RawFd,
+    patience: Patience,
+    // the watch of the descriptor, once a write has waited
+    watch: Option<Watch>,
+    // since when nobody is known to hold the other end, and when the client took something last
+    left: Option<(Instant, Instant)>,
+    is_over: bool,
+}
+
+impl<'a, R> ClientWriter<'a, R> {
+    /// What is sent over this connection, which it shares; nothing is bounded as long as it follows no source.
+    pub fn new(rt: &'a R, alloc: Global, stream: Arc<TcpStream, Global>) -> ClientWriter<'a, R> {
+        ClientWriter {
+            rt,
+            alloc,
+            stream,
+            followed: None,
+        }
+    }
+}
+
+/// A write that waits looks each second whether anybody holds the other end of the source.
+impl<R: Net + Clock, F: AsRawFd> Follow<F> for ClientWriter<'_, R> {
+    fn follow(&mut self, source: &F, patience: Patience) {
+        let _ = self
+            .stream
+            .set_write_timeout(Some(Duration::from_millis(LOOK)));
+        self.followed = Some(Followed {
+            source: source.as_raw_fd(),
+            patience,
+            watch: None,
+            left: None,
+            is_over: false,
+        });
+    }
+}
+
+impl<R: Net + Clock> ClientWriter<'_, R> {
+    // A write has waited, and took something or nothing. Whether the client's time is over.
+    fn has_waited(&mut self, took: bool) -> bool {
+        match &mut self.followed {
+            Some(followed) => followed.look(self.alloc, self.rt, took),
+            None => false,
+        }
+    }
+
+    // Whether the client's time was over before.
+    fn is_over(&self) -> bool {
+        self.followed
+            .as_ref()
+            .is_some_and(|followed| followed.is_over)
+    }
+}
+
+impl<R: Net + Clock> Write for ClientWriter<'_, R> {
+    fn write(&mut self, buf: &[u8]) -> io::Result<usize> {
+        for _ in 0..u64::MAX {
+            if self.is_over() {
+                return Err(Error::from(ErrorKind::TimedOut));
+            }
+            let mut stream: &TcpStream = &self.stream;
+            match stream.write(buf) {
+                Err(error) if error.kind() == ErrorKind::WouldBlock => {
+                    self.has_waited(false);
+                }
+                Ok(count) => {
+                    if count < buf.len() {
+                        self.has_waited(true);
+                    }
+                    return Ok(count);
+                }
+                Err(error) => return Err(error),
+            }
+        }
+        Err(Error::from(ErrorKind::TimedOut))
+    }
+
+    fn flush(&mut self) -> io::Result<()> {
+        Ok(())
+    }
+}
+
+impl Followed {
+    // Whether the client's time is over. It runs only where nobody holds the other end of the source.
+    fn look<R: Net + Clock>(&mut self, alloc: Global, rt: &R, took: bool) -> bool {
+        let Ok(now) = Instant::now(rt) else {
+            return self.is_over;
+        };
+        if self.left.is_none() && self.is_held(alloc, rt) {
+            return false;
+        }
+        let (since, taken) = self.left.unwrap_or((now, now));
+        let taken = if took { now } else { taken };
+        self.left = Some((since, taken));
+        self.is_over = now.duration_since(taken) >= self.patience.idle
+            || now.duration_since(since) >= self.patience.all;
+        self.is_over
+    }
+
+    // Whether somebody holds the other end of the source, as far as the system tells.
+    fn is_held<R: Net>(&mut self, alloc: Global, rt: &R) -> bool {
+        if self.watch.is_none() {
+            self.watch = Watch::new(alloc, rt, self.source);
+        }
+        match &mut self.watch {
+            Some(watch) => watch.is_held(self.source),
+            None => true,
+        }
+    }
+}
+
+// A watch of the end of a pipe that is read.
+#[derive(Drop)]
+struct Watch {
+    poll: Poll,
+    events: Events,
+}
+
+impl Watch {
+    // A watch of this descriptor. `None` where there is none to have: there was no memory or no descriptor.
+    fn new<R: Net>(alloc: Global, net: &R, source: RawFd) -> Option<Watch> {
+        let events = Events::with_capacity(alloc, 1).ok()?;
+        let poll = Poll::new(net).ok()?;
+        poll.registry()
+            .register(&mut SourceFd(&source), SOURCE, Interest::READABLE)
+            .ok()?;
+        Some(Watch { poll, events })
+    }
+
+    // Whether anybody holds the other end.
+    fn is_held(&mut self, source: RawFd) -> bool {
+        // an event comes once for each time that the descriptor is registered
+        let again =
+            self.poll
+                .registry()
+                .reregister(&mut SourceFd(&source), SOURCE, Interest::READABLE);
+        if again.is_err() || self.poll.poll(&mut self.events, Some(Duration::ZERO)).is_err() {
+            return true;
+        }
+        !self.events.iter().any(|event| event.is_read_closed())
+    }
+}

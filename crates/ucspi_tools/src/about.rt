@@ -1,0 +1,49 @@
+//! What the program tells of itself.
+use crate::fault::ToolFault;
+use crate::tool::Tool;
+use std::io;
+use std::io::Write;
+
+/// The version of the program: that of the file `VERSION` at the top of the repository.
+const VERSION: &str = "0.90.0";
+
+/// All tools, in the order in which they are told.
+const TOOLS: [Tool; 8] = [
+    Tool::Tcpserver,
+    Tool::Tcprules,
+    Tool::Tcprulescheck,
+    Tool::Addcr,
+    Tool::Delcr,
+    Tool::Fixcrio,
+    Tool::Recordio,
+    Tool::Rulesim,
+];
+
+/// Writes the name of the program and its version, as one line.
+///
+/// # Errors
+/// `WriteFault`: some of the line may be written.
+pub fn tell_version<W: Write>(writer: &mut W) -> Result<(), ToolFault> {
+    match writeln!(writer, "ucspi {VERSION}") {
+        Ok(()) => Ok(()),
+        Err(_) => Err(ToolFault::WriteFault),
+    }
+}
+
+/// Writes a line for each tool: the words that it takes, and what it is for.
+///
+/// # Errors
+/// `WriteFault`: some of the lines may be written.
+pub fn tell_tools<W: Write>(writer: &mut W) -> Result<(), ToolFault> {
+    match write_tools(writer) {
+        Ok(()) => Ok(()),
+        Err(_) => Err(ToolFault::WriteFault),
+    }
+}
+
+fn write_tools<W: Write>(writer: &mut W) -> io::Result<()> {
+    for tool in TOOLS {
+        writeln!(writer, "ucspi {}: {}", tool.usage(), tool.purpose())?;
+    }
+    writer.flush()
+}

@@ -1,0 +1,164 @@
+#!/usr/bin/env python3
+"""Runs the commands of the README, and each line behind a `$` in the documents, and compares what they print with what stands below them. (The cookbook
+has a group of its own, `cookbook`, and the man pages too.)
+
+Usage: tests/documents.py [PROGRAM]. The lines of one document run in one shell, in a folder of their own that has the examples. `make` is a command that
+takes the program that is there for the one that it would build; the port 2525 is another one, which is free. A server in the foreground is started at
+a free port of this machine alone, and ended once it listens.
+"""
+import os
+import re
+import shutil
+import subprocess
+import tempfile
+
+from checks import TOP, Checks, run_alone
+from cookbook import free_port, listens
+from server_runs import wait_until
+
+TOOLS = ("addcr", "delcr", "fixcrio", "recordio", "rulesim", "tcprules", "tcprulescheck", "tcpserver")
+DOCUMENTS = ["README.md"] + sorted("docs/" + name for name in os.listdir(os.path.join(TOP, "docs")) if name.endswith(".md") and name != "COOKBOOK.md")
+LIMIT = 600
+MARK = "--- the end of a command"
+MAKE = """#!/bin/sh
+if test $# = 0; then set -- all; fi
+exec /usr/bin/make -s -C '%(top)s' -o '%(program)s' -o '%(tried)s' PROGRAM='%(program)s' TRIED='%(tried)s' DESTDIR='%(folder)s' "$@"
+"""
+
+
+def blocks(text):
+    """The indented blocks of a document, with the blank lines inside of them."""
+    block = []
+    for line in text.split("\n") + ["end"]:
+        if line.startswith("    ") or (block and not line.strip()):
+            block.append(line[4:])
+            continue
+        if block:
+            yield "\n".join(block).rstrip("\n")
+            block = []
+
+
+def commands_in(text):
+    """The lines behind a prompt, each with the lines below it; a command goes on where its line ends with a backslash."""
+    for block in blocks(text):
+        if not block.startswith("$ "):
+            continue
+        for part in re.split(r"^\$ ", block, flags=re.M)[1:]:
+            command, _, below = part.partition("\n")
+            while command.endswith("\\"):
+                more, _, below = below.partition("\n")
+                command += "\n" + more
+            yield command, below.rstrip("\n")
+
+
+def makes_in(text):
+    """The lines of a document that call make, without what stands behind them."""
+    return [line.split("#")[0].strip() for block in blocks(text) for line in block.split("\n") if re.match(r"make\b", line)]
+
+
+def log_of(number, most):
+    """The log of a server with so many connections, as many of them at once."""
+    lines, alive = ["tcpserver: status: 0/%d" % most], []
+    for serial in range(1, number + 1):
+        alive.append(serial)
+        address = "10.0.%d.%d" % (serial // 200, serial % 200 + 1)
+        lines += ["status: %d/%d" % (len(alive), most), "pid %d from %s" % (serial, address), "ok %d :10.0.0.1:25 :%s::1024" % (serial, address)]
+        while len(alive) == most or alive and serial == number:
+            lines.append("end %d status 0" % alive.pop(0))
+            lines.append("status: %d/%d" % (len(alive), most))
+    return "\n".join([lines[0]] + ["tcpserver: " + line for line in lines[1:]]) + "\n"
+
+
+class Shell:
+    """A shell in which one command after another runs."""
+
+    def __init__(self, folder, program):
+        self.bin = os.path.join(folder, "bin")
+        os.mkdir(self.bin)
+        for name in TOOLS + ("ucspi",):
+            os.symlink(program, os.path.join(self.bin, name))
+        tried = os.path.join(folder, "tried")
+        shutil.copy(program, tried)
+        with open(os.path.join(self.bin, "make"), "w", encoding="ascii") as file:
+            file.write(MAKE % {"top": TOP, "program": program, "tried": tried, "folder": os.path.join(folder, "root")})
+        os.chmod(os.path.join(self.bin, "make"), 0o755)
+        here = os.path.join(folder, "here")
+        os.mkdir(here)
+        shutil.copytree(os.path.join(TOP, "examples"), os.path.join(here, "examples"))
+        with open(os.path.join(here, "log"), "w", encoding="ascii") as file:
+            file.write(log_of(2040, 40))
+        os.symlink(os.path.join(TOP, "tests"), os.path.join(here, "tests"))
+        environment = {"PATH": self.bin + ":/usr/local/bin:/usr/bin:/bin", "LC_ALL": "C.UTF-8"}
+        self.process = subprocess.Popen(
+            ["bash", "--norc"], cwd=here, env=environment, stdin=subprocess.PIPE, stdout=subprocess.PIPE, stderr=subprocess.STDOUT, start_new_session=True)
+
+    def run(self, command):
+        """What a command prints on both streams, and its exit code."""
+        self.process.stdin.write(("%s\necho '%s' $?\n" % (command, MARK)).encode())
+        self.process.stdin.flush()
+        lines = []
+        while True:
+            line = self.process.stdout.readline().decode()
+            if line.startswith(MARK) or not line:
+                return "".join(lines).rstrip("\n"), int(line.split()[-1] if line else -1)
+            lines.append(line)
+
+    def serve(self, command):
+        """Starts a server until it listens: what it prints but for its first status."""
+        port = free_port()
+        self.run(re.sub(r" (0|localhost|\d+\.\d+\.\d+\.\d+) \d+ ", r" 127.0.0.1 %d " % port, command, count=1) + " > served 2>&1 &")
+        wait_until("a server", lambda: listens(port))
+        self.run("kill $!; wait $! 2>/dev/null")
+        return self.run("grep -v '^tcpserver: status: 0/' served")[0]
+
+    def close(self):
+        """Ends the shell; what it started and left has ended by then."""
+        self.process.stdin.close()
+        self.process.stdout.read()
+        self.process.stdout.close()
+        self.process.wait(LIMIT)
+
+
+def check_document(checks, program, name):
+    with open(os.path.join(TOP, name), encoding="utf-8") as file:
+        text = file.read().replace("2525", str(free_port()))
+    commands = list(commands_in(text))
+    makes = makes_in(text) if name == "README.md" else []
+    if not commands and not makes:
+        return
+    with tempfile.TemporaryDirectory() as folder:
+        shell = Shell(folder, os.path.abspath(program))
+        for command in makes:
+            checks.expect("%s: %s: exit code" % (name, command), shell.run(command)[1], 0)
+        for command, below in commands:
+            is_server = re.match(r"(ucspi )?tcpserver\b", command) and not command.rstrip().endswith("&")
+            checks.expect("%s: %s" % (name, command), shell.serve(command) if is_server else shell.run(command)[0], below)
+        shell.close()
+
+
+def check_readme(checks):
+    """Its length, its links, and what it may not be without."""
+    with open(os.path.join(TOP, "README.md"), encoding="utf-8") as file:
+        text = file.read()
+    lines = text.split("\n")[:-1]
+    checks.holds("README.md: at most 130 lines", len(lines) <= 130, len(lines))
+    checks.expect("README.md: lines of at most 120 columns", [line for line in lines if len(line) > 120], [])
+    checks.holds("README.md: what it does not do comes before the first command", text.index("does not do") < text.index("\n    "))
+    for name in ["README.md"] + DOCUMENTS[1:]:
+        with open(os.path.join(TOP, name), encoding="utf-8") as file:
+            links = re.findall(r"\]\(([^)#:]+)(?:#[^)]*)?\)", file.read())
+        lost = [link for link in links if not os.path.exists(os.path.join(TOP, os.path.dirname(name), link))]
+        checks.expect("%s: links that lead nowhere" % name, lost, [])
+
+
+def check(program, failures):
+    """How many tests there were."""
+    checks = Checks("documents", failures)
+    check_readme(checks)
+    for name in DOCUMENTS:
+        check_document(checks, program, name)
+    return checks.tests
+
+
+if __name__ == "__main__":
+    run_alone(check)
