@@ -105,8 +105,9 @@ class Kitchen:
         os.mkdir(self.bin)
         shutil.copytree(os.path.join(TOP, "examples"), self.examples)
         os.symlink(os.path.join(TOP, "tests"), os.path.join(folder, "tests"))
+        # links, as `make install` makes them: by the name tcpserver connections are handed over
         for tool in TOOLS:
-            self.command(tool, '#!/bin/sh\nexec ucspi %s "$@"\n' % tool)
+            os.symlink("ucspi", os.path.join(self.bin, tool))
         shutil.copy(program, os.path.join(self.bin, "ucspi"))
         self.environment = dict(os.environ, PATH=self.bin + ":" + os.environ["PATH"] + ":/usr/local/sbin:/usr/sbin:/sbin", LC_ALL="C")
         self.running = []
@@ -305,8 +306,10 @@ def rsync(checks, kitchen):
     port = free_port()
     os.mkdir(os.path.join(kitchen.folder, "pub"))
     kitchen.write("pub/file", "hello\n")
-    config = kitchen.read("examples/rsync/rsyncd.conf")
-    kitchen.write("examples/rsync/rsyncd.conf", config.replace("/srv/pub", os.path.join(kitchen.folder, "pub")))
+    log = os.path.join(kitchen.folder, "rsync.log")
+    config = kitchen.read("examples/rsync/rsyncd.conf").replace("/srv/pub", os.path.join(kitchen.folder, "pub"))
+    # should it take itself for a daemon of its own, it listens at no port of this machine's
+    kitchen.write("examples/rsync/rsyncd.conf", "log file = %s\naddress = 192.0.2.1\n%s" % (log, config))
     checks.expect("rsync: its rules", kitchen.run("cd examples/rsync && tcprules rules.cdb rules.tmp < rules").stdout, "")
     words = unit_words(kitchen.read("examples/rsync/tcpserver-rsync.service"), PORT=str(port))
     kitchen.start(words, "rsync-log", os.path.join(kitchen.examples, "rsync"))
@@ -314,6 +317,7 @@ def rsync(checks, kitchen):
     url = "rsync://127.0.0.1:%d/" % port
     checks.expect("rsync: what there is", kitchen.run("rsync %s" % url).stdout.split(), ["pub"])
     checks.expect("rsync: a copy", (kitchen.run("rsync -a %spub/file copy" % url).stdout, kitchen.read("copy")), ("", "hello\n"))
+    checks.holds("rsync: its log has the client's address", "connect from" in kitchen.read(log) and "(127.0.0.1)" in kitchen.read(log), kitchen.read(log))
     kitchen.run("cd examples/rsync && echo :deny | tcprules rules.cdb rules.tmp")
     checks.holds("rsync: denied", kitchen.run("rsync %s" % url).returncode != 0)
 

@@ -199,19 +199,6 @@ def rounds(server, number):
     server.idle()
 
 
-def children_of(number):
-    """The processes whose parent has this number, those that ended and were not waited for among them."""
-    found = 0
-    for name in os.listdir("/proc"):
-        if name.isdigit():
-            try:
-                with open("/proc/%s/stat" % name) as file:
-                    found += file.read().rpartition(")")[2].split()[1] == str(number)
-            except OSError:
-                pass
-    return found
-
-
 def nothing_left(suite):
     """Six thousand connections leave no descriptor, no thread, no process and no memory behind."""
     program, table = suite.child()
@@ -225,7 +212,7 @@ def nothing_left(suite):
         suite.holds("descriptors after 5,000 connections", after[0] <= before[0] + 40, (before, after))
         suite.holds("threads after 5,000 connections", after[1] <= before[1] + 21, (before, after))
         suite.holds("memory after 5,000 connections", after[2] <= before[2] + 3072, (before, after))
-        suite.expect("processes after 5,000 connections", children_of(server.process.pid), 0)
+        suite.expect("processes after 5,000 connections", server_runs.children_of(server.process.pid), 0)
         used = server.processor_time()
         time.sleep(0.5)
         suite.holds("an idle server uses no time", server.processor_time() - used < 0.05, server.processor_time() - used)

@@ -16,6 +16,8 @@ import server_runs
 from server_runs import read_all
 
 FOLDERS = os.environ.get("PATH", "") + ":/usr/sbin:/sbin"
+# as whom Debian's Exim runs
+EXIM_USER = "Debian-exim"
 EXIM = """spool_directory = %(folder)s/spool
 log_file_path = %(folder)s/spool/%%slog
 primary_hostname = mail.example
@@ -107,11 +109,11 @@ def dialogue(server, lines, source="127.0.0.1"):
 
 def exim(suite):
     """`exim -bs` tells a local user by its input: where that is a pipe, everyone is one, and may relay."""
-    if skipped(suite, "exim4") or os.geteuid() != 0:
+    if skipped(suite, "exim4") or os.geteuid() != 0 or EXIM_USER not in (user.pw_name for user in pwd.getpwall()):
         return
     path = config(suite, "exim.conf", EXIM)
     os.makedirs(suite.path("spool"), exist_ok=True)
-    shutil.chown(suite.path("spool"), "Debian-exim", "Debian-exim")
+    shutil.chown(suite.path("spool"), EXIM_USER, EXIM_USER)
     os.chmod(path, 0o644)
     lines = [b"EHLO client.example", b"MAIL FROM:<a@client.example>", b"RCPT TO:<b@mail.example>", b"RCPT TO:<c@elsewhere.example>", b"QUIT"]
     with suite.start(server_runs.QUIET, found("exim4") + ["-C", path, "-bs"]) as server:

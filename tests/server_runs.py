@@ -24,6 +24,8 @@ ORIGINAL = "/usr/bin/tcpserver"
 # a line of the log or the end of a program is waited for (some milliseconds there), in seconds.
 CHECK_TIME = 3600
 WAIT = 300
+# how long a log is looked at that may have come to its end
+QUIET_TIME = 2
 # what keeps the original from asking name servers and peers, and lets enough clients wait; here it has no effect but a name
 QUIET = ["-R", "-H", "-l", "0", "-b", "1000"]
 LIVE = re.compile(rb"^tcpserver: status: (\d+)/\d+$", re.M)
@@ -145,7 +147,7 @@ class Server:
         return [line[len("tcpserver: "):] if line.startswith("tcpserver: ") else line for line in (lines if lines[-1] else lines[:-1])]
 
     def lines(self):
-        """The same, without those of causes (group `server_causes`)."""
+        """The same, without those of causes (of a fault, under -v)."""
         return [line for line in self.all_lines() if not line.startswith("cause: ")]
 
     def wait_line(self, form, times=1, seconds=WAIT):
@@ -177,14 +179,17 @@ class Server:
         except Amiss:
             raise Amiss("%d connections are still alive: %r" % (self.live(), self.log()[-600:]))
 
-    def settle(self, seen, seconds=2):
+    def settle(self, seen):
         """Waits for the lines of a connection behind those that were seen: a client sees its end before the server has told it, where it is handed
-        over even before the server knows of it."""
-        end = time.monotonic() + seconds
-        while time.monotonic() < end:
+        over even before the server knows of it. A line may be left out: then until no program is left, and nothing has been written for a while."""
+        before, since = None, time.monotonic()
+        while time.monotonic() < since + QUIET_TIME:
             lines = self.lines()
             if len(lines) > max(seen, 1) and re.match("status: 0/|out of memory", lines[-1]):
                 return
+            now = self.written(), children_of(self.process.pid)
+            if now != before or now[1]:
+                before, since = now, time.monotonic()
             time.sleep(0.002)
 
     def descriptors(self):
@@ -203,6 +208,19 @@ class Server:
 
     def threads(self):
         return len(os.listdir("/proc/%d/task" % self.process.pid))
+
+
+def children_of(number):
+    """The processes whose parent has this number, those that ended and were not waited for among them."""
+    found = 0
+    for name in os.listdir("/proc"):
+        if name.isdigit():
+            try:
+                with open("/proc/%s/stat" % name) as file:
+                    found += file.read().rpartition(")")[2].split()[1] == str(number)
+            except OSError:
+                pass
+    return found
 
 
 class Suite:
