@@ -10,4 +10,5 @@ pub mod wrappers;
 pub use fault::ServerFault;
 pub use programs::ServiceLauncher;
 pub use sockets::TcpAcceptor;
+pub use stream_tools::SearchPath;
 pub use wrappers::{Wrapper, chain_of};

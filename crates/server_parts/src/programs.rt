@@ -6,15 +6,15 @@ use mio::unix::SourceFd;
 use mio::{Events, Interest, Poll, Token};
 use rule_lookup::{StartFault, Status};
 use std::alloc::Global;
+use std::fs::Files;
 use std::io::{Error, ErrorKind, Write};
 use std::net::{Net, TcpStream};
 use std::os::fd::{AsRawFd, OwnedFd};
-use std::process::{ChildStdin, OpenProcess, Processes};
+use std::process::{ChildStdin, ChildStdout, Processes};
 use std::sync::{Arc, Mutex, Wait};
 use std::time::{Clock, Duration};
 use std::{io, thread};
-use stream_tools::OsLauncher;
-use stream_tools::launcher::OsJob;
+use stream_tools::{OsJob, OsLauncher, SearchPath};
 use ucspi_env::Environment;
 
 /// After so many milliseconds a write that waits looks whether its program is over.
@@ -35,37 +35,36 @@ pub struct ServiceLauncher<'a, R> {
 }
 
 impl<'a, R: Processes> ServiceLauncher<'a, R> {
-    /// A launcher over the system's processes.
-    pub fn new(rt: &'a R) -> ServiceLauncher<'a, R> {
+    /// A launcher over the system's processes, which looks for programs in these folders.
+    pub fn new(rt: &'a R, search: &'a SearchPath) -> ServiceLauncher<'a, R> {
         ServiceLauncher {
             rt,
-            launcher: OsLauncher::new(rt),
+            launcher: OsLauncher::new(rt, search),
         }
     }
 }
 
 /// A program, and whether it is over: once it was waited for, or could not be.
 #[derive(Drop)]
-pub struct ServiceJob<'a, R, P: OpenProcess> {
+pub struct ServiceJob<'a, R> {
     rt: &'a R,
     alloc: Global,
-    job: OsJob<P>,
+    job: OsJob,
     over: Arc<Mutex<bool>, Global>,
 }
 
-impl<'a, R, P> Launcher for ServiceLauncher<'a, R>
+impl<'a, R> Launcher for ServiceLauncher<'a, R>
 where
-    R: Processes<Started = P> + Net + Wait + Clock,
-    P: OpenProcess<Stdin = ChildStdin> + Drop,
+    R: Processes + Files + Net + Wait + Clock,
 {
-    type Job = ServiceJob<'a, R, P>;
+    type Job = ServiceJob<'a, R>;
 
     fn start(
         &self,
         alloc: Global,
         program: &Program,
         environment: &Environment,
-    ) -> Result<ServiceJob<'a, R, P>, StartFault> {
+    ) -> Result<ServiceJob<'a, R>, StartFault> {
         let Ok(over) = Arc::new(alloc, Mutex::new(false)) else {
             return Err(StartFault::OutOfMemory);
         };
@@ -79,24 +78,23 @@ where
     }
 }
 
-impl<'a, R, P> Job for ServiceJob<'a, R, P>
+impl<'a, R> Job for ServiceJob<'a, R>
 where
     R: Net + Wait + Clock,
-    P: OpenProcess<Stdin = ChildStdin> + Drop,
 {
     type Input = ProgramInput<'a, R>;
 
-    type Output = P::Stdout;
+    type Output = ChildStdout;
 
-    ghost program = { λ job. ⟦<OsJob<P> as Job>⟧.program job.job };
+    ghost program = { λ job. ⟦<OsJob as Job>⟧.program job.job };
 
-    ghost environment = { λ job. ⟦<OsJob<P> as Job>⟧.environment job.job };
+    ghost environment = { λ job. ⟦<OsJob as Job>⟧.environment job.job };
 
-    ghost has_ends = { λ job. ⟦<OsJob<P> as Job>⟧.has_ends job.job };
+    ghost has_ends = { λ job. ⟦<OsJob as Job>⟧.has_ends job.job };
 
     ghost killed = { λ _ _ _. ⊤ };
 
-    fn ends(&mut self) -> Result<(ProgramInput<'a, R>, P::Stdout), NoEnds> {
+    fn ends(&mut self) -> Result<(ProgramInput<'a, R>, ChildStdout), NoEnds> {
         let (pipe, output) = self.job.ends()?;
         let Ok(over) = Arc::try_clone(&self.over) else {
             return Err(NoEnds);
@@ -115,7 +113,7 @@ where
         self.job.kill()
     }
 
-    fn wait(self) -> Result<Status, (ServiceJob<'a, R, P>, WaitFault)> {
+    fn wait(self) -> Result<Status, (ServiceJob<'a, R>, WaitFault)> {
         let ServiceJob {
             rt,
             alloc,

@@ -8,7 +8,7 @@ use rule_lookup::Missing;
 use server_parts::opening::{
     listen, names_of, open_rules, plan_of, print_port, stand_in, texts_of,
 };
-use server_parts::{ServerFault, ServiceLauncher, TcpAcceptor, Wrapper, chain_of};
+use server_parts::{SearchPath, ServerFault, ServiceLauncher, TcpAcceptor, Wrapper, chain_of};
 use server_words::{Limits, ServerWords, Wrapping, read_server_words};
 use server_yard::{Premises, Yard};
 use site_lock::{Caller, Callers, Site};
@@ -51,6 +51,7 @@ where
 #[derive(Drop)]
 struct House<E> {
     plan: Plan,
+    search: SearchPath,
     service: Service,
     log: Mutex<Log<E>>,
 }
@@ -82,8 +83,10 @@ where
     let log = Log::new(alloc, errors, words.level(), words.limits().connections);
     let service = service_of(rt, words)?;
     let plan = plan_of(alloc, rt, words)?;
+    let search = SearchPath::own(alloc, rt)?;
     Ok(House {
         plan,
+        search,
         service,
         log: Mutex::new(log),
     })
@@ -180,7 +183,7 @@ where
     N: Callers + Send + Sync,
     D: Dir + Send + Drop,
     D::File: Send,
-    R: AllocGlobal + Processes + Threads + Wait + Clock + Sync,
+    R: AllocGlobal + Files + Processes + Threads + Wait + Clock + Sync,
     R: Net<Stream = TcpStream>,
     R::Listener: Send + Sync,
     T: OpenListener<Stream = TcpStream> + Drop,
@@ -253,7 +256,7 @@ where
     N: Callers + Send + Sync,
     D: Dir + Send + Drop,
     D::File: Send,
-    R: AllocGlobal + Processes + Threads + Wait + Clock + Sync,
+    R: AllocGlobal + Files + Processes + Threads + Wait + Clock + Sync,
     R: Net<Stream = TcpStream>,
     R::Listener: Send + Sync,
     T: OpenListener<Stream = TcpStream> + Drop,
@@ -264,7 +267,7 @@ where
 {
     let alloc = rt.alloc();
     let workers = workers_of(alloc, callers, wrapping)?;
-    let launcher = ServiceLauncher::new(rt);
+    let launcher = ServiceLauncher::new(rt, &house.search);
     end_of(serve(
         rt,
         alloc,
