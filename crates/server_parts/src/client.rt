@@ -161,11 +161,16 @@ impl Watch {
     // Whether anybody holds the other end.
     fn is_held(&mut self, source: RawFd) -> bool {
         // an event comes once for each time that the descriptor is registered
-        let again =
-            self.poll
-                .registry()
-                .reregister(&mut SourceFd(&source), SOURCE, Interest::READABLE);
-        if again.is_err() || self.poll.poll(&mut self.events, Some(Duration::ZERO)).is_err() {
+        let again = self
+            .poll
+            .registry()
+            .reregister(&mut SourceFd(&source), SOURCE, Interest::READABLE);
+        if again.is_err()
+            || self
+                .poll
+                .poll(&mut self.events, Some(Duration::ZERO))
+                .is_err()
+        {
             return true;
         }
         !self.events.iter().any(|event| event.is_read_closed())

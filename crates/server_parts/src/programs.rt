@@ -103,9 +103,7 @@ where
         let Ok(over) = Arc::new(alloc, Mutex::new(false)) else {
             return Err(NotStarted::from(StartFault::OutOfMemory));
         };
-        let job = self
-            .launcher
-            .start_between(alloc, program, environment)?;
+        let job = self.launcher.start_between(alloc, program, environment)?;
         Ok(ServiceJob {
             rt: self.rt,
             alloc,

@@ -171,7 +171,14 @@ where
     let listener = open_socket(rt, words)?;
     let (places, parts) = (Blank::new(limits.connections), Blank::new(callers));
     let served = run_site::<Brand, Brand, _, _, _, _>(
-        rt, house, listener, (dir, rules), words, places, callers, parts,
+        rt,
+        house,
+        listener,
+        (dir, rules),
+        words,
+        places,
+        callers,
+        parts,
     );
     Ok(served?)
 }

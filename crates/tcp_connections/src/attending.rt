@@ -282,11 +282,7 @@ where
 }
 
 // Tells how a child ended, or that it could not be waited for.
-fn tell_end<L, C, E>(
-    endings: &mut E,
-    ended: Result<(Place<L>, Status), Running<L, C>>,
-    serial: u64,
-)
+fn tell_end<L, C, E>(endings: &mut E, ended: Result<(Place<L>, Status), Running<L, C>>, serial: u64)
 where
     L: Ledger,
     C: Job,
