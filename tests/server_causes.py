@@ -36,7 +36,8 @@ def faults_of_words(suite):
     """Other faults of the words have no cause."""
     for words, text in (
         (["-z"], "unknown option -z"), (["-c"], "option -c needs a value"), (["-u"], "option -u is not in this profile"),
-        (["-c", "0"] + SERVE, "option -c has a bad number"), (["-w", "x"] + SERVE, "bad wrappers"), (["-s", "-w", "addcr"] + SERVE, "bad wrappers"),
+        (["-c", "0"] + SERVE, "option -c has a bad number"), (["-m", "x", "nowhere"], "option -m has a bad number"),
+        (["-k", "0", "0", "25"], "option -k has a bad number"), (["-w", "x"] + SERVE, "bad wrappers"), (["-s", "-w", "addcr"] + SERVE, "bad wrappers"),
         (["-N", suite.path("faulty", "x\n")] + SERVE, "host table line 1"),
     ):
         suite.expect("-v and %r" % words, suite.run(["-v"] + words), (100, b"", ("tcpserver: %s\n" % text).encode()))
