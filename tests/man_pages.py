@@ -21,10 +21,12 @@ FAULTS = {
     "recordio": ("stream_tools/src/between.rt", "BetweenFault", "Between"),
     "rulesim": ("script_tool/src/sim.rt", "SimFault", "Script"),
 }
-# pages of others that ours refer to, which need not be installed here
-OUTSIDE = {"flock(2)", "multilog(8)", "runsv(8)", "setpriv(1)", "supervise(8)", "svlogd(8)"}
+# the tools that tell causes
+VERBOSE = ("tcprules", "tcprulescheck")
 # what a page writes for a part of a text that changes
 PLACES = {"u64": "N", "char": "L", "Phase": "PHASE", "LineFault": "line N: KIND"}
+# pages of others that ours refer to, which need not be installed here
+OUTSIDE = {"flock(2)", "multilog(8)", "runsv(8)", "setpriv(1)", "supervise(8)", "svlogd(8)"}
 # the sections that say whose a tool is
 LATER = ("HISTORY", "AUTHORS")
 WITH_LATER = {"addcr.1", "delcr.1", "fixcrio.1", "recordio.1", "tcprules.5", "ucspi.1"}
@@ -266,7 +268,8 @@ def check_tool(checks, tool):
     page = Page(tool)
     checks.expect(tool + ": synopsis", page.synopsis(), usages()[tool])
     checks.expect(tool + ": texts and exit codes", page.texts(), tool_texts(tool))
-    checks.expect(tool + ": options", page.synopsis_options(), {})
+    options = {"v": False} if tool in VERBOSE else {}
+    checks.expect(tool + ": options", (page.synopsis_options(), page.options()), (options, options))
     checks.holds(tool + ": every exit code of a text stands under EXIT STATUS", set(page.texts().values()) <= page.codes())
 
 
@@ -317,7 +320,9 @@ def check_program(checks):
         listed = {item for item in listed if not item.startswith("tcpserver ")}
     checks.expect("ucspi: tools", listed, set(tools.values()))
     usage = re.search(r'const USAGE: &str = "([^"]*)"', read("ucspi_tools/src/program.rt")).group(1)
-    checks.expect("ucspi: texts", page.texts(), {"ucspi: usage: " + usage: 100, "ucspi: out of memory": 111})
+    checks.expect("ucspi: texts", page.texts(), {"ucspi: usage: " + usage: 100, "ucspi: write fault": 111, "ucspi: out of memory": 111})
+    words = set(re.findall(r'const \w+: &str = "(--\w+)"', read("ucspi_tools/src/choice.rt")))
+    checks.expect("ucspi: words of its own", set(re.findall(r"--\w+", " ".join(page.section("DESCRIPTION")))), words)
 
 
 def check_server_words(checks):

@@ -59,7 +59,8 @@ def check_same(checks, program, room, targets):
     first, second, copy = (os.path.join(room, name) for name in ("first", "second", "copy"))
     code, said = make(program, first, *targets)
     checks.expect("make %s" % " ".join(targets), code, 0)
-    checks.expect("what is told to be made", sorted(os.path.basename(line) for line in said.decode().split()), sorted(name for name in os.listdir(first) if not name.endswith(".sha256")))
+    made = sorted(name for name in os.listdir(first) if not name.endswith(".sha256"))
+    checks.expect("what is told to be made", sorted(os.path.basename(line) for line in said.decode().split()), made)
     for part in PARTS:
         from_, to = os.path.join(TOP, part), os.path.join(copy, part)
         os.makedirs(os.path.dirname(to), exist_ok=True)
@@ -73,7 +74,8 @@ def check_same(checks, program, room, targets):
             os.chmod(path, os.stat(path).st_mode & 0o100 | 0o600)
             os.utime(path, (86400 * len(name), 86400 * len(name)))
     for target in targets:
-        code, _ = run([os.path.join(copy, "scripts", "package"), target], env={"PATH": PATH, "PROGRAM": program, "DIST": second, "TZ": "Asia/Tokyo"}, umask=0o077)
+        variables = {"PATH": PATH, "PROGRAM": program, "DIST": second, "TZ": "Asia/Tokyo"}
+        code, _ = run([os.path.join(copy, "scripts", "package"), target], env=variables, umask=0o077)
         checks.expect("the same once more: " + target, code, 0)
     checks.expect("packed twice: the same bytes", digests(first) == digests(second), True)
     return first
@@ -121,16 +123,18 @@ def check_alone(checks, folder, room):
         os.makedirs(root + os.path.dirname(path), exist_ok=True)
         shutil.copy(os.path.realpath(path), root + path)
 
+    chroot = shutil.which("chroot", path=PATH + ":/usr/sbin:/sbin")
+
     def there(words, given=b"", **variables):
-        ended = subprocess.run(["chroot", root] + words, input=given, env=variables, stdout=subprocess.PIPE, stderr=subprocess.PIPE, timeout=LIMIT, executable=shutil.which("chroot"))
+        ended = subprocess.run([chroot, root] + words, input=given, env=variables, stdout=subprocess.PIPE, stderr=subprocess.PIPE, timeout=LIMIT)
         return ended.returncode, ended.stdout, ended.stderr
 
     checks.expect("tcprules there", there(["/u/bin/tcprules", "/rules", "/rules.tmp"], b'10.:allow,A="1"\n:deny\n'), (0, b"", b""))
     told = there(["/u/bin/tcprulescheck", "/rules"], TCPREMOTEIP="10.0.0.1")
     checks.expect("tcprulescheck there", told, (0, b"rule 10.:\nset environment variable A=1\nallow connection\n", b""))
     checks.expect("fixcrio there", there(["/u/bin/ucspi", "fixcrio", "/u/bin/delcr"], b"a\r\n"), (0, b"a\r\n", b""))
-    words = ["chroot", root, "/u/bin/tcpserver", "-1", "-k", "1", "127.0.0.1", "0", "/u/bin/addcr"]
-    with subprocess.Popen(words, env={}, stdin=subprocess.DEVNULL, stdout=subprocess.PIPE, executable=shutil.which("chroot")) as server:
+    words = [chroot, root, "/u/bin/tcpserver", "-1", "-k", "1", "127.0.0.1", "0", "/u/bin/addcr"]
+    with subprocess.Popen(words, env={}, stdin=subprocess.DEVNULL, stdout=subprocess.PIPE) as server:
         port = server.stdout.readline().strip()
         with socket.create_connection(("127.0.0.1", int(port or 0)), LIMIT) as client:
             client.sendall(b"a\n")
@@ -217,7 +221,7 @@ def check_put_in_place(checks, made, room):
     path = os.path.join(made, "gaqolchu_%s_amd64.deb" % version())
     words = ["dpkg", "--root=" + root, "--log=/dev/null", "--force-depends", "--no-triggers"]
     code, said = run(words + ["-i", path])
-    checks.expect("dpkg -i", code, 0) if code == 0 else checks.holds("dpkg -i", False, said)
+    checks.holds("dpkg -i", code == 0, said)
     checks.holds("what dpkg put there", os.access(os.path.join(root, "usr/lib/ucspi/bin/tcprules"), os.X_OK))
     checks.expect("dpkg -V", run(words + ["-V", "gaqolchu"]), (0, b""))
     checks.expect("dpkg -r", run(words + ["-r", "gaqolchu"])[0], 0)

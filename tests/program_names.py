@@ -4,6 +4,7 @@
 Usage: tests/program_names.py [PROGRAM]. By any other name the first word names the tool.
 """
 import os
+import re
 import subprocess
 import tempfile
 
@@ -114,6 +115,25 @@ def check_other_names(names):
         names.expect("word 0 %r, and no words: rulesim" % word, ended, (0, b"installed\n", b""))
 
 
+def check_about(names, tools):
+    """The version is that of the file VERSION, and help has a line for each tool. Each stands alone, and by a tool's name they are its words."""
+    with open(os.path.join(TOP, "VERSION"), encoding="ascii") as file:
+        version = file.read().strip()
+    names.expect("--version", names.run(["ucspi", "--version"]), (0, ("ucspi %s\n" % version).encode(), b""))
+    code, told, errors = names.run(["ucspi", "--help"])
+    lines = [re.fullmatch(r"ucspi (.*): [a-z].*[a-z]", line) for line in told.decode().split("\n")[:-1]]
+    wanted = sorted((tool + " " + TOOLS[tool][0]).strip() for tool in tools)
+    names.expect("--help", (code, sorted(line.group(1) if line else "" for line in lines), errors), (0, wanted, b""))
+    for word in ("--version", "--help"):
+        for words in ([word, ""], [word, word], [word.upper()], [word[:-1]], [word + "x"], [word[1:]], ["tcprules", word, word, word]):
+            usage_line = usage("tcprules") if words[0] == "tcprules" else b"ucspi: usage: ucspi TOOL ...\n"
+            names.expect("words %s" % words, names.run(["ucspi"] + words), (100, b"", usage_line))
+        names.expect("addcr " + word, names.called("addcr", [word]), (100, b"", usage("addcr")))
+        with open("/dev/full", "wb") as full:
+            ended = subprocess.run([os.path.join(names.bin, "ucspi"), word], stdout=full, stderr=subprocess.PIPE, timeout=60)
+        names.expect(word + " on a full device", (ended.returncode, ended.stderr), (111, b"ucspi: write fault\n"))
+
+
 def make(target, program, folder):
     words = ["make", "-s", "-o", program, "PROGRAM=" + program, "DESTDIR=" + folder, "PREFIX=/usr", target]
     return subprocess.run(words, cwd=TOP, stdout=subprocess.PIPE, stderr=subprocess.STDOUT, timeout=60)
@@ -147,6 +167,7 @@ def check(program, failures):
         check_runs(names)
         check_links(names)
         check_other_names(names)
+        check_about(names, tools)
         check_uninstall(names, program, folder)
     return names.tests
 

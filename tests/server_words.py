@@ -306,11 +306,31 @@ def banners(suite):
         suite.holds("a banner is not recorded", b"> a" not in server.log(), server.log())
 
 
+def search_paths(suite):
+    """A program is looked for along the server's own PATH, whose folders are bytes, whatever PATH a rule sets."""
+    top = os.fsencode(suite.folder)
+    folders = {name: os.path.join(top, name) for name in (b"own", b"by-rule", b"caf\xe9")}
+    for name, folder in folders.items():
+        os.mkdir(folder)
+        path = os.path.join(folder, b"who")
+        with open(path, "wb") as script:
+            script.write(b'#!/bin/sh\necho %s "$PATH"\n' % name[:3])
+        os.chmod(path, 0o755)
+    by_rule = os.path.join(suite.folder, "by-rule")
+    path = suite.install('127.0.0.2:allow,PATH="%s"\n:allow\n' % by_rule)
+    for own, told in ((folders[b"own"], b"own"), (folders[b"caf\xe9"], b"caf"), (b"/absent\xff:" + folders[b"own"], b"own")):
+        with suite.start(["-x", path] + server_runs.QUIET, ["who"], env={b"PATH": own}) as server:
+            suite.expect("a PATH of a rule, beside %r" % own, server.ask(source="127.0.0.2"), told + b" " + by_rule.encode() + b"\n")
+            suite.expect("the server's own PATH %r" % own, server.ask()[:4], told + b" ")
+    with suite.start(["-x", path] + server_runs.QUIET, ["who"], env={b"PATH": b"/absent"}) as server:
+        suite.expect("a program that the PATH of a rule alone has", server.ask(source="127.0.0.2"), b"")
+
+
 CHECKS = [
     usage, unknown_options, options_without_a_value, options_of_others, numbers, wrappers, host_tables, folders_of_rules, closed_folder, listening,
-    the_port, any_address, accepted_options, whole_environments, names, rules, rules_of_names, absent_rules, banners,
+    the_port, any_address, accepted_options, whole_environments, names, rules, rules_of_names, absent_rules, banners, search_paths,
 ]
-COMMON = [the_port, any_address, accepted_options, whole_environments, rules, absent_rules, banners]
+COMMON = [the_port, any_address, accepted_options, whole_environments, rules, absent_rules, banners, search_paths]
 HANDED = [the_port, any_address, whole_environments, names, rules, rules_of_names, absent_rules, banners]
 
 if __name__ == "__main__":

@@ -135,6 +135,62 @@ class Streams:
         piped = self.run(["fixcrio", "sh", "-c", "yes | head -n 1"])
         self.expect("signals at their defaults", piped, 0, b"y\r\n")
 
+    def check_search(self):
+        """A program is looked for along the tool's own PATH, whose folders are bytes."""
+        with tempfile.TemporaryDirectory() as made:
+            top = os.fsencode(made)
+            folders = {name: os.path.join(top, name) for name in (b"first", b"caf\xe9", b"last", b"locked")}
+            for name, folder in folders.items():
+                os.mkdir(folder)
+                path = os.path.join(folder, b"who")
+                with open(path, "wb") as script:
+                    script.write(b"#!/bin/sh\necho %s\n" % name[:3])
+                os.chmod(path, 0o644 if name == b"locked" else 0o755)
+            absent, file = os.path.join(top, b"absent\xff"), os.path.join(folders[b"first"], b"who")
+            first, cafe, last, locked = (folders[name] for name in (b"first", b"caf\xe9", b"last", b"locked"))
+            found = [
+                ([first, last], b"fir"), ([cafe, last], b"caf"), ([b"/nonexistent", cafe], b"caf"), ([absent, last], b"las"), ([last, cafe], b"las"),
+                ([locked, last], b"las"), ([file, last], b"las"), ([b"", last], b"fir"), ([last, b""], b"las"), ([b"/nonexistent", b""], b"fir"),
+                ([b"caf\xe9", last], b"las"), ([b"../caf\xe9", last], b"caf"), ([b"x" * 5000, last], None),
+            ]
+            for path, told in found + [([locked], None), ([absent], None), ([file], None), ([b"/nonexistent"], None)]:
+                for tool in ("fixcrio", "recordio"):
+                    ended = self.run([tool, "who"], env={b"PATH": b":".join(path)}, cwd=first)
+                    end = b"\r\n" if tool == "fixcrio" else b"\n"
+                    wanted = (111, b"") if told is None else (0, told + end)
+                    self.tests += 1
+                    if (ended.returncode, ended.stdout) != wanted:
+                        self.failures.append("%s along %r: %r" % (tool, path, (ended.returncode, ended.stdout, ended.stderr)))
+            for name in (b"./who", b"../last/who", cafe + b"/who"):
+                ended = self.run(["fixcrio", name], env={b"PATH": last}, cwd=first)
+                wanted = (100, b"") if name.startswith(cafe) else (0, (b"las" if b"last" in name else b"fir") + b"\r\n")
+                self.tests += 1
+                if (ended.returncode, ended.stdout) != wanted:
+                    self.failures.append("a path %r: %r" % (name, (ended.returncode, ended.stdout, ended.stderr)))
+        self.expect("no PATH", self.run(["fixcrio", "echo", "a"], env={}), 0, b"a\r\n")
+        zeroth = self.run(["fixcrio", "sh", "-c", "tr '\\0' '\\n' < /proc/$$/cmdline | head -n 1"])
+        self.expect("argument 0", zeroth, 0, b"sh\r\n")
+
+    def check_stopped_program(self):
+        """A program that is stopped, and told of, has not ended: the tool waits until it was killed."""
+        with tempfile.TemporaryDirectory() as folder:
+            program = os.path.join(folder, "traced")
+            source = os.path.join(os.path.dirname(os.path.abspath(__file__)), "traced_child.c")
+            subprocess.run(["gcc", "-O2", "-o", program, source], check=True, timeout=60)
+            for tool in ("fixcrio", "recordio"):
+                how = {"stdin": subprocess.DEVNULL, "stdout": subprocess.PIPE, "stderr": subprocess.DEVNULL}
+                with subprocess.Popen([self.program, tool, program], **how) as waiting:
+                    number = int(waiting.stdout.readline())
+                    time.sleep(0.5)
+                    early = waiting.poll()
+                    with open("/proc/%d/stat" % number, "rb") as stat:
+                        state = stat.read().rsplit(b")", 1)[1].split()[0]
+                    os.kill(number, signal.SIGKILL)
+                    code = waiting.wait(60)
+                self.tests += 1
+                if (early, state, code) != (None, b"t", 111):
+                    self.failures.append("%s with a stopped program: %r" % (tool, (early, state, code)))
+
     def check_streams(self):
         for tool in ("addcr", "delcr"):
             name = tool.encode()
@@ -379,6 +435,8 @@ def check(program, failures):
     streams.check_texts()
     streams.check_programs()
     streams.check_what_programs_get()
+    streams.check_search()
+    streams.check_stopped_program()
     streams.check_streams()
     streams.check_records()
     streams.check_shared_records()

@@ -11,8 +11,8 @@ use std::marker::Model;
 use thiserror::Error;
 use ucspi_env::Environment;
 
-/// A program and its arguments. The path is found as std's `Command` finds it: one without a slash is looked for along the `PATH` of
-/// the environment that the program is given.
+/// A program and its arguments. Where its path has no slash the launcher looks for it along the search path of the process that starts it, and
+/// not along a `PATH` among the variables that the program is given.
 #[derive(Debug, Drop)]
 pub struct Program {
     path: String,

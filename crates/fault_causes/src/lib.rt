@@ -4,5 +4,5 @@
 pub mod line;
 pub mod noted;
 
-pub use line::{append_cause, append_os_cause};
+pub use line::{append_cause, append_os_cause, words_of_error};
 pub use noted::Noted;

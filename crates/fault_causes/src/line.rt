@@ -48,8 +48,17 @@ pub fn append_os_cause(
 ) -> Result<(), AllocError>
     ensures { AppendsCause tool.now what.now out.old.items out.new.items result }
 {
+    let why = words_of_error(alloc, error)?;
+    append_cause(out, tool, what, why.as_str())
+}
+
+/// The system's words for an error, by its number (`errno`): `No such file or directory`.
+///
+/// # Errors
+/// There was no memory.
+pub fn words_of_error(alloc: Global, error: i32) -> Result<String, AllocError> {
     let shown = format!(in alloc; "{}", Error::from_raw_os_error(error))?;
-    append_cause(out, tool, what, without_number(shown.as_str()))
+    String::from_str(alloc, without_number(shown.as_str()))
 }
 
 // The words of an error of the system, without its number.

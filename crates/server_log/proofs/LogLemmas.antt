@@ -62,6 +62,11 @@ adds_both xs ys old mid new (Err e) (Err e') (more, some, one) (others, some', t
   joined more others old mid new one two,
 )
 
+pub adds_both_is : {E : Type 0} (xs ys : List (List ℕ)) (old mid new : List ℕ) (first second both : Result (Unit {0}) E) → Adds xs old mid first
+    → Adds ys mid new second → both ≡ result_and first second → Adds (xs ++ ys) old new both
+adds_both_is xs ys old mid new first second both one two is =
+    subst (λ (r : Result _ _). Adds (xs ++ ys) old new r) (sym is) (adds_both xs ys old mid new first second one two)
+
 -- those of an event, whose bytes are none at first
 pub adds_first : {E : Type 0} (xs : List (List ℕ)) (start new : List ℕ) (first : Result (Unit {0}) E) → start ≡ [] → Adds xs start new first → Adds xs [] new first
 adds_first xs start new first none adds = subst (λ (l : List ℕ). Adds xs l new first) none adds

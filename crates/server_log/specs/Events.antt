@@ -1,5 +1,6 @@
 -- The lines of each event, at each level of a log.
-use Rattle.std.specs.Prelude.{ℕ, List, [], ◌∷◌, ◌++◌, Some, None, codes}
+use Rattle.std.specs.Prelude.{ℕ, List, [], ◌∷◌, ◌++◌, Option, Some, None, codes}
+use Rattle.fault_causes.specs.Causes.{cause_text}
 use Rattle.rule_lines.specs.declared.instr.Verdict.{Verdict}
 use Rattle.rule_lookup.specs.Peers.{Client}
 use Rattle.rule_lookup.specs.declared.outcome.DropCause.{DropCause}
@@ -7,6 +8,7 @@ use Rattle.rule_lookup.specs.declared.outcome.StartFault.{StartFault}
 use Rattle.rule_lookup.specs.declared.outcome.Status.{Status}
 use Rattle.server_words.specs.declared.level.Level.{Level}
 use Rattle.server_words.specs.declared.level.Level.TheVariants.{Quiet, Errors, All}
+use Rattle.server_log.specs.Causes.{CauseText}
 use Rattle.status_lines.specs.Texts.{drop_text, end_text, full_text, pid_line, retired_text, start_text, status_line, verdict_text}
 use Rattle.ucspi_env.specs.Ends.{LocalEnd}
 
@@ -32,8 +34,18 @@ admitted_lines level limit serial ip live = status_lines level limit live ++ pro
 abbrev pub decided_lines : Level → Verdict → ℕ → LocalEnd → Client → List (List ℕ)
 decided_lines level verdict serial local peer = progress level (verdict_text verdict serial local peer)
 
-abbrev pub start_failed_lines : Level → (limit serial : ℕ) → StartFault → (live : ℕ) → List (List ℕ)
-start_failed_lines level limit serial fault live = error level (start_text serial (Some fault)) ++ status_lines level limit live
+-- the line of a cause, under `All` alone
+abbrev pub cause_lines : Level → Option CauseText → List (List ℕ)
+cause_lines level None = []
+cause_lines level (Some cause) = progress level (cause_text (codes "tcpserver") cause.what cause.why)
+
+-- the cause stands right behind the fault
+abbrev pub refused_lines : Level → ℕ → StartFault → Option CauseText → List (List ℕ)
+refused_lines level serial fault cause = error level (start_text serial (Some fault)) ++ cause_lines level cause
+
+abbrev pub start_failed_lines : Level → (limit serial : ℕ) → StartFault → Option CauseText → (live : ℕ) → List (List ℕ)
+start_failed_lines level limit serial fault cause live =
+    refused_lines level serial fault cause ++ status_lines level limit live
 
 abbrev pub no_ends_lines : Level → ℕ → List (List ℕ)
 no_ends_lines level serial = error level (start_text serial None)

@@ -1,3 +1,4 @@
 -- The log of a server.
+pub mod Causes
 pub mod Events
 pub mod Logs

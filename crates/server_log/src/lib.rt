@@ -1,9 +1,11 @@
 //! The log of `tcpserver`: which lines each event has at which level, and what is written of them.
 #![tactic(auto)]
 
+pub mod cause;
 pub mod fault;
 mod lines;
 pub mod log;
 
+pub use cause::Cause;
 pub use fault::LogFault;
 pub use log::Log;

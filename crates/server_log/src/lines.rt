@@ -1,8 +1,10 @@
 //! The lines of events, each where the level has it. After an `Err` there was no memory for the line, and nothing was added.
-ghost use Rattle.server_log.specs.Events.{error, progress};
+ghost use Rattle.server_log.specs.Events.{cause_lines, error, progress, refused_lines};
 ghost use Rattle.server_log.specs.Logs.{Adds};
 ghost use Rattle.status_lines.specs.Texts.{drop_text, end_text, full_text, pid_line, retired_text, start_text, status_line, verdict_text};
 
+use crate::cause::Cause;
+use fault_causes::append_cause;
 use rule_lines::Verdict;
 use rule_lookup::{DropCause, Peer, StartFault, Status};
 use server_words::Level;
@@ -89,6 +91,31 @@ pub(crate) fn add_start(
         Level::All | Level::Errors => start_fault_line(serial, fault, out),
         Level::Quiet => Ok(()),
     }
+}
+
+/// Adds the line of why the system refused something, if it is told.
+fn add_cause(level: Level, cause: Option<Cause<'_>>, out: &mut Vec<u8>) -> Result<(), AllocError>
+    ensures { Adds (cause_lines level cause.entry) out.old.items out.new.items result }
+{
+    match (level, cause) {
+        (Level::All, Some(cause)) => append_cause(out, "tcpserver", cause.what(), cause.why()),
+        _ => Ok(()),
+    }
+}
+
+/// Adds the line of a child that was not started, and behind it why, where that is told.
+pub(crate) fn add_refused(
+    level: Level,
+    serial: u64,
+    fault: StartFault,
+    cause: Option<Cause<'_>>,
+    out: &mut Vec<u8>,
+) -> Result<(), AllocError>
+    ensures { Adds (refused_lines level serial fault cause.entry) out.old.items out.new.items result }
+{
+    let start = add_start(level, serial, Some(fault), out);
+    let why = add_cause(level, cause, out);
+    start.and(why)
 }
 
 /// Adds the line of a child that could not be waited for.

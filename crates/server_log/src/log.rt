@@ -5,9 +5,11 @@ ghost use Rattle.std.specs.Io.KnownBytes.{Keeps, WriteAppends};
 ghost use Rattle.server_log.specs.Events.{admitted_lines, decided_lines, dropped_lines, ended_lines, full_lines, memory_lines, no_ends_lines, retired_lines, start_failed_lines, status_lines};
 ghost use Rattle.server_log.specs.Logs.{Adds, KeepsSettings, Logged, Takes, held, level_of, limit_of, writer_of};
 
+use crate::cause::Cause;
 use crate::fault::LogFault;
 use crate::lines::{
-    add_drop, add_end, add_full, add_pid, add_retired, add_start, add_status, add_verdict,
+    add_drop, add_end, add_full, add_pid, add_refused, add_retired, add_start, add_status,
+    add_verdict,
 };
 use byte_pump::write_out;
 use rule_lines::Verdict;
@@ -87,19 +89,20 @@ impl<W: Write> Log<W> {
         self.write_lines(decided)
     }
 
-    /// The child of a connection could not be started.
+    /// The child of a connection could not be started, by this cause where the system told one.
     pub fn start_failed(
         &mut self,
         serial: u64,
         fault: StartFault,
+        cause: Option<Cause<'_>>,
         live: u64,
     ) -> Result<(), LogFault>
-        ensures lines { Logged (start_failed_lines (level_of self.old) (limit_of self.old) serial fault live)
+        ensures lines { Logged (start_failed_lines (level_of self.old) (limit_of self.old) serial fault cause.entry live)
             (held W.contents self.old) (held W.contents self.new) result }
         ensures same { KeepsSettings self.old self.new }
     {
         self.lines.clear();
-        let failed = add_start(self.level, serial, Some(fault), &mut self.lines);
+        let failed = add_refused(self.level, serial, fault, cause, &mut self.lines);
         let status = add_status(self.level, self.limit, live, &mut self.lines);
         self.write_lines(failed.and(status))
     }

@@ -4,6 +4,7 @@ ghost use Rattle.server_parts.specs.declared.fault.ServerFault.TheVariants.{OutO
 
 use server_words::ServerWordsFault;
 use std::alloc::AllocError;
+use std::io::Error;
 use thiserror::Error;
 
 /// Why `tcpserver` ends, in the order of its checks. It prints as what stands behind the tool's name.
@@ -36,6 +37,35 @@ pub enum ServerFault {
     /// There was no memory for the server itself.
     #[error("out of memory")]
     OutOfMemory,
+}
+
+/// Why `tcpserver` ends, and the system's number of the error (`errno`) by which it does, where it has one.
+#[derive(Clone, Copy, PartialEq, Eq, Debug)]
+pub struct ServerFailure {
+    /// Why.
+    pub fault: ServerFault,
+    /// The number of the error.
+    pub error: Option<i32>,
+}
+
+impl ServerFailure {
+    /// By an error of the system.
+    pub(crate) fn by(fault: ServerFault, error: &Error) -> ServerFailure {
+        let error = error.raw_os_error();
+        ServerFailure { fault, error }
+    }
+}
+
+impl From<ServerFault> for ServerFailure {
+    fn from(fault: ServerFault) -> ServerFailure {
+        ServerFailure { fault, error: None }
+    }
+}
+
+impl From<AllocError> for ServerFailure {
+    fn from(_error: AllocError) -> ServerFailure {
+        ServerFailure::from(ServerFault::OutOfMemory)
+    }
 }
 
 impl From<AllocError> for ServerFault {

@@ -9,7 +9,7 @@ pub mod sockets;
 pub mod wrappers;
 
 pub use client::ClientWriter;
-pub use fault::ServerFault;
+pub use fault::{ServerFailure, ServerFault};
 pub use programs::{HandingLauncher, ServiceLauncher};
 pub use sockets::{HandedAcceptor, PumpedAcceptor};
 pub use wrappers::{Wrapper, chain_of};

@@ -1,6 +1,6 @@
 //! What a server opens before it begins: its words, files, folder, socket and program.
 
-use crate::fault::ServerFault;
+use crate::fault::{ServerFailure, ServerFault};
 use child_jobs::{Plan, Program};
 use dir_calls::{Name, NameFault};
 use dir_disk::{FolderFault, OsDir};
@@ -51,7 +51,7 @@ pub fn names_of<F: Files + AllocGlobal>(
     alloc: Global,
     files: &F,
     words: &ServerWords<'_>,
-) -> Result<Names, ServerFault> {
+) -> Result<Names, ServerFailure> {
     let hosts = match words.hosts() {
         Some(path) => Some(read_hosts(alloc, files, path)?),
         None => None,
@@ -73,21 +73,23 @@ fn read_hosts<F: Files + AllocGlobal>(
     alloc: Global,
     files: &F,
     path: &str,
-) -> Result<HostTable, ServerFault> {
+) -> Result<HostTable, ServerFailure> {
     let text = read_file(files, path)?;
     match HostTable::read(alloc, text.as_slice()) {
         Ok(table) => Ok(table),
-        Err(HostFault::BadLine(line)) => Err(ServerFault::BadHosts(line)),
-        Err(HostFault::OutOfMemory) => Err(ServerFault::OutOfMemory),
+        Err(HostFault::BadLine(line)) => Err(ServerFailure::from(ServerFault::BadHosts(line))),
+        Err(HostFault::OutOfMemory) => Err(ServerFailure::from(ServerFault::OutOfMemory)),
     }
 }
 
 // All that a file holds.
-fn read_file<F: Files + AllocGlobal>(files: &F, path: &str) -> Result<Vec<u8>, ServerFault> {
+fn read_file<F: Files + AllocGlobal>(files: &F, path: &str) -> Result<Vec<u8>, ServerFailure> {
     match fs::read(files, path) {
         Ok(text) => Ok(text),
-        Err(error) if error.kind() == io::ErrorKind::OutOfMemory => Err(ServerFault::OutOfMemory),
-        Err(_) => Err(ServerFault::ReadFault),
+        Err(error) if error.kind() == io::ErrorKind::OutOfMemory => {
+            Err(ServerFailure::from(ServerFault::OutOfMemory))
+        }
+        Err(error) => Err(ServerFailure::by(ServerFault::ReadFault, &error)),
     }
 }
 
@@ -99,7 +101,7 @@ pub fn open_rules<'a, R>(
     alloc: Global,
     files: &'a R,
     words: &ServerWords<'_>,
-) -> Result<(OsDir<&'a R>, Option<(Name, Missing)>), ServerFault>
+) -> Result<(OsDir<&'a R>, Option<(Name, Missing)>), ServerFailure>
 where
     R: Files<File = File>,
 {
@@ -109,21 +111,31 @@ where
     let (folder, name) = split_path(path);
     let name = match Name::new(alloc, name.as_bytes()) {
         Ok(name) => name,
-        Err(NameFault::OutOfMemory) => return Err(ServerFault::OutOfMemory),
-        Err(_) => return Err(ServerFault::Device),
+        Err(NameFault::OutOfMemory) => return Err(ServerFailure::from(ServerFault::OutOfMemory)),
+        Err(_) => return Err(ServerFailure::from(ServerFault::Device)),
     };
     let dir = open_folder(alloc, files, folder_path(folder))?;
     Ok((dir, Some((name, words.missing()))))
 }
 
-fn open_folder<'a, R>(alloc: Global, files: &'a R, path: &str) -> Result<OsDir<&'a R>, ServerFault>
+fn open_folder<'a, R>(
+    alloc: Global,
+    files: &'a R,
+    path: &str,
+) -> Result<OsDir<&'a R>, ServerFailure>
 where
     R: Files<File = File>,
 {
-    match OsDir::new(alloc, files, path) {
+    match OsDir::find(alloc, files, path) {
         Ok(dir) => Ok(dir),
-        Err(FolderFault::OutOfMemory) => Err(ServerFault::OutOfMemory),
-        Err(_) => Err(ServerFault::Device),
+        Err(refused) => {
+            let fault = match refused.fault {
+                FolderFault::OutOfMemory => ServerFault::OutOfMemory,
+                FolderFault::NoFolder | FolderFault::Device => ServerFault::Device,
+            };
+            let error = refused.error;
+            Err(ServerFailure { fault, error })
+        }
     }
 }
 
@@ -131,12 +143,12 @@ where
 ///
 /// # Errors
 /// `CannotListen` with each fault of the system.
-pub fn listen<R: Net>(net: &R, ip: [u8; 4], port: u16) -> Result<R::Listener, ServerFault> {
+pub fn listen<R: Net>(net: &R, ip: [u8; 4], port: u16) -> Result<R::Listener, ServerFailure> {
     let [a, b, c, d] = ip;
     let end = SocketAddr::V4(SocketAddrV4::new(Ipv4Addr::new(a, b, c, d), port));
     match TcpListener::bind(net, end) {
         Ok(listener) => Ok(listener),
-        Err(_) => Err(ServerFault::CannotListen),
+        Err(error) => Err(ServerFailure::by(ServerFault::CannotListen, &error)),
     }
 }
 
@@ -144,20 +156,23 @@ pub fn listen<R: Net>(net: &R, ip: [u8; 4], port: u16) -> Result<R::Listener, Se
 ///
 /// # Errors
 /// `CannotListen` where the socket doesn't tell it, `WriteFault` where it could not be printed.
-pub fn print_port<R: Print, T: OpenListener>(rt: &R, listener: &T) -> Result<(), ServerFault> {
-    let Ok(end) = listener.local_addr() else {
-        return Err(ServerFault::CannotListen);
+pub fn print_port<R: Print, T: OpenListener>(rt: &R, listener: &T) -> Result<(), ServerFailure> {
+    let end = match listener.local_addr() {
+        Ok(end) => end,
+        Err(error) => return Err(ServerFailure::by(ServerFault::CannotListen, &error)),
     };
-    let mut writer = io::writer(rt);
-    let mut digits = itoa::Buffer::new();
-    let port = digits.format(end.port());
-    if writer.write_all(port.as_bytes()).is_err()
-        || writer.write_all(b"\n").is_err()
-        || writer.flush().is_err()
-    {
-        return Err(ServerFault::WriteFault);
+    match write_port(&mut io::writer(rt), end.port()) {
+        Ok(()) => Ok(()),
+        Err(error) => Err(ServerFailure::by(ServerFault::WriteFault, &error)),
     }
-    Ok(())
+}
+
+// Writes a port and a line feed.
+fn write_port<W: Write>(writer: &mut W, port: u16) -> io::Result<()> {
+    let mut digits = itoa::Buffer::new();
+    writer.write_all(digits.format(port).as_bytes())?;
+    writer.write_all(b"\n")?;
+    writer.flush()
 }
 
 // The program, with its arguments.

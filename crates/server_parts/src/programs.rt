@@ -2,20 +2,20 @@
 ghost use Rattle.std.specs.Prelude.{⊤};
 
 use crate::sockets::Handle;
-use child_jobs::{Job, Launcher, NoEnds, Program, WaitFault};
+use child_jobs::{Job, NoEnds, Program, WaitFault};
 use mio::unix::SourceFd;
 use mio::{Events, Interest, Poll, Token};
 use rule_lookup::{StartFault, Status};
 use std::alloc::Global;
+use std::fs::Files;
 use std::io::{Error, ErrorKind, Write};
 use std::net::{Net, TcpStream};
 use std::os::fd::{AsRawFd, OwnedFd};
-use std::process::{ChildStdin, OpenProcess, Processes};
+use std::process::{ChildStdin, ChildStdout, Processes};
 use std::sync::{Arc, Mutex, Wait};
 use std::time::{Clock, Duration};
 use std::{io, thread};
-use stream_tools::OsLauncher;
-use stream_tools::launcher::OsJob;
+use stream_tools::{NotStarted, OsJob, OsLauncher, SearchPath};
 use tcp_connections::Starter;
 use ucspi_env::Environment;
 
@@ -37,11 +37,11 @@ pub struct ServiceLauncher<'a, R> {
 }
 
 impl<'a, R: Processes> ServiceLauncher<'a, R> {
-    /// A launcher over the system's processes.
-    pub fn new(rt: &'a R) -> ServiceLauncher<'a, R> {
+    /// A launcher over the system's processes, which looks for programs in these folders.
+    pub fn new(rt: &'a R, search: &'a SearchPath) -> ServiceLauncher<'a, R> {
         ServiceLauncher {
             rt,
-            launcher: OsLauncher::new(rt),
+            launcher: OsLauncher::new(rt, search),
         }
     }
 }
@@ -54,21 +54,16 @@ pub struct HandingLauncher<'a, R> {
 }
 
 impl<'a, R: Processes> HandingLauncher<'a, R> {
-    /// A launcher over the system's processes.
-    pub fn new(rt: &'a R) -> HandingLauncher<'a, R> {
+    /// A launcher over the system's processes, which looks for programs in these folders.
+    pub fn new(rt: &'a R, search: &'a SearchPath) -> HandingLauncher<'a, R> {
         HandingLauncher {
-            launcher: OsLauncher::new(rt),
+            launcher: OsLauncher::new(rt, search),
         }
     }
 }
 
-impl<'a, R, P, H> Starter<Handle<'a, H>> for HandingLauncher<'a, R>
-where
-    R: Processes<Started = P>,
-    P: OpenProcess + Drop,
-    H: Wait,
-{
-    type Job = OsJob<P>;
+impl<'a, R: Processes, H: Wait> Starter<Handle<'a, H>> for HandingLauncher<'a, R> {
+    type Job = OsJob;
 
     /// As of the trait; a connection that was given before is `Other`.
     fn start_for(
@@ -77,7 +72,7 @@ where
         connection: &Handle<'a, H>,
         program: &Program,
         environment: &Environment,
-    ) -> Result<OsJob<P>, StartFault> {
+    ) -> Result<OsJob, NotStarted> {
         let stream = connection.take().ok_or(StartFault::Other)?;
         self.launcher.start_on(alloc, program, environment, stream)
     }
@@ -85,19 +80,18 @@ where
 
 /// A program, and whether it is over: once it was waited for, or could not be.
 #[derive(Drop)]
-pub struct ServiceJob<'a, R, P: OpenProcess> {
+pub struct ServiceJob<'a, R> {
     rt: &'a R,
     alloc: Global,
-    job: OsJob<P>,
+    job: OsJob,
     over: Arc<Mutex<bool>, Global>,
 }
 
-impl<'a, R, P, X> Starter<X> for ServiceLauncher<'a, R>
+impl<'a, R, X> Starter<X> for ServiceLauncher<'a, R>
 where
-    R: Processes<Started = P> + Net + Wait + Clock,
-    P: OpenProcess<Stdin = ChildStdin> + Drop,
+    R: Processes + Files + Net + Wait + Clock,
 {
-    type Job = ServiceJob<'a, R, P>;
+    type Job = ServiceJob<'a, R>;
 
     fn start_for(
         &self,
@@ -105,11 +99,13 @@ where
         _connection: &X,
         program: &Program,
         environment: &Environment,
-    ) -> Result<ServiceJob<'a, R, P>, StartFault> {
+    ) -> Result<ServiceJob<'a, R>, NotStarted> {
         let Ok(over) = Arc::new(alloc, Mutex::new(false)) else {
-            return Err(StartFault::OutOfMemory);
+            return Err(NotStarted::from(StartFault::OutOfMemory));
         };
-        let job = self.launcher.start(alloc, program, environment)?;
+        let job = self
+            .launcher
+            .start_between(alloc, program, environment)?;
         Ok(ServiceJob {
             rt: self.rt,
             alloc,
@@ -119,24 +115,20 @@ where
     }
 }
 
-impl<'a, R, P> Job for ServiceJob<'a, R, P>
-where
-    R: Net + Wait + Clock,
-    P: OpenProcess<Stdin = ChildStdin> + Drop,
-{
+impl<'a, R: Net + Wait + Clock> Job for ServiceJob<'a, R> {
     type Input = ProgramInput<'a, R>;
 
-    type Output = P::Stdout;
+    type Output = ChildStdout;
 
-    ghost program = { λ job. ⟦<OsJob<P> as Job>⟧.program job.job };
+    ghost program = { λ job. ⟦<OsJob as Job>⟧.program job.job };
 
-    ghost environment = { λ job. ⟦<OsJob<P> as Job>⟧.environment job.job };
+    ghost environment = { λ job. ⟦<OsJob as Job>⟧.environment job.job };
 
-    ghost has_ends = { λ job. ⟦<OsJob<P> as Job>⟧.has_ends job.job };
+    ghost has_ends = { λ job. ⟦<OsJob as Job>⟧.has_ends job.job };
 
     ghost killed = { λ _ _ _. ⊤ };
 
-    fn ends(&mut self) -> Result<(ProgramInput<'a, R>, P::Stdout), NoEnds> {
+    fn ends(&mut self) -> Result<(ProgramInput<'a, R>, ChildStdout), NoEnds> {
         let (pipe, output) = self.job.ends()?;
         let Ok(over) = Arc::try_clone(&self.over) else {
             return Err(NoEnds);
@@ -155,7 +147,7 @@ where
         self.job.kill()
     }
 
-    fn wait(self) -> Result<Status, (ServiceJob<'a, R, P>, WaitFault)> {
+    fn wait(self) -> Result<Status, (ServiceJob<'a, R>, WaitFault)> {
         let ServiceJob {
             rt,
             alloc,

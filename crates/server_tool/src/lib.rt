@@ -1,6 +1,7 @@
 //! `tcpserver`: the service of `tcp_service` over the system's sockets, files and programs, as its words ask for it.
 #![tactic(auto)]
 
+mod causes;
 pub mod tool;
 
 pub use server_parts::{ServerFault, ServiceLauncher, Wrapper};

@@ -1,6 +1,7 @@
 //! The tool: its words, what it opens, and the server.
 ghost use Rattle.std.specs.Prelude.{◌≡◌, ◌<◌, false};
 
+use crate::causes::{tell_failure, tell_usage};
 use child_jobs::{Job, Plan};
 use dir_calls::{Dir, Name};
 use event_journals::Counts;
@@ -9,7 +10,8 @@ use server_parts::opening::{
     listen, names_of, open_rules, plan_of, print_port, stand_in, texts_of,
 };
 use server_parts::{
-    HandedAcceptor, HandingLauncher, PumpedAcceptor, ServerFault, ServiceLauncher, Wrapper, chain_of,
+    HandedAcceptor, HandingLauncher, PumpedAcceptor, ServerFailure, ServerFault, ServiceLauncher,
+    Wrapper, chain_of,
 };
 use server_words::{Limits, Mode, ServerWords, Wrapping, read_server_words};
 use server_yard::{Premises, Yard};
@@ -19,13 +21,13 @@ use std::fs::{File, Files};
 use std::io::Write;
 use std::marker::Brand;
 use std::net::{Net, OpenListener, TcpStream};
-use std::os::fd::AsRawFd;
-use std::process::{ChildStdin, OpenProcess, Processes};
+use std::process::Processes;
 use std::rt::Env;
 use std::sync::ledger::Blank;
 use std::sync::{Mutex, Wait};
 use std::thread::Threads;
 use std::time::{Clock, Duration};
+use stream_tools::SearchPath;
 use tcp_service::{Acceptor, Follow, Log, Patience, ServeEnd, Service, Starter, Worker, serve};
 
 /// For so many seconds in succession a client whose connection is pumped may take nothing of what its program left for it.
@@ -39,12 +41,14 @@ const ALL: u64 = 600;
 /// all of them are over.
 ///
 /// # Errors
-/// In the order of `ServerFault`.
+/// In the order of `ServerFault`. Under `-v` the line of its cause is left in `causes`, where the system has one and there is memory for it; and
+/// behind a usage line what is lacking.
 pub fn run_tcpserver<R, E>(
     rt: &R,
     errors: E,
     words: &[Vec<u8>],
     by_name: Mode,
+    causes: &mut Vec<u8>,
 ) -> Result<(), ServerFault>
 where
     R: Env + Print + AllocGlobal + Files<File = File> + Processes + Threads + Wait + Clock + Sync,
@@ -52,20 +56,18 @@ where
     E: Write + Send + Drop,
     R::Dir: Send + Sync,
     R::Listener: Send + Sync,
-    R::Started: OpenProcess<Stdin = ChildStdin> + Send,
-    <R::Started as OpenProcess>::Stdout: AsRawFd + Send,
-    <R::Started as OpenProcess>::Stderr: Send,
 {
     let alloc = rt.alloc();
     let _held = [stand_in(rt), stand_in(rt), stand_in(rt)];
     let texts = texts_of(alloc, words)?;
-    run_words(rt, errors, texts.as_slice(), by_name)
+    run_words(rt, errors, texts.as_slice(), by_name, causes)
 }
 
 // What a server has but for its site and its socket.
 #[derive(Drop)]
 struct House<E> {
     plan: Plan,
+    search: SearchPath,
     service: Service,
     log: Mutex<Log<E>>,
 }
@@ -76,6 +78,7 @@ fn run_words<R, E>(
     errors: E,
     words: &[String],
     by_name: Mode,
+    causes: &mut Vec<u8>,
 ) -> Result<(), ServerFault>
 where
     R: Env + Print + AllocGlobal + Files<File = File> + Processes + Threads + Wait + Clock + Sync,
@@ -83,17 +86,38 @@ where
     E: Write + Send + Drop,
     R::Dir: Send + Sync,
     R::Listener: Send + Sync,
-    R::Started: OpenProcess<Stdin = ChildStdin> + Send,
-    <R::Started as OpenProcess>::Stdout: AsRawFd + Send,
-    <R::Started as OpenProcess>::Stderr: Send,
 {
-    let words = read_server_words(rt.alloc(), words, by_name)?;
-    let house = house_of(rt, errors, &words)?;
-    run_house(rt, &house, &words)
+    let words = match read_server_words(rt.alloc(), words, by_name) {
+        Ok(words) => words,
+        Err(fault) => {
+            tell_usage(rt.alloc(), words, causes);
+            return Err(ServerFault::Words(fault));
+        }
+    };
+    match run_server(rt, errors, &words) {
+        Ok(()) => Ok(()),
+        Err(failure) => {
+            tell_failure(rt.alloc(), &words, failure, causes);
+            Err(failure.fault)
+        }
+    }
+}
+
+// Runs the tool as its words ask for.
+fn run_server<R, E>(rt: &R, errors: E, words: &ServerWords<'_>) -> Result<(), ServerFailure>
+where
+    R: Env + Print + AllocGlobal + Files<File = File> + Processes + Threads + Wait + Clock + Sync,
+    R: Net<Stream = TcpStream>,
+    E: Write + Send + Drop,
+    R::Dir: Send + Sync,
+    R::Listener: Send + Sync,
+{
+    let house = house_of(rt, errors, words)?;
+    run_house(rt, &house, words)
 }
 
 // What a server has by its words, but for its site and its socket.
-fn house_of<R, E>(rt: &R, errors: E, words: &ServerWords<'_>) -> Result<House<E>, ServerFault>
+fn house_of<R, E>(rt: &R, errors: E, words: &ServerWords<'_>) -> Result<House<E>, ServerFailure>
 where
     R: Env + AllocGlobal + Files,
     E: Write + Drop,
@@ -102,8 +126,10 @@ where
     let log = Log::new(alloc, errors, words.level(), words.limits().connections);
     let service = service_of(rt, words)?;
     let plan = plan_of(alloc, rt, words)?;
+    let search = SearchPath::own(alloc, rt)?;
     Ok(House {
         plan,
+        search,
         service,
         log: Mutex::new(log),
     })
@@ -113,7 +139,7 @@ where
 fn service_of<R: AllocGlobal + Files>(
     rt: &R,
     words: &ServerWords<'_>,
-) -> Result<Service, ServerFault> {
+) -> Result<Service, ServerFailure> {
     let names = names_of(rt.alloc(), rt, words)?;
     Ok(Service {
         count: words.limits().count,
@@ -128,35 +154,33 @@ fn service_of<R: AllocGlobal + Files>(
 }
 
 // Opens the folder of the rules and the socket, and runs the server on them.
-fn run_house<R, E>(rt: &R, house: &House<E>, words: &ServerWords<'_>) -> Result<(), ServerFault>
+fn run_house<R, E>(rt: &R, house: &House<E>, words: &ServerWords<'_>) -> Result<(), ServerFailure>
 where
     R: Print + AllocGlobal + Files<File = File> + Processes + Threads + Wait + Clock + Sync,
     R: Net<Stream = TcpStream>,
     E: Write + Send,
     R::Dir: Send + Sync,
     R::Listener: Send + Sync,
-    R::Started: OpenProcess<Stdin = ChildStdin> + Send,
-    <R::Started as OpenProcess>::Stdout: AsRawFd + Send,
-    <R::Started as OpenProcess>::Stderr: Send,
 {
     let limits = words.limits();
     let Some(callers) = limits.connections.checked_add(1) else {
-        return Err(ServerFault::OutOfMemory);
+        return Err(ServerFailure::from(ServerFault::OutOfMemory));
     };
     let alloc = rt.alloc();
     let (dir, rules) = open_rules(alloc, rt, words)?;
     let listener = open_socket(rt, words)?;
     let (places, parts) = (Blank::new(limits.connections), Blank::new(callers));
-    run_site::<Brand, Brand, _, _, _, _>(
+    let served = run_site::<Brand, Brand, _, _, _, _>(
         rt, house, listener, (dir, rules), words, places, callers, parts,
-    )
+    );
+    Ok(served?)
 }
 
 // The socket that listens where the words say, its port printed where they ask for that.
 fn open_socket<R: Print + Net>(
     rt: &R,
     words: &ServerWords<'_>,
-) -> Result<R::Listener, ServerFault> {
+) -> Result<R::Listener, ServerFailure> {
     let listener = listen(rt, words.service().address(), words.service().port())?;
     if words.prints_port() {
         print_port(rt, &listener)?;
@@ -195,14 +219,11 @@ where
     N: Callers + Send + Sync,
     D: Dir + Send + Drop,
     D::File: Send,
-    R: AllocGlobal + Processes + Threads + Wait + Clock + Sync,
+    R: AllocGlobal + Files + Processes + Threads + Wait + Clock + Sync,
     R: Net<Stream = TcpStream>,
     R::Listener: Send + Sync,
     T: OpenListener<Stream = TcpStream> + Drop,
     E: Write + Send,
-    R::Started: OpenProcess<Stdin = ChildStdin> + Send,
-    <R::Started as OpenProcess>::Stdout: AsRawFd + Send,
-    <R::Started as OpenProcess>::Stderr: Send,
     requires places { (places.name ≡ L.name) × (places.parts ≡ L.parts) × (places.parts ≡ words.now.limits.connections) }
     requires met { L.met ≡ false }
     requires parts { (parts.name ≡ N.name) × (parts.parts ≡ N.parts) × (parts.parts ≡ count) }
@@ -268,26 +289,23 @@ where
     N: Callers + Send + Sync,
     D: Dir + Send + Drop,
     D::File: Send,
-    R: AllocGlobal + Processes + Threads + Wait + Clock + Sync,
+    R: AllocGlobal + Files + Processes + Threads + Wait + Clock + Sync,
     R: Net<Stream = TcpStream>,
     R::Listener: Send + Sync,
     T: OpenListener<Stream = TcpStream> + Drop,
     E: Write + Send,
-    R::Started: OpenProcess<Stdin = ChildStdin> + Send,
-    <R::Started as OpenProcess>::Stdout: AsRawFd + Send,
-    <R::Started as OpenProcess>::Stderr: Send,
 {
     let workers = workers_of(rt.alloc(), callers, words.wrapping())?;
     let at_once = words.sends_at_once();
     match words.mode() {
         Mode::HandedOver => {
             let mut acceptor = HandedAcceptor::new(rt, rt.alloc(), listener, at_once);
-            let starter = HandingLauncher::new(rt);
+            let starter = HandingLauncher::new(rt, &house.search);
             serve_site(rt, house, &mut acceptor, site, workers.as_slice(), &starter)
         }
         Mode::Pumped => {
             let mut acceptor = PumpedAcceptor::new(rt, rt.alloc(), listener, at_once);
-            let starter = ServiceLauncher::new(rt);
+            let starter = ServiceLauncher::new(rt, &house.search);
             serve_site(rt, house, &mut acceptor, site, workers.as_slice(), &starter)
         }
     }

@@ -1,7 +1,7 @@
 //! The lines of the log, of each event.
 use rule_lines::Verdict;
 use rule_lookup::{DropCause, Peer, PeerFault, StartFault, Status};
-use server_log::{Log, LogFault};
+use server_log::{Cause, Log, LogFault};
 use server_words::Level;
 use std::alloc::Global;
 use std::io;
@@ -54,7 +54,8 @@ fn tell_progress<W: Write>(log: &mut Log<W>, local: &Local, peer: &Peer) -> Resu
 
 /// Tells it of each fault, and of a connection that was denied.
 fn tell_faults<W: Write>(log: &mut Log<W>) -> Result<(), LogFault> {
-    log.start_failed(2, StartFault::NotFound, 3)?;
+    let cause = Cause::new(b"smtpd", "No such file or directory");
+    log.start_failed(2, StartFault::NotFound, Some(cause), 3)?;
     log.no_pipe_ends(3)?;
     log.retired(4, 2)?;
     log.dropped(5, DropCause::Banner, 1)?;

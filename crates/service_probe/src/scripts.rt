@@ -11,7 +11,7 @@ use std::sync::{Mutex, Wait};
 use std::time::{Clock, Duration};
 use std::{io, thread};
 use stream_tools::SharedWriter;
-use tcp_service::{AcceptFault, Accepted, Acceptor, Follow, Patience, Shut, Starter};
+use tcp_service::{AcceptFault, Accepted, Acceptor, Follow, NotStarted, Patience, Shut, Starter};
 use ucspi_env::{Environment, Local};
 
 /// How many milliseconds a job waits for another one's start at most.
@@ -201,8 +201,8 @@ impl<'a, R: Clock + Wait> Starter<Silent> for Scripts<'a, R> {
         _connection: &Silent,
         program: &Program,
         environment: &Environment,
-    ) -> Result<ScriptedJob<'a, R>, StartFault> {
-        self.start(alloc, program, environment)
+    ) -> Result<ScriptedJob<'a, R>, NotStarted> {
+        Ok(self.start(alloc, program, environment)?)
     }
 }
 

@@ -5,7 +5,7 @@
 mod fields;
 pub mod lines;
 
-pub use fields::push_marked;
+pub use fields::{push_address, push_marked};
 pub use lines::{
     drop_address_line, drop_line, end_line, pid_from, retired_line, start_fault_line, status,
     verdict_line,

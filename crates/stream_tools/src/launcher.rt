@@ -1,26 +1,34 @@
-//! Programs of the system.
-ghost use Rattle.std.specs.Prelude.{◌≡◌, is_some, ⊤, IfOk};
+//! Programs of the system, as jobs.
+ghost use Rattle.std.specs.Prelude.{◌≡◌, false, is_some, ⊤, IfOk};
 
+use crate::process::{ChildProcess, NotStarted, start_process};
+use crate::search::SearchPath;
 use child_jobs::{Job, Launcher, NoEnds, Program, WaitFault};
 use rule_lookup::{StartFault, Status};
-use std::alloc::{AllocError, Global};
-use std::io::{Error, ErrorKind};
-use std::os::fd::OwnedFd;
-use std::process::{Child, Command, ExitStatus, OpenProcess, Processes, Stdio};
+use std::alloc::Global;
+use std::fs::Files;
+use std::io;
+use std::os::fd::{AsRawFd, OwnedFd, RawFd};
+use std::process::{ChildStdin, ChildStdout, Processes};
 use std::snapshot::Snapshot;
 use ucspi_env::Environment;
 
-/// Starts programs of the system, as children of this process. A child gets descriptors 0, 1 and 2 alone: pipes to this process, and
-/// this process's standard error.
+/// Stands for this process's own descriptor, which a program is given as it is.
+const INHERITED: RawFd = -1;
+
+/// Starts programs of the system, as children of this process. A child gets descriptors 0, 1 and 2 alone, the last this process's standard
+/// error. A program whose name has no slash is looked for, at each start, in the folders of the launcher's search path, whatever the
+/// variables say that the program is given.
 #[derive(Clone, Copy, Drop)]
 pub struct OsLauncher<'a, P> {
     processes: &'a P,
+    search: &'a SearchPath,
 }
 
 impl<'a, P: Processes> OsLauncher<'a, P> {
-    /// A launcher over the system's processes.
-    pub fn new(processes: &'a P) -> OsLauncher<'a, P> {
-        OsLauncher { processes }
+    /// A launcher over the system's processes, which looks for programs in these folders.
+    pub fn new(processes: &'a P, search: &'a SearchPath) -> OsLauncher<'a, P> {
+        OsLauncher { processes, search }
     }
 
     /// Starts a program whose standard input and output are both what this descriptor stands for, which this process holds no more then. The
@@ -34,71 +42,97 @@ impl<'a, P: Processes> OsLauncher<'a, P> {
         program: &Program,
         environment: &Environment,
         stream: OwnedFd,
-    ) -> Result<OsJob<P::Started>, StartFault>
-        ensures program { IfOk result (λ job. ⟦<OsJob<P::Started> as Job>⟧.program job ≡ program.now) }
-        ensures environment { IfOk result (λ job. ⟦<OsJob<P::Started> as Job>⟧.environment job ≡ environment.now) }
+    ) -> Result<OsJob, NotStarted>
+        ensures program { IfOk result (λ job. ⟦<OsJob as Job>⟧.program job ≡ program.now) }
+        ensures environment { IfOk result (λ job. ⟦<OsJob as Job>⟧.environment job ≡ environment.now) }
+        ensures no_ends { IfOk result (λ job. ⟦<OsJob as Job>⟧.has_ends job ≡ false) }
     {
-        let Ok(command) = command_of(alloc, program, environment) else {
-            return Err(StartFault::OutOfMemory);
-        };
-        let stream = Stdio::from(stream);
-        match self
-            .processes
-            .spawn(&command, &stream, &stream, &Stdio::inherit())
-        {
-            Ok(child) => Ok(job_of(child, program, environment)),
-            Err(error) => Err(start_fault(&error)),
-        }
+        let number = stream.as_raw_fd();
+        let streams = [number, number, INHERITED];
+        let child = start_process(alloc, self.search, (program, environment), streams)?;
+        Ok(job_of(child, None, program, environment))
+    }
+}
+
+impl<'a, P: Processes + Files> OsLauncher<'a, P> {
+    /// Starts a program whose standard input and output are pipes, the other ends of which the job has to give.
+    ///
+    /// # Errors
+    /// As of `Launcher::start`.
+    pub fn start_between(
+        &self,
+        alloc: Global,
+        program: &Program,
+        environment: &Environment,
+    ) -> Result<OsJob, NotStarted>
+        ensures program { IfOk result (λ job. ⟦<OsJob as Job>⟧.program job ≡ program.now) }
+        ensures environment { IfOk result (λ job. ⟦<OsJob as Job>⟧.environment job ≡ environment.now) }
+    {
+        let (input, output) = (new_pipe(self.processes)?, new_pipe(self.processes)?);
+        let streams = [input.read.as_raw_fd(), output.write.as_raw_fd(), INHERITED];
+        let child = start_process(alloc, self.search, (program, environment), streams)?;
+        let ends = (
+            ChildStdin::from(input.write),
+            ChildStdout::from(output.read),
+        );
+        Ok(job_of(child, Some(ends), program, environment))
     }
 }
 
 /// A child of this process, and the ends of its pipes until they are given. It is neither waited for nor killed when it is let go.
 #[derive(Drop)]
-pub struct OsJob<P: OpenProcess> {
-    child: Child<P>,
-    ends: Option<(P::Stdin, P::Stdout)>,
+pub struct OsJob {
+    child: ChildProcess,
+    ends: Option<(ChildStdin, ChildStdout)>,
     program: Snapshot<Program>,
     environment: Snapshot<Environment>,
 }
 
-impl<'a, P: Processes> Launcher for OsLauncher<'a, P> {
-    type Job = OsJob<P::Started>;
+impl<'a, P: Processes + Files> Launcher for OsLauncher<'a, P> {
+    type Job = OsJob;
 
     fn start(
         &self,
         alloc: Global,
         program: &Program,
         environment: &Environment,
-    ) -> Result<OsJob<P::Started>, StartFault> {
-        let Ok(mut command) = command_of(alloc, program, environment) else {
-            return Err(StartFault::OutOfMemory);
-        };
-        let child = spawn(self.processes, &mut command)?;
-        Ok(job_of(child, program, environment))
+    ) -> Result<OsJob, StartFault> {
+        match self.start_between(alloc, program, environment) {
+            Ok(job) => Ok(job),
+            Err(not_started) => Err(not_started.fault),
+        }
     }
 }
 
-/// Starts a command.
-fn spawn<P: Processes>(
-    processes: &P,
-    command: &mut Command,
-) -> Result<Child<P::Started>, StartFault> {
-    match command.spawn(processes) {
-        Ok(child) => Ok(child),
-        Err(error) => Err(start_fault(&error)),
+/// The two ends of a pipe.
+#[derive(Drop)]
+struct Pipe {
+    read: OwnedFd,
+    write: OwnedFd,
+}
+
+/// A new pipe.
+fn new_pipe<F: Files>(files: &F) -> Result<Pipe, NotStarted> {
+    match io::pipe(files) {
+        Ok((read, write)) => Ok(Pipe {
+            read: OwnedFd::from(read),
+            write: OwnedFd::from(write),
+        }),
+        Err(error) => Err(NotStarted::by(&error)),
     }
 }
 
 /// The job that a child is, which runs this program with these variables.
-fn job_of<P: OpenProcess>(
-    mut child: Child<P>,
+fn job_of(
+    child: ChildProcess,
+    ends: Option<(ChildStdin, ChildStdout)>,
     program: &Program,
     environment: &Environment,
-) -> OsJob<P>
+) -> OsJob
     ensures program { result.program.value ≡ program.now }
     ensures environment { result.environment.value ≡ environment.now }
+    ensures ends { result.ends ≡ ends }
 {
-    let ends = child.stdin.take().zip(child.stdout.take());
     OsJob {
         child,
         ends,
@@ -107,64 +141,10 @@ fn job_of<P: OpenProcess>(
     }
 }
 
-/// The command that starts a program with these variables and no others, with pipes for its input and its output.
-fn command_of(
-    alloc: Global,
-    program: &Program,
-    environment: &Environment,
-) -> Result<Command, AllocError> {
-    let mut command = Command::new(alloc, program.path())?;
-    fill_command(&mut command, program, environment)?;
-    command.stdin(Stdio::piped()).stdout(Stdio::piped());
-    Ok(command)
-}
+impl Job for OsJob {
+    type Input = ChildStdin;
 
-/// Gives a command a program's arguments, and these variables and no others.
-fn fill_command(
-    command: &mut Command,
-    program: &Program,
-    environment: &Environment,
-) -> Result<(), AllocError> {
-    for arg in program.args() {
-        command.arg(arg.as_str())?;
-    }
-    command.env_clear();
-    for (name, value) in environment.iter() {
-        command.env(name.as_str(), value.as_str())?;
-    }
-    Ok(())
-}
-
-/// What the system's fault is for a program that should start.
-fn start_fault(error: &Error) -> StartFault {
-    match error.kind() {
-        ErrorKind::NotFound => StartFault::NotFound,
-        ErrorKind::PermissionDenied => StartFault::Refused,
-        ErrorKind::OutOfMemory => StartFault::OutOfMemory,
-        _ => StartFault::Other,
-    }
-}
-
-/// What the system's fault is for a child that should be waited for or killed.
-fn wait_fault(error: &Error) -> WaitFault {
-    match error.kind() {
-        ErrorKind::OutOfMemory => WaitFault::OutOfMemory,
-        _ => WaitFault::Failed,
-    }
-}
-
-/// How a child ended.
-fn status_of(status: ExitStatus) -> Status {
-    match status.code() {
-        Some(code) => Status::Code((code & 255) as u8),
-        None => Status::Signal,
-    }
-}
-
-impl<P: OpenProcess + Drop> Job for OsJob<P> {
-    type Input = P::Stdin;
-
-    type Output = P::Stdout;
+    type Output = ChildStdout;
 
     ghost program = { λ job. job.program.value };
 
@@ -174,23 +154,20 @@ impl<P: OpenProcess + Drop> Job for OsJob<P> {
 
     ghost killed = { λ _ _ _. ⊤ };
 
-    fn ends(&mut self) -> Result<(P::Stdin, P::Stdout), NoEnds> {
+    fn ends(&mut self) -> Result<(ChildStdin, ChildStdout), NoEnds> {
         self.ends.take().ok_or(NoEnds)
     }
 
     fn kill(&mut self) -> Result<(), WaitFault> {
-        match self.child.kill() {
-            Ok(()) => Ok(()),
-            Err(error) => Err(wait_fault(&error)),
-        }
+        self.child.kill()
     }
 
-    fn wait(mut self) -> Result<Status, (OsJob<P>, WaitFault)> {
+    fn wait(mut self) -> Result<Status, (OsJob, WaitFault)> {
         // a program that waits for input could not end
         drop(self.ends.take());
         match self.child.wait() {
-            Ok(status) => Ok(status_of(status)),
-            Err(error) => Err((self, wait_fault(&error))),
+            Ok(status) => Ok(status),
+            Err(fault) => Err((self, fault)),
         }
     }
 }

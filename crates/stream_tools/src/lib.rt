@@ -4,6 +4,8 @@
 pub mod between;
 pub mod filter;
 pub mod launcher;
+pub mod process;
+pub mod search;
 pub mod shared;
 pub mod started;
 pub mod tools;
@@ -11,5 +13,7 @@ pub mod tools;
 pub use between::{BetweenFault, Lane, run_between};
 pub use filter::{FilterFault, run_filter};
 pub use launcher::{OsJob, OsLauncher};
+pub use process::NotStarted;
+pub use search::SearchPath;
 pub use shared::SharedWriter;
 pub use tools::{run_addcr, run_delcr, run_fixcrio, run_recordio};

@@ -75,17 +75,28 @@ fn text_of(alloc: Global, word: &[u8]) -> Result<String, AllocError>
     }
 }
 
-/// What a program is told, by its place.
+/// The value of a variable of this process, as the bytes that it is; `None` where it was given none of this name.
+pub fn own_variable<E: Env>(
+    alloc: Global,
+    env: &E,
+    name: &str,
+) -> Result<Option<Vec<u8>>, AllocError> {
+    told(alloc, env, Entry::Named(name))
+}
+
+/// What a program is told, by its place or its name.
 #[derive(Clone, Copy)]
-enum Entry {
+enum Entry<'a> {
     /// A word of the command line, from 0, which is the program's name.
     Word(usize),
     /// An entry of its environment, from 0.
     Variable(usize),
+    /// The value of the variable of this name.
+    Named(&'a str),
 }
 
 /// What stands at a place, in a buffer that grows until it fits; `None` where there is nothing.
-fn told<E: Env>(alloc: Global, env: &E, entry: Entry) -> Result<Option<Vec<u8>>, AllocError> {
+fn told<E: Env>(alloc: Global, env: &E, entry: Entry<'_>) -> Result<Option<Vec<u8>>, AllocError> {
     let mut size = 256usize;
     for _ in 0..40 {
         let mut buffer = vec![in alloc; 0u8; size]?;
@@ -102,9 +113,10 @@ fn told<E: Env>(alloc: Global, env: &E, entry: Entry) -> Result<Option<Vec<u8>>,
 }
 
 /// Puts what stands at a place into a buffer.
-fn fill<E: Env>(env: &E, entry: Entry, buffer: &mut [u8]) -> Result<usize, FillError> {
+fn fill<E: Env>(env: &E, entry: Entry<'_>, buffer: &mut [u8]) -> Result<usize, FillError> {
     match entry {
         Entry::Word(place) => env.arg(place, buffer),
         Entry::Variable(place) => env.var_at(place, buffer),
+        Entry::Named(name) => env.var(name, buffer),
     }
 }

@@ -7,6 +7,7 @@ ghost use Rattle.wrapper_chain.specs.Chains.{stages_of};
 use crate::between::{BetweenFault, Lane, run_between};
 use crate::filter::{FilterFault, run_filter};
 use crate::launcher::OsLauncher;
+use crate::search::SearchPath;
 use crate::shared::SharedWriter;
 use crate::started::{inherited_variables, program_of};
 use byte_pump::{NoTap, Recorder, Tap};
@@ -14,11 +15,12 @@ use child_jobs::Program;
 use patient_streams::{Patient, Watch};
 use rule_lookup::Status;
 use std::alloc::{AllocError, Global};
+use std::fs::Files;
 use std::io;
 use std::io::Write;
 use std::net::Net;
 use std::os::fd::{AsRawFd, RawFd};
-use std::process::{OpenProcess, Processes};
+use std::process::Processes;
 use std::rt::Env;
 use std::sync::{Mutex, Wait};
 use std::thread::Threads;
@@ -74,14 +76,20 @@ fn chain_of<S: LineStage + Drop>(alloc: Global, stage: S) -> Result<Chain<S>, Al
 /// As of `run_between`.
 pub fn run_fixcrio<R>(rt: &R, words: &[Vec<u8>]) -> Result<Status, BetweenFault>
 where
-    R: Env + Input + Print + AllocGlobal + Processes + Threads + Wait + Sync + Clock + Net,
+    R: Env + Input + Print + AllocGlobal + Processes + Threads + Wait + Sync + Clock + Net + Files,
     R::Reader: Send,
-    <R::Started as OpenProcess>::Stdin: Send + AsRawFd,
 {
     let alloc = rt.alloc();
     let (program, variables) = told_run(alloc, rt, words)?;
     let (input, output) = fix_chains(alloc)?;
-    run_streams(rt, (&program, &variables), (input, NoTap), (output, NoTap))
+    let search = SearchPath::own(alloc, rt)?;
+    run_streams(
+        rt,
+        &search,
+        (&program, &variables),
+        (input, NoTap),
+        (output, NoTap),
+    )
 }
 
 /// The chains of `fixcrio`, for the input and the output.
@@ -103,14 +111,14 @@ fn told_run<E: Env>(
 /// Runs a program between the standard streams, each of which passes these stages and is watched by this tap.
 fn run_streams<R, S, T>(
     rt: &R,
+    search: &SearchPath,
     run: (&Program, &Environment),
     (input_chain, input_tap): (Chain<S>, T),
     (output_chain, output_tap): (Chain<S>, T),
 ) -> Result<Status, BetweenFault>
 where
-    R: Input + Print + AllocGlobal + Processes + Threads + Wait + Sync + Clock + Net,
+    R: Input + Print + AllocGlobal + Processes + Threads + Wait + Sync + Clock + Net + Files,
     R::Reader: Send,
-    <R::Started as OpenProcess>::Stdin: Send + AsRawFd,
     S: LineStage + Send + Drop,
     T: Tap + Send + Drop,
 {
@@ -125,7 +133,7 @@ where
         chain: output_chain,
         tap: output_tap,
     };
-    let launcher = OsLauncher::new(rt);
+    let launcher = OsLauncher::new(rt, search);
     run_between(rt, alloc, &launcher, run, (input, output), |pipe| {
         Watch::new(alloc, rt, STANDARD_INPUT, pipe.as_raw_fd())
     })
@@ -137,9 +145,8 @@ where
 /// As of `run_between`.
 pub fn run_recordio<R, E>(rt: &R, errors: E, words: &[Vec<u8>]) -> Result<Status, BetweenFault>
 where
-    R: Env + Input + Print + AllocGlobal + Processes + Threads + Wait + Sync + Clock + Net,
+    R: Env + Input + Print + AllocGlobal + Processes + Threads + Wait + Sync + Clock + Net + Files,
     R::Reader: Send,
-    <R::Started as OpenProcess>::Stdin: Send + AsRawFd,
     E: Write + Send + Drop,
 {
     let alloc = rt.alloc();
@@ -148,8 +155,10 @@ where
     let errors = Mutex::new(errors);
     let input = Recorder::new(alloc, number, Way::Input, SharedWriter::new(rt, &errors));
     let output = Recorder::new(alloc, number, Way::Output, SharedWriter::new(rt, &errors));
+    let search = SearchPath::own(alloc, rt)?;
     run_streams(
         rt,
+        &search,
         (&program, &variables),
         (Chain::<FixCr>::new(alloc, Vec::new(alloc)), input),
         (Chain::<FixCr>::new(alloc, Vec::new(alloc)), output),

@@ -18,3 +18,4 @@ pub use names::Names;
 pub use rounds::wait_in_rounds;
 pub use server_log::Log;
 pub use starting::{ConnectionLauncher, Starter};
+pub use stream_tools::NotStarted;

@@ -12,8 +12,8 @@ use server_words::Mode;
 use server_yard::Premises;
 use site_lock::{Caller, Callers, Site};
 use std::io::{Read, Write};
-use std::sync::Wait;
 use std::sync::ledger::Ledger;
+use std::sync::{Mutex, Wait};
 use tcp_connections::{
     Attendant, ConnectionLauncher, Follow, Line, Serving, Shut, Starter, Talk, Upward,
 };
@@ -130,16 +130,21 @@ where
         O: Write + Follow<<S::Job as Job>::Output> + Drop,
         X: Shut + Drop,
     {
+        let refusal = Mutex::new(None);
         let mut desk = LoggedDesk {
             rt: self.attendant.rt,
+            alloc: self.attendant.alloc,
             desk: SiteDesk::new(self.attendant.rt, self.site, caller),
             log: self.attendant.log,
             serial: line.serial,
-            local: plan.local(),
+            plan,
+            refusal: &refusal,
         };
         let launcher = ConnectionLauncher {
+            rt: self.attendant.rt,
             starter: self.starter,
             connection: &line.shut,
+            refusal: &refusal,
         };
         let served = serve_one(
             self.attendant.alloc,
@@ -181,12 +186,15 @@ where
         let Begun { plan, serial, talk } = begun;
         let rt = self.attendant.rt;
         let mut caller = worker.caller.lock(rt);
+        let refusal = Mutex::new(None);
         let mut desk = LoggedDesk {
             rt,
+            alloc: self.attendant.alloc,
             desk: SiteDesk::new(rt, self.site, &mut caller),
             log: self.attendant.log,
             serial,
-            local: plan.local(),
+            plan: &plan,
+            refusal: &refusal,
         };
         self.attendant
             .pass_down(&mut desk, talk, &worker.output, is_fed);
@@ -203,12 +211,15 @@ where
             return;
         };
         let mut caller = worker.caller.lock(rt);
+        let refusal = Mutex::new(None);
         let mut desk = LoggedDesk {
             rt,
+            alloc: self.attendant.alloc,
             desk: SiteDesk::new(rt, self.site, &mut caller),
             log: self.attendant.log,
             serial: work.line.serial,
-            local: work.plan.local(),
+            plan: &work.plan,
+            refusal: &refusal,
         };
         desk.dropped(place, work.line.serial, &work.peer, DropCause::NoThread);
         work.line.shut.shut();

@@ -16,5 +16,5 @@ pub use service::{Service, Worker};
 pub use serving::serve;
 pub use site_desk::SiteDesk;
 pub use tcp_connections::{
-    AcceptFault, Accepted, Acceptor, Follow, Names, Patience, ServeEnd, Shut, Starter,
+    AcceptFault, Accepted, Acceptor, Follow, Names, NotStarted, Patience, ServeEnd, Shut, Starter,
 };

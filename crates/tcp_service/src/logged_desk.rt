@@ -1,17 +1,17 @@
 //! A desk whose events are told to a log.
 
-use child_jobs::{Job, Running};
+use child_jobs::{Job, Plan, Running};
 use child_table::Place;
+use fault_causes::words_of_error;
 use one_connection::{Desk, OpenFault};
 use rule_lookup::{DecideFault, Decision, DropCause, Peer, StartFault, Status};
-use server_log::Log;
+use server_log::{Cause, Log};
 use server_yard::Premises;
 use std::alloc::Global;
 use std::io::Write;
 use std::sync::ledger::Ledger;
 use std::sync::{Mutex, Wait};
 use tcp_connections::Endings;
-use ucspi_env::Local;
 
 /// What tells how many connections are alive.
 pub trait Living {
@@ -25,14 +25,18 @@ pub trait Living {
 pub struct LoggedDesk<'a, K, R, W> {
     /// The runtime.
     pub rt: &'a R,
+    /// What gives memory.
+    pub alloc: Global,
     /// The desk to which the calls go.
     pub desk: K,
     /// The log.
     pub log: &'a Mutex<Log<W>>,
     /// The connection's serial number.
     pub serial: u64,
-    /// The server's end of the connection.
-    pub local: &'a Local,
+    /// What the connection is served by.
+    pub plan: &'a Plan,
+    /// The system's number of the error by which it refused the program, if it did.
+    pub refusal: &'a Mutex<Option<i32>>,
 }
 
 impl<L, C, K, R, W> Endings<L, C> for LoggedDesk<'_, K, R, W>
@@ -112,7 +116,7 @@ impl<L: Premises, K: Desk<L> + Living, R: Wait, W: Write> Desk<L> for LoggedDesk
         let verdict = decision.verdict;
         let mut log = self.log.lock(self.rt);
         self.desk.decided(alloc, place, pass, peer, decision)?;
-        let _ = log.decided(verdict, self.serial, self.local, peer);
+        let _ = log.decided(verdict, self.serial, self.plan.local(), peer);
         Ok(())
     }
 
@@ -121,9 +125,13 @@ impl<L: Premises, K: Desk<L> + Living, R: Wait, W: Write> Desk<L> for LoggedDesk
     }
 
     fn start_failed(&mut self, place: K::Place, number: u64, peer: &Peer, fault: StartFault) {
+        let error = self.refusal.lock(self.rt).take();
+        let why = error.and_then(|error| words_of_error(self.alloc, error).ok());
+        let program = self.plan.program().path().as_bytes();
+        let cause = why.as_ref().map(|why| Cause::new(program, why.as_str()));
         let mut log = self.log.lock(self.rt);
         self.desk.start_failed(place, number, peer, fault);
-        let _ = log.start_failed(number, fault, self.desk.live());
+        let _ = log.start_failed(number, fault, cause, self.desk.live());
     }
 
     fn dropped(&mut self, place: K::Place, number: u64, peer: &Peer, cause: DropCause) {

@@ -1,5 +1,5 @@
 -- Which tool words ask for.
-use Rattle.std.specs.Prelude.{◌≡◌, ◌+◌, ℕ, ◌&&◌, drop, List, [], ◌∷◌, Option, Some, None, codes, bytes_eq, if◌then◌else◌}
+use Rattle.std.specs.Prelude.{◌≡◌, ◌+◌, ℕ, Bool, true, false, ◌&&◌, drop, List, [], ◌∷◌, Option, Some, None, codes, bytes_eq, if◌then◌else◌}
 use Rattle.std.specs.List.{list_all}
 use Rattle.std.specs.Str.{is_utf8}
 use Rattle.memchr.specs.Find.{IsLastByte, is_byte}

@@ -10,8 +10,7 @@ use std::fs::{File, Files};
 use std::io;
 use std::io::Write;
 use std::net::{Net, TcpStream};
-use std::os::fd::AsRawFd;
-use std::process::{ChildStdin, OpenProcess, Processes};
+use std::process::Processes;
 use std::rt::Env;
 use std::sync::Wait;
 use std::thread::Threads;
@@ -35,9 +34,6 @@ where
     E: Write + Send + Copy,
     R::Dir: Send + Sync,
     R::Listener: Send + Sync,
-    R::Started: OpenProcess<Stdin = ChildStdin> + Send,
-    <R::Started as OpenProcess>::Stdout: AsRawFd + Send,
-    <R::Started as OpenProcess>::Stderr: Send,
 {
     let alloc = rt.alloc();
     let mut faults = Patient::new(rt, errors);
@@ -61,9 +57,6 @@ where
     E: Write + Send + Copy,
     R::Dir: Send + Sync,
     R::Listener: Send + Sync,
-    R::Started: OpenProcess<Stdin = ChildStdin> + Send,
-    <R::Started as OpenProcess>::Stdout: AsRawFd + Send,
-    <R::Started as OpenProcess>::Stderr: Send,
 {
     let mut log = Patient::new(rt, errors);
     match choice {

@@ -1,0 +1,76 @@
+//! The lines of causes, behind that of a fault with which the tool ends.
+use byte_text::{push_number, push_text};
+use fault_causes::{append_cause, append_os_cause, words_of_error};
+use rules_tools::path::{folder_path, split_path};
+use server_parts::{ServerFailure, ServerFault};
+use server_words::{Lacking, Level, Operands, ServerWords, UsageCause, usage_cause};
+use status_lines::push_address;
+use std::alloc::{AllocError, Global};
+
+/// The tool's name, at the head of its lines.
+const TOOL: &str = "tcpserver";
+
+/// Leaves the line of what words lack that get the usage line, where `-v` asks for it.
+pub(crate) fn tell_usage(alloc: Global, words: &[String], causes: &mut Vec<u8>) {
+    if let Ok(Some(lacking)) = usage_cause(alloc, words) {
+        let _ = append_lacking(&lacking, causes);
+    }
+}
+
+fn append_lacking(cause: &UsageCause<'_>, causes: &mut Vec<u8>) -> Result<(), AllocError> {
+    let word = cause.word().as_bytes();
+    match cause.lacking() {
+        Lacking::Host => append_cause(causes, TOOL, word, "no host"),
+        Lacking::Port => append_cause(causes, TOOL, word, "no port"),
+        Lacking::Program => causes.extend_from_slice(b"tcpserver: cause: no program\n"),
+    }
+}
+
+/// Leaves the line of the system's error by which a server ends, where `-v` asks for it and the system has one.
+pub(crate) fn tell_failure(
+    alloc: Global,
+    words: &ServerWords<'_>,
+    failure: ServerFailure,
+    causes: &mut Vec<u8>,
+) {
+    if let Some(error) = failure.error
+        && words.level() == Level::All
+    {
+        let _ = append_failure(alloc, words, failure.fault, error, causes);
+    }
+}
+
+// The line of an error, with what the system was asked for.
+fn append_failure(
+    alloc: Global,
+    words: &ServerWords<'_>,
+    fault: ServerFault,
+    error: i32,
+    causes: &mut Vec<u8>,
+) -> Result<(), AllocError> {
+    let what = match fault {
+        ServerFault::ReadFault => words.hosts().unwrap_or_default(),
+        ServerFault::Device => folder_path(split_path(words.rules().unwrap_or_default()).0),
+        ServerFault::WriteFault => "stdout",
+        _ => {
+            let why = words_of_error(alloc, error)?;
+            return append_address(words.service(), why.as_str(), causes);
+        }
+    };
+    append_os_cause(causes, alloc, TOOL, what.as_bytes(), error)
+}
+
+// The line of an error at an address with its port. Its colon is the line's own, and nothing in it can be misread.
+fn append_address(
+    service: &Operands<'_>,
+    why: &str,
+    causes: &mut Vec<u8>,
+) -> Result<(), AllocError> {
+    push_text(causes, "tcpserver: cause: ")?;
+    push_address(causes, service.address())?;
+    push_text(causes, ":")?;
+    push_number(causes, u64::from(service.port()))?;
+    push_text(causes, ": ")?;
+    push_text(causes, why)?;
+    push_text(causes, "\n")
+}
