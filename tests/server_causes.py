@@ -23,8 +23,8 @@ def told(suite, name, words, code, text, cause, **how):
 def usage(suite):
     """The first of host, port and program that is lacking."""
     for words, cause in (
-        (["example.org", "25", "true"], "example.org: no host"), (["1.2.3", "25", "true"], "1.2.3: no host"), (["0", "smtp", "true"], "smtp: no port"),
-        (["0", "65536", "true"], "65536: no port"), (["127.0.0.1", "25"], "no program"), (["x", "y", "true"], "x: no host"),
+        (["example.org", "25", "true"], "example.org: no host"), (["1.2.3", "25", "true"], "1.2.3: no host"),
+        (["0", "smtp", "true"], "smtp: no port"), (["0", "65536", "true"], "65536: no port"), (["127.0.0.1", "25"], "no program"), (["x", "y", "true"], "x: no host"),
         (["a:b", "25", "true"], "a?b: no host"), (["0", "%d " % 25, "true"], "25?: no port"), (["h" * 100, "25", "true"], "h" * 100 + "...: no host"),
         (["0", "x" * 150, "true"], "x" * 100 + "...: no port"),
     ):
@@ -63,7 +63,8 @@ def starts(suite):
     os.chmod(plain, 0o644)
     os.chmod(empty, 0o755)
     for program, fault, why in (
-        ("/nonexistent/program", "not found", "No such file or directory"), (plain, "refused", "Permission denied"), (empty, "failed", "Exec format error"),
+        ("/nonexistent/program", "not found", "No such file or directory"), (plain, "refused", "Permission denied"),
+        (empty, "failed", "Exec format error"),
     ):
         line = "start 1 " + fault
         for level, wanted in (("-v", [line, "cause: %s: %s" % (program, why), "status: 0/1"]), ("-Q", [line]), ("-q", [])):
