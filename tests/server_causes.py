@@ -24,7 +24,8 @@ def usage(suite):
     """The first of host, port and program that is lacking."""
     for words, cause in (
         (["example.org", "25", "true"], "example.org: no host"), (["1.2.3", "25", "true"], "1.2.3: no host"),
-        (["0", "smtp", "true"], "smtp: no port"), (["0", "65536", "true"], "65536: no port"), (["127.0.0.1", "25"], "no program"), (["x", "y", "true"], "x: no host"),
+        (["0", "smtp", "true"], "smtp: no port"), (["0", "65536", "true"], "65536: no port"), (["127.0.0.1", "25"], "no program"),
+        (["x", "y", "true"], "x: no host"),
         (["a:b", "25", "true"], "a?b: no host"), (["0", "%d " % 25, "true"], "25?: no port"), (["h" * 100, "25", "true"], "h" * 100 + "...: no host"),
         (["0", "x" * 150, "true"], "x" * 100 + "...: no port"),
     ):
@@ -37,7 +38,8 @@ def faults_of_words(suite):
     for words, text in (
         (["-z"], "unknown option -z"), (["-c"], "option -c needs a value"), (["-u"], "option -u is not in this profile"),
         (["-c", "0"] + SERVE, "option -c has a bad number"), (["-m", "x", "nowhere"], "option -m has a bad number"),
-        (["-k", "0", "0", "25"], "option -k has a bad number"), (["-w", "x"] + SERVE, "bad wrappers"), (["-s", "-w", "addcr"] + SERVE, "bad wrappers"),
+        (["-k", "0", "0", "25"], "option -k has a bad number"), (["-w", "x"] + SERVE, "bad wrappers"),
+        (["-s", "-w", "addcr"] + SERVE, "bad wrappers"),
         (["-N", suite.path("faulty", "x\n")] + SERVE, "host table line 1"),
     ):
         suite.expect("-v and %r" % words, suite.run(["-v"] + words), (100, b"", ("tcpserver: %s\n" % text).encode()))
@@ -71,7 +73,8 @@ def starts(suite):
             with suite.start([level, "-c", "1", "-k", "1"], [program]) as server:
                 suite.expect("the client of %s" % program, server.ask(), b"")
                 ended, lines = server.end(), server.all_lines()
-                suite.expect("the lines of %s under %s" % (program, level), (ended, lines[lines.index(line):] if line in lines else lines), (0, wanted))
+                lines = lines[lines.index(line):] if line in lines else lines
+                suite.expect("the lines of %s under %s" % (program, level), (ended, lines), (0, wanted))
                 if level == "-v":
                     suite.audit("a cause of %s" % program, server)
 
