@@ -34,7 +34,7 @@ def address_in(word):
 
 # the causes of a usage line, and of a fault of the system
 NO_WORD = r"tcpserver: cause: (no program|[^\n]*: no (host|port))\n"
-SYSTEM = r"tcpserver: cause: [^\n]+: [A-Z][^\n]+\n"
+SYSTEM = r"tcpserver: cause: [^\n]*: [A-Z][^\n]+\n"
 
 
 class WordFault(Exception):
@@ -83,7 +83,9 @@ def fault_of_words(words, folder):
     to be one."""
     options = {}
     text, code = first_fault(words, folder, options)
-    is_told = options.get("v") == "v" and (code == 111 or text == USAGE)
+    # of a path that ends in no name the system was asked for nothing
+    is_asked = text != "device fault" or ends_in_name(options["x"])
+    is_told = options.get("v") == "v" and (code == 111 and is_asked or text == USAGE)
     return text, code, (NO_WORD if code == 100 else SYSTEM) if is_told else None
 
 
@@ -115,11 +117,16 @@ def first_fault(words, folder, options):
     return "cannot listen", 111
 
 
+def ends_in_name(path):
+    """Whether a path ends in what may be the name of a file."""
+    name = path.rpartition("/")[2]
+    return 0 < len(name.encode()) < 256 and name not in (".", "..")
+
+
 def is_place(path, folder):
     """Whether a path ends in a name, in a folder that is there."""
-    before, slash, name = path.rpartition("/")
-    before = before + "/" if slash else "."
-    return 0 < len(name.encode()) < 256 and name not in (".", "..") and os.path.isdir(os.path.join(folder, before))
+    before, slash, _ = path.rpartition("/")
+    return ends_in_name(path) and os.path.isdir(os.path.join(folder, before + "/" if slash else "."))
 
 
 # host tables

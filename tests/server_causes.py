@@ -23,8 +23,9 @@ def told(suite, name, words, code, text, cause, **how):
 def usage(suite):
     """The first of host, port and program that is lacking."""
     for words, cause in (
-        (["example.org", "25", "true"], "example.org: no host"), (["1.2.3", "25", "true"], "1.2.3: no host"), (["0", "smtp", "true"], "smtp: no port"),
-        (["0", "65536", "true"], "65536: no port"), (["127.0.0.1", "25"], "no program"), (["x", "y", "true"], "x: no host"),
+        (["example.org", "25", "true"], "example.org: no host"), (["1.2.3", "25", "true"], "1.2.3: no host"),
+        (["0", "smtp", "true"], "smtp: no port"), (["0", "65536", "true"], "65536: no port"), (["127.0.0.1", "25"], "no program"),
+        (["x", "y", "true"], "x: no host"),
         (["a:b", "25", "true"], "a?b: no host"), (["0", "%d " % 25, "true"], "25?: no port"), (["h" * 100, "25", "true"], "h" * 100 + "...: no host"),
         (["0", "x" * 150, "true"], "x" * 100 + "...: no port"),
     ):
@@ -36,7 +37,9 @@ def faults_of_words(suite):
     """Other faults of the words have no cause."""
     for words, text in (
         (["-z"], "unknown option -z"), (["-c"], "option -c needs a value"), (["-u"], "option -u is not in this profile"),
-        (["-c", "0"] + SERVE, "option -c has a bad number"), (["-w", "x"] + SERVE, "bad wrappers"), (["-s", "-w", "addcr"] + SERVE, "bad wrappers"),
+        (["-c", "0"] + SERVE, "option -c has a bad number"), (["-m", "x", "nowhere"], "option -m has a bad number"),
+        (["-k", "0", "0", "25"], "option -k has a bad number"), (["-w", "x"] + SERVE, "bad wrappers"),
+        (["-s", "-w", "addcr"] + SERVE, "bad wrappers"),
         (["-N", suite.path("faulty", "x\n")] + SERVE, "host table line 1"),
     ):
         suite.expect("-v and %r" % words, suite.run(["-v"] + words), (100, b"", ("tcpserver: %s\n" % text).encode()))
@@ -62,14 +65,16 @@ def starts(suite):
     os.chmod(plain, 0o644)
     os.chmod(empty, 0o755)
     for program, fault, why in (
-        ("/nonexistent/program", "not found", "No such file or directory"), (plain, "refused", "Permission denied"), (empty, "failed", "Exec format error"),
+        ("/nonexistent/program", "not found", "No such file or directory"), (plain, "refused", "Permission denied"),
+        (empty, "failed", "Exec format error"),
     ):
         line = "start 1 " + fault
         for level, wanted in (("-v", [line, "cause: %s: %s" % (program, why), "status: 0/1"]), ("-Q", [line]), ("-q", [])):
             with suite.start([level, "-c", "1", "-k", "1"], [program]) as server:
                 suite.expect("the client of %s" % program, server.ask(), b"")
                 ended, lines = server.end(), server.all_lines()
-                suite.expect("the lines of %s under %s" % (program, level), (ended, lines[lines.index(line):] if line in lines else lines), (0, wanted))
+                lines = lines[lines.index(line):] if line in lines else lines
+                suite.expect("the lines of %s under %s" % (program, level), (ended, lines), (0, wanted))
                 if level == "-v":
                     suite.audit("a cause of %s" % program, server)
 
