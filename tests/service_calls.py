@@ -69,6 +69,7 @@ tcpserver: ok 1 mail.example:10.0.0.1:25 relay.example:10.0.2.7::41190
 tcpserver: end 1 status 0
 tcpserver: status: 0/40
 tcpserver: start 2 not found
+tcpserver: cause: smtpd: No such file or directory
 tcpserver: status: 3/40
 tcpserver: start 3 no pipe ends
 tcpserver: retired 4
