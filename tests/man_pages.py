@@ -351,6 +351,8 @@ def check_log_lines(checks):
     begins = {text.rstrip() for text in re.findall(r'"(tcpserver: [^"]*)"', source)}
     verdicts = {"tcpserver: " + word.strip() for word in words_of(source, "verdict_word").values()}
     begins = begins - {"tcpserver:"} | verdicts
+    # the line of a cause is made for each tool
+    begins |= {"tcpserver" + text.rstrip() for text in re.findall(r'"(: cause: )"', read("fault_causes/src/line.rt"))}
     heads = {re.match(r"tcpserver: [a-z]+:?", line).group(0) for line in page.log_lines()}
     checks.expect("tcpserver: lines of the log", heads, begins)
     with open(os.path.join(TOP, "docs", "LOG_LINES.md"), encoding="utf-8") as file:
