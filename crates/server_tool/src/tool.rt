@@ -13,7 +13,7 @@ use server_parts::{
     HandedAcceptor, HandingLauncher, PumpedAcceptor, ServerFailure, ServerFault, ServiceLauncher,
     Wrapper, chain_of,
 };
-use server_words::{Limits, Mode, ServerWords, Wrapping, read_server_words};
+use server_words::{Limits, Mode, ServerWords, ServerWordsFault, Wrapping, read_server_words};
 use server_yard::{Premises, Yard};
 use site_lock::{Caller, Callers, Site};
 use std::alloc::{AllocError, Global};
@@ -90,7 +90,9 @@ where
     let words = match read_server_words(rt.alloc(), words, by_name) {
         Ok(words) => words,
         Err(fault) => {
-            tell_usage(rt.alloc(), words, causes);
+            if fault == ServerWordsFault::Usage {
+                tell_usage(rt.alloc(), words, causes);
+            }
             return Err(ServerFault::Words(fault));
         }
     };
