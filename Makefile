@@ -1,4 +1,4 @@
-# make            proves and builds the program ucspi: within 25 minutes on four quiet cores with 16 GB, and what out/ has of it is used
+# make            proves and builds the program ucspi: in half an hour or so on four quiet cores with 16 GB, and what out/ has of it is used
 # make try        builds it without proofs within two minutes, and makes the stored run of rulesim; ARGS="tcprulescheck x" runs any tool of it
 # make run        makes the stored run on the proved program
 # make install    PREFIX=..  puts the program, a link of each tool's name, the man pages, bash's completion and the log reader in place; it builds
@@ -42,7 +42,7 @@ try: $(TRIED)
 	@scripts/try run $(TRIED) $(ARGS)
 
 run:
-	@test -e $(PROGRAM) || echo "There is no proved program yet: it is proved and built first, in about 25 minutes on four cores; make try takes two."
+	@test -e $(PROGRAM) || echo "There is no proved program yet: it is proved and built first, in half an hour or so on four cores; make try takes two."
 	@$(MAKE) -s $(PROGRAM)
 	$(PROGRAM) rulesim <crates/ucspi/stdin
 

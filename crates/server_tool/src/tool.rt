@@ -21,7 +21,7 @@ use std::fs::{File, Files};
 use std::io::Write;
 use std::marker::Brand;
 use std::net::{Net, OpenListener, TcpStream};
-use std::process::Processes;
+use std::process::{ChildStdin, OpenProcess, Processes};
 use std::rt::Env;
 use std::sync::ledger::Blank;
 use std::sync::{Mutex, Wait};
@@ -56,6 +56,9 @@ where
     E: Write + Send + Drop,
     R::Dir: Send + Sync,
     R::Listener: Send + Sync,
+    R::Started: OpenProcess<Stdin = ChildStdin> + Send,
+    <R::Started as OpenProcess>::Stdout: Send,
+    <R::Started as OpenProcess>::Stderr: Send,
 {
     let alloc = rt.alloc();
     let _held = [stand_in(rt), stand_in(rt), stand_in(rt)];
@@ -86,6 +89,9 @@ where
     E: Write + Send + Drop,
     R::Dir: Send + Sync,
     R::Listener: Send + Sync,
+    R::Started: OpenProcess<Stdin = ChildStdin> + Send,
+    <R::Started as OpenProcess>::Stdout: Send,
+    <R::Started as OpenProcess>::Stderr: Send,
 {
     let words = match read_server_words(rt.alloc(), words, by_name) {
         Ok(words) => words,
@@ -113,6 +119,9 @@ where
     E: Write + Send + Drop,
     R::Dir: Send + Sync,
     R::Listener: Send + Sync,
+    R::Started: OpenProcess<Stdin = ChildStdin> + Send,
+    <R::Started as OpenProcess>::Stdout: Send,
+    <R::Started as OpenProcess>::Stderr: Send,
 {
     let house = house_of(rt, errors, words)?;
     run_house(rt, &house, words)
@@ -163,6 +172,9 @@ where
     E: Write + Send,
     R::Dir: Send + Sync,
     R::Listener: Send + Sync,
+    R::Started: OpenProcess<Stdin = ChildStdin> + Send,
+    <R::Started as OpenProcess>::Stdout: Send,
+    <R::Started as OpenProcess>::Stderr: Send,
 {
     let limits = words.limits();
     let Some(callers) = limits.connections.checked_add(1) else {
@@ -228,9 +240,13 @@ where
     N: Callers + Send + Sync,
     D: Dir + Send + Drop,
     D::File: Send,
-    R: AllocGlobal + Files + Processes + Threads + Wait + Clock + Sync,
+    R: AllocGlobal + Files<File = File> + Processes + Threads + Wait + Clock + Sync,
     R: Net<Stream = TcpStream>,
+    R::Dir: Send + Sync,
     R::Listener: Send + Sync,
+    R::Started: OpenProcess<Stdin = ChildStdin> + Send,
+    <R::Started as OpenProcess>::Stdout: Send,
+    <R::Started as OpenProcess>::Stderr: Send,
     T: OpenListener<Stream = TcpStream> + Drop,
     E: Write + Send,
     requires places { (places.name ≡ L.name) × (places.parts ≡ L.parts) × (places.parts ≡ words.now.limits.connections) }
@@ -298,9 +314,13 @@ where
     N: Callers + Send + Sync,
     D: Dir + Send + Drop,
     D::File: Send,
-    R: AllocGlobal + Files + Processes + Threads + Wait + Clock + Sync,
+    R: AllocGlobal + Files<File = File> + Processes + Threads + Wait + Clock + Sync,
     R: Net<Stream = TcpStream>,
+    R::Dir: Send + Sync,
     R::Listener: Send + Sync,
+    R::Started: OpenProcess<Stdin = ChildStdin> + Send,
+    <R::Started as OpenProcess>::Stdout: Send,
+    <R::Started as OpenProcess>::Stderr: Send,
     T: OpenListener<Stream = TcpStream> + Drop,
     E: Write + Send,
 {

@@ -10,7 +10,7 @@ use std::fs::{File, Files};
 use std::io;
 use std::io::Write;
 use std::net::{Net, TcpStream};
-use std::process::Processes;
+use std::process::{ChildStdin, OpenProcess, Processes};
 use std::rt::Env;
 use std::sync::Wait;
 use std::thread::Threads;
@@ -34,6 +34,9 @@ where
     E: Write + Send + Copy,
     R::Dir: Send + Sync,
     R::Listener: Send + Sync,
+    R::Started: OpenProcess<Stdin = ChildStdin> + Send,
+    <R::Started as OpenProcess>::Stdout: Send,
+    <R::Started as OpenProcess>::Stderr: Send,
 {
     let alloc = rt.alloc();
     let mut faults = Patient::new(rt, errors);
@@ -57,6 +60,9 @@ where
     E: Write + Send + Copy,
     R::Dir: Send + Sync,
     R::Listener: Send + Sync,
+    R::Started: OpenProcess<Stdin = ChildStdin> + Send,
+    <R::Started as OpenProcess>::Stdout: Send,
+    <R::Started as OpenProcess>::Stderr: Send,
 {
     let mut log = Patient::new(rt, errors);
     match choice {
