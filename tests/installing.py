@@ -226,7 +226,7 @@ def check_completion(checks, folder):
         with open(os.path.join(folder, name), "w"):
             pass
     # (`-s` and `-S` say who holds the connection)
-    letters = {letter for letter, kind in man_pages.letters().items() if kind != "refused"} | {"s", "S"}
+    letters = {letter for letter, kind in man_pages.letters().items() if kind != "refused"}
     options = sorted("-" + letter for letter in letters)
     cases = [
         (["ucspi", "tcpr"], ["tcprules", "tcprulescheck"]), (["ucspi", ""], sorted(TOOLS + ("--help", "--version"))), (["ucspi", "--v"], ["--version"]),
