@@ -1,5 +1,4 @@
 //! What the program tells of itself.
-use crate::fault::ToolFault;
 use crate::tool::Tool;
 use std::io;
 use std::io::Write;
@@ -22,26 +21,16 @@ const TOOLS: [Tool; 8] = [
 /// Writes the name of the program and its version, as one line.
 ///
 /// # Errors
-/// `WriteFault`: some of the line may be written.
-pub fn tell_version<W: Write>(writer: &mut W) -> Result<(), ToolFault> {
-    match writeln!(writer, "ucspi {VERSION}") {
-        Ok(()) => Ok(()),
-        Err(_) => Err(ToolFault::WriteFault),
-    }
+/// Those of the writer: some of the line may be written.
+pub fn tell_version<W: Write>(writer: &mut W) -> io::Result<()> {
+    writeln!(writer, "ucspi {VERSION}")
 }
 
 /// Writes a line for each tool: the words that it takes, and what it is for.
 ///
 /// # Errors
-/// `WriteFault`: some of the lines may be written.
-pub fn tell_tools<W: Write>(writer: &mut W) -> Result<(), ToolFault> {
-    match write_tools(writer) {
-        Ok(()) => Ok(()),
-        Err(_) => Err(ToolFault::WriteFault),
-    }
-}
-
-fn write_tools<W: Write>(writer: &mut W) -> io::Result<()> {
+/// Those of the writer: some of the lines may be written.
+pub fn tell_tools<W: Write>(writer: &mut W) -> io::Result<()> {
     for tool in TOOLS {
         writeln!(writer, "ucspi {}: {}", tool.usage(), tool.purpose())?;
     }

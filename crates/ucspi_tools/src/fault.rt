@@ -6,6 +6,7 @@ use rule_lookup::Status;
 use rules_tools::{CheckFault, TcprulesFault};
 use script_tool::SimFault;
 use server_parts::ServerFault;
+use std::io;
 use std::io::{Cursor, Write};
 use stream_tools::{BetweenFault, FilterFault};
 use thiserror::Error;
@@ -116,24 +117,43 @@ pub fn status_code(status: Status) -> u8
     }
 }
 
-/// Writes why a tool failed, if it did, as one line, and answers the exit code.
-pub fn end<E: Write>(errors: &mut E, name: &str, end: Result<u8, ToolFault>) -> u8
-    ensures { result ≡ end_code end }
-{
-    match end {
-        Ok(code) => code,
-        Err(fault) => {
-            tell(errors, name, fault);
-            fault.exit_code()
-        }
+/// The line that tells why a tool failed. It takes no memory of the heap.
+#[derive(Drop)]
+pub struct FaultLine {
+    bytes: [u8; LINE],
+    len: usize,
+}
+
+impl FaultLine {
+    /// That of a fault of this tool.
+    pub fn of(name: &str, fault: ToolFault) -> FaultLine {
+        let mut line = Cursor::new([0u8; LINE]);
+        let _ = writeln!(line, "{name}: {fault}");
+        let len = line.position().min(LINE as u64) as usize;
+        let bytes = line.into_inner();
+        FaultLine { bytes, len }
+    }
+
+    /// Its bytes, the line feed among them.
+    pub fn as_bytes(&self) -> &[u8] {
+        &self.bytes[..self.len.min(LINE)]
     }
 }
 
-/// Writes the line of a fault by one call, so that no other writer's line stands inside it. It takes no memory. Where it can't be written
-/// nobody is told.
-fn tell<E: Write>(errors: &mut E, name: &str, fault: ToolFault) {
-    let mut line = Cursor::new([0u8; LINE]);
-    let _ = writeln!(line, "{name}: {fault}");
-    let end = line.position().min(LINE as u64) as usize;
-    let _ = errors.write_all(&line.get_ref()[..end]);
+/// The exit code of a run of a tool, and the line of its fault, where it failed.
+pub fn end(name: &str, end: Result<u8, ToolFault>) -> (u8, Option<FaultLine>)
+    ensures { result.0 ≡ end_code end }
+{
+    match end {
+        Ok(code) => (code, None),
+        Err(fault) => (fault.exit_code(), Some(FaultLine::of(name, fault))),
+    }
+}
+
+/// What a text that could not be written makes of a run.
+pub fn written(outcome: io::Result<()>) -> Result<(), ToolFault> {
+    match outcome {
+        Ok(()) => Ok(()),
+        Err(_) => Err(ToolFault::WriteFault),
+    }
 }

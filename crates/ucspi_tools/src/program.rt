@@ -1,7 +1,7 @@
 //! The program `ucspi`: its words, and the tool that they ask for.
 use crate::about::{tell_tools, tell_version};
 use crate::choice::{Choice, choose};
-use crate::fault::{ToolFault, end, status_code};
+use crate::fault::{FaultLine, ToolFault, end, status_code, written};
 use crate::rules::{Causes, check, install};
 use patient_streams::Patient;
 use script_tool::run_script;
@@ -39,16 +39,41 @@ where
     <R::Started as OpenProcess>::Stderr: Send,
 {
     let alloc = rt.alloc();
-    let mut faults = Patient::new(rt, errors);
-    let (Ok(path), Ok(words)) = (program_path(alloc, rt), command_words(alloc, rt)) else {
-        return end(&mut faults, PROGRAM, Err(ToolFault::OutOfMemory));
-    };
-    let choice = choose(path.as_slice(), words.as_slice());
-    let name = choice.tool().map_or(PROGRAM, |tool| tool.name());
     let mut causes = Vec::new(alloc);
-    let code = end(&mut faults, name, run(rt, errors, &mut causes, choice));
+    let (code, line) = match (program_path(alloc, rt), command_words(alloc, rt)) {
+        (Ok(path), Ok(words)) => run_chosen(rt, errors, &mut causes, &path, &words),
+        _ => end(PROGRAM, Err(ToolFault::OutOfMemory)),
+    };
+    let mut faults = Patient::new(rt, errors);
+    if let Some(line) = line {
+        let _ = faults.write_all(line.as_bytes());
+    }
     let _ = faults.write_all(causes.as_slice());
     code
+}
+
+/// Runs the tool that the path by which the program was called and its words ask for: the exit code, and the line of its fault.
+fn run_chosen<R, E>(
+    rt: &R,
+    errors: E,
+    causes: &mut Vec<u8>,
+    path: &[u8],
+    words: &[Vec<u8>],
+) -> (u8, Option<FaultLine>)
+where
+    R: Env + Input + Print + AllocGlobal,
+    R: Files<File = File> + Processes + Threads + Wait + Sync + Clock + Net<Stream = TcpStream>,
+    R::Reader: Send,
+    E: Write + Send + Copy,
+    R::Dir: Send + Sync,
+    R::Listener: Send + Sync,
+    R::Started: OpenProcess<Stdin = ChildStdin> + Send,
+    <R::Started as OpenProcess>::Stdout: Send,
+    <R::Started as OpenProcess>::Stderr: Send,
+{
+    let choice = choose(path, words);
+    let name = choice.tool().map_or(PROGRAM, |tool| tool.name());
+    end(name, run(rt, errors, causes, choice))
 }
 
 /// Runs what words ask for, and answers the exit code. The line of a cause is left in `causes`, where words ask for it.
@@ -80,8 +105,8 @@ where
         Choice::Delcr => run_delcr(rt)?,
         Choice::Fixcrio { words } => return Ok(status_code(run_fixcrio(rt, words)?)),
         Choice::Recordio { words } => return Ok(status_code(run_recordio(rt, log, words)?)),
-        Choice::Version => tell_version(&mut Patient::new(rt, io::writer(rt)))?,
-        Choice::Help => tell_tools(&mut Patient::new(rt, io::writer(rt)))?,
+        Choice::Version => written(tell_version(&mut Patient::new(rt, io::writer(rt))))?,
+        Choice::Help => written(tell_tools(&mut Patient::new(rt, io::writer(rt))))?,
         Choice::UsageOf(tool) => return Err(ToolFault::Usage(tool.usage())),
         Choice::Usage => return Err(ToolFault::Usage(USAGE)),
     }
