@@ -159,7 +159,7 @@ def check_no_program(checks, place):
     """Without a built program nothing is put in place, and what builds one is told; with an old one nothing is built."""
     absent = Place(place.folder, os.path.join(place.folder, "absent"))
     code, said = absent.call("install")
-    wanted = "install: there is no proved program yet: make builds it, in about 25 minutes on four cores"
+    wanted = "install: there is no proved program yet: make builds it, in half an hour or so on four cores"
     checks.expect("without a program", (code, said.split("\n")[0]), (2, wanted))
     checks.expect("without a program: nothing is put there", tree(place.folder).keys() - {"."}, set())
     checks.expect("uninstall without a program", absent.call("uninstall"), (0, ""))
