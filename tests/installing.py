@@ -167,7 +167,7 @@ def check_no_program(checks, place):
     told = subprocess.run(words, cwd=TOP, env={"PATH": PATH}, stdout=subprocess.PIPE, timeout=LIMIT).stdout.decode()
     checks.holds("with changed sources: install builds nothing", "scripts/install" in told and "prove" not in told, told)
     code, said = absent.call("run")
-    checks.holds("make run without a program: how long it takes", said.startswith("There is no proved program yet: ") and "25 minutes" in said, said)
+    checks.holds("make run without a program: how long it takes", said.startswith("There is no proved program yet: ") and "half an hour" in said, said)
     checks.holds("make run without a program and without the kit", code != 0 and "rt" in said, said)
 
 
