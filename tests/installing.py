@@ -200,7 +200,7 @@ def check_try(checks, place):
         wanted = file.read()
     checks.expect("make try", make("try"), (0, wanted, "make try: as it should be; nothing was proved\n"))
     code, output, _ = make("run")
-    checks.holds("make run", code == 0 and output.endswith(wanted), output)
+    checks.holds("make run", code == 0 and output.endswith(wanted), output.decode("utf-8", "replace"))
     path = os.path.join(place.folder, "rules")
     last = "make try: exit code %d; nothing was proved\n"
     told = make("try", "ARGS=tcprules %s %s.tmp" % (path, path), given=b"10.:deny\n")
