@@ -397,7 +397,7 @@ def fail_below(suite, rules, call, error):
         others = [line for line in server.lines() if not re.fullmatch(ANY_LINE, line) and not line.startswith(("cat: ", cat))]
         suite.expect("the lines under " + name, [line for line in others if "error while loading" not in line], [])
         if call != "write":
-            server.idle(STRACE_TIME)
+            server.idle()
             suite.audit(name, server)
 
 
