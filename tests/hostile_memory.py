@@ -337,6 +337,8 @@ def no_memory_for_a_while(suite):
     with suite.start(["-v", "-c", "3", "-x", path], ECHO, env=variables) as server:
         for round_ in range(5):
             suite.expect("before there is no memory", [server.ask(b"a\n") for _ in range(3)], [b"a\n"] * 3)
+            # a client sees its end before the server has told it
+            server.idle()
             before = len(server.lines())
             run.turn(True)
             suite.expect("while there is no memory", [server.ask(b"a\n") for _ in range(12)], [b""] * 12)
