@@ -39,7 +39,6 @@ PLAIN = b"ab\nc\r\rd\n"
 ALL = "100"
 # a reader or a writer that gives or takes all at once
 WHOLE = "100 fails 0"
-WHOLE_PIECES = "5000 fails 0"
 AGAIN = ["renew", "back"]
 End = collections.namedtuple("End", "taken given why reads left writes tap")
 
@@ -247,28 +246,6 @@ def check_taps(streams):
         streams.expect("a tap of way %s with a stop at %d" % (way, call), end_of(answers[0]).tap, "kept " + numbers(kept))
 
 
-def recorded(number, mark, text, longest):
-    """The record of a text that is shown at once: it is cut into pieces of so many bytes, and each piece at its line feeds."""
-    record = b""
-    for start in range(0, len(text), longest):
-        *lines, rest = text[start:start + longest].split(b"\n")
-        record += b"".join(b"%d %s %s \n" % (number, mark, line) for line in lines)
-        record += b"%d %s %s+\n" % (number, mark, rest) if rest else b""
-    return record + b"%d %s [EOF]\n" % (number, mark)
-
-
-def check_long_records(streams):
-    """A write for each piece and one for the end: the writer takes 4,096 bytes at once, so that no write was longer than that."""
-    texts = (b"a" * 256, b"a" * 257, b"\n" * 256, b"\n" * 600, b"ab\n" * 200, b"x" * 255 + b"\n" + b"y" * 300, b"\n" * 255 + b"z", b"q" * 4096)
-    for number, longest in ((7, 256), (65535, 256), (9999999999, 256), (10000000000, 160), (2**64 - 1, 160)):
-        for way, mark, text in ((way, mark, text) for way, mark in (("input", b"<"), ("output", b">")) for text in texts):
-            tap = "recorder %s %d %s" % (way, number, stops(4096))
-            answers = streams.chain_answers("", text, [[pump(2, WHOLE_PIECES, WHOLE_PIECES, tap)]])
-            writes = -(-len(text) // longest) + 1
-            wanted = "recorded %s in %d writes" % (numbers(recorded(number, mark, text, longest)), writes)
-            streams.expect("a recorder of way %s and number %d on %r" % (way, number, text[:300]), end_of(answers[0][0]).tap, wanted)
-
-
 def check_recorders(streams):
     """Two writes each: one for a piece and one for the end, or a second one that fails, after which there is none."""
     # turns, way, text, reader, the recorder's writer, what it has
@@ -300,5 +277,4 @@ def check(program, failures):
     check_ended_chains(streams)
     check_taps(streams)
     check_recorders(streams)
-    check_long_records(streams)
     return streams.tests
