@@ -5,6 +5,7 @@ Usage: tests/cookbook.py [PROGRAM]. A recipe whose programs are not installed, o
 gives the run scripts a free port and an account; nothing else of them is changed.
 """
 import os
+import pwd
 import re
 import shutil
 import signal
@@ -24,6 +25,44 @@ ACCOUNT = "nobody"
 WAIT = 300
 # longer than a step of the times of files, in seconds
 STEP = 0.03
+# what the programs of qmail are, which is in no distribution: a greeting, and a queue that is setuid and shows whose process it is
+SMTPD = """#!/bin/sh
+printf '220 ESMTP\\r\\n'
+echo "from $TCPREMOTEIP relay ${RELAYCLIENT-no}"
+exec "$(dirname "$0")/qmail-queue" /proc/self/status
+"""
+POPUP = """#!/bin/sh
+printf '+OK <1@%s>\\r\\n' "$1"
+shift
+read -r _ user
+printf '+OK\\r\\n'
+read -r _ password
+exec 4<&0
+printf '%s\\0%s\\0time\\0' "${user%?}" "${password%?}" | "$@" 3<&0 0<&4
+"""
+CHECKPASSWORD = """#!/bin/sh
+user=$(tr '\\0' '\\n' <&3 | head -n 1)
+exec setpriv --reuid "$user" --regid "$(id -g "$user")" --clear-groups "$@" 3<&-
+"""
+POP3D = """#!/bin/sh
+echo "+OK $1"
+exec cat /proc/self/status
+"""
+# where Exim may deliver nothing, and knows as its own only this domain
+EXIM = """spool_directory = %(spool)s
+log_file_path = %(spool)s/%%slog
+primary_hostname = mail.example
+domainlist local_domains = mail.example
+acl_smtp_rcpt = recipients
+queue_only = true
+keep_environment =
+begin acl
+recipients:
+  accept hosts = :
+  accept domains = +local_domains
+  deny message = relay not permitted
+"""
+EXIM_USER = "Debian-exim"
 # what `ssh` is in the recipe for many machines: an account's home is a folder of the machine's name
 SSH = """#!/bin/sh
 while [ $# -gt 0 ]; do
@@ -233,7 +272,9 @@ def mail(checks, kitchen):
         kitchen.run("svc -dx services/mail services/mail/log")
     log = os.path.join(service, "log", "main", "current")
     wait_until("the log", lambda: os.path.exists(log) and "deny" in kitchen.read(log))
-    checks.expect("mail: the first lines of the log", kitchen.read(log).split("\n")[:2], ["starting", "tcpserver: status: 0/100"])
+    lines = kitchen.read(log).split("\n")
+    checks.holds("mail: a time in front of each line", all(re.match("@[0-9a-f]{24} ", line) for line in lines[:-1]), lines)
+    checks.expect("mail: the first lines of the log", [line.partition(" ")[2] for line in lines[:2]], ["starting", "tcpserver: status: 0/100"])
 
 
 def talk_to_mail(checks, kitchen, port, spool):
@@ -275,7 +316,107 @@ def git(checks, kitchen):
     finally:
         kitchen.run("sv force-stop examples/git; sv exit examples/git")
         kitchen.close()
-    checks.holds("git: the log", "tcpserver: ok " in kitchen.read("examples/git/log/main/current"))
+    log = kitchen.read("examples/git/log/main/current")
+    checks.holds("git: the log, with times", re.search(r"(?m)^\d{4}-\d\d-\d\d_\d\d:\d\d:\d\d\.\d+ tcpserver: ok ", log), log)
+
+
+def status_of(text):
+    """The user and the effective capabilities in what /proc has of a process."""
+    users = re.search(r"^Uid:\t(\d+)\t(\d+)", text, re.M)
+    return int(users.group(2)), int(re.search(r"^CapEff:\t([0-9a-f]+)", text, re.M).group(1), 16)
+
+
+def setuid(kitchen, path, user):
+    """A program at this path that shows whose process it is, and is always this user's. Some places have no such programs."""
+    path = os.path.join(kitchen.folder, path)
+    shutil.copyfile(shutil.which("cat"), path)
+    shutil.chown(path, user)
+    os.chmod(path, 0o4755)
+    if os.statvfs(path).f_flag & os.ST_NOSUID or re.search(r"^NoNewPrivs:\t1", open("/proc/self/status", encoding="ascii").read(), re.M):
+        raise Missing("setuid programs have no effect here")
+    return path
+
+
+def qmail(checks, kitchen):
+    """The account, the rules, and that a setuid queue gets its own account."""
+    kitchen.needs_server()
+    kitchen.needs("setpriv", root=True)
+    os.makedirs(os.path.join(kitchen.folder, "qmail", "bin"))
+    kitchen.command("../qmail/bin/qmail-smtpd", SMTPD)
+    setuid(kitchen, "qmail/bin/qmail-queue", "mail")
+    rules, port = os.path.join(kitchen.folder, "smtp.cdb"), free_port()
+    kitchen.run("printf '127.0.0.2:allow,RELAYCLIENT=\"\"\\n127.0.0.3:deny\\n:allow\\n' | tcprules smtp.cdb smtp.tmp")
+    where = {"ACCOUNT": ACCOUNT, "GROUP": "nogroup", "QMAIL": os.path.join(kitchen.folder, "qmail"), "RULES": rules, "PORT": str(port)}
+    kitchen.start([os.path.join(kitchen.examples, "qmail", "run")], "qmail-log", **where)
+    wait_until("the qmail service", lambda: listens(port))
+    for source, relay in (("127.0.0.1", "no"), ("127.0.0.2", "")):
+        answer = converse(port, "", source)
+        checks.expect("qmail: greeting and rules, from " + source, answer.splitlines()[:2], ["220 ESMTP", "from %s relay %s" % (source, relay)])
+        checks.expect("qmail: whose queue it is", status_of(answer), (pwd.getpwnam("mail").pw_uid, 0))
+    checks.expect("qmail: denied", converse(port, "", "127.0.0.3"), "")
+
+
+def pop3(checks, kitchen):
+    """A client names a user, and is served as that user."""
+    kitchen.needs_server()
+    kitchen.needs("setpriv", root=True)
+    os.makedirs(os.path.join(kitchen.folder, "qmail", "bin"))
+    for name, text in (("../qmail/bin/qmail-popup", POPUP), ("../qmail/bin/qmail-pop3d", POP3D), ("checkpassword", CHECKPASSWORD)):
+        kitchen.command(name, text)
+    os.chmod(kitchen.folder, 0o755)
+    rules, port = os.path.join(kitchen.folder, "pop3.cdb"), free_port()
+    kitchen.run("echo ':allow' | tcprules pop3.cdb pop3.tmp")
+    where = {"QMAIL": os.path.join(kitchen.folder, "qmail"), "RULES": rules, "PORT": str(port)}
+    kitchen.start([os.path.join(kitchen.examples, "pop3", "run")], "pop3-log", **where)
+    wait_until("the POP3 service", lambda: listens(port))
+    answer = converse(port, "USER mail\nPASS secret\n")
+    checks.holds("pop3: the dialogue", re.match(r"\+OK <1@[^>]+>\r\n\+OK\r\n\+OK Maildir\n", answer), answer)
+    checks.expect("pop3: who serves", status_of(answer), (pwd.getpwnam("mail").pw_uid, 0))
+
+
+def exim(checks, kitchen):
+    """Handed over, Exim accepts mail for its own domain, and relays nothing."""
+    kitchen.needs_server()
+    kitchen.needs("exim4", "setpriv", root=True)
+    if EXIM_USER not in (user.pw_name for user in pwd.getpwall()):
+        raise Missing("no account %s" % EXIM_USER)
+    spool, port = os.path.join(kitchen.folder, "spool"), free_port()
+    os.mkdir(spool)
+    shutil.chown(spool, EXIM_USER, EXIM_USER)
+    kitchen.write("exim.conf", EXIM % {"spool": spool})
+    program = shutil.which("exim4", path=kitchen.environment["PATH"])
+    kitchen.command("exim4", "#!/bin/sh\nexec %s -C %s/exim.conf \"$@\"\n" % (program, kitchen.folder))
+    kitchen.run("cd examples/exim && echo ':allow' | tcprules rules.cdb rules.tmp")
+    kitchen.start([os.path.join(kitchen.examples, "exim", "run")], "exim-log", cwd=os.path.join(kitchen.examples, "exim"), PORT=str(port))
+    wait_until("the Exim service", lambda: listens(port))
+    session = "EHLO me.example\nMAIL FROM:<a@example.com>\nRCPT TO:<b@mail.example>\nRCPT TO:<c@elsewhere.example>\nQUIT\n"
+    with socket.create_connection(("127.0.0.1", port), timeout=WAIT) as client, client.makefile("rb") as answers:
+        codes = []
+        for line in [""] + session.splitlines():
+            client.sendall((line + "\r\n").encode() if line else b"")
+            answer = answers.readline()
+            while answer[3:4] == b"-":
+                answer = answers.readline()
+            codes.append(answer[:3].decode())
+    checks.expect("exim: its own domain, and no other", codes, ["220", "250", "250", "250", "550", "221"])
+
+
+def privileges(checks, kitchen):
+    """What becomes of setuid programs, as the document's table has it."""
+    kitchen.needs("setpriv", root=True)
+    whole = status_of(kitchen.read("/proc/self/status"))[1]
+    of_root, of_mail = setuid(kitchen, "of-root", "root"), setuid(kitchen, "of-mail", "mail")
+    os.chmod(kitchen.folder, 0o755)
+    account, mail_account, port_right = pwd.getpwnam(ACCOUNT).pw_uid, pwd.getpwnam("mail").pw_uid, 1 << 10
+    front = "setpriv --reuid %s --regid nogroup --clear-groups" % ACCOUNT
+    bounded = "--bounding-set=-all,+net_bind_service"
+    cases = [("", (0, whole), (mail_account, 0)), ("--no-new-privs", (account, 0), (account, 0)), (bounded, (0, port_right), (mail_account, 0))]
+    for options, root, other in cases:
+        found = tuple(status_of(kitchen.run("%s %s %s /proc/self/status" % (front, options, path)).stdout) for path in (of_root, of_mail))
+        checks.expect("setuid programs behind %r" % options, found, (root, other))
+    become = "setpriv --reuid %s --regid nogroup --clear-groups true" % ACCOUNT
+    codes = [kitchen.run("setpriv %s %s" % (options, become)).returncode for options in ("--no-new-privs", bounded)]
+    checks.expect("root that becomes a user, behind --no-new-privs and the bounding set", [code == 0 for code in codes], [True, False])
 
 
 def http(checks, kitchen):
@@ -389,6 +530,9 @@ def audited_log(checks, kitchen):
 # the recipes by what of them runs in Python; each title of the document has its lines run too
 SERVICES = {
     "A mail service under daemontools": [mail],
+    "qmail, and POP3": [qmail, pop3],
+    "Exim and Sendmail": [exim],
+    "What `--no-new-privs` breaks": [privileges],
     "A file service under runit": [git, http],
     "rsync under systemd": [rsync, unit],
     "Rules by name": [names],
@@ -398,7 +542,11 @@ SERVICES = {
 }
 
 # what the lines of a title need beside what every system has
-NEEDED = {"Rules by name": ["awk"], "One rule text for a hundred machines": ["rsync", "sync"], "Reading and auditing a log": ["tac", "sed", "grep"]}
+NEEDED = {
+    "From djb's in five minutes": ["iconv"], "Watching a server": ["tac", "grep"], "Rules by name": ["awk"],
+    "One rule text for a hundred machines": ["rsync", "sync"], "Reading and auditing a log": ["tac", "sed", "grep"],
+    "What new rules would have done": ["awk", "sed"],
+}
 
 
 def run_lines(checks, kitchen, recipe):

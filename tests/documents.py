@@ -1,6 +1,6 @@
 #!/usr/bin/env python3
 """Runs the commands of the README, and each line behind a `$` in the documents, and compares what they print with what stands below them. (The cookbook
-has a group of its own, `cookbook`, and the man pages too.)
+has a group of its own, `cookbook`, and the man pages too.) Looks at the links and the terms of all documents.
 
 Usage: tests/documents.py [PROGRAM]. The lines of one document run in one shell, in a folder of their own that has the examples. `make` is a command that
 takes the program that is there for the one that it would build; the port 2525 is another one, which is free. A server in the foreground is started at
@@ -18,6 +18,19 @@ from server_runs import wait_until
 
 TOOLS = ("addcr", "delcr", "fixcrio", "recordio", "rulesim", "tcprules", "tcprulescheck", "tcpserver")
 DOCUMENTS = ["README.md"] + sorted("docs/" + name for name in os.listdir(os.path.join(TOP, "docs")) if name.endswith(".md") and name != "COOKBOOK.md")
+COOKBOOK = "docs/COOKBOOK.md"
+# what users read, in the terms that they search for; the documents for provers have terms of their own, which they explain
+FOR_PROVERS = ("ARCHITECTURE", "COMPILED_FILES", "DECISIONS", "DIRECTORIES", "EVENTS", "HEADLINE", "INSTALLATIONS", "PROOFS")
+FOR_USERS = [name for name in DOCUMENTS + [COOKBOOK] if os.path.basename(name)[:-3] not in FOR_PROVERS]
+# terms that no document for users has, each with the one that stands for it
+TERMS = {
+    r"words?": "argument, option or message", r"told|telling|tells?(?! them apart)": "reported, printed, shown", r"faulty|amiss": "wrong",
+    r"want of": "out of, lack of", r"faults?(?! at)": "error", r"a stop|the stop|machine stop\w*": "crash", r"by force": "by fault injection",
+}
+# where a term is the right one
+MEANT = {"docs/SCRIPTS.md": ["a *stop*", "Words are separated"], "docs/RELIABILITY.md": ["fault injection"], "docs/TOOLS.md": ["device fault"]}
+# a port in the arguments of a server behind the shell's back
+BEHIND = re.compile(r"(?:ucspi )?tcpserver\b.* (\d+) \S.*&\s*$")
 LIMIT = 600
 MARK = "--- the end of a command"
 MAKE = """#!/bin/sh
@@ -103,6 +116,14 @@ class Shell:
                 return "".join(lines).rstrip("\n"), int(line.split()[-1] if line else -1)
             lines.append(line)
 
+    def run_listed(self, command):
+        """What a command of a document prints. A server that it starts behind the shell's back listens by then."""
+        printed = self.run(command)[0]
+        server = BEHIND.match(command)
+        if server:
+            wait_until("a server", lambda: listens(int(server.group(1))))
+        return printed
+
     def serve(self, command):
         """Starts a server until it listens: what it prints but for its first status."""
         port = free_port()
@@ -123,6 +144,7 @@ def check_document(checks, program, name):
     with open(os.path.join(TOP, name), encoding="utf-8") as file:
         text = file.read().replace("2525", str(free_port()))
     commands = list(commands_in(text))
+    checks.expect("%s: lines behind a prompt, and commands that are run" % name, len(re.findall(r"^    \$ ", text, re.M)), len(commands))
     makes = makes_in(text) if name == "README.md" else []
     if not commands and not makes:
         return
@@ -132,7 +154,7 @@ def check_document(checks, program, name):
             checks.expect("%s: %s: exit code" % (name, command), shell.run(command)[1], 0)
         for command, below in commands:
             is_server = re.match(r"(ucspi )?tcpserver\b", command) and not command.rstrip().endswith("&")
-            checks.expect("%s: %s" % (name, command), shell.serve(command) if is_server else shell.run(command)[0], below)
+            checks.expect("%s: %s" % (name, command), shell.serve(command) if is_server else shell.run_listed(command), below)
         shell.close()
 
 
@@ -144,17 +166,45 @@ def check_readme(checks):
     checks.holds("README.md: at most 130 lines", len(lines) <= 130, len(lines))
     checks.expect("README.md: lines of at most 120 columns", [line for line in lines if len(line) > 120], [])
     checks.holds("README.md: what it does not do comes before the first command", text.index("does not do") < text.index("\n    "))
-    for name in ["README.md"] + DOCUMENTS[1:]:
-        with open(os.path.join(TOP, name), encoding="utf-8") as file:
-            links = re.findall(r"\]\(([^)#:]+)(?:#[^)]*)?\)", file.read())
-        lost = [link for link in links if not os.path.exists(os.path.join(TOP, os.path.dirname(name), link))]
-        checks.expect("%s: links that lead nowhere" % name, lost, [])
+
+
+def anchors_in(text):
+    """The anchors of a document's headings, as the sites that show Markdown make them."""
+    return {re.sub(r"[^\w\- ]", "", heading.lower()).replace(" ", "-") for heading in re.findall(r"^#+ (.*)$", text, re.M)}
+
+
+def check_links(checks, name, text):
+    """Each link leads to a file that is there, and to a heading that it has."""
+    lost = []
+    for path, anchor in re.findall(r"\]\(([^)#:]*)(?:#([^)]*))?\)", text):
+        path = os.path.normpath(os.path.join(TOP, os.path.dirname(name), path)) if path else os.path.join(TOP, name)
+        if not os.path.exists(path):
+            lost.append(path)
+        elif anchor:
+            with open(path, encoding="utf-8") as file:
+                lost += [] if anchor in anchors_in(file.read()) else ["%s#%s" % (path, anchor)]
+    checks.expect("%s: links that lead nowhere" % name, lost, [])
+
+
+def check_terms(checks, name, text):
+    """A document for users has the terms of the trade; code and commands are left out."""
+    prose = re.sub(r"`[^`]*`", "", re.sub(r"^    .*$", "", text, flags=re.M))
+    for meant in MEANT.get(name, []):
+        prose = prose.replace(meant, "")
+    found = [(term.group(0), better) for form, better in TERMS.items() for term in re.finditer(r"\b(?:%s)\b" % form, prose)]
+    checks.expect("%s: terms for which there are better ones" % name, found, [])
 
 
 def check(program, failures):
     """How many tests there were."""
     checks = Checks("documents", failures)
     check_readme(checks)
+    for name in DOCUMENTS + [COOKBOOK]:
+        with open(os.path.join(TOP, name), encoding="utf-8") as file:
+            text = file.read()
+        check_links(checks, name, text)
+        if name in FOR_USERS:
+            check_terms(checks, name, text)
     for name in DOCUMENTS:
         check_document(checks, program, name)
     return checks.tests

@@ -47,7 +47,7 @@ CALLS = [
     ("posix_spawn", ["ENOMEM"], [], [FAILED, MEMORY]),
     ("posix_spawn", ["ENOENT"], [], [r"start \d+ not found"]),
     ("posix_spawn", ["EACCES", "EPERM"], [], [r"start \d+ refused"]),
-    ("pthread_create", ["EAGAIN", "ENOMEM"], [], [r"drop \d+ no thread", NO_PIPES]),
+    ("pthread_create", ["EAGAIN", "ENOMEM"], [], []),
     ("waitpid", ["EINTR", "EIO"], [], []),
     ("open", ["EINTR", "EMFILE", "ENFILE", "EACCES", "EIO", "ELOOP"], ["read fault", "device fault"], [DIRECTORY]),
     ("open", ["ENOMEM"], ["read fault", "device fault", "out of memory"], [DIRECTORY, MEMORY]),
@@ -262,8 +262,9 @@ def while_calls_fail(suite):
     cases = [
         ("open", "EMFILE", "drop N directory fault"), ("open", "EIO", "drop N directory fault"), ("open", "EACCES", "drop N directory fault"),
         ("pread", "EIO", "drop N rules read fault"), ("pread64", "EIO", "drop N rules read fault"), ("pipe2", "EMFILE", "start N failed"),
-        ("posix_spawn", "EAGAIN", "start N failed"), ("posix_spawn", "ENOENT", "start N not found"), ("posix_spawn", "EACCES", "start N refused"),
-        ("pthread_create", "EAGAIN", "drop N no thread"),
+        ("posix_spawn", "E2BIG", "start N failed"), ("posix_spawn", "ENOENT", "start N not found"), ("posix_spawn", "EACCES", "start N refused"),
+        # threads that were made before are kept
+        ("pthread_create", "EAGAIN", None),
     ]
     if suite.handed:
         cases = [case for case in cases if case[0] != "pipe2"]
@@ -277,13 +278,34 @@ def while_calls_fail(suite):
             run.turn(False)
             if not run.end() and call.startswith("pread"):
                 continue
-            suite.expect("while %s fails with %s" % (call, error), answers, [b""] * 5)
+            suite.expect("while %s fails with %s" % (call, error), answers, [b"" if line else b"a\n"] * 5)
             server.idle()
-            told = [entry for entry in server.lines() if entry.startswith(("drop ", "start "))]
-            suite.expect("the lines while %s fails with %s" % (call, error), told, [line.replace("N", str(n)) for n in range(2, 7)])
+            # the next client may come before a line of the last one is written
+            told = sorted(entry for entry in server.lines() if entry.startswith(("drop ", "start ")))
+            wanted = [line.replace("N", str(n)) for n in range(2, 7)] if line else []
+            suite.expect("the lines while %s fails with %s" % (call, error), told, wanted)
             suite.expect("after %s failed" % call, [server.ask(b"a\n") for _ in range(5)], [b"a\n"] * 5)
             server.idle()
             suite.audit("%s that fails for a while" % call, server)
+
+
+def no_process(suite):
+    """While the system has no process for a program its client waits, and is served once there is one."""
+    run = failed_calls.Library(suite.folder).run_while("posix_spawn", "EAGAIN")
+    with suite.start(["-v", "-c", "2"], [shutil.which("cat")], env=dict(os.environ, **run.environment)) as server:
+        run.turn(True)
+        clients = [server.connect() for _ in range(2)]
+        for client in clients:
+            client.sendall(b"a\n")
+            client.shutdown(socket.SHUT_WR)
+        server.wait_line(r"ok 2 .*")
+        time.sleep(0.3)
+        run.turn(False)
+        suite.expect("those who waited for a process", [read_all(client) for client in clients], [b"a\n"] * 2)
+        run.end()
+        server.idle()
+        suite.expect("nothing is told of it", [line for line in server.lines() if line.startswith(("drop ", "start "))], [])
+        suite.audit("no process for a while", server)
 
 
 def no_places(suite):
@@ -500,9 +522,9 @@ def tools(suite):
                     break
 
 
-CHECKS = [each_call, bytes_one_by_one, while_calls_fail, no_places, faults_of_accepting, tools, below_the_library]
+CHECKS = [each_call, bytes_one_by_one, while_calls_fail, no_process, no_places, faults_of_accepting, tools, below_the_library]
 COMMON = []
-HANDED = [each_call, bytes_one_by_one, while_calls_fail, no_places, faults_of_accepting, below_the_library]
+HANDED = [each_call, bytes_one_by_one, while_calls_fail, no_process, no_places, faults_of_accepting, below_the_library]
 
 if __name__ == "__main__":
     sys.exit(server_runs.main(sys.modules["__main__"]))

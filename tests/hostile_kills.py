@@ -186,6 +186,10 @@ class Killer:
         if self.suite.original:
             return None
         self.suite.holds("it ended by the signal", code < 0, code)
+        # (one that was killed before its first status line has let nobody in)
+        if b"tcpserver: status: " not in old.log():
+            self.suite.expect("connections before its first status line", b" from " in old.log(), False)
+            return None
         events = log_events.Events(old.log())
         return events if events.faults else self.replay(events)
 

@@ -158,10 +158,10 @@ class Serving:
         return [line for line in lines if not re.match(r"\d+ [<>] ", line)]
 
     def wait_for_lines(self):
-        """Waits for a line of the last connection: one that found no memory may end before its line is written."""
+        """Waits for a line of the last connection: one that found no memory may end before its line is written. A server that has ended writes none."""
         before = self.seen + self.is_first
         try:
-            server_runs.wait_until("a line", lambda: len(self.server.lines()) > before, LINE_TIME)
+            server_runs.wait_until("a line", lambda: len(self.server.lines()) > before or self.server.process.poll() is not None, LINE_TIME)
         except server_runs.Amiss:
             # (it is told below that there was none)
             pass

@@ -21,6 +21,8 @@ LOCK = ".tcprules.lock"
 WAITING = "tcprules: waiting for another installation\n"
 FRESH = "tcprules: device fault at fresh\n"
 GIVEN_UP = 60
+# seconds: how long an installation is waited for; how much longer than it has to one may take, far from being given up; and how long a call is held up
+LIMIT, SLACK, HELD_UP = 600, 45, 5
 OLD, NEW, DENIED = b"10.:deny\n", b":deny\n", "rule :\ndeny connection\n"
 
 
@@ -69,9 +71,9 @@ class Folder:
         return process
 
     def end(self, process):
-        """How an installation ends: its exit code and its lines. One that does not end within 90 seconds is killed."""
+        """How an installation ends: its exit code and its lines. One that does not end for long is killed."""
         try:
-            _, errors = process.communicate(timeout=90)
+            _, errors = process.communicate(timeout=LIMIT)
         except subprocess.TimeoutExpired:
             process.kill()
             _, errors = process.communicate()
@@ -94,15 +96,19 @@ class Folder:
 
 
 def lock_file_waited_for(folder):
-    """Another process has the lock file for five seconds: that is told after three, and waited for."""
-    with concurrent.futures.ThreadPoolExecutor(1) as pool, held(folder.path(LOCK)):
-        ended = pool.submit(folder.install)
-        time.sleep(2.2)
-        folder.expect("before three seconds nothing has changed", (ended.done(), sorted(os.listdir(folder.place))), (False, [LOCK, "rules"]))
-        time.sleep(2.8)
+    """Another process has the lock file for more than three seconds: that is told after three, and waited for."""
+    with held(folder.path(LOCK)):
+        began = time.monotonic()
+        process = folder.start()
+        told = process.stderr.readline().decode()
+        waited = time.monotonic() - began
+        folder.expect("after three seconds nothing has changed", (process.poll(), sorted(os.listdir(folder.place))), (None, [LOCK, "rules"]))
+        time.sleep(1)
+        folder.expect("it waits on", process.poll(), None)
         os.unlink(folder.path(LOCK))
-    folder.expect_installed("a lock that is given back", ended.result(), 30, WAITING)
-    folder.expect("it waited", ended.result()[2] > 4.5, True)
+    code, errors = folder.end(process)
+    folder.expect_installed("a lock that is given back", (code, told + errors, time.monotonic() - began), SLACK, WAITING)
+    folder.expect("it is told after three seconds", 2.9 < waited < SLACK, True)
 
 
 def lock_file_held_for_good(folder):
@@ -110,27 +116,30 @@ def lock_file_held_for_good(folder):
     with held(folder.path(LOCK)):
         code, told, seconds = folder.install(words=("-v", "rules", "tmp"))
     folder.expect("a lock that is not given back", (code, told), (111, WAITING + FRESH + "tcprules: cause: .: Resource temporarily unavailable\n"))
-    folder.expect("a minute", GIVEN_UP <= seconds < GIVEN_UP + 20, True)
+    folder.expect("a minute", GIVEN_UP <= seconds < GIVEN_UP + SLACK, True)
     folder.expect("nothing has changed", (folder.rules() == folder.old, sorted(os.listdir(folder.place))), (True, [LOCK, "rules"]))
 
 
 def folder_held_by_a_reader(folder):
-    """Who may open the folder may hold it, and stops nobody."""
+    """Who may open the folder may hold it, and holds nobody up."""
     for how, name in ((fcntl.LOCK_SH, "shared"), (fcntl.LOCK_EX, "alone")):
         with held(folder.place, how):
-            folder.expect_installed("a folder that is held, " + name, folder.install(), 15)
+            folder.expect_installed("a folder that is held, " + name, folder.install(), SLACK)
 
 
 def folder_held_by_an_older_tcprules(folder):
     """A `tcprules` that knows no lock file holds the folder while its scratch file stands there: it is waited for."""
-    with concurrent.futures.ThreadPoolExecutor(1) as pool, held(folder.place):
+    with held(folder.place):
         with open(folder.path("tmp"), "wb") as scratch:
             scratch.write(b"a part")
-        ended = pool.submit(folder.install)
-        time.sleep(4)
-        folder.expect("its scratch file is not touched", (ended.done(), folder.rules("tmp")), (False, b"a part"))
+        began = time.monotonic()
+        process = folder.start()
+        told = process.stderr.readline().decode()
+        time.sleep(1)
+        folder.expect("its scratch file is not touched", (process.poll(), folder.rules("tmp")), (None, b"a part"))
         os.rename(folder.path("tmp"), folder.path("rules"))
-    folder.expect_installed("an older one that has ended", ended.result(), 30, WAITING)
+    code, errors = folder.end(process)
+    folder.expect_installed("an older one that has ended", (code, told + errors, time.monotonic() - began), SLACK, WAITING)
 
 
 def lock_file_left(folder):
@@ -153,35 +162,50 @@ def lock_name_taken(folder):
     os.unlink(folder.path(LOCK))
     os.mkfifo(folder.path(LOCK))
     code, told, seconds = folder.install()
-    folder.expect("a pipe", (code, told, seconds < 10), (111, FRESH, True))
+    folder.expect("a pipe", (code, told, seconds < SLACK), (111, FRESH, True))
     folder.expect("the rules then", folder.rules() == folder.old, True)
 
 
 def slow(call, when, how="delay_enter"):
-    """Starts an installation of which one call is held up for two seconds."""
-    return ["strace", "-qq", "-f", "-o", os.devnull, "-e", "trace=" + call, "-e", "inject=%s:%s=2000000:when=%d" % (call, how, when)]
+    """Starts an installation of which one call is held up for some seconds."""
+    return ["strace", "-qq", "-f", "-o", os.devnull, "-e", "trace=" + call, "-e", "inject=%s:%s=%d000000:when=%d" % (call, how, HELD_UP, when)]
+
+
+def come_to(what, there):
+    """Waits until an installation has come so far that this is there, and then is held up."""
+    end = time.monotonic() + LIMIT
+    while not there():
+        if time.monotonic() > end:
+            raise TimeoutError("waited for " + what)
+        time.sleep(0.01)
+    time.sleep(0.3)
+
+
+def is_written(path):
+    return os.path.exists(path) and os.path.getsize(path) > 0
 
 
 def two_installations(folder):
     """Two of them: while the first is under way nobody but its user can open its lock file, and the second waits for it."""
     first = folder.start(b"11.:deny\n", before=slow("fsync", 1))
-    time.sleep(1)
+    come_to("the scratch file", lambda: is_written(folder.path("tmp")))
     mode = os.stat(folder.path(LOCK)).st_mode
     folder.expect("who may open the lock file", (stat.S_ISREG(mode), stat.S_IMODE(mode)), (True, 0o600))
     second = folder.start()
     folder.expect("the first", folder.end(first), (0, ""))
-    folder.expect("the second", folder.end(second), (0, ""))
-    folder.expect("the text of the second stands", subprocess.run([folder.program, "tcprulescheck", "rules"], cwd=folder.place, stdout=subprocess.PIPE, env={}, timeout=60).stdout.decode(), DENIED)
+    code, errors = folder.end(second)
+    folder.expect("the second", (code, errors in ("", WAITING)), (0, True))
+    folder.expect("the text of the second stands", subprocess.run([folder.program, "tcprulescheck", "rules"], cwd=folder.place, stdout=subprocess.PIPE, env={}, timeout=600).stdout.decode(), DENIED)
     folder.expect("nothing is left", os.listdir(folder.place), ["rules"])
 
 
-def turned(folder, name, before, after):
-    """A link to the folder is turned to another one while an installation is held up. Answers how it ended."""
+def turned(folder, name, before, made):
+    """A link to the folder is turned to another one once an installation has made this file, and is held up. Answers how it ended."""
     for inner in ("v1", "v2"):
         os.mkdir(folder.path(inner))
     os.symlink("v1", folder.path("cur"))
     process = folder.start(words=("-v", "cur/rules", "cur/tmp"), before=before)
-    time.sleep(after)
+    come_to(made, lambda: is_written(folder.path("v1", made)))
     os.symlink("v2", folder.path("new"))
     os.rename(folder.path("new"), folder.path("cur"))
     ended = folder.end(process)
@@ -196,7 +220,7 @@ def turned_before_it_has_the_lock(folder):
         os.mkdir(folder.path("v2"))
         os.symlink("v0", folder.path("cur"))
         process = folder.start(words=("-v", "cur/rules", "cur/tmp"))
-        time.sleep(1)
+        folder.expect("it waits", process.stderr.readline().decode(), WAITING)
         os.symlink("v2", folder.path("new"))
         os.rename(folder.path("new"), folder.path("cur"))
         os.unlink(folder.path("v0", LOCK))
@@ -205,13 +229,13 @@ def turned_before_it_has_the_lock(folder):
 
 
 def turned_before_the_rename(folder):
-    ended = turned(folder, "before the rename", slow("fsync", 1), 1)
+    ended = turned(folder, "before the rename", slow("fsync", 1), "tmp")
     folder.expect("a link that is turned before the rename", ended, (111, "tcprules: device fault at named\ntcprules: cause: cur: Stale file handle\n"))
     folder.expect("no rules stand in the folder before", os.path.exists(folder.path("v1", "rules")), False)
 
 
 def turned_after_the_rename(folder):
-    ended = turned(folder, "after the rename", slow("rename", 1, "delay_exit"), 1)
+    ended = turned(folder, "after the rename", slow("rename", 1, "delay_exit"), "rules")
     folder.expect("a link that is turned after the rename", ended, (111, "tcprules: device fault at done\ntcprules: cause: cur: Stale file handle\n"))
     folder.expect("the rules stand in the folder before", os.path.exists(folder.path("v1", "rules")), True)
 

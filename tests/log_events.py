@@ -20,6 +20,8 @@ import sys
 NAME = b"tcpserver: "
 # the cause of a fault, in a line behind its own: no event
 CAUSE = NAME + b"cause: "
+# what a server says of its rules at the start, before it lets anybody in
+NO_NAMES = b"tcpserver: rules by name, and no names"
 NUMBER = rb"(\d+)"
 ADDRESS = rb"(\d+\.\d+\.\d+\.\d+)"
 CAUSES = rb"(banner fault|directory fault|rules read fault|rules damaged|out of memory|no thread)"
@@ -64,7 +66,7 @@ class Connection:
 def line_of(number, text):
     """The server's own line in a line of its log, if there is one: all of it, or what stands behind the beginning of a program's line."""
     begins = text.find(NAME)
-    if begins < 0 or RECORDED.match(text) or text.startswith(CAUSE, begins):
+    if begins < 0 or RECORDED.match(text) or text.startswith(CAUSE, begins) or text == NO_NAMES:
         return None
     for kind, form in FORMS:
         match = form.fullmatch(text, begins + len(NAME))

@@ -10,6 +10,7 @@ import subprocess
 import tempfile
 
 from checks import TOP, Checks, run_alone
+from documents import TERMS
 
 # the crate's fault of each tool, and the variant of `ToolFault` that it is
 FAULTS = {
@@ -21,15 +22,20 @@ FAULTS = {
     "recordio": ("stream_tools/src/between.rt", "BetweenFault", "Between"),
     "rulesim": ("script_tool/src/sim.rt", "SimFault", "Script"),
 }
+# the fault of `tcprules -n`, which prints under the same name
+REVIEW = ("rules_tools/src/review.rt", "ReviewFault", "Review")
+# the words that stand alone
+ALONE = {"tcprules": "nN"}
 # the tools that tell causes
 VERBOSE = ("tcprules", "tcprulescheck")
 # what a page writes for a part of a text that changes
 PLACES = {"u64": "N", "char": "L", "Phase": "PHASE", "LineFault": "line N: KIND"}
 # pages of others that ours refer to, which need not be installed here
 OUTSIDE = {"flock(2)", "multilog(8)", "runsv(8)", "setpriv(1)", "supervise(8)", "svlogd(8)"}
-# the sections that say whose a tool is
-LATER = ("HISTORY", "AUTHORS")
-WITH_LATER = {"addcr.1", "delcr.1", "fixcrio.1", "recordio.1", "tcprules.5", "ucspi.1"}
+# the sections that each page has
+SECTIONS = ("NAME", "DESCRIPTION", "EXAMPLES", "COMPATIBILITY", "SEE ALSO", "HISTORY", "AUTHORS")
+# pages of others to which a page has to refer
+NAMED = {"tcpserver": {"multilog(8)", "supervise(8)", "setpriv(1)"}, "ucspi": {"multilog(8)", "supervise(8)", "setpriv(1)"}, "recordio": {"multilog(8)"}}
 SERVER_FAULT = "server_parts/src/fault.rt"
 
 
@@ -119,6 +125,8 @@ class Page:
         for line in self.section("SYNOPSIS"):
             for letters, value in re.findall(r"^\.Op Fl (\w+)( Ar \w+)?$", line):
                 found.update({letter: bool(value) for letter in letters})
+            if line.startswith(".Fl "):
+                found.update({letter: False for letter in re.findall(r"\bFl (\w)", line)})
         return found
 
     def refused(self):
@@ -195,16 +203,17 @@ def codes_of(source, function, enum, variants):
 
 def tool_texts(tool):
     """The texts of a tool, with their exit codes."""
-    path, enum, variant = FAULTS[tool]
     source = read("ucspi_tools/src/fault.rt")
     by = {name: value for pattern, value in arms(source, "exit_code") for name in re.findall(r"ToolFault::(\w+)", pattern)}
-    texts = texts_of(path, enum)
-    function = re.match(r"(\w+)\(", by[variant])
-    if function:
-        codes = codes_of(source, function.group(1), enum, texts)
-    else:
-        codes = dict.fromkeys(texts, code_of(by[variant]))
-    found = {"%s: %s" % (tool, texts[variant]): codes[variant] for variant in texts}
+    found = {}
+    for path, enum, variant in [FAULTS[tool]] + ([REVIEW] if tool == "tcprules" else []):
+        texts = texts_of(path, enum)
+        function = re.match(r"(\w+)\(", by[variant])
+        if function:
+            codes = codes_of(source, function.group(1), enum, texts)
+        else:
+            codes = dict.fromkeys(texts, code_of(by[variant]))
+        found.update({"%s: %s" % (tool, texts[name]): codes[name] for name in texts})
     found["%s: usage: %s" % (tool, usages()[tool])] = code_of(by["Usage"])
     return found
 
@@ -268,7 +277,7 @@ def check_tool(checks, tool):
     page = Page(tool)
     checks.expect(tool + ": synopsis", page.synopsis(), usages()[tool])
     checks.expect(tool + ": texts and exit codes", page.texts(), tool_texts(tool))
-    options = {"v": False} if tool in VERBOSE else {}
+    options = {letter: False for letter in ("v" if tool in VERBOSE else "") + ALONE.get(tool, "")}
     checks.expect(tool + ": options", (page.synopsis_options(), page.options()), (options, options))
     checks.holds(tool + ": every exit code of a text stands under EXIT STATUS", set(page.texts().values()) <= page.codes())
 
@@ -278,6 +287,9 @@ def check_rule_texts(checks):
     kinds = words_of(read("rule_lines/src/fault.rt"), "as_str")
     kinds.pop("LongText")
     checks.expect("tcprules: kinds of faults, in their order", page.below("tcprules: line N: KIND"), list(kinds.values()))
+    source = body_of(read("rule_warnings/src/warning.rt"), "append_kind").replace('push_text(out, "line ")?;', "")
+    told = ["line M" + text if text.startswith(" ") else text for text in re.findall(r'push_text\(out, "([^"]*)"\)', source)]
+    checks.expect("tcprules: warnings, in their order", page.below("tcprules: line N: WARNING"), told)
     phases = list(words_of(read("rules_install/src/lib.rt"), "as_str").values())
     body = dict(page.items("DIAGNOSTICS", "-diag"))["tcprules: device fault at PHASE"]
     named = [word for line in body if line.startswith(".Cm ") for word in re.findall(r"\w+", line[4:])]
@@ -353,7 +365,10 @@ def check_log_lines(checks):
     begins = begins - {"tcpserver:"} | verdicts
     # the line of a cause is made for each tool
     begins |= {"tcpserver" + text.rstrip() for text in re.findall(r'"(: cause: )"', read("fault_causes/src/line.rt"))}
-    heads = {re.match(r"tcpserver: [a-z]+:?", line).group(0) for line in page.log_lines()}
+    # a warning is one whole text
+    warnings = {text for text in re.findall(r'b"(tcpserver: [a-z, ]*)\\n"', read("server_log/src/log.rt"))} & set(page.log_lines())
+    heads = {re.match(r"tcpserver: [a-z]+:?", line).group(0) for line in set(page.log_lines()) - warnings}
+    checks.expect("tcpserver: warnings", warnings, {"tcpserver: rules by name, and no names"})
     checks.expect("tcpserver: lines of the log", heads, begins)
     with open(os.path.join(TOP, "docs", "LOG_LINES.md"), encoding="utf-8") as file:
         forms = set(re.findall(r"^\| `(tcpserver: [^`]*)`", file.read(), re.M))
@@ -365,26 +380,38 @@ def check_log_lines(checks):
     checks.expect("tcpserver: faults of a start", page.below("tcpserver: start N FAULT"), faults)
 
 
+def check_terms(checks, page):
+    """The prose of a page has the terms of the trade (the commands of `rulesim` have words)."""
+    prose = "\n".join(line for lines in page.sections.values() for line in lines if not line.startswith((".", "$", "tcp")) or line.startswith(".Nd "))
+    prose = prose.replace("The words of a command", "")
+    found = [term.group(0) for form in TERMS for term in re.finditer(r"\b(?:%s)\b" % form, prose)]
+    checks.expect(page.name + ": terms for which there are better ones", found, [])
+
+
 def check_form(checks, page, pages):
     """What the programs that show pages say of one, and that it has the sections that each has."""
     name, path = page.name, page.path
-    for section in ("NAME", "DESCRIPTION", "EXAMPLES", "COMPATIBILITY", "SEE ALSO") + tuple(LATER if os.path.basename(path) in WITH_LATER else ()):
+    for section in SECTIONS:
         checks.holds("%s: section %s" % (name, section), page.section(section))
+    references = "\n".join(page.section("SEE ALSO"))
+    checks.holds(name + ": no URL under SEE ALSO", "://" not in references and ".Lk" not in references, references)
+    told = {"%s(%s)" % found for found in re.findall(r"^\.Xr ([\w-]+) (\d)", references, re.M)}
+    checks.holds(name + ": what it has to refer to", NAMED.get(name, set()) <= told, sorted(told))
     known = {"%s(%s)" % (one.name, one.path[-1]) for one in pages} | OUTSIDE
     with open(path, encoding="ascii") as file:
         named = {"%s(%s)" % found for found in re.findall(r"^\.Xr ([\w-]+) (\d)", file.read(), re.M)}
     checks.expect("%s: pages that it refers to and nobody knows" % name, sorted(named - known), [])
     if shutil.which("mandoc"):
-        ended = subprocess.run(["mandoc", "-T", "lint", path], stdout=subprocess.PIPE, stderr=subprocess.DEVNULL, timeout=60)
+        ended = subprocess.run(["mandoc", "-T", "lint", path], stdout=subprocess.PIPE, stderr=subprocess.DEVNULL, timeout=600)
         said = ended.stdout.decode().splitlines()
         # (what is not installed here is looked at above)
         said = [line for line in said if "referenced manual not found: Xr " not in line]
         checks.expect(name + ": mandoc -T lint", said, [])
     if shutil.which("man"):
         words = ["man", "-l", path]
-        if b"man-db" in subprocess.run(["man", "--version"], stdout=subprocess.PIPE, stderr=subprocess.STDOUT, timeout=60).stdout:
+        if b"man-db" in subprocess.run(["man", "--version"], stdout=subprocess.PIPE, stderr=subprocess.STDOUT, timeout=600).stdout:
             words.insert(1, "--warnings")
-        ended = subprocess.run(words, stdin=subprocess.DEVNULL, stdout=subprocess.PIPE, stderr=subprocess.PIPE, timeout=60)
+        ended = subprocess.run(words, stdin=subprocess.DEVNULL, stdout=subprocess.PIPE, stderr=subprocess.PIPE, timeout=600)
         checks.expect(name + ": man -l", (ended.returncode, ended.stderr.decode()), (0, ""))
         checks.holds(name + ": man -l shows the page", b"NAME" in re.sub(b".\b", b"", ended.stdout))
 
@@ -419,11 +446,11 @@ def check_examples(checks, program, page):
             with open(os.path.join(folder, tool), "w") as file:
                 file.write('#!/bin/sh\nexec ucspi %s "$@"\n' % tool)
             os.chmod(os.path.join(folder, tool), 0o755)
-        subprocess.run([program, "tcprules", "rules.cdb", "rules.tmp"], input=rules.encode(), cwd=folder, check=True, timeout=60)
+        subprocess.run([program, "tcprules", "rules.cdb", "rules.tmp"], input=rules.encode(), cwd=folder, check=True, timeout=600)
         environment = {"PATH": folder + ":" + os.environ["PATH"]}
         for command, wanted in examples(page):
             ended = subprocess.run(
-                ["sh", "-c", command], cwd=folder, env=environment, stdout=subprocess.PIPE, stderr=subprocess.STDOUT, timeout=60
+                ["sh", "-c", command], cwd=folder, env=environment, stdout=subprocess.PIPE, stderr=subprocess.STDOUT, timeout=600
             )
             lines = ended.stdout.decode().splitlines()
             checks.expect("%s: %s" % (page.name, command), sorted(line.rstrip() for line in wanted), sorted(line.rstrip() for line in lines))
@@ -455,6 +482,7 @@ def check(program, failures):
     check_rules_page(checks)
     for page in pages:
         check_form(checks, page, pages)
+        check_terms(checks, page)
     if os.path.exists(program):
         for page in pages:
             check_examples(checks, program, page)

@@ -44,7 +44,7 @@ class Names(Checks):
     def run(self, words, given=b"", **how):
         environment = {"PATH": self.bin + ":" + os.environ["PATH"], "TCPREMOTEIP": "10.1.2.3", "TCPREMOTEPORT": "1024"}
         ended = subprocess.run(
-            words, input=given, cwd=self.here, env=environment, stdout=subprocess.PIPE, stderr=subprocess.PIPE, timeout=60, **how
+            words, input=given, cwd=self.here, env=environment, stdout=subprocess.PIPE, stderr=subprocess.PIPE, timeout=600, **how
         )
         return ended.returncode, ended.stdout, ended.stderr
 
@@ -57,7 +57,7 @@ def tools_of(program):
     """The tools that the program has."""
     tools = []
     for tool in TOOLS:
-        ended = subprocess.run([program, tool, b"\xff"], stdin=subprocess.DEVNULL, stdout=subprocess.PIPE, stderr=subprocess.PIPE, timeout=60)
+        ended = subprocess.run([program, tool, b"\xff"], stdin=subprocess.DEVNULL, stdout=subprocess.PIPE, stderr=subprocess.PIPE, timeout=600)
         if not ended.stderr.startswith(b"ucspi: "):
             tools.append(tool)
     return tools
@@ -130,13 +130,13 @@ def check_about(names, tools):
             names.expect("words %s" % words, names.run(["ucspi"] + words), (100, b"", usage_line))
         names.expect("addcr " + word, names.called("addcr", [word]), (100, b"", usage("addcr")))
         with open("/dev/full", "wb") as full:
-            ended = subprocess.run([os.path.join(names.bin, "ucspi"), word], stdout=full, stderr=subprocess.PIPE, timeout=60)
+            ended = subprocess.run([os.path.join(names.bin, "ucspi"), word], stdout=full, stderr=subprocess.PIPE, timeout=600)
         names.expect(word + " on a full device", (ended.returncode, ended.stderr), (111, b"ucspi: write fault\n"))
 
 
 def make(target, program, folder):
     words = ["make", "-s", "-o", program, "PROGRAM=" + program, "DESTDIR=" + folder, "PREFIX=/usr", target]
-    return subprocess.run(words, cwd=TOP, stdout=subprocess.PIPE, stderr=subprocess.STDOUT, timeout=60)
+    return subprocess.run(words, cwd=TOP, stdout=subprocess.PIPE, stderr=subprocess.STDOUT, timeout=600)
 
 
 def check_uninstall(names, program, folder):

@@ -71,6 +71,10 @@ SCRIPTS = {
         b"event started 1\nevent retired 1\nevent dropped 2\nreplay\nevent admitted 3 1.1.1.1\nevent admitted 4 1.1.1.1\nreplay\n"
         b"event stop\nevent phase fresh\nreplay\nevents 1\nevent admitted 1 2.2.2.2\nevent stop\nreplay\n"
     ),
+    "a log": (
+        b"|=.example:deny\n|1.1.1.:deny\ninstall\nverdicts\ntcpserver: ok 1 :1.1.1.1:25 a.B.example:2.2.2.2::1\ntcpserver: status: 1/40\n"
+        b"tcpserver: ok 2 :1.1.1.1:25 a?b:2.2.2.2::1\ntcpserver: deny 3 here:1.1.1.1:25 :2.2.2.2:joe:1\ntcpserver: ok 4 :1.1.1.1:25 :1.1.1.9::1\n"
+    ),
     "a bad command": b"|:deny\ninstall\nask 1.1.1.1\nask 1.1\n",
 }
 OLD = b":deny\n"

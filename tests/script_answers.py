@@ -217,7 +217,7 @@ class Scripts:
         """What a run of `rulesim` writes to both outputs, and its exit code."""
         self.tests += 1
         with tempfile.TemporaryFile() as output:
-            ended = subprocess.run([self.program, "rulesim"], stdout=output, stderr=subprocess.PIPE, timeout=60, **how)
+            ended = subprocess.run([self.program, "rulesim"], stdout=output, stderr=subprocess.PIPE, timeout=600, **how)
             output.seek(0)
             return output.read().decode("latin-1"), ended.stderr.decode(), ended.returncode
 

@@ -5,6 +5,9 @@ import os
 import socket
 import sys
 
+import failed_calls
+import refused_memory
+import rule_files
 import server_runs
 
 SERVE = ["127.0.0.1", "0", "true"]
@@ -79,9 +82,81 @@ def starts(suite):
                     suite.audit("a cause of %s" % program, server)
 
 
-CHECKS = [usage, faults_of_words, faults_of_the_start, starts]
+def lines_of_one(suite, name, options, path, line, cause, **how):
+    """One client is dropped with this line, and behind it under -v alone with that of this cause."""
+    for level, wanted in (("-v", [line] + ["cause: %s" % cause] * bool(cause) + ["status: 0/1"]), ("-Q", [line]), ("-q", [])):
+        with suite.start([level, "-c", "1", "-k", "1", "-x", path] + options, ["true"], **how) as server:
+            suite.expect("the client of " + name, server.ask(), b"")
+            ended, lines = server.end(), server.all_lines()
+            lines = lines[lines.index(line):] if line in lines else lines
+            suite.expect("the lines of %s under %s" % (name, level), (ended, lines), (0, wanted))
+            if level == "-v":
+                suite.audit("the cause of " + name, server)
+
+
+def drops(suite):
+    """Rules that can't be opened or read: the path, and the system's words; a rule that is none: its address."""
+    folder, pipe, circle = (suite.path("drop-" + name) for name in ("folder", "pipe", "circle"))
+    os.mkdir(folder)
+    os.mkfifo(pipe)
+    os.symlink(circle, circle)
+    for path, why in ((folder, "Is a directory"), (pipe, "Invalid argument"), (circle, "Too many levels of symbolic links")):
+        for options in ([], ["-X"]):
+            lines_of_one(suite, "the rules at " + path, options, path, "drop 1 directory fault", path + ": " + why)
+    path = suite.install(":allow\n", "drop.cdb")
+    library = refused_memory.library(suite.folder, rule_files.FAULTS, "faults")
+    how = {"env": dict(os.environ, LD_PRELOAD=library, FAILED_READ="1")}
+    lines_of_one(suite, "rules that can't be read", ["-N", "/dev/null"], path, "drop 1 rules read fault", path + ": Input/output error", **how)
+    for key, value in ((b"127.0.", b"+A=caf\xe9\0"), (b"127.0.", b"+A\0"), (b"127.0.", b"x"), (b"", b"x")):
+        path = suite.path("drop-rule.cdb", rule_files.cdb([(b"10.", b"D"), (key, value), (b"128.", b"D")]))
+        lines_of_one(suite, "a rule %r" % value, [], path, "drop 1 rules damaged", "%s: damaged rule" % key.decode())
+    path = suite.path("drop-cut.cdb", rule_files.cdb([(b"", b"D")])[:2049])
+    lines_of_one(suite, "rules that are cut", [], path, "drop 1 rules damaged", None)
+
+
+def accepting(suite):
+    """What ends a server that can accept nobody: the address, and the system's words."""
+    run = failed_calls.Library(suite.folder).run("accept4", "EPROTO", 1, failed_calls.ALL)
+    for level in ("-v", "-q"):
+        with suite.start([level, "-c", "1"], ["true"], env=dict(os.environ, **run.environment), may_end=True) as server:
+            wanted = ["accept fault"] + ["cause: 127.0.0.1:0: Protocol error"] * (level == "-v")
+            client = server.connect() if server.port else None
+            suite.expect("the end of one that accepts nobody, under " + level, server.end(), 111)
+            suite.expect("its lines under " + level, [line for line in server.all_lines() if "status" not in line], wanted)
+            if client:
+                client.close()
+
+
+NAMES = "rules by name, and no names"
+
+
+def named_rules(suite):
+    """Rules by a host's or a user's name decide nobody without a host table: under -v the log begins by that."""
+    table = suite.path("hosts", "127.0.0.1 a.example\n")
+    for text, told in (
+        ("=a.example:deny\n:allow\n", True), ("=.example:deny\n:allow\n", True), ("=:allow\n:deny\n", True),
+        ("joe@127.0.0.1:deny\n:allow\n", True), ("127.0.0.1-9:allow\n=b.example:deny\n", True),
+        (":allow\n", False), ('127.:allow,A="=@"\n:deny\n', False), ("", False),
+        ("".join("10.%d.%d.%d:deny\n" % (n >> 16, n >> 8 & 255, n & 255) for n in range(5000)) + "=x:allow\n:allow\n", True),
+    ):
+        path = suite.install(text, "named.cdb")
+        for options, may in ((["-v"], True), (["-Q"], False), (["-q"], False), (["-v", "-N", table], False)):
+            with suite.start(options + ["-c", "1", "-k", "1", "-x", path], ["true"]) as server:
+                server.ask()
+                suite.expect("the end under %r" % options, server.end(), 0)
+                lines = server.all_lines()
+                suite.expect("%r under %r" % (text[:40], options), (lines.count(NAMES), lines[:1] == [NAMES]), (1, True) if told and may else (0, False))
+                if told and options == ["-v"]:
+                    suite.audit("rules by name", server)
+    for path in (suite.path("named-absent"), suite.path("named-cut.cdb", b"\xff" * 5000), suite.path("named-short.cdb", b"\x00\x09")):
+        with suite.start(["-v", "-c", "1", "-k", "1", "-x", path], ["true"]) as server:
+            server.ask()
+            suite.expect("no warning of " + path, (server.end(), NAMES in server.all_lines()), (0, False))
+
+
+CHECKS = [usage, faults_of_words, faults_of_the_start, starts, drops, accepting, named_rules]
 COMMON = []
-HANDED = [starts]
+HANDED = [starts, drops]
 
 if __name__ == "__main__":
     sys.exit(server_runs.main(sys.modules["__main__"]))

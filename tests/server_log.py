@@ -91,7 +91,7 @@ def dropped(suite):
     path = suite.install(":allow\n")
     library = refused_memory.library(suite.folder, rule_files.FAULTS, "faults")
     how = {"env": dict(os.environ, LD_PRELOAD=library, FAILED_READ="1")}
-    single(suite, "rules that can't be read", ["-x", path], ["true"], COMES + ["drop 1 rules read fault"] + FREE, **how)
+    single(suite, "rules that can't be read", ["-N", "/dev/null", "-x", path], ["true"], COMES + ["drop 1 rules read fault"] + FREE, **how)
 
 
 def lost_banner(suite):
@@ -290,8 +290,8 @@ def audits(suite):
     ]
     script = os.path.join(server_runs.TOP, "tests", "log_events.py")
     for log, wanted, code in cases:
-        words = subprocess.run([sys.executable, script], input=log, stdout=subprocess.PIPE, stderr=subprocess.DEVNULL, timeout=60)
-        ended = subprocess.run([suite.program, "rulesim"], input=words.stdout, stdout=subprocess.PIPE, timeout=60)
+        words = subprocess.run([sys.executable, script], input=log, stdout=subprocess.PIPE, stderr=subprocess.DEVNULL, timeout=server_runs.WAIT)
+        ended = subprocess.run([suite.program, "rulesim"], input=words.stdout, stdout=subprocess.PIPE, timeout=server_runs.WAIT)
         suite.expect("the log %r" % log, (ended.stdout.decode().strip(), words.returncode), (wanted, code))
 
 
@@ -302,7 +302,7 @@ def audits_of_ends(suite):
     log += "status: 1/3\nstatus: 2/3\npid 3 from 2.2.2.2\ndeny 3 :0.0.0.0:1 :2.2.2.2::3\nstatus: 1/3\nstatus: 0/3\n"
     events = log_events.Events(re.sub("(?m)^", "tcpserver: ", log).encode(), 1)
     suite.expect("denied ends", [event for event in events.events if event.startswith("dropped")], ["dropped 2", "dropped 1", "dropped 3"])
-    ended = subprocess.run([suite.program, "rulesim"], input=events.script().encode(), stdout=subprocess.PIPE, timeout=60)
+    ended = subprocess.run([suite.program, "rulesim"], input=events.script().encode(), stdout=subprocess.PIPE, timeout=server_runs.WAIT)
     suite.expect("the replay of denied ends", ended.stdout.decode(), "admitted 3 live 0 retired 0 most 2\n")
 
 

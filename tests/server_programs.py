@@ -86,7 +86,7 @@ def config(suite, name, text, **more):
 def command(words, **how):
     """Runs a client to its end: its exit code and what it printed."""
     how.setdefault("stdin", subprocess.DEVNULL)
-    ended = subprocess.run(words, stdout=subprocess.PIPE, stderr=subprocess.STDOUT, timeout=30, **how)
+    ended = subprocess.run(words, stdout=subprocess.PIPE, stderr=subprocess.STDOUT, timeout=server_runs.WAIT, **how)
     return ended.returncode, ended.stdout.decode("utf-8", "replace")
 
 
@@ -94,7 +94,6 @@ def dialogue(server, lines, source="127.0.0.1"):
     """The codes of the answers to these lines of a protocol with codes, that of its greeting first; None where the connection ended."""
     codes = []
     with server.connect(source) as client, client.makefile("rb") as answers:
-        client.settimeout(20)
         for line in [None] + lines:
             if line is not None:
                 client.sendall(line + b"\r\n")

@@ -5,6 +5,7 @@ import os
 import pwd
 import queue
 import stat
+import subprocess
 import sys
 import threading
 
@@ -210,6 +211,50 @@ def changing_places(suite):
         suite.audit("a path whose file changes", server)
 
 
+def held_opens(suite, **words):
+    """The environment of a server whose opens of its rules are held up by force (`held_opens.c`). It has to have a host table, since a server without one
+    looks for names in its rules at the start."""
+    library = suite.path("held_opens.so")
+    if not os.path.exists(library):
+        source = os.path.join(server_runs.TOP, "tests", "held_opens.c")
+        subprocess.run(["gcc", "-O1", "-fPIC", "-shared", "-o", library, source, "-ldl"], check=True)
+    return {"env": dict(os.environ, LD_PRELOAD=library, **{"HELD_" + name.upper(): str(value) for name, value in words.items()})}
+
+
+def opened_side_by_side(suite):
+    """Each connection opens the rules for itself: an open that goes on only once five are under way holds up none of five clients."""
+    path = suite.install("127.0.0.2:deny\n:allow\n", "side.cdb")
+    how = held_opens(suite, path=path, mark=suite.path("opens"), until=5)
+    with suite.start(["-v", "-N", "/dev/null", "-c", "5", "-x", path], ["echo", "hi"], **how) as server:
+        clients = [server.connect("127.0.0.%d" % number) for number in (1, 2, 3, 4, 5)]
+        got = [read_all(client) for client in clients]
+        suite.expect("five clients at once", got, [b"hi\n", b"", b"hi\n", b"hi\n", b"hi\n"])
+        server.idle()
+        suite.audit("opens side by side", server)
+
+
+def pipe_in_between(suite):
+    """A named pipe that comes into the place of the rules after they were looked at holds up the one connection that opens it, and nobody else;
+    once somebody writes to the pipe it is a directory fault."""
+    path, pipe = suite.install(":allow\n", "between.cdb"), suite.path("a-pipe")
+    os.mkfifo(pipe, 0o644)
+    with suite.start(["-v", "-N", "/dev/null", "-c", "2", "-x", path], ["echo", "hi"], **held_opens(suite, path=path, pipe=pipe)) as server:
+        held = server.connect()
+        server_runs.wait_until("the pipe in the place of the rules", lambda: stat.S_ISFIFO(os.stat(path).st_mode))
+        suite.expect("a client while the pipe stands there", server.ask(), b"")
+        server.wait_line("drop 2 directory fault")
+        os.rename(path, pipe)
+        suite.install(":allow\n", "between.cdb")
+        for _ in range(3):
+            suite.expect("a client once the rules stand there again", server.ask(), b"hi\n")
+        suite.expect("the first client waits", any(line.startswith("drop 1 ") for line in server.lines()), False)
+        os.close(os.open(pipe, os.O_WRONLY))
+        suite.expect("the first client", read_all(held), b"")
+        server.wait_line("drop 1 directory fault")
+        server.idle()
+        suite.audit("a pipe in between", server)
+
+
 def folder_that_goes(suite):
     """The folder of the rules goes, and comes back."""
     folder = suite.path("goes")
@@ -259,10 +304,10 @@ def unreadable(suite):
 
 
 CHECKS = [
-    new_rules, old_rules, each_address, many_rules, damaged, changing_places, folder_that_goes, unreadable, installed_meanwhile,
+    new_rules, old_rules, each_address, many_rules, damaged, changing_places, opened_side_by_side, pipe_in_between, folder_that_goes, unreadable, installed_meanwhile,
 ]
 COMMON = [new_rules, old_rules, each_address, many_rules, installed_meanwhile]
-HANDED = [new_rules, old_rules, each_address, installed_meanwhile]
+HANDED = [new_rules, old_rules, each_address, opened_side_by_side, pipe_in_between, installed_meanwhile]
 
 if __name__ == "__main__":
     sys.exit(server_runs.main(sys.modules["__main__"]))

@@ -13,9 +13,10 @@ import time
 import server_runs
 from server_runs import read_all
 
-# seconds
+# seconds: the bound; how much more is waited for what the bound ends; and how long past it something is looked at that has no bound
 BOUND = 60
-SLACK = 10
+SLACK = 30
+MORE = 8
 SILENT, OTHER = "127.0.0.2", "127.0.0.3"
 # one client's program writes until it is stopped, with more on its way than anything takes; all others are greeted
 PROGRAM = ["sh", "-c", 'test "$TCPREMOTEIP" = %s || exec echo hi; timeout 1 cat /dev/zero; exit 5' % SILENT]
@@ -111,7 +112,7 @@ def late_but_in_time(suite):
 def program_that_waits(suite):
     """While its program runs a silent client has no bound: the program waits for it."""
     with suite.start(["-v", "-c", "1"], ["yes"]) as server, small(server, SILENT) as client:
-        time.sleep(BOUND + SLACK)
+        time.sleep(BOUND + MORE)
         alive = server.live(), server.lines()[-1].split()[0]
         got = 0
         while got < 10000000:
@@ -125,9 +126,9 @@ def program_that_waits(suite):
 
 def holder_that_waits(suite):
     """While a process that was left behind holds the output a silent client has no bound."""
-    script = "(sleep %d; echo late) & timeout 1 cat /dev/zero; exit 0" % (BOUND + 6)
+    script = "(sleep %d; echo late) & timeout 1 cat /dev/zero; exit 0" % (BOUND + MORE - 2)
     with suite.start(["-v", "-c", "1"], ["sh", "-c", script]) as server, small(server, SILENT) as client:
-        time.sleep(BOUND + 8)
+        time.sleep(BOUND + MORE)
         alive, last = server.live(), b""
         while piece := client.recv(65536):
             last = (last + piece)[-5:]

@@ -43,7 +43,7 @@ def send(connection, text):
 def through(server, text):
     """Sends a text while what comes back is read: how much that is, and its hash."""
     with server.connect() as client:
-        client.settimeout(60)
+        client.settimeout(server_runs.WAIT)
         sender = threading.Thread(target=send, args=(client, text), daemon=True)
         sender.start()
         got = digest_of(client)

@@ -56,13 +56,14 @@ PROGRAMS = [
 ERRORS = b"""tcpserver: start 2 not found
 tcpserver: start 3 no pipe ends
 tcpserver: retired 4
-tcpserver: drop 5 banner fault
+tcpserver: drop 5 directory fault
 tcpserver: drop 10.0.2.7 address full
 tcpserver: out of memory
 """
 
 # all lines
-ALL = b"""tcpserver: status: 0/40
+ALL = b"""tcpserver: rules by name, and no names
+tcpserver: status: 0/40
 tcpserver: status: 1/40
 tcpserver: pid 1 from 10.0.2.7
 tcpserver: ok 1 mail.example:10.0.0.1:25 relay.example:10.0.2.7::41190
@@ -74,7 +75,8 @@ tcpserver: status: 3/40
 tcpserver: start 3 no pipe ends
 tcpserver: retired 4
 tcpserver: status: 2/40
-tcpserver: drop 5 banner fault
+tcpserver: drop 5 directory fault
+tcpserver: cause: rules.cdb: Permission denied
 tcpserver: status: 1/40
 tcpserver: status: 0/40
 tcpserver: drop 10.0.2.7 address full

@@ -11,6 +11,8 @@ import tempfile
 import threading
 import time
 
+# how long what ends within a second or so is waited for, in seconds
+LIMIT = 600
 USAGE = {
     "addcr": b"addcr: usage: addcr\n",
     "delcr": b"delcr: usage: delcr\n",
@@ -70,7 +72,7 @@ class Streams:
         how.setdefault("stdout", subprocess.PIPE)
         if "stdin" not in how:
             how["input"] = given
-        return subprocess.run([self.program] + words, stderr=subprocess.PIPE, timeout=120, **how)
+        return subprocess.run([self.program] + words, stderr=subprocess.PIPE, timeout=LIMIT, **how)
 
     def expect(self, name, ended, code, output, errors=b""):
         self.tests += 1
@@ -171,22 +173,32 @@ class Streams:
         zeroth = self.run(["fixcrio", "sh", "-c", "tr '\\0' '\\n' < /proc/$$/cmdline | head -n 1"])
         self.expect("argument 0", zeroth, 0, b"sh\r\n")
 
+    @staticmethod
+    def state_once(number, wanted):
+        """The state of a process, once it is this one; or what it is after a long while."""
+        end = time.monotonic() + LIMIT
+        while True:
+            with open("/proc/%d/stat" % number, "rb") as stat:
+                state = stat.read().rsplit(b")", 1)[1].split()[0]
+            if state == wanted or time.monotonic() > end:
+                return state
+            time.sleep(0.01)
+
     def check_stopped_program(self):
         """A program that is stopped, and told of, has not ended: the tool waits until it was killed."""
         with tempfile.TemporaryDirectory() as folder:
             program = os.path.join(folder, "traced")
             source = os.path.join(os.path.dirname(os.path.abspath(__file__)), "traced_child.c")
-            subprocess.run(["gcc", "-O2", "-o", program, source], check=True, timeout=60)
+            subprocess.run(["gcc", "-O2", "-o", program, source], check=True, timeout=LIMIT)
             for tool in ("fixcrio", "recordio"):
                 how = {"stdin": subprocess.DEVNULL, "stdout": subprocess.PIPE, "stderr": subprocess.DEVNULL}
                 with subprocess.Popen([self.program, tool, program], **how) as waiting:
                     number = int(waiting.stdout.readline())
+                    state = self.state_once(number, b"t")
                     time.sleep(0.5)
                     early = waiting.poll()
-                    with open("/proc/%d/stat" % number, "rb") as stat:
-                        state = stat.read().rsplit(b")", 1)[1].split()[0]
                     os.kill(number, signal.SIGKILL)
-                    code = waiting.wait(60)
+                    code = waiting.wait(LIMIT)
                 self.tests += 1
                 if (early, state, code) != (None, b"t", 111):
                     self.failures.append("%s with a stopped program: %r" % (tool, (early, state, code)))
@@ -208,7 +220,7 @@ class Streams:
             self.expect(tool + ": a closed pipe", ended, 111, None, name + b": write fault\n")
             for close, fault in (("<&-", b": read fault\n"), (">&-", b": write fault\n")):
                 shell = ["sh", "-c", 'echo a | { "$0" %s %s; }' % (tool, close), self.program]
-                ended = subprocess.run(shell, stdout=subprocess.PIPE, stderr=subprocess.PIPE, timeout=60)
+                ended = subprocess.run(shell, stdout=subprocess.PIPE, stderr=subprocess.PIPE, timeout=LIMIT)
                 self.expect(tool + ": without a descriptor", ended, 111, b"", name + fault)
         with tempfile.TemporaryDirectory() as folder:
             descriptor = os.open(folder, os.O_RDONLY)
@@ -220,10 +232,10 @@ class Streams:
         os.close(writing)
         self.expect("fixcrio: a closed pipe", ended, 4, None)
         shell = ["sh", "-c", 'echo a | { "$0" fixcrio sh -c "cat; exit 6" >&-; }', self.program]
-        ended = subprocess.run(shell, stdout=subprocess.PIPE, stderr=subprocess.PIPE, timeout=60)
+        ended = subprocess.run(shell, stdout=subprocess.PIPE, stderr=subprocess.PIPE, timeout=LIMIT)
         self.expect("fixcrio: without standard output", ended, 6, b"")
         shell = ["sh", "-c", '"$0" fixcrio sh -c "cat; exit 7" <&-', self.program]
-        ended = subprocess.run(shell, stdout=subprocess.PIPE, stderr=subprocess.PIPE, timeout=60)
+        ended = subprocess.run(shell, stdout=subprocess.PIPE, stderr=subprocess.PIPE, timeout=LIMIT)
         self.expect("fixcrio: without standard input", ended, 7, b"")
 
     def check_records(self):
@@ -274,7 +286,7 @@ class Streams:
             time.sleep(0.0005)
         os.close(writing)
         for thread in (giver, reader):
-            thread.join(60)
+            thread.join(LIMIT)
         lines = b"".join(got).splitlines(True)
         others = [line for line in lines if line.startswith(b"other")]
         wrong = [line for line in lines if not re.fullmatch(rb"other \d+\n|0 [<>] (a*|b*|\[EOF\])[ +]?\n", line)]
@@ -293,7 +305,7 @@ class Streams:
                     typed.stdin.write(line)
                     typed.stdin.flush()
                     got.append(typed.stdout.readline())
-                typed.communicate(timeout=60)
+                typed.communicate(timeout=LIMIT)
             if tuple(got) != answers or typed.returncode != 0:
                 self.failures.append("%s line by line: %r" % (words, got))
 
@@ -308,7 +320,7 @@ class Streams:
                 os.close(writing)
                 self.expect("%s ends with its program: %s" % (tool, ends), ended, code, b"", ended.stderr)
             here, there = socket.socketpair()
-            here.settimeout(60)
+            here.settimeout(LIMIT)
             with subprocess.Popen([self.program, tool, "sh", "-c", "echo bye"], stdin=there, stdout=there, stderr=subprocess.DEVNULL) as tied:
                 there.close()
                 got = b""
@@ -318,7 +330,7 @@ class Streams:
                     if not piece:
                         break
                 self.tests += 1
-                if (tied.wait(60), got) != (0, fixed(b"bye\n") if tool == "fixcrio" else b"bye\n"):
+                if (tied.wait(LIMIT), got) != (0, fixed(b"bye\n") if tool == "fixcrio" else b"bye\n"):
                     self.failures.append("%s over a socket that stays open: %r" % (tool, (tied.returncode, got)))
             here.close()
 
@@ -354,8 +366,8 @@ class Streams:
             for thread in threads:
                 thread.start()
             for thread in threads:
-                thread.join(60)
-            return process.wait(60), got[1], got[2]
+                thread.join(LIMIT)
+            return process.wait(LIMIT), got[1], got[2]
 
     def check_non_blocking(self):
         """A standard descriptor that was left non-blocking is waited for: each tool does what it does over those that block."""
@@ -398,7 +410,7 @@ class Streams:
                 with os.fdopen(taking, "rb") as stream:
                     found = stream.read()
                 self.tests += 1
-                if (process.wait(60), found) != (100, b"x" * full + line):
+                if (process.wait(LIMIT), found) != (100, b"x" * full + line):
                     self.failures.append("%s with a full standard error: %r" % (words, found[full:]))
 
     def check_ignored_children(self):

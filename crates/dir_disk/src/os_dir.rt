@@ -167,8 +167,16 @@ where
     /// As of `new`.
     pub fn find(alloc: Global, files: R, folder: &str) -> Result<Self, FolderError> {
         find_folder(&files, folder)?;
+        Ok(DiskDir::at(alloc, files, folder)?)
+    }
+
+    /// The same, without a look at what stands there: the calls that follow tell.
+    ///
+    /// # Errors
+    /// Want of memory.
+    pub fn at(alloc: Global, files: R, folder: &str) -> Result<Self, AllocError> {
         let disk = SystemDisk::new(alloc, files, folder)?;
-        Ok(DiskDir::over(alloc, disk)?)
+        DiskDir::over(alloc, disk)
     }
 }
 

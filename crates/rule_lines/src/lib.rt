@@ -11,7 +11,7 @@ pub mod limits;
 pub mod lines;
 pub mod list;
 pub mod source;
-mod spread;
+pub mod spread;
 pub mod text;
 
 pub use code::{CodeFault, DecodeFault, decode_instr, encode_instr};

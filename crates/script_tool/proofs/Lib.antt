@@ -1,7 +1,10 @@
+pub mod AskLemmas
 pub mod DecideLemmas
 pub mod GoLemmas
 pub mod InstallLemmas
 pub mod KeptLemmas
+pub mod LogCases
+pub mod LogLemmas
 pub mod ProgressLemmas
 pub mod ReaderLemmas
 pub mod RunLemmas

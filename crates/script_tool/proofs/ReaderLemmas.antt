@@ -1,5 +1,5 @@
 -- The files that stand, and those that readers opened.
-use Rattle.std.proofs.Common.{◌≡◌, Bool, true, false, cond, List, ℕ, None, Some, Option, String, bytes_eq, slice_get, refl, sym, ap, subst, ◌∙◌}
+use Rattle.std.proofs.Common.{◌≡◌, Bool, true, false, cond, List, [], ℕ, None, Some, Option, String, bytes_eq, slice_get, refl, sym, ap, subst, ◌∙◌}
 use Rattle.std.proofs.lemmas.Bool.Decides.{Decides-like, same_from_decides}
 use Rattle.std.proofs.lemmas.Option.{none-some, same_Some}
 use Rattle.std.proofs.lemmas.Slice.Eq.{bytes_eq-Decides}
@@ -11,6 +11,11 @@ use Rattle.std.specs.Ordering.{nat_cmp}
 use Rattle.std.specs.String.{string_bytes}
 use Rattle.dir_calls.specs.Directory.{Directory, FileState, content, names_of}
 use Rattle.script_tool.specs.Kept.{IsFileOf, Reads, Shows, sim_names}
+use Rattle.rule_lines.specs.Settings.{Assignment}
+use Rattle.rule_lines.specs.declared.instr.Verdict.TheVariants.{Deny}
+use Rattle.rule_lookup.specs.declared.decision.Found.TheVariants.{NoFile}
+use Rattle.rule_lookup.specs.Peers.{Client}
+use Rattle.script_tool.specs.Logs.{decided_now}
 use Rattle.script_tool.specs.Sim.{with_reader}
 
 -- an empty map has no readers
@@ -62,3 +67,14 @@ module _ {Y : Type 0} (map new : BTreeMap (String Y) (List ℕ)) (readers : List
       let chosen = Reads-chosen (bytes_eq other name) file read.of (get_by_text map other) (readers other) read.file_of (reads other) in
       let at : Reads (get_by_text new other) (with_reader name (Some read.of) readers other) = subst (λ (found : Option (List ℕ)). Reads found (with_reader name (Some read.of) readers other)) (sym (updated_by other)) chosen in
       subst (λ (text : Option (List ℕ)). Reads (get_by_text new other) (with_reader name text readers other)) (sym read.is) at
+
+-- without a file there is no text
+pub Reads-none : (found text : Option (List ℕ)) → found ≡ None → Reads found text → text ≡ None
+Reads-none None None is reads = refl
+Reads-none None (Some text) is reads = absurd reads
+Reads-none (Some file) text is reads = absurd (none-some file (sym is))
+
+-- and the decision is that of a missing file
+pub decided_without : (text : Option (List ℕ)) (settings : List Assignment) (peer : Client) → text ≡ None → settings ≡ [] → record { found = NoFile; verdict = Deny; settings = settings } ≡ decided_now text peer
+decided_without text settings peer none empty =
+    ap (λ (s : List Assignment). record { found = NoFile; verdict = Deny; settings = s }) empty ∙ sym (ap (λ (t : Option (List ℕ)). decided_now t peer) none)

@@ -4,14 +4,21 @@ use Rattle.std.proofs.lemmas.List.{append-nil, append_assoc}
 use Rattle.std.proofs.lemmas.Bool.{eqb-true, lt-ltb}
 use Rattle.std.specs.Io.BufRead.{take_through, drop_through, strip_last, DropsThrough}
 use Rattle.std.specs.Io.KnownBytes.{Appends, IsAtEnd}
-use Rattle.rule_lines.specs.Lines.{empty_line, lines_of, onto_line}
-use Rattle.std.specs.Prelude.{Ok, Err}
+use Rattle.rule_lines.specs.Lines.{Line, empty_line, lines_of, onto_line}
+use Rattle.std.specs.Prelude.{Result, Ok, Err}
 use Rattle.script_tool.specs.declared.sim.SimFault.{SimFault}
-use Rattle.script_tool.specs.declared.sim.SimFault.TheVariants.{BadCommand, ReadFault, OutOfMemory}
-use Rattle.script_tool.specs.Commands.{Carries}
+use Rattle.script_tool.specs.declared.sim.SimFault.TheVariants.{BadCommand, ReadFault, WriteFault, OutOfMemory}
+use Rattle.script_tool.specs.declared.sim.LineOutcome.{LineOutcome}
+use Rattle.script_tool.specs.Commands.{Carries, Leads}
 use Rattle.script_tool.specs.Kept.{IsAt}
 use Rattle.script_tool.specs.declared.simulation.Simulation.{Simulation}
-use Rattle.script_tool.specs.Sim.{State, start, after, command_at, printed, Run, printing, run_line, run_from, sim, Prints, PrintsFront}
+use Rattle.script_tool.specs.Sim.{State, start, after, command_at, printed, Run, printing, run_line, run_log, run_from, sim, Prints, PrintsFront}
+use Rattle.script_words.specs.Scripts.{Verdicts}
+
+-- what became of a line, in other words for it and for the line
+pub leads_to : (became named : LineOutcome) → became ≡ named → (line text : List ℕ) → line ≡ text → (kept now : Simulation) → ((state : State) → IsAt kept state → Leads (strip_last 10 line) state now became) → (state : State) → IsAt kept state → Leads (strip_last 10 text) state now named
+leads_to became named is line text same kept now leads state at =
+    subst (λ (l : List ℕ). Leads (strip_last 10 l) state now named) same (subst (λ (o : LineOutcome). Leads (strip_last 10 line) state now o) is (leads state at))
 
 -- a front before the last byte is no part of what is stripped
 cond-onto : (x : ℕ) (b : Bool) (before all : List ℕ) → cond b (x ∷ before) (x ∷ all) ≡ x ∷ cond b before all
@@ -82,14 +89,14 @@ first_line x [] = only x (eqb x 10) refl
 first_line x (y ∷ ys) = first_byte x y ys (eqb x 10) refl (first_line y ys)
 
 -- what was written adds up
-Appends-more : (before now then' : Option (List ℕ)) (xs ys : List ℕ) → Appends before now xs → Appends now then' ys → Appends before then' (xs ++ ys)
+pub Appends-more : (before now then' : Option (List ℕ)) (xs ys : List ℕ) → Appends before now xs → Appends now then' ys → Appends before then' (xs ++ ys)
 Appends-more None now then' xs ys first second = tt
 Appends-more (Some all) None then' xs ys first second = absurd first
 Appends-more (Some all) (Some more) None xs ys first second = absurd second
 Appends-more (Some all) (Some more) (Some most) xs ys first second =
     second ∙ ap (λ (zs : List ℕ). zs ++ ys) first ∙ append_assoc all xs ys
 
-Appends-none : (before : Option (List ℕ)) → Appends before before []
+pub Appends-none : (before : Option (List ℕ)) → Appends before before []
 Appends-none None = tt
 Appends-none (Some all) = sym (append-nil all)
 
@@ -142,6 +149,27 @@ printing-twice : (xs ys : List ℕ) (run : Run) → printing (xs ++ ys) run ≡ 
 printing-twice xs ys run =
     ap (λ (text : List ℕ). record { output = text; bad = run.bad }) (append_assoc xs ys run.output)
 
+-- what a run prints after what was written before
+PrintsFront-after : (before now later : Option (List ℕ)) (done : List ℕ) (run : Run) → Appends before now done → PrintsFront now later run → PrintsFront before later (printing done run)
+PrintsFront-after before now later done run written prints = record {
+  front = done ++ prints.front;
+  rest = prints.rest;
+  written = Appends-more before now later done prints.front written prints.written;
+  all = ap (λ (text : List ℕ). done ++ text) prints.all ∙ sym (append_assoc done prints.front prints.rest);
+}
+
+pub Prints-after : (before now later : Option (List ℕ)) (done : List ℕ) (run : Run) (result : Result (Unit {0}) SimFault) → Appends before now done → Prints now later run result → Prints before later (printing done run) result
+Prints-after before now later done run (Ok end) written prints = (Appends-more before now later done run.output written prints.0, prints.1)
+Prints-after before now later done run (Err (BadCommand n)) written prints = (Appends-more before now later done run.output written prints.0, prints.1)
+Prints-after before now later done run (Err ReadFault) written prints = PrintsFront-after before now later done run written prints
+Prints-after before now later done run (Err WriteFault) written prints = tt
+Prints-after before now later done run (Err OutOfMemory) written prints = PrintsFront-after before now later done run written prints
+
+-- without memory to begin with a log nothing of it is printed
+pub no_memory_for_log : (before : Option (List ℕ)) (state : State) (rest : Option (List ℕ)) → IfSome rest (λ log. Prints before before (run_log state (lines_of log)) (Err OutOfMemory))
+no_memory_for_log before state None = tt
+no_memory_for_log before state (Some log) = record { front = []; rest = (run_log state (lines_of log)).output; written = Appends-none before; all = refl }
+
 -- a line more, which was carried out
 module _ (before now rest : Option (List ℕ)) (script : List ℕ) (n : ℕ) (kept : Simulation) (so_far : RunsOn before now rest script n kept) where
   pub runs_to_end : IsAtEnd rest → Prints before now (sim script) (Ok tt)
@@ -152,16 +180,19 @@ module _ (before now rest : Option (List ℕ)) (script : List ℕ) (n : ℕ) (ke
         nothing_left over = rw so_far.remains at over
 
   module _ (line : List ℕ) (x : ℕ) (xs : List ℕ) (left_is : so_far.left ≡ x ∷ xs) (line_is : line ≡ take_through 10 (x ∷ xs)) where
-    next : run_from n (lines_of so_far.left) so_far.state ≡ run_line n (command_at so_far.state (strip_last 10 line)) so_far.state (run_from (n + 1) (lines_of (drop_through 10 (x ∷ xs))))
+    abbrev pub rest_lines : List Line
+    rest_lines = lines_of (drop_through 10 (x ∷ xs))
+
+    next : run_from n (lines_of so_far.left) so_far.state ≡ run_line n (command_at so_far.state (strip_last 10 line)) so_far.state rest_lines (run_from (n + 1) rest_lines)
     next =
         ap (λ (l : List ℕ). run_from n (lines_of l) so_far.state) left_is
         ∙ ap (λ lines. run_from n lines so_far.state) (first_line x xs).lines
-        ∙ ap (λ (l : List ℕ). run_line n (command_at so_far.state (strip_last 10 l)) so_far.state (run_from (n + 1) (lines_of (drop_through 10 (x ∷ xs))))) (sym line_is)
+        ∙ ap (λ (l : List ℕ). run_line n (command_at so_far.state (strip_last 10 l)) so_far.state rest_lines (run_from (n + 1) rest_lines)) (sym line_is)
 
     pub runs_to_bad : command_at so_far.state (strip_last 10 line) ≡ None → Prints before now (sim script) (Err (BadCommand n))
     runs_to_bad bad =
         let all : printing so_far.done (record { output = []; bad = Some n }) ≡ sim script =
-        sym (ap (printing so_far.done) (next ∙ ap (λ c. run_line n c so_far.state (run_from (n + 1) (lines_of (drop_through 10 (x ∷ xs))))) bad)) ∙ so_far.same in
+        sym (ap (printing so_far.done) (next ∙ ap (λ c. run_line n c so_far.state rest_lines (run_from (n + 1) rest_lines)) bad)) ∙ so_far.same in
         (Appends-same before now (so_far.done ++ []) (sim script).output (ap (λ r. r.output) all) (Appends-same before now so_far.done (so_far.done ++ []) (sym (append-nil so_far.done)) so_far.written), sym (ap (λ r. r.bad) all))
 
     pub runs_on : (later rest_later : Option (List ℕ)) (kept_later : Simulation) (out : List ℕ) → Carries (strip_last 10 line) so_far.state kept_later out → rest_later ≡ Some (drop_through 10 (x ∷ xs)) → Appends now later out → RunsOn before later rest_later script (n + 1) kept_later
@@ -175,9 +206,18 @@ module _ (before now rest : Option (List ℕ)) (script : List ℕ) (n : ℕ) (ke
       same =
           ap (λ (o : List ℕ). printing (so_far.done ++ o) (run_from (n + 1) (lines_of (drop_through 10 (x ∷ xs))) (after so_far.state carried.command))) carried.prints
           ∙ printing-twice so_far.done (printed so_far.state carried.command) (run_from (n + 1) (lines_of (drop_through 10 (x ∷ xs))) (after so_far.state carried.command))
-          ∙ ap (printing so_far.done) (sym (next ∙ ap (λ c. run_line n c so_far.state (run_from (n + 1) (lines_of (drop_through 10 (x ∷ xs))))) carried.read))
+          ∙ ap (printing so_far.done)
+          (sym (next ∙ ap (λ c. run_line n c so_far.state rest_lines (run_from (n + 1) rest_lines)) carried.read
+          ∙ ap (λ b. cond b (run_log so_far.state rest_lines) (printing (printed so_far.state carried.command) (run_from (n + 1) rest_lines (after so_far.state carried.command)))) carried.goes_on))
           ∙ so_far.same;
     }
+
+    -- the lines that are left are a log
+    pub runs_log : (later : Option (List ℕ)) (result : Result (Unit {0}) SimFault) → command_at so_far.state (strip_last 10 line) ≡ Some Verdicts → Prints now later (run_log so_far.state rest_lines) result → Prints before later (sim script) result
+    runs_log later result is prints =
+        let all : printing so_far.done (run_log so_far.state rest_lines) ≡ sim script =
+        sym (ap (printing so_far.done) (next ∙ ap (λ c. run_line n c so_far.state rest_lines (run_from (n + 1) rest_lines)) is)) ∙ so_far.same in
+        subst (λ (run : Run). Prints before later run result) all (Prints-after before now later so_far.done (run_log so_far.state rest_lines) result so_far.written prints)
 
 -- a line that was read is the front of what was left, which is not empty
 pub record IsFront (left line : List ℕ) : Type 0 where
@@ -186,7 +226,7 @@ pub record IsFront (left line : List ℕ) : Type 0 where
   pub left_is : left ≡ x ∷ xs
   pub line_is : line ≡ take_through 10 (x ∷ xs)
 
-front_of : (left line : List ℕ) → line ≡ take_through 10 left → 0 < length line → IsFront left line
+pub front_of : (left line : List ℕ) → line ≡ take_through 10 left → 0 < length line → IsFront left line
 front_of [] line is some = absurd (omega (arith, ap length is))
 front_of (x ∷ xs) line is some = record { x = x; xs = xs; left_is = refl; line_is = is }
 
@@ -206,6 +246,14 @@ module _ (before now rest : Option (List ℕ)) (n : ℕ) (kept : Simulation) (li
   at_line (Some all) later rest_later kept_later out carried drops wrote so_far =
       let f = line_front all so_far in
       runs_on before now rest all n kept so_far line f.x f.xs f.left_is f.line_is later rest_later kept_later out (carried so_far.state so_far.at) (rw so_far.remains at drops ∙ ap (λ (l : List ℕ). Some (drop_through 10 l)) f.left_is) wrote
+
+  pub at_log : (script later rest_later : Option (List ℕ)) (kept_later : Simulation) (result : Result (Unit {0}) SimFault) → ((state : State) → IsAt kept state → IsAt kept_later state × (command_at state (strip_last 10 line) ≡ Some Verdicts)) → DropsThrough rest rest_later 10 → ((state : State) → IsAt kept_later state → IfSome rest_later (λ log. Prints now later (run_log state (lines_of log)) result)) → IfSome script (λ all. RunsOn before now rest all n kept) → IfSome script (λ all. Prints before later (sim all) result)
+  at_log None later rest_later kept_later result follows drops prints so_far = tt
+  at_log (Some all) later rest_later kept_later result follows drops prints so_far =
+      let f = line_front all so_far in
+      let kept_at = follows so_far.state so_far.at in
+      let left : rest_later ≡ Some (drop_through 10 (f.x ∷ f.xs)) = rw so_far.remains at drops ∙ ap (λ (l : List ℕ). Some (drop_through 10 l)) f.left_is in
+      runs_log before now rest all n kept so_far line f.x f.xs f.left_is f.line_is later result kept_at.1 (rw left at (prints so_far.state kept_at.0))
 
 pub at_end : (before now rest : Option (List ℕ)) (n : ℕ) (kept : Simulation) → IsAtEnd rest → (script : Option (List ℕ)) → IfSome script (λ all. RunsOn before now rest all n kept) → IfSome script (λ all. Prints before now (sim all) (Ok tt))
 at_end before now rest n kept over None so_far = tt

@@ -1,6 +1,8 @@
 -- What `rulesim` prints for scripts; it passes on their commands.
 pub mod Commands
+pub mod Judging
 pub mod Kept
+pub mod Logs
 pub mod Replies
 pub mod Sim
 pub mod Texts

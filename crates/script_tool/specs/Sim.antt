@@ -1,5 +1,5 @@
 -- What `rulesim` prints for a script.
-use Rattle.std.specs.Prelude.{◌≡◌, ℕ, ◌+◌, Bool, true, nat_lt, List, [], ◌∷◌, ◌++◌, Option, Some, None, Result, Ok, Err, option_map, option_and_then, is_some, codes, bytes_eq, if◌then◌else◌}
+use Rattle.std.specs.Prelude.{◌≡◌, ℕ, ◌+◌, Bool, true, false, nat_lt, List, [], ◌∷◌, ◌++◌, Option, Some, None, Result, Ok, Err, option_map, option_and_then, is_some, codes, bytes_eq, if◌then◌else◌}
 use Rattle.std.specs.Io.KnownBytes.{Appends}
 use Rattle.cdb_write.specs.Image.{finished_length}
 use Rattle.cdb_read.specs.Compiled.{stored}
@@ -18,9 +18,10 @@ use Rattle.server_events.specs.ServerState.{start as server_at_start}
 use Rattle.script_tool.specs.declared.sim.SimFault.{SimFault}
 use Rattle.script_tool.specs.declared.sim.SimFault.TheVariants.{BadCommand, ReadFault, WriteFault, OutOfMemory}
 use Rattle.answer_lines.specs.Answers.{answer_lines}
+use Rattle.script_tool.specs.Logs.{log_printed}
 use Rattle.script_tool.specs.Replies.{fault_text, illegal_line, reached_line, report_line}
 use Rattle.script_words.specs.Events.{History, with_event}
-use Rattle.script_words.specs.Scripts.{Command, Skip, Add, Install, Begin, To, Stop, Ask, Open, AskBy, BeginEvents, AddEvent, Replay, command_of}
+use Rattle.script_words.specs.Scripts.{Command, Skip, Add, Install, Begin, To, Stop, Ask, Open, AskBy, BeginEvents, AddEvent, Replay, Verdicts, command_of}
 use Rattle.script_tool.specs.Texts.{Texts, no_texts, at_phases, later_of, stopped}
 
 -- the limits of the tools
@@ -114,6 +115,7 @@ after state (BeginEvents limit per_address) =
     record state { history = Some (record { limit = limit; per_address = per_address; events = [] }) }
 after state (AddEvent event) = record state { history = option_map (with_event event) state.history }
 after state Replay = state
+after state Verdicts = state
 
 -- what becomes of a text that was to be installed, in the words for one that is not refused
 abbrev pub told : List ℕ → Option Refusal → List ℕ
@@ -154,6 +156,7 @@ printed state (AskBy name peer) = answered (codes "no reader\n") (state.readers 
 printed state (BeginEvents limit per_address) = []
 printed state (AddEvent event) = []
 printed state Replay = replayed state.history
+printed state Verdicts = []
 
 -- what lines print, and the number of the first bad one
 pub record Run : Type 0 where
@@ -164,15 +167,25 @@ pub record Run : Type 0 where
 abbrev pub printing : List ℕ → Run → Run
 printing text run = record run { output = text ++ run.output }
 
--- the run of a line and of those after it: it ends at a bad line
-abbrev pub run_line : ℕ → Option Command → State → (State → Run) → Run
-run_line n None state later = record { output = []; bad = Some n }
-run_line n (Some command) state later = printing (printed state command) (later (after state command))
+-- whether a command takes the lines after it as a log
+abbrev pub takes_log : Command → Bool
+takes_log Verdicts = true
+takes_log command = false
+
+-- the run of lines that are a log, under the text that stands
+abbrev pub run_log : State → List Line → Run
+run_log state lines = record { output = log_printed state.texts.standing lines; bad = None }
+
+-- the run of a line and of those after it: it ends at a bad line, and a command may take those after it as a log
+abbrev pub run_line : ℕ → Option Command → State → List Line → (State → Run) → Run
+run_line n None state lines later = record { output = []; bad = Some n }
+run_line n (Some command) state lines later =
+    if takes_log command then run_log state lines else printing (printed state command) (later (after state command))
 
 -- the run of lines, the first of which is line n
 abbrev pub run_from : ℕ → List Line → State → Run
 run_from n [] state = record { output = []; bad = None }
-run_from n (line ∷ lines) state = run_line n (command_at state line.bytes) state (run_from (n + 1) lines)
+run_from n (line ∷ lines) state = run_line n (command_at state line.bytes) state lines (run_from (n + 1) lines)
 
 -- the run of a script
 abbrev pub sim : List ℕ → Run

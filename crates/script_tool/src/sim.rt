@@ -1,20 +1,23 @@
-//! `rulesim`: questions about rule texts and lists of events, and stops during installations, by a script.
+//! `rulesim`: questions about rule texts, logs and lists of events, and stops during installations, by a script.
 ghost use Rattle.std.specs.Prelude.{◌≡◌, ◌⊎◌, None, Err, OnOk, IfOk, IfSome};
 ghost use Rattle.std.specs.Io.BufRead.{strip_last};
 ghost use Rattle.std.specs.Io.KnownBytes.{Appends};
-ghost use Rattle.script_tool.specs.Commands.{Carries};
+ghost use Rattle.script_tool.specs.Commands.{Leads};
 ghost use Rattle.script_tool.specs.Kept.{IsAt};
-ghost use Rattle.script_tool.specs.Sim.{State, command_at, sim, start, Prints};
+ghost use Rattle.script_tool.specs.Sim.{State, command_at, run_log, sim, start, takes_log, Prints};
+ghost use Rattle.script_words.specs.Readings.{meaning};
+ghost use Rattle.rule_lines.specs.Lines.{lines_of};
 
 use crate::simulation::Simulation;
-use script_words::{LineEnd, read_command};
+use crate::verdicts::compare_log;
+use script_words::{Command, LineEnd, read_command};
 use std::alloc::Global;
 use std::io;
 use std::io::{BufRead, ErrorKind, Write};
 use thiserror::Error;
 
 /// How many lines are read at most.
-const MOST_LINES: u64 = 1 << 40;
+pub const MOST_LINES: u64 = 1 << 40;
 
 const _: () = prove!(MOST_LINES == 1_099_511_627_776);
 
@@ -69,6 +72,15 @@ fn run_lines<R: BufRead, W: Write>(
     }
 }
 
+/// What became of a line that is a command.
+#[derive(Debug, Drop)]
+pub enum LineOutcome {
+    /// It was carried out, and prints this.
+    Printed(Vec<u8>),
+    /// The lines after it are a log.
+    LogFollows,
+}
+
 /// Carries a script out from the start.
 fn run_with<R: BufRead, W: Write>(
     alloc: Global,
@@ -89,10 +101,11 @@ fn run_with<R: BufRead, W: Write>(
             Err(error) => return Err(read_fault(&error)),
         }
         match answer(alloc, kept, line.as_slice()) {
-            Ok(out) => match write_out(writer, out.as_slice()) {
+            Ok(LineOutcome::Printed(out)) => match write_out(writer, out.as_slice()) {
                 Ok(()) => {}
                 Err(_) => return Err(SimFault::WriteFault),
             },
+            Ok(LineOutcome::LogFollows) => return read_log(alloc, kept, number, reader, writer),
             Err(LineEnd::Bad) => return Err(SimFault::BadCommand(number)),
             Err(LineEnd::OutOfMemory) => return Err(SimFault::OutOfMemory),
         }
@@ -100,8 +113,26 @@ fn run_with<R: BufRead, W: Write>(
     Err(SimFault::ReadFault)
 }
 
+/// Takes what is left to be read, after so many lines, as a log.
+fn read_log<R: BufRead, W: Write>(
+    alloc: Global,
+    kept: &mut Simulation,
+    before: u64,
+    reader: &mut R,
+    writer: &mut W,
+) -> Result<(), SimFault>
+    requires { (state : State) × IsAt kept.old state }
+    ensures { (state : State) → IsAt kept.old state → IfSome (R.remaining reader.old) (λ log.
+        Prints (W.contents writer.old) (W.contents writer.new) (run_log state (lines_of log)) result) }
+{
+    match kept.standing(alloc) {
+        Ok(standing) => compare_log(alloc, &standing, before, reader, writer),
+        Err(_) => Err(SimFault::OutOfMemory),
+    }
+}
+
 /// What a fault of the reader is.
-fn read_fault(error: &io::Error) -> SimFault
+pub fn read_fault(error: &io::Error) -> SimFault
     ensures { (result ≡ SimFault.ReadFault) ⊎ (result ≡ SimFault.OutOfMemory) }
 {
     match error.kind() {
@@ -121,11 +152,11 @@ fn write_out<W: Write>(writer: &mut W, out: &[u8]) -> io::Result<()>
     writer.flush()
 }
 
-/// Carries out a line, which may have a line feed at its end, and gives what it prints.
-fn answer(alloc: Global, sim: &mut Simulation, line: &[u8]) -> Result<Vec<u8>, LineEnd>
+/// Carries out a line, which may have a line feed at its end.
+fn answer(alloc: Global, sim: &mut Simulation, line: &[u8]) -> Result<LineOutcome, LineEnd>
     requires { (state : State) × IsAt sim.old state }
-    ensures done { IfOk result (λ out. (state : State) → IsAt sim.old state
-        → Carries (strip_last 10 line.now) state sim.new out.items) }
+    ensures done { IfOk result (λ outcome. (state : State) → IsAt sim.old state
+        → Leads (strip_last 10 line.now) state sim.new outcome) }
     ensures refused { (state : State) → IsAt sim.old state
         → result ≡ Err LineEnd.Bad → command_at state (strip_last 10 line.now) ≡ None }
 {
@@ -133,13 +164,23 @@ fn answer(alloc: Global, sim: &mut Simulation, line: &[u8]) -> Result<Vec<u8>, L
     if !sim.may_take(&command) {
         return Err(LineEnd::Bad);
     }
+    if takes_log(&command) {
+        return Ok(LineOutcome::LogFollows);
+    }
     let mut out = Vec::new(alloc);
     sim.execute(alloc, command, &mut out)?;
-    Ok(out)
+    Ok(LineOutcome::Printed(out))
+}
+
+/// Whether a command takes the lines after it as a log.
+fn takes_log(command: &Command<'_>) -> bool
+    ensures { result ≡ takes_log (meaning command.now) }
+{
+    matches!(command, Command::Verdicts)
 }
 
 /// A line without the line feed at its end.
-fn without_feed(line: &[u8]) -> &[u8]
+pub fn without_feed(line: &[u8]) -> &[u8]
     ensures { result.now ≡ strip_last 10 line.now }
 {
     match line {

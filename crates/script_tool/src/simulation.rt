@@ -1,5 +1,5 @@
 //! What a script of `rulesim` leads to, command by command.
-ghost use Rattle.std.specs.Prelude.{◌≡◌, ◌≢◌, ◌++◌, ◌<◌, None, Some, OnOk, IfOk, List, [], ℕ};
+ghost use Rattle.std.specs.Prelude.{◌≡◌, ◌≢◌, ◌++◌, ◌<◌, None, Some, OnOk, IfOk, List, [], ℕ, Option};
 ghost use Rattle.answer_lines.specs.Answers.{answer_lines};
 ghost use Rattle.dir_calls.specs.MemDir.{mem_state};
 ghost use Rattle.dir_calls.specs.Names.{name_fault};
@@ -12,6 +12,7 @@ ghost use Rattle.script_tool.specs.Commands.{Obeys};
 ghost use Rattle.script_tool.specs.Kept.{GoesOn, HasTexts, IsAt, IsFileOf, IsInstalling, Reads, Steps, sim_names, steps_left};
 ghost use Rattle.script_words.specs.Readings.{meaning};
 ghost use Rattle.script_words.specs.Scripts.{Add, Install as InstallText, Begin, To, Stop, Ask, Open, AskBy, BeginEvents, AddEvent, Replay};
+ghost use Rattle.script_tool.specs.Logs.{decided_now};
 ghost use Rattle.script_tool.specs.Sim.{Begun, State, start, after, is_in_place, printed, profile, refusal_of, replayed, told};
 ghost use Rattle.script_tool.specs.Texts.{Texts, at_phase, place_of};
 
@@ -19,8 +20,8 @@ use crate::replies::{append_fault, append_illegal, append_reached, append_report
 use answer_lines::append_answer;
 use cdb_read::CdbFile;
 use dir_calls::{Choice, Dir, DirFault, MemDir, MemFile, Name, NameFault};
-use rule_lines::Limits;
-use rule_lookup::{DecideFault, Decision, Missing, Peer, decide};
+use rule_lines::{Limits, Settings, Verdict};
+use rule_lookup::{DecideFault, Decision, Found, Missing, Peer, decide};
 use rules_install::laws::decides;
 use rules_install::whole::prepare;
 use rules_install::{Install, InstallFault, Names, Phase, SameName};
@@ -69,6 +70,20 @@ pub struct Simulation {
     begun: Option<Progress>,
     readers: BTreeMap<String, CdbFile<MemFile>>,
     history: Option<History>,
+}
+
+/// The rules file that stands, if one does.
+#[derive(Drop)]
+pub struct Standing {
+    file: Option<CdbFile<MemFile>>,
+}
+
+impl Model for Standing {
+    ghost use Rattle.std.specs.Prelude.{List, ℕ, Option};
+
+    ghost Value = { Option (List ℕ) };
+
+    ghost view = { λ s. s.file };
 }
 
 impl Simulation {
@@ -124,6 +139,7 @@ impl Simulation {
             }
             Command::Event(event) => self.add_event(event),
             Command::Replay => self.replay(alloc, out),
+            Command::Verdicts => Ok(()),
         }
     }
 
@@ -218,6 +234,16 @@ impl Simulation {
         }
     }
 
+    /// The rules that stand.
+    pub fn standing(&mut self, alloc: Global) -> Result<Standing, AllocError>
+        ensures { (state : State) → IsAt self.old state
+            → IfOk result (λ standing. Reads standing state.texts.standing) }
+    {
+        Ok(Standing {
+            file: self.open(alloc)?,
+        })
+    }
+
     fn ask(&mut self, alloc: Global, peer: &Peer, out: &mut Vec<u8>) -> Result<(), AllocError>
         requires { (state : State) × IsAt self.old state }
         ensures { (state : State) → IsAt self.old state
@@ -293,6 +319,24 @@ impl Simulation {
         match &self.history {
             None => Ok(()),
             Some(history) => append_outcome(alloc, history, out),
+        }
+    }
+}
+
+impl Standing {
+    /// The decision for a peer: by the rules that stand, or that of a missing rules file where none do.
+    pub fn decide(&self, alloc: Global, peer: &Peer) -> Result<Decision, AllocError>
+        requires { (text : Option (List ℕ)) × Reads self.now text }
+        ensures { (text : Option (List ℕ)) → Reads self.now text
+            → IfOk result (λ decision. decision ≡ decided_now text peer.now) }
+    {
+        match &self.file {
+            Some(file) => decide_by(alloc, file, peer),
+            None => Ok(Decision {
+                found: Found::NoFile,
+                verdict: Verdict::Deny,
+                settings: Settings::new(alloc),
+            }),
         }
     }
 }

@@ -5,7 +5,7 @@ use Rattle.script_words.specs.declared.script.Command.{Command as Read}
 use Rattle.script_words.specs.declared.script.Command.TheVariants as read
 use Rattle.script_words.specs.declared.script.LineEnd.{LineEnd}
 use Rattle.script_words.specs.declared.script.LineEnd.TheVariants.{Bad, OutOfMemory}
-use Rattle.script_words.specs.Scripts.{Command, Skip, Add, Install, Begin, To, Stop, Ask, Open, AskBy, BeginEvents, AddEvent, Replay, command_of, has_words}
+use Rattle.script_words.specs.Scripts.{Command, Skip, Add, Install, Begin, To, Stop, Ask, Open, AskBy, BeginEvents, AddEvent, Replay, Verdicts, command_of, has_words}
 
 abbrev pub meaning : Read → Command
 meaning read.Skip = Skip
@@ -20,6 +20,7 @@ meaning (read.AskBy name peer) = AskBy name.now peer
 meaning (read.Events limit per_address) = BeginEvents limit per_address
 meaning (read.Event event) = AddEvent event
 meaning read.Replay = Replay
+meaning read.Verdicts = Verdicts
 
 -- the texts that words are
 abbrev pub texts : List (Bor (List ℕ)) → List (List ℕ)

@@ -13,7 +13,7 @@ use Rattle.script_words.specs.Events.{alone, event_in, limits_in, only_phase}
 
 -- what a line asks for: nothing; a line more of the pending text, that this be installed, or that its installation begin, or go on to a
 -- phase; a stop; a decision by the text that stands, a reader of it, or a decision by a reader's text; an empty list of events under a
--- limit and a limit per address, an event more, or what the list comes to
+-- limit and a limit per address, an event more, or what the list comes to; or that the lines after it be taken as a log
 pub data Command : Type 0 where
   Skip : Command
   Add : List ℕ → Command
@@ -27,6 +27,7 @@ pub data Command : Type 0 where
   BeginEvents : ℕ → ℕ → Command
   AddEvent : Event → Command
   Replay : Command
+  Verdicts : Command
 
 -- the words of a line, one space between each two
 abbrev pub words_of : List ℕ → List (List ℕ)
@@ -121,7 +122,8 @@ command_named name words =
     else (if bytes_eq name (codes "askby") then question_in words
     else (if bytes_eq name (codes "events") then option_map (λ p. BeginEvents p.0 p.1) (limits_in words)
     else (if bytes_eq name (codes "event") then option_map AddEvent (event_in words)
-    else (if bytes_eq name (codes "replay") then alone Replay words else None)))))))))
+    else (if bytes_eq name (codes "replay") then alone Replay words
+    else (if bytes_eq name (codes "verdicts") then alone Verdicts words else None))))))))))
 
 -- the command that words are
 abbrev pub command_in : List (List ℕ) → Option Command

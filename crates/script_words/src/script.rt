@@ -45,6 +45,8 @@ pub enum Command<'a> {
     Event(Event),
     /// What the list of events comes to.
     Replay,
+    /// That the lines after it be taken as a log, and what would be decided otherwise be told.
+    Verdicts,
 }
 
 /// Why a line gives no command.
@@ -131,6 +133,7 @@ fn command_named<'a>(alloc: Global, name: &str, words: &[&'a str]) -> Result<Com
         "events" => read_events(words),
         "event" => read_addition(alloc, words),
         "replay" => alone(Command::Replay, words),
+        "verdicts" => alone(Command::Verdicts, words),
         _ => Err(LineEnd::Bad),
     }
 }

@@ -56,9 +56,12 @@ ended_lines level limit serial status live = progress level (end_text serial sta
 abbrev pub retired_lines : Level → (limit serial live : ℕ) → List (List ℕ)
 retired_lines level limit serial live = error level (retired_text serial) ++ status_lines level limit live
 
--- the text of a denied connection is empty
-abbrev pub dropped_lines : Level → (limit serial : ℕ) → DropCause → (live : ℕ) → List (List ℕ)
-dropped_lines level limit serial cause live = error level (drop_text serial cause) ++ status_lines level limit live
+-- the same of a connection that was given up; the text of a denied one is empty
+abbrev pub given_up_lines : Level → ℕ → DropCause → Option CauseText → List (List ℕ)
+given_up_lines level serial cause why = error level (drop_text serial cause) ++ cause_lines level why
+
+abbrev pub dropped_lines : Level → (limit serial : ℕ) → DropCause → Option CauseText → (live : ℕ) → List (List ℕ)
+dropped_lines level limit serial cause why live = given_up_lines level serial cause why ++ status_lines level limit live
 
 abbrev pub full_lines : Level → List ℕ → List (List ℕ)
 full_lines level ip = error level (full_text ip)
@@ -68,3 +71,10 @@ memory_text = codes "tcpserver: out of memory\n"
 
 abbrev pub memory_lines : Level → List (List ℕ)
 memory_lines level = error level memory_text
+
+-- the warning that rules by name decide nobody: under `All` alone
+abbrev pub no_names_text : List ℕ
+no_names_text = codes "tcpserver: rules by name, and no names\n"
+
+abbrev pub no_names_lines : Level → List (List ℕ)
+no_names_lines level = progress level no_names_text

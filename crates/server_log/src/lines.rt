@@ -1,5 +1,5 @@
 //! The lines of events, each where the level has it. After an `Err` there was no memory for the line, and nothing was added.
-ghost use Rattle.server_log.specs.Events.{cause_lines, error, progress, refused_lines};
+ghost use Rattle.server_log.specs.Events.{cause_lines, error, given_up_lines, progress, refused_lines};
 ghost use Rattle.server_log.specs.Logs.{Adds};
 ghost use Rattle.status_lines.specs.Texts.{drop_text, end_text, full_text, pid_line, retired_text, start_text, status_line, verdict_text};
 
@@ -129,7 +129,7 @@ pub(crate) fn add_retired(level: Level, serial: u64, out: &mut Vec<u8>) -> Resul
 }
 
 /// Adds the line of a connection that was given up.
-pub(crate) fn add_drop(
+fn add_drop(
     level: Level,
     serial: u64,
     cause: DropCause,
@@ -141,6 +141,21 @@ pub(crate) fn add_drop(
         Level::All | Level::Errors => drop_line(serial, cause, out),
         Level::Quiet => Ok(()),
     }
+}
+
+/// Adds the line of a connection that was given up, and behind it why, where that is told.
+pub(crate) fn add_given_up(
+    level: Level,
+    serial: u64,
+    cause: DropCause,
+    why: Option<Cause<'_>>,
+    out: &mut Vec<u8>,
+) -> Result<(), AllocError>
+    ensures { Adds (given_up_lines level serial cause why.entry) out.old.items out.new.items result }
+{
+    let dropped = add_drop(level, serial, cause, out);
+    let why = add_cause(level, why, out);
+    dropped.and(why)
 }
 
 /// Adds the line of an address of which as many connections are alive as may be.

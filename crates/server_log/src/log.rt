@@ -2,13 +2,13 @@
 ghost use Rattle.std.specs.Prelude.{◌≡◌, IfErr, List, [], ℕ};
 ghost use Rattle.std.specs.Io.{WritesAtMost};
 ghost use Rattle.std.specs.Io.KnownBytes.{Keeps, WriteAppends};
-ghost use Rattle.server_log.specs.Events.{admitted_lines, decided_lines, dropped_lines, ended_lines, full_lines, memory_lines, no_ends_lines, retired_lines, start_failed_lines, status_lines};
+ghost use Rattle.server_log.specs.Events.{admitted_lines, decided_lines, dropped_lines, ended_lines, full_lines, memory_lines, no_ends_lines, no_names_lines, retired_lines, start_failed_lines, status_lines};
 ghost use Rattle.server_log.specs.Logs.{Adds, KeepsSettings, Logged, Takes, held, level_of, limit_of, writer_of};
 
 use crate::cause::Cause;
 use crate::fault::LogFault;
 use crate::lines::{
-    add_drop, add_end, add_full, add_pid, add_refused, add_retired, add_start, add_status,
+    add_end, add_full, add_given_up, add_pid, add_refused, add_retired, add_start, add_status,
     add_verdict,
 };
 use byte_pump::write_out;
@@ -142,14 +142,20 @@ impl<W: Write> Log<W> {
         self.write_lines(retired.and(status))
     }
 
-    /// A connection was given up before its child was started.
-    pub fn dropped(&mut self, serial: u64, cause: DropCause, live: u64) -> Result<(), LogFault>
-        ensures lines { Logged (dropped_lines (level_of self.old) (limit_of self.old) serial cause live)
+    /// A connection was given up before its child was started, for this reason where the system told one.
+    pub fn dropped(
+        &mut self,
+        serial: u64,
+        cause: DropCause,
+        why: Option<Cause<'_>>,
+        live: u64,
+    ) -> Result<(), LogFault>
+        ensures lines { Logged (dropped_lines (level_of self.old) (limit_of self.old) serial cause why.entry live)
             (held W.contents self.old) (held W.contents self.new) result }
         ensures same { KeepsSettings self.old self.new }
     {
         self.lines.clear();
-        let dropped = add_drop(self.level, serial, cause, &mut self.lines);
+        let dropped = add_given_up(self.level, serial, cause, why, &mut self.lines);
         let status = add_status(self.level, self.limit, live, &mut self.lines);
         self.write_lines(dropped.and(status))
     }
@@ -181,6 +187,26 @@ impl<W: Write> Log<W> {
                 write_text(b"tcpserver: out of memory\n", &mut self.writer)
             }
             Level::Quiet => Ok(()),
+        }
+    }
+
+    /// There are rules by name, and no client has a name. Its line takes no memory.
+    ///
+    /// # Errors
+    /// The writer did not take the line.
+    #[tactic(auto, using(crate::proofs::LogLemmas::logged_line, crate::proofs::LogLemmas::takes_none))]
+    pub fn no_names(&mut self) -> Result<(), LogFault>
+        ensures lines { Logged (no_names_lines (level_of self.old))
+            (held W.contents self.old) (held W.contents self.new) result }
+        ensures takes_none { IfErr result (λ fault. fault ≡ LogFault.WriteFault) }
+        ensures same { KeepsSettings self.old self.new }
+    {
+        match self.level {
+            Level::All => write_text(
+                b"tcpserver: rules by name, and no names\n",
+                &mut self.writer,
+            ),
+            Level::Errors | Level::Quiet => Ok(()),
         }
     }
 

@@ -1,10 +1,10 @@
 //! What is sent to a client, and how long it may take nothing of it.
-use mio::unix::SourceFd;
-use mio::{Events, Interest, Poll, Token};
+use libc::net::POLLHUP;
+use libc::types::pollfd;
 use std::alloc::Global;
 use std::io;
 use std::io::{Error, ErrorKind, Write};
-use std::net::{Net, TcpStream};
+use std::net::TcpStream;
 use std::os::fd::{AsRawFd, RawFd};
 use std::sync::Arc;
 use std::time::{Clock, Duration, Instant};
@@ -13,15 +13,11 @@ use tcp_connections::{Follow, Patience};
 /// A write to a client looks after so many milliseconds whether anybody still holds what it comes from.
 const LOOK: u64 = 1_000;
 
-/// The source, among the events.
-const SOURCE: Token = Token(0);
-
 /// What is sent to a client. While somebody holds the program's output a write waits as long as the client does; once nobody does, what is left
 /// is still written, until the client has taken nothing for too long: then writes fail with `TimedOut`.
 #[derive(Drop)]
 pub struct ClientWriter<'a, R> {
     rt: &'a R,
-    alloc: Global,
     stream: Arc<TcpStream, Global>,
     followed: Option<Followed>,
 }
@@ -31,8 +27,6 @@ pub struct ClientWriter<'a, R> {
 struct Followed {
     source: RawFd,
     patience: Patience,
-    // the watch of the descriptor, once a write has waited
-    watch: Option<Watch>,
     // since when nobody is known to hold the other end, and when the client took something last
     left: Option<(Instant, Instant)>,
     is_over: bool,
@@ -40,10 +34,9 @@ struct Followed {
 
 impl<'a, R> ClientWriter<'a, R> {
     /// What is sent over this connection, which it shares; nothing is bounded as long as it follows no source.
-    pub fn new(rt: &'a R, alloc: Global, stream: Arc<TcpStream, Global>) -> ClientWriter<'a, R> {
+    pub fn new(rt: &'a R, stream: Arc<TcpStream, Global>) -> ClientWriter<'a, R> {
         ClientWriter {
             rt,
-            alloc,
             stream,
             followed: None,
         }
@@ -51,7 +44,7 @@ impl<'a, R> ClientWriter<'a, R> {
 }
 
 /// A write that waits looks each second whether anybody holds the other end of the source.
-impl<R: Net + Clock, F: AsRawFd> Follow<F> for ClientWriter<'_, R> {
+impl<R: Clock, F: AsRawFd> Follow<F> for ClientWriter<'_, R> {
     fn follow(&mut self, source: &F, patience: Patience) {
         let _ = self
             .stream
@@ -59,18 +52,17 @@ impl<R: Net + Clock, F: AsRawFd> Follow<F> for ClientWriter<'_, R> {
         self.followed = Some(Followed {
             source: source.as_raw_fd(),
             patience,
-            watch: None,
             left: None,
             is_over: false,
         });
     }
 }
 
-impl<R: Net + Clock> ClientWriter<'_, R> {
+impl<R: Clock> ClientWriter<'_, R> {
     // A write has waited, and took something or nothing. Whether the client's time is over.
     fn has_waited(&mut self, took: bool) -> bool {
         match &mut self.followed {
-            Some(followed) => followed.look(self.alloc, self.rt, took),
+            Some(followed) => followed.look(self.rt, took),
             None => false,
         }
     }
@@ -83,7 +75,7 @@ impl<R: Net + Clock> ClientWriter<'_, R> {
     }
 }
 
-impl<R: Net + Clock> Write for ClientWriter<'_, R> {
+impl<R: Clock> Write for ClientWriter<'_, R> {
     fn write(&mut self, buf: &[u8]) -> io::Result<usize> {
         for _ in 0..u64::MAX {
             if self.is_over() {
@@ -113,11 +105,11 @@ impl<R: Net + Clock> Write for ClientWriter<'_, R> {
 
 impl Followed {
     // Whether the client's time is over. It runs only where nobody holds the other end of the source.
-    fn look<R: Net + Clock>(&mut self, alloc: Global, rt: &R, took: bool) -> bool {
+    fn look<R: Clock>(&mut self, rt: &R, took: bool) -> bool {
         let Ok(now) = Instant::now(rt) else {
             return self.is_over;
         };
-        if self.left.is_none() && self.is_held(alloc, rt) {
+        if self.left.is_none() && is_held(self.source) {
             return false;
         }
         let (since, taken) = self.left.unwrap_or((now, now));
@@ -127,52 +119,14 @@ impl Followed {
             || now.duration_since(since) >= self.patience.all;
         self.is_over
     }
-
-    // Whether somebody holds the other end of the source, as far as the system tells.
-    fn is_held<R: Net>(&mut self, alloc: Global, rt: &R) -> bool {
-        if self.watch.is_none() {
-            self.watch = Watch::new(alloc, rt, self.source);
-        }
-        match &mut self.watch {
-            Some(watch) => watch.is_held(self.source),
-            None => true,
-        }
-    }
 }
 
-// A watch of the end of a pipe that is read.
-#[derive(Drop)]
-struct Watch {
-    poll: Poll,
-    events: Events,
-}
-
-impl Watch {
-    // A watch of this descriptor. `None` where there is none to have: there was no memory or no descriptor.
-    fn new<R: Net>(alloc: Global, net: &R, source: RawFd) -> Option<Watch> {
-        let events = Events::with_capacity(alloc, 1).ok()?;
-        let poll = Poll::new(net).ok()?;
-        poll.registry()
-            .register(&mut SourceFd(&source), SOURCE, Interest::READABLE)
-            .ok()?;
-        Some(Watch { poll, events })
-    }
-
-    // Whether anybody holds the other end.
-    fn is_held(&mut self, source: RawFd) -> bool {
-        // an event comes once for each time that the descriptor is registered
-        let again = self
-            .poll
-            .registry()
-            .reregister(&mut SourceFd(&source), SOURCE, Interest::READABLE);
-        if again.is_err()
-            || self
-                .poll
-                .poll(&mut self.events, Some(Duration::ZERO))
-                .is_err()
-        {
-            return true;
-        }
-        !self.events.iter().any(|event| event.is_read_closed())
-    }
+// Whether somebody holds the other end of a pipe that is read, as far as the system tells: it hangs up once nobody does, though bytes are left.
+fn is_held(source: RawFd) -> bool {
+    let mut looked = [pollfd {
+        fd: source,
+        events: 0,
+        revents: 0,
+    }];
+    libc::net::poll(&mut looked, 0) <= 0 || looked[0].revents & POLLHUP == 0
 }

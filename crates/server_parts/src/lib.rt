@@ -3,6 +3,8 @@
 
 pub mod client;
 pub mod fault;
+pub mod limits;
+pub mod named_rules;
 pub mod opening;
 pub mod programs;
 pub mod sockets;
@@ -10,6 +12,7 @@ pub mod wrappers;
 
 pub use client::ClientWriter;
 pub use fault::{ServerFailure, ServerFault};
+pub use named_rules::has_named_rule;
 pub use programs::{HandingLauncher, ServiceLauncher};
 pub use sockets::{HandedAcceptor, PumpedAcceptor};
 pub use wrappers::{Wrapper, chain_of};

@@ -3,13 +3,13 @@ ghost use Rattle.std.specs.Prelude.{⊤};
 
 use crate::sockets::Handle;
 use child_jobs::{Job, NoEnds, Program, WaitFault};
-use mio::unix::SourceFd;
-use mio::{Events, Interest, Poll, Token};
+use libc::net::POLLOUT;
+use libc::types::pollfd;
 use rule_lookup::{StartFault, Status};
 use std::alloc::Global;
 use std::fs::Files;
 use std::io::{Error, ErrorKind, Write};
-use std::net::{Net, TcpStream};
+use std::net::TcpStream;
 use std::os::fd::{AsRawFd, OwnedFd};
 use std::process::{ChildStdin, ChildStdout, Processes};
 use std::sync::{Arc, Mutex, Wait};
@@ -20,15 +20,23 @@ use tcp_connections::Starter;
 use ucspi_env::Environment;
 
 /// After so many milliseconds a write that waits looks whether its program is over.
-const PAUSE: u64 = 100;
+const PAUSE: i32 = 100;
 
-/// The same where the system has no watch of the pipe.
+/// The same where the system doesn't tell whether the pipe has room.
 const SHORT_PAUSE: u64 = 5;
 
-/// The pipe, among the events.
-const PIPE: Token = Token(0);
+/// For so many milliseconds a program waits that the system has no process for: at first, and at most, each time twice as long as before; and so
+/// often, which takes about a minute.
+const FIRST_WAIT: u64 = 10;
 
-/// Starts programs as `OsLauncher` does. What is written to one's input waits for it as long as it runs, and no longer: a process that it
+const LONGEST_WAIT: u64 = 1_000;
+
+const WAITS: u32 = 66;
+
+/// After so many of them each is the longest.
+const LONGER: u32 = 8;
+
+/// Starts programs as `OsLauncher` does; where the system has no process for one, it waits for some time for the end of another. What is written to one's input waits for it as long as it runs, and no longer: a process that it
 /// left behind, which holds its input and reads nothing, holds up nobody.
 #[derive(Drop)]
 pub struct ServiceLauncher<'a, R> {
@@ -50,6 +58,7 @@ impl<'a, R: Processes> ServiceLauncher<'a, R> {
 /// process holds that no more.
 #[derive(Drop)]
 pub struct HandingLauncher<'a, R> {
+    rt: &'a R,
     launcher: OsLauncher<'a, R>,
 }
 
@@ -57,12 +66,13 @@ impl<'a, R: Processes> HandingLauncher<'a, R> {
     /// A launcher over the system's processes, which looks for programs in these folders.
     pub fn new(rt: &'a R, search: &'a SearchPath) -> HandingLauncher<'a, R> {
         HandingLauncher {
+            rt,
             launcher: OsLauncher::new(rt, search),
         }
     }
 }
 
-impl<'a, R: Processes, H: Wait> Starter<Handle<'a, H>> for HandingLauncher<'a, R> {
+impl<'a, R: Processes + Clock, H: Wait> Starter<Handle<'a, H>> for HandingLauncher<'a, R> {
     type Job = OsJob;
 
     /// As of the trait; a connection that was given before is `Other`.
@@ -74,22 +84,38 @@ impl<'a, R: Processes, H: Wait> Starter<Handle<'a, H>> for HandingLauncher<'a, R
         environment: &Environment,
     ) -> Result<OsJob, NotStarted> {
         let stream = connection.take().ok_or(StartFault::Other)?;
-        self.launcher.start_on(alloc, program, environment, stream)
+        for waits in 0..WAITS {
+            match self.launcher.start_on(alloc, program, environment, &stream) {
+                Err(not_started) if wants_process(not_started) => wait_for_process(self.rt, waits),
+                outcome => return outcome,
+            }
+        }
+        self.launcher.start_on(alloc, program, environment, &stream)
     }
+}
+
+// Whether a program was not started for want of a process, which the end of another one mends.
+fn wants_process(not_started: NotStarted) -> bool {
+    not_started.error == Some(libc::EAGAIN)
+}
+
+// Waits for a process, after so many such waits.
+fn wait_for_process<R: Clock>(rt: &R, waits: u32) {
+    let longer = FIRST_WAIT << waits.min(LONGER);
+    thread::sleep(rt, Duration::from_millis(longer.min(LONGEST_WAIT)));
 }
 
 /// A program, and whether it is over: once it was waited for, or could not be.
 #[derive(Drop)]
 pub struct ServiceJob<'a, R> {
     rt: &'a R,
-    alloc: Global,
     job: OsJob,
     over: Arc<Mutex<bool>, Global>,
 }
 
 impl<'a, R, X> Starter<X> for ServiceLauncher<'a, R>
 where
-    R: Processes + Files + Net + Wait + Clock,
+    R: Processes + Files + Wait + Clock,
 {
     type Job = ServiceJob<'a, R>;
 
@@ -103,17 +129,20 @@ where
         let Ok(over) = Arc::new(alloc, Mutex::new(false)) else {
             return Err(NotStarted::from(StartFault::OutOfMemory));
         };
+        let rt = self.rt;
+        for waits in 0..WAITS {
+            match self.launcher.start_between(alloc, program, environment) {
+                Err(not_started) if wants_process(not_started) => wait_for_process(rt, waits),
+                Err(not_started) => return Err(not_started),
+                Ok(job) => return Ok(ServiceJob { rt, job, over }),
+            }
+        }
         let job = self.launcher.start_between(alloc, program, environment)?;
-        Ok(ServiceJob {
-            rt: self.rt,
-            alloc,
-            job,
-            over,
-        })
+        Ok(ServiceJob { rt, job, over })
     }
 }
 
-impl<'a, R: Net + Wait + Clock> Job for ServiceJob<'a, R> {
+impl<'a, R: Wait + Clock> Job for ServiceJob<'a, R> {
     type Input = ProgramInput<'a, R>;
 
     type Output = ChildStdout;
@@ -133,10 +162,8 @@ impl<'a, R: Net + Wait + Clock> Job for ServiceJob<'a, R> {
         };
         let input = ProgramInput {
             rt: self.rt,
-            alloc: self.alloc,
             pipe: without_waiting(pipe),
             over,
-            room: None,
         };
         Ok((input, output))
     }
@@ -146,25 +173,12 @@ impl<'a, R: Net + Wait + Clock> Job for ServiceJob<'a, R> {
     }
 
     fn wait(self) -> Result<Status, (ServiceJob<'a, R>, WaitFault)> {
-        let ServiceJob {
-            rt,
-            alloc,
-            job,
-            over,
-        } = self;
+        let ServiceJob { rt, job, over } = self;
         let outcome = job.wait();
         *over.lock(rt) = true;
         match outcome {
             Ok(status) => Ok(status),
-            Err((job, fault)) => Err((
-                ServiceJob {
-                    rt,
-                    alloc,
-                    job,
-                    over,
-                },
-                fault,
-            )),
+            Err((job, fault)) => Err((ServiceJob { rt, job, over }, fault)),
         }
     }
 }
@@ -180,26 +194,25 @@ fn without_waiting(pipe: ChildStdin) -> ChildStdin {
 #[derive(Drop)]
 pub struct ProgramInput<'a, R> {
     rt: &'a R,
-    alloc: Global,
     pipe: ChildStdin,
     over: Arc<Mutex<bool>, Global>,
-    room: Option<Room>,
 }
 
-impl<R: Net + Wait + Clock> ProgramInput<'_, R> {
+impl<R: Wait + Clock> ProgramInput<'_, R> {
     // Waits until the pipe has room, but no longer than a pause.
-    fn wait_for_room(&mut self) {
-        if self.room.is_none() {
-            self.room = Room::new(self.alloc, self.rt, &self.pipe);
-        }
-        match &mut self.room {
-            Some(room) => room.wait(&self.pipe),
-            None => thread::sleep(self.rt, Duration::from_millis(SHORT_PAUSE)),
+    fn wait_for_room(&self) {
+        let mut watched = [pollfd {
+            fd: self.pipe.as_raw_fd(),
+            events: POLLOUT,
+            revents: 0,
+        }];
+        if libc::net::poll(&mut watched, PAUSE) < 0 {
+            thread::sleep(self.rt, Duration::from_millis(SHORT_PAUSE));
         }
     }
 }
 
-impl<R: Net + Wait + Clock> Write for ProgramInput<'_, R> {
+impl<R: Wait + Clock> Write for ProgramInput<'_, R> {
     fn write(&mut self, buf: &[u8]) -> io::Result<usize> {
         for _ in 0..u64::MAX {
             match self.pipe.write(buf) {
@@ -216,38 +229,5 @@ impl<R: Net + Wait + Clock> Write for ProgramInput<'_, R> {
 
     fn flush(&mut self) -> io::Result<()> {
         Ok(())
-    }
-}
-
-// A watch of a pipe, until it has room.
-#[derive(Drop)]
-struct Room {
-    poll: Poll,
-    events: Events,
-}
-
-impl Room {
-    // A watch of this pipe. `None` where there is none to have: there was no memory or no descriptor.
-    fn new(alloc: Global, net: &impl Net, pipe: &ChildStdin) -> Option<Room> {
-        let events = Events::with_capacity(alloc, 1).ok()?;
-        let poll = Poll::new(net).ok()?;
-        let descriptor = pipe.as_raw_fd();
-        poll.registry()
-            .register(&mut SourceFd(&descriptor), PIPE, Interest::WRITABLE)
-            .ok()?;
-        Some(Room { poll, events })
-    }
-
-    // Waits until the pipe has room, but no longer than a pause.
-    fn wait(&mut self, pipe: &ChildStdin) {
-        let descriptor = pipe.as_raw_fd();
-        // what is so is told once more after this
-        let _ = self
-            .poll
-            .registry()
-            .reregister(&mut SourceFd(&descriptor), PIPE, Interest::WRITABLE);
-        let _ = self
-            .poll
-            .poll(&mut self.events, Some(Duration::from_millis(PAUSE)));
     }
 }

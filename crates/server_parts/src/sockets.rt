@@ -3,7 +3,7 @@ use crate::client::ClientWriter;
 use std::alloc::Global;
 use std::io;
 use std::io::{Error, ErrorKind, Read, Write};
-use std::net::{Net, OpenListener, Shutdown, SocketAddr, TcpStream};
+use std::net::{OpenListener, Shutdown, SocketAddr, TcpStream};
 use std::os::fd::OwnedFd;
 use std::sync::{Arc, Mutex, Wait};
 use std::time::Clock;
@@ -24,6 +24,8 @@ struct Listening<T> {
     listener: Option<T>,
     // whether what is written to its connections is sent at once (TCP_NODELAY)
     sends_at_once: bool,
+    // the number of the error by which the system last gave no connection
+    error: Option<i32>,
 }
 
 /// A connection that was accepted, with its two ends.
@@ -37,14 +39,16 @@ struct Incoming {
 
 impl<T: OpenListener<Stream = TcpStream>> Listening<T> {
     // Waits for the next connection.
-    fn next(&self) -> Result<Incoming, AcceptFault> {
+    fn next(&mut self) -> Result<Incoming, AcceptFault> {
         let listener = self.listener.as_ref().ok_or(AcceptFault::Other)?;
-        let (stream, peer) = match listener.accept() {
+        let made = listener.accept();
+        let made = made.and_then(|(stream, peer)| Ok((stream.local_addr()?, stream, peer)));
+        let (local, stream, peer) = match made {
             Ok(made) => made,
-            Err(error) => return Err(fault_of(&error)),
-        };
-        let Ok(local) = stream.local_addr() else {
-            return Err(AcceptFault::Other);
+            Err(error) => {
+                self.error = error.raw_os_error();
+                return Err(fault_of(&error));
+            }
         };
         let (Some(peer), Some(local)) = (ipv4(peer), ipv4(local)) else {
             return Err(AcceptFault::Other);
@@ -105,6 +109,7 @@ impl<'a, R, T: OpenListener<Stream = TcpStream>> PumpedAcceptor<'a, R, T> {
             listening: Listening {
                 listener,
                 sends_at_once,
+                error: None,
             },
         }
     }
@@ -112,7 +117,7 @@ impl<'a, R, T: OpenListener<Stream = TcpStream>> PumpedAcceptor<'a, R, T> {
 
 impl<'a, R, T> Acceptor for PumpedAcceptor<'a, R, T>
 where
-    R: Net + Clock + Sync,
+    R: Clock + Sync,
     T: OpenListener<Stream = TcpStream> + Drop,
 {
     type Reader = Holder;
@@ -136,12 +141,16 @@ where
         };
         Ok(Accepted {
             reader: Holder { stream: reader },
-            writer: ClientWriter::new(self.rt, self.alloc, writer),
+            writer: ClientWriter::new(self.rt, writer),
             shut: Holder { stream },
             ip,
             port,
             local,
         })
+    }
+
+    fn error(&self) -> Option<i32> {
+        self.listening.error
     }
 
     fn close(&mut self) {
@@ -223,6 +232,7 @@ impl<'a, R, T: OpenListener<Stream = TcpStream>> HandedAcceptor<'a, R, T> {
             listening: Listening {
                 listener,
                 sends_at_once,
+                error: None,
             },
         }
     }
@@ -261,6 +271,10 @@ where
             port,
             local,
         })
+    }
+
+    fn error(&self) -> Option<i32> {
+        self.listening.error
     }
 
     fn close(&mut self) {

@@ -2,6 +2,7 @@
 #![tactic(auto)]
 
 mod causes;
+mod rules;
 pub mod tool;
 
 pub use server_parts::{ServerFault, ServiceLauncher, Wrapper};

@@ -2,10 +2,12 @@
 ghost use Rattle.std.specs.Prelude.{◌≡◌, ◌<◌, false};
 
 use crate::causes::{tell_failure, tell_usage};
+use crate::rules::{FolderRules, RulesOnDisk, RulesPath};
 use child_jobs::{Job, Plan};
 use dir_calls::{Dir, Name};
 use event_journals::Counts;
 use rule_lookup::Missing;
+use server_parts::limits::supply_for;
 use server_parts::opening::{
     listen, names_of, open_rules, plan_of, print_port, stand_in, texts_of,
 };
@@ -13,7 +15,9 @@ use server_parts::{
     HandedAcceptor, HandingLauncher, PumpedAcceptor, ServerFailure, ServerFault, ServiceLauncher,
     Wrapper, chain_of,
 };
-use server_words::{Limits, Mode, ServerWords, ServerWordsFault, Wrapping, read_server_words};
+use server_words::{
+    Level, Limits, Mode, ServerWords, ServerWordsFault, Wrapping as WrapperNames, read_server_words,
+};
 use server_yard::{Premises, Yard};
 use site_lock::{Caller, Callers, Site};
 use std::alloc::{AllocError, Global};
@@ -28,7 +32,10 @@ use std::sync::{Mutex, Wait};
 use std::thread::Threads;
 use std::time::{Clock, Duration};
 use stream_tools::SearchPath;
-use tcp_service::{Acceptor, Follow, Log, Patience, ServeEnd, Service, Starter, Worker, serve};
+use tcp_service::{
+    Acceptor, Chains, Follow, Log, Patience, Rules, ServeEnd, Service, Starter, Worker, Wrapping,
+    serve,
+};
 
 /// For so many seconds in succession a client whose connection is pumped may take nothing of what its program left for it.
 const IDLE: u64 = 60;
@@ -135,8 +142,8 @@ where
 {
     let alloc = rt.alloc();
     let log = Log::new(alloc, errors, words.level(), words.limits().connections);
-    let service = service_of(rt, words)?;
     let plan = plan_of(alloc, rt, words)?;
+    let service = service_of(rt, words, &plan)?;
     let search = SearchPath::own(alloc, rt)?;
     Ok(House {
         plan,
@@ -150,17 +157,21 @@ where
 fn service_of<R: AllocGlobal + Files>(
     rt: &R,
     words: &ServerWords<'_>,
+    plan: &Plan,
 ) -> Result<Service, ServerFailure> {
     let names = names_of(rt.alloc(), rt, words)?;
+    let (mode, connections) = (words.mode(), words.limits().connections);
+    let supply = supply_for(rt.alloc(), mode, connections, plan.inherited().len())?;
     Ok(Service {
         count: words.limits().count,
         names,
-        mode: words.mode(),
+        mode,
         patience: Patience {
             idle: Duration::from_secs(IDLE),
             all: Duration::from_secs(ALL),
         },
         recording: words.wrapping().records(),
+        supply,
     })
 }
 
@@ -182,19 +193,28 @@ where
     };
     let alloc = rt.alloc();
     let (dir, rules) = open_rules(alloc, rt, words)?;
+    let name = match &rules {
+        Some((name, _)) => Some(name.copy(alloc)?),
+        None => None,
+    };
+    let at = RulesPath::new(rt, words.rules().unwrap_or_default(), name.as_ref());
     let listener = open_socket(rt, words)?;
+    if words.hosts().is_none() && words.level() == Level::All && at.name_someone(alloc) {
+        let _ = house.log.lock(rt).no_names();
+    }
     let (places, parts) = (Blank::new(limits.connections), Blank::new(callers));
     let served = run_site::<Brand, Brand, _, _, _, _>(
         rt,
         house,
         listener,
         (dir, rules),
+        at,
         words,
         places,
         callers,
         parts,
     );
-    Ok(served?)
+    served
 }
 
 // The socket that listens where the words say, its port printed where they ask for that.
@@ -209,17 +229,31 @@ fn open_socket<R: Print + Net>(
     Ok(listener)
 }
 
+// The wrappers that words name.
+#[derive(Drop)]
+struct Wrappers<'a> {
+    names: &'a WrapperNames,
+}
+
+impl Wrapping for Wrappers<'_> {
+    type Stage = Wrapper;
+
+    fn chains(&self, alloc: Global) -> Result<Chains<Wrapper>, AllocError> {
+        Ok(Chains {
+            input: chain_of(alloc, self.names.input())?,
+            output: chain_of(alloc, self.names.output())?,
+        })
+    }
+}
+
 // A worker for each caller.
 fn workers_of<N: Callers>(
     alloc: Global,
     callers: Vec<Caller<N>>,
-    wrapping: &Wrapping,
-) -> Result<Vec<Worker<N, Wrapper>>, AllocError> {
-    let mut workers = Vec::new(alloc);
+) -> Result<Vec<Worker<N>>, AllocError> {
+    let mut workers = Vec::with_capacity(alloc, callers.len())?;
     for caller in callers {
-        let input = chain_of(alloc, wrapping.input())?;
-        let output = chain_of(alloc, wrapping.output())?;
-        workers.push(Worker::new(caller, input, output))?;
+        workers.push(Worker::new(caller))?;
     }
     Ok(workers)
 }
@@ -230,16 +264,16 @@ fn run_site<L, N, D, R, E, T>(
     house: &House<E>,
     listener: T,
     rules: (D, Option<(Name, Missing)>),
+    at: RulesPath<'_, R>,
     words: &ServerWords<'_>,
     places: Blank,
     count: u64,
     parts: Blank,
-) -> Result<(), ServerFault>
+) -> Result<(), ServerFailure>
 where
     L: Premises + Send + Sync,
     N: Callers + Send + Sync,
-    D: Dir + Send + Drop,
-    D::File: Send,
+    D: Dir<File = RulesOnDisk> + Send + Drop,
     R: AllocGlobal + Files<File = File> + Processes + Threads + Wait + Clock + Sync,
     R: Net<Stream = TcpStream>,
     R::Dir: Send + Sync,
@@ -263,7 +297,8 @@ where
         count,
         parts,
     )?;
-    serve_by_mode(rt, house, listener, &site, callers, words)
+    let rules = FolderRules::<L, R>::new(at);
+    serve_by_mode(rt, house, listener, &site, &rules, callers, words)
 }
 
 // A site, with so many callers, over a yard of this folder.
@@ -301,19 +336,22 @@ fn site_of<L: Premises, N: Callers, D: Dir + Drop>(
 }
 
 // Serves the connections of a socket at a site: their programs hold them, or the server passes their bytes on.
-fn serve_by_mode<L, N, D, R, E, T>(
+fn serve_by_mode<L, N, D, U, R, E, T>(
     rt: &R,
     house: &House<E>,
     listener: T,
     site: &Site<L, N, D, Counts>,
+    rules: &U,
     callers: Vec<Caller<N>>,
     words: &ServerWords<'_>,
-) -> Result<(), ServerFault>
+) -> Result<(), ServerFailure>
 where
     L: Premises + Send + Sync,
     N: Callers + Send + Sync,
     D: Dir + Send + Drop,
     D::File: Send,
+    U: Rules<L, D::File> + Sync,
+    U::Handle: Send,
     R: AllocGlobal + Files<File = File> + Processes + Threads + Wait + Clock + Sync,
     R: Net<Stream = TcpStream>,
     R::Dir: Send + Sync,
@@ -324,36 +362,62 @@ where
     T: OpenListener<Stream = TcpStream> + Drop,
     E: Write + Send,
 {
-    let workers = workers_of(rt.alloc(), callers, words.wrapping())?;
+    let workers = workers_of(rt.alloc(), callers)?;
+    let workers = workers.as_slice();
+    let wrappers = Wrappers {
+        names: words.wrapping(),
+    };
     let at_once = words.sends_at_once();
     match words.mode() {
         Mode::HandedOver => {
             let mut acceptor = HandedAcceptor::new(rt, rt.alloc(), listener, at_once);
             let starter = HandingLauncher::new(rt, &house.search);
-            serve_site(rt, house, &mut acceptor, site, workers.as_slice(), &starter)
+            serve_site(
+                rt,
+                house,
+                &mut acceptor,
+                site,
+                rules,
+                workers,
+                &wrappers,
+                &starter,
+            )
         }
         Mode::Pumped => {
             let mut acceptor = PumpedAcceptor::new(rt, rt.alloc(), listener, at_once);
             let starter = ServiceLauncher::new(rt, &house.search);
-            serve_site(rt, house, &mut acceptor, site, workers.as_slice(), &starter)
+            serve_site(
+                rt,
+                house,
+                &mut acceptor,
+                site,
+                rules,
+                workers,
+                &wrappers,
+                &starter,
+            )
         }
     }
 }
 
 // Serves at a site by these workers.
-fn serve_site<L, N, D, R, E, A, S>(
+fn serve_site<L, N, D, U, R, E, A, S>(
     rt: &R,
     house: &House<E>,
     acceptor: &mut A,
     site: &Site<L, N, D, Counts>,
-    workers: &[Worker<N, Wrapper>],
+    rules: &U,
+    workers: &[Worker<N>],
+    wrappers: &Wrappers<'_>,
     starter: &S,
-) -> Result<(), ServerFault>
+) -> Result<(), ServerFailure>
 where
     L: Premises + Send + Sync,
     N: Callers + Send + Sync,
     D: Dir + Send + Drop,
     D::File: Send,
+    U: Rules<L, D::File> + Sync,
+    U::Handle: Send,
     R: AllocGlobal + Threads + Wait + Clock + Sync,
     E: Write + Send,
     A: Acceptor,
@@ -363,25 +427,31 @@ where
     <S::Job as Job>::Input: Send + Drop,
     <S::Job as Job>::Output: Send + Drop,
 {
-    end_of(serve(
+    let end = serve(
         rt,
         rt.alloc(),
         acceptor,
         site,
+        rules,
         workers,
+        wrappers,
         starter,
         &house.plan,
         &house.service,
         &house.log,
-    ))
+    );
+    end_of(end, acceptor.error())
 }
 
-// How the tool ends.
-fn end_of(end: ServeEnd) -> Result<(), ServerFault> {
+// How the tool ends, by the system's last error of accepting.
+fn end_of(end: ServeEnd, error: Option<i32>) -> Result<(), ServerFailure> {
     match end {
         ServeEnd::Count => Ok(()),
-        ServeEnd::NoPlaces => Err(ServerFault::NoPlaces),
-        ServeEnd::AcceptFaults => Err(ServerFault::AcceptFault),
-        ServeEnd::OutOfMemory => Err(ServerFault::OutOfMemory),
+        ServeEnd::NoPlaces => Err(ServerFailure::from(ServerFault::NoPlaces)),
+        ServeEnd::AcceptFaults => Err(ServerFailure {
+            fault: ServerFault::AcceptFault,
+            error,
+        }),
+        ServeEnd::OutOfMemory => Err(ServerFailure::from(ServerFault::OutOfMemory)),
     }
 }

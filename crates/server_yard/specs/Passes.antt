@@ -7,6 +7,7 @@ use Rattle.rule_lookup.specs.Decisions.{decision_from}
 use Rattle.rule_lookup.specs.Peers.{Client}
 use Rattle.rule_lookup.specs.declared.decision.Decision.{Decision}
 use Rattle.rule_lookup.specs.declared.decision.Missing.{Missing}
+use Rattle.server_yard.specs.declared.finding.Finding.{Finding}
 use Rattle.server_yard.specs.declared.pass.Pass.{Pass}
 
 -- the serial of its connection
@@ -16,6 +17,10 @@ pass_serial pass = pass.serial
 -- what is decided without a file
 abbrev pub pass_missing : {L F : Type 0} {p : _} {l : _} {f : _} → Pass L F p l f → Missing
 pass_missing pass = pass.missing
+
+-- the file that was found by a handle of the connection's own
+abbrev pub finding_file : {L F : Type 0} {p : _} {l : _} {f : _} → Finding L F p l f → Option F
+finding_file finding = finding.file
 
 -- the file that was found
 abbrev pub pass_file : {L F : Type 0} {p : _} {l : _} {f : _} → Pass L F p l f → Option F

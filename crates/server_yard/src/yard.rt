@@ -12,7 +12,7 @@ ghost use Rattle.server_events.specs.Worlds.{missing_by, peer_of};
 ghost use Rattle.server_events.specs.declared.event.Event.TheVariants.{Admitted, Opened, Decided, Started, StartFailed, Ended, Retired, Dropped};
 ghost use Rattle.server_events.specs.declared.event.Stage.TheVariants as stage;
 ghost use Rattle.server_yard.specs.Installed.{IsKeptBy, IsWholeFile};
-ghost use Rattle.server_yard.specs.Passes.{IsDecidedBy, pass_bytes, pass_file, pass_missing, pass_serial};
+ghost use Rattle.server_yard.specs.Passes.{IsDecidedBy, finding_file, pass_bytes, pass_file, pass_missing, pass_serial};
 ghost use Rattle.server_yard.specs.Readers.{ReadersFind};
 ghost use Rattle.server_yard.specs.Rolls.{IsQuiet, Notes, NotesSome};
 ghost use Rattle.server_yard.specs.Rosters.{books_of, roll_of};
@@ -22,6 +22,7 @@ ghost use Rattle.server_yard.specs.Stepping.{GoesAsStep, HandsBack, IsRefusedAs,
 ghost use Rattle.server_yard.specs.Kept.{FindsItsFile, FindsItsFile-prop, HasNoEvents, IsKeptInstallation, installing_of, is_kept, phase_of, rules_of, state_of};
 ghost use Rattle.server_yard.specs.declared.roster.AdmitFault.TheVariants.{Full, FullForAddress, Spent};
 
+use crate::finding::Finding;
 use crate::pass::Pass;
 use crate::premises::Premises;
 use crate::roster::{AdmitFault, Roster};
@@ -329,6 +330,35 @@ impl<L: Premises, D: Dir + Drop, J: Journal> Yard<L, D, J> {
             missing,
             yard: PhantomData,
         })
+    }
+
+    /// A connection that was let in has opened the rules by a handle of its own, and has found this: its pass has it, and keeps it through all
+    /// later calls. Where that is what stands under the rules name in the directory of now, it is the step that `open` is. The directory is not
+    /// called, and no memory is taken.
+    pub fn opened(&mut self, serial: u64, finding: Finding<L, D::File>) -> Pass<L, D::File>
+        requires admitted { stage_of serial (yard_server self.old).connections ≡ Some stage.Admitted }
+        ensures its { pass_serial result ≡ serial }
+        ensures missing { pass_missing result ≡ missing_by (yard_rules self.old) }
+        ensures found { pass_file result ≡ finding_file finding }
+        ensures noted { Notes J.told J.count J.stored
+            (Opened serial (is_some (pass_file result))) (yard_roll self.old) (yard_roll self.new) }
+        ensures step { IsTrue D.honest → pass_bytes D.File.bytes result ≡ standing_of (yard_state D.state self.old)
+            → LeadsOpened serial (pass_bytes D.File.bytes result) (yard_state D.state self.old) (yard_state D.state self.new) }
+        ensures same { IsSameBeside J.lists self.old self.new }
+        ensures seats { KeepsSeats (yard_seat self.old) (yard_seat self.new) }
+    {
+        let missing = self.missing();
+        let Finding { file, yard } = finding;
+        self.advance(Event::Opened {
+            serial,
+            there: file.is_some(),
+        });
+        Pass {
+            serial,
+            file,
+            missing,
+            yard,
+        }
     }
 
     /// A connection is decided as `decide` decided for the pass that it opened. It takes no memory.

@@ -46,6 +46,7 @@ fn peer(alloc: Global) -> Result<(Local, Peer), PeerFault> {
 
 /// Tells a log of a connection that goes well.
 fn tell_progress<W: Write>(log: &mut Log<W>, local: &Local, peer: &Peer) -> Result<(), LogFault> {
+    log.no_names()?;
     log.status(0)?;
     log.admitted(1, peer.ip(), 1)?;
     log.decided(Verdict::Allow, 1, local, peer)?;
@@ -58,8 +59,9 @@ fn tell_faults<W: Write>(log: &mut Log<W>) -> Result<(), LogFault> {
     log.start_failed(2, StartFault::NotFound, Some(cause), 3)?;
     log.no_pipe_ends(3)?;
     log.retired(4, 2)?;
-    log.dropped(5, DropCause::Banner, 1)?;
-    log.dropped(6, DropCause::Denied, 0)?;
+    let cause = Cause::new(b"rules.cdb", "Permission denied");
+    log.dropped(5, DropCause::Directory, Some(cause), 1)?;
+    log.dropped(6, DropCause::Denied, None, 0)?;
     log.address_full([10, 0, 2, 7])?;
     log.out_of_memory()
 }

@@ -75,6 +75,10 @@ impl Acceptor for Clients {
         })
     }
 
+    fn error(&self) -> Option<i32> {
+        None
+    }
+
     fn close(&mut self) {
         self.left = 0;
     }

@@ -3,10 +3,11 @@ ghost use Rattle.std.specs.Prelude.{◌≡◌, ◌<◌, ◌+◌, false};
 
 use crate::scripts::{Clients, Scripts, Tally};
 use child_jobs::{Plan, Program};
-use dir_calls::MemDir;
+use dir_calls::{DirFault, MemDir, MemFile};
 use event_journals::Counts;
+use rule_lookup::Peer;
 use server_words::Level;
-use server_yard::{Premises, Yard};
+use server_yard::{Finding, Premises, Yard};
 use site_lock::{Caller, Callers, Site};
 use std::alloc::{AllocError, Global};
 use std::io;
@@ -16,7 +17,10 @@ use std::sync::ledger::Blank;
 use std::sync::{Mutex, Wait};
 use std::thread::Threads;
 use std::time::{Clock, Duration};
-use tcp_service::{Log, Mode, Names, Patience, ServeEnd, Service, Worker, serve};
+use tcp_service::{
+    Chains, Log, Mode, Names, Patience, Rules, RulesHandle, ServeEnd, Service, Supply, Worker,
+    Wrapping, serve,
+};
 use ucspi_env::{Environment, Local};
 use wrapper_chain::{Chain, FixCr};
 
@@ -31,6 +35,36 @@ pub struct Asked {
     pub clients: u64,
     /// How many it lets in before it ends.
     pub count: Option<u32>,
+}
+
+/// That there is no rules file.
+#[derive(Clone, Copy)]
+struct NoRules;
+
+impl<L: Premises> Rules<L, MemFile> for NoRules {
+    type Handle = NoRules;
+
+    fn handle(&self, _alloc: Global) -> Result<NoRules, AllocError> {
+        Ok(NoRules)
+    }
+
+    fn path(&self) -> &str {
+        ""
+    }
+
+    fn damaged_rule(&self, _alloc: Global, _peer: &Peer) -> Option<String> {
+        None
+    }
+}
+
+impl<L: Premises> RulesHandle<L, MemFile> for NoRules {
+    fn open(&mut self, _alloc: Global) -> Result<Finding<L, MemFile>, DirFault> {
+        Ok(Finding::new(None))
+    }
+
+    fn error(&self) -> Option<i32> {
+        None
+    }
 }
 
 /// Serves connections by jobs of these scripts, under a full log, until the server ends. Prints how it ended, how many connections were alive
@@ -127,7 +161,9 @@ where
         alloc,
         &mut acceptor,
         site,
+        &NoRules,
         workers.as_slice(),
+        &Unwrapped,
         launcher,
         &plan(alloc),
         &service(asked.count),
@@ -135,16 +171,29 @@ where
     ))
 }
 
-/// A worker for each caller, without line wrappers.
+/// No line wrappers.
+#[derive(Drop)]
+struct Unwrapped;
+
+impl Wrapping for Unwrapped {
+    type Stage = FixCr;
+
+    fn chains(&self, alloc: Global) -> Result<Chains<FixCr>, AllocError> {
+        Ok(Chains {
+            input: Chain::new(alloc, Vec::new(alloc)),
+            output: Chain::new(alloc, Vec::new(alloc)),
+        })
+    }
+}
+
+/// A worker for each caller.
 fn workers_of<N: Callers>(
     alloc: Global,
     callers: Vec<Caller<N>>,
-) -> Result<Vec<Worker<N, FixCr>>, AllocError> {
+) -> Result<Vec<Worker<N>>, AllocError> {
     let mut workers = Vec::new(alloc);
     for caller in callers {
-        let input = Chain::new(alloc, Vec::new(alloc));
-        let output = Chain::new(alloc, Vec::new(alloc));
-        workers.push(Worker::new(caller, input, output))?;
+        workers.push(Worker::new(caller))?;
     }
     Ok(workers)
 }
@@ -173,5 +222,6 @@ fn service(count: Option<u32>) -> Service {
             all: Duration::from_secs(600),
         },
         recording: false,
+        supply: Supply::unlimited(),
     }
 }

@@ -3,7 +3,7 @@ ghost use Rattle.std.specs.Prelude.{◌≡◌, ◌+◌, ◌<◌, ◌≤◌, ◌�
 ghost use Rattle.event_journals.specs.Journals.{one_more};
 ghost use Rattle.rules_install.specs.Installs.{installing};
 ghost use Rattle.server_events.specs.declared.event.Event.TheVariants.{Admitted, Opened, Decided, Started, StartFailed, Ended, Retired, Dropped};
-ghost use Rattle.server_yard.specs.Passes.{IsDecidedBy, pass_file, pass_serial};
+ghost use Rattle.server_yard.specs.Passes.{IsDecidedBy, finding_file, pass_file, pass_serial};
 ghost use Rattle.server_yard.specs.Stepping.{HandsBack, begin_event, step_event};
 ghost use Rattle.server_yard.specs.Yards.{yard_roll, yard_server};
 ghost use Rattle.site_lock.specs.Callers.{IsCountedFor, caller_number, caller_share};
@@ -16,7 +16,7 @@ use dir_calls::Dir;
 use event_journals::Journal;
 use rule_lookup::{Decision, DropCause, Peer, StartFault, Status};
 use rules_install::{Install, InstallFault, Phase};
-use server_yard::{AdmitFault, Pass, Premises, Yard};
+use server_yard::{AdmitFault, Finding, Pass, Premises, Yard};
 use site_turns::turns::OpenFault;
 use site_turns::{Receipt, turns};
 use std::alloc::Global;
@@ -65,6 +65,25 @@ impl<L: Premises, N: Callers, D: Dir + Drop, J: Journal> Guarded<L, N, D, J> {
         let opened = turns::open(yard, caller.number, alloc, serial)?;
         add_one(events, caller, before);
         Ok(opened)
+    }
+
+    pub(crate) fn opened(
+        &mut self,
+        caller: &mut Caller<N>,
+        serial: u64,
+        finding: Finding<L, D::File>,
+    ) -> Option<(Pass<L, D::File>, Receipt)>
+        ensures its { IfSome result (λ r. pass_serial r.0 ≡ serial) }
+        ensures found { IfSome result (λ r. pass_file r.0 ≡ finding_file finding) }
+        ensures receipt { IfSome result (λ r.
+            IsReceiptOf (caller_number caller.old) (Opened serial (is_some (pass_file r.0))) r.1) }
+        ensures counted { IsCountedFor (option_map (λ r. r.1) result) caller.old caller.new }
+    {
+        let Guarded { yard, events } = self;
+        let before = yard.journal().events();
+        let opened = turns::opened(yard, caller.number, serial, finding)?;
+        add_one(events, caller, before);
+        Some(opened)
     }
 
     pub(crate) fn decided(

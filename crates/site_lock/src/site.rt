@@ -2,7 +2,7 @@
 ghost use Rattle.std.specs.Prelude.{◌≡◌, ◌+◌, ◌<◌, ◌↔◌, None, Some, IsOk, IfOk, IfErr, IfSome, OnErr, option_map, is_some, vec_len};
 ghost use Rattle.rules_install.specs.Installs.{installing};
 ghost use Rattle.server_events.specs.declared.event.Event.TheVariants.{Admitted, Opened, Decided, Started, StartFailed, Ended, Retired, Dropped};
-ghost use Rattle.server_yard.specs.Passes.{IsDecidedBy, pass_file, pass_serial};
+ghost use Rattle.server_yard.specs.Passes.{IsDecidedBy, finding_file, pass_file, pass_serial};
 ghost use Rattle.server_yard.specs.Stepping.{HandsBack, begin_event, step_event};
 ghost use Rattle.server_yard.specs.Yards.{yard_roll};
 ghost use Rattle.site_lock.specs.Callers.{AreNew, IsCountedFor, caller_number, total_share};
@@ -16,7 +16,7 @@ use dir_calls::Dir;
 use event_journals::Journal;
 use rule_lookup::{Decision, DropCause, Peer, StartFault, Status};
 use rules_install::{Install, InstallFault, Phase};
-use server_yard::{AdmitFault, Pass, Premises, Yard};
+use server_yard::{AdmitFault, Finding, Pass, Premises, Yard};
 use site_turns::Receipt;
 use site_turns::turns::OpenFault;
 use std::alloc::{AllocError, Global};
@@ -110,6 +110,24 @@ impl<L: Premises, N: Callers, D: Dir + Drop, J: Journal> Site<L, N, D, J> {
         ensures refused { OnErr result (IsCountedFor None caller.old caller.new) }
     {
         self.guarded.lock(rt).open(caller, alloc, serial)
+    }
+
+    /// A connection has opened the rules by a handle of its own, while nobody had to wait for it, and has found this: `turns::opened` under the
+    /// lock. There is neither pass nor receipt where it was not its turn.
+    pub fn opened<R: Wait>(
+        &self,
+        rt: &R,
+        caller: &mut Caller<N>,
+        serial: u64,
+        finding: Finding<L, D::File>,
+    ) -> Option<(Pass<L, D::File>, Receipt)>
+        ensures its { IfSome result (λ r. pass_serial r.0 ≡ serial) }
+        ensures found { IfSome result (λ r. pass_file r.0 ≡ finding_file finding) }
+        ensures receipt { IfSome result (λ r.
+            IsReceiptOf (caller_number caller.old) (Opened serial (is_some (pass_file r.0))) r.1) }
+        ensures counted { IsCountedFor (option_map (λ r. r.1) result) caller.old caller.new }
+    {
+        self.guarded.lock(rt).opened(caller, serial, finding)
     }
 
     /// A connection is decided: `turns::decided` under the lock.

@@ -10,7 +10,7 @@ ghost use Rattle.server_events.specs.ServerState.{is_admitted, is_allowed, is_un
 ghost use Rattle.server_events.specs.Worlds.{missing_by};
 ghost use Rattle.server_events.specs.declared.event.Event.TheVariants.{Admitted, Opened, Decided, Started, StartFailed, Ended, Retired, Dropped};
 ghost use Rattle.server_events.specs.declared.event.Stage.TheVariants as stage;
-ghost use Rattle.server_yard.specs.Passes.{IsDecidedBy, pass_bytes, pass_file, pass_missing, pass_serial};
+ghost use Rattle.server_yard.specs.Passes.{IsDecidedBy, finding_file, pass_bytes, pass_file, pass_missing, pass_serial};
 ghost use Rattle.server_yard.specs.Rolls.{IsQuiet, NotesSome};
 ghost use Rattle.server_yard.specs.Seating.{GivesSeat, IsAddressFull, IsSpent, KeepsSeats, KeepsSerials};
 ghost use Rattle.server_yard.specs.Standing.{LeadsDecided, LeadsOn, LeadsOpened, LeadsSome, standing_of};
@@ -30,7 +30,7 @@ use rule_lines::Verdict;
 use rule_lookup::{Decision, DropCause, Peer, StartFault, Status};
 use rules_install::{Install, InstallFault, Phase};
 use server_events::{Event, Stage};
-use server_yard::{AdmitFault, Pass, Premises, Yard};
+use server_yard::{AdmitFault, Finding, Pass, Premises, Yard};
 use std::alloc::Global;
 use thiserror::Error;
 
@@ -126,6 +126,38 @@ pub fn open<L: Premises, D: Dir + Drop, J: Journal>(
         Err(DirFault::OutOfMemory) => Err(OpenFault::OutOfMemory),
         Err(_) => Err(OpenFault::Device),
     }
+}
+
+/// A connection has opened the rules by a handle of its own, as by `Yard::opened`: where it was let in, and has not opened them before. Else
+/// nothing changes but who speaks, and what it found is let go.
+pub fn opened<L: Premises, D: Dir + Drop, J: Journal>(
+    yard: &mut Yard<L, D, J>,
+    caller: u64,
+    serial: u64,
+    finding: Finding<L, D::File>,
+) -> Option<(Pass<L, D::File>, Receipt)>
+    ensures in_turn { is_some result ≡ is_admitted (stage_of serial (yard_server yard.old).connections) }
+    ensures its { IfSome result (λ r. pass_serial r.0 ≡ serial) }
+    ensures missing { IfSome result (λ r. pass_missing r.0 ≡ missing_by (yard_rules yard.old)) }
+    ensures found { IfSome result (λ r. pass_file r.0 ≡ finding_file finding) }
+    ensures receipt { IfSome result (λ r. r.1
+        ≡ receipt_after (J.count (yard_roll yard.old).journal) caller (Opened serial (is_some (pass_file r.0)))) }
+    ensures noted { IfSome result (λ r. NotesBy J.told J.count J.stored
+        caller (Opened serial (is_some (pass_file r.0))) (yard_roll yard.old) (yard_roll yard.new)) }
+    ensures step { IsTrue D.honest → IfSome result (λ r. pass_bytes D.File.bytes r.0 ≡ standing_of (yard_state D.state yard.old)
+        → LeadsOpened serial (pass_bytes D.File.bytes r.0) (yard_state D.state yard.old) (yard_state D.state yard.new)) }
+    ensures out { IfNone result (IsPassedOver J.lists caller yard.old yard.new) }
+    ensures same { IsSameBeside J.lists yard.old yard.new }
+    ensures seats { KeepsSeats (yard_seat yard.old) (yard_seat yard.new) }
+{
+    yard.speaker(caller);
+    if yard.stage(serial) != Some(Stage::Admitted) {
+        return None;
+    }
+    let pass = yard.opened(serial, finding);
+    let there = pass.source().is_some();
+    let receipt = receipt(yard, caller, Event::Opened { serial, there });
+    Some((pass, receipt))
 }
 
 /// A connection is decided, as by `Yard::decided`: where it opened the rules, this is its peer, and the pass has what the yard decides

@@ -31,17 +31,16 @@ impl<'a, P: Processes> OsLauncher<'a, P> {
         OsLauncher { processes, search }
     }
 
-    /// Starts a program whose standard input and output are both what this descriptor stands for, which this process holds no more then. The
-    /// job has no pipe ends to give.
+    /// Starts a program whose standard input and output are both what this descriptor stands for. The job has no pipe ends to give.
     ///
     /// # Errors
-    /// As of `Launcher::start`; the descriptor is closed then too.
+    /// As of `Launcher::start`.
     pub fn start_on(
         &self,
         alloc: Global,
         program: &Program,
         environment: &Environment,
-        stream: OwnedFd,
+        stream: &OwnedFd,
     ) -> Result<OsJob, NotStarted>
         ensures program { IfOk result (λ job. ⟦<OsJob as Job>⟧.program job ≡ program.now) }
         ensures environment { IfOk result (λ job. ⟦<OsJob as Job>⟧.environment job ≡ environment.now) }

@@ -74,6 +74,9 @@ pub trait Acceptor {
     /// No connection is given; it may be asked again.
     fn accept(&mut self) -> Result<Accepted<Self::Reader, Self::Writer, Self::Shut>, AcceptFault>;
 
+    /// The system's number of the error (`errno`) by which it last gave none, where it had one.
+    fn error(&self) -> Option<i32>;
+
     /// Gives back what connections come to: nobody comes any more, and whoever waits is turned away.
     fn close(&mut self);
 }

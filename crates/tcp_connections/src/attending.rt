@@ -46,12 +46,22 @@ pub trait Endings<L: Ledger, C: Job> {
     fn retired(&mut self, child: Self::Child, serial: u64);
 }
 
-/// What a client sends, on its way to the child.
+/// What a client sends, on its way to the child, through a chain of line wrappers.
 #[derive(Drop)]
-pub struct Upward<I, P> {
+pub struct Upward<I, P, G> {
     port: u16,
     reader: I,
     to: P,
+    chain: Chain<G>,
+}
+
+/// The line wrappers of a connection, for what its client sends and for what it is sent.
+#[derive(Drop)]
+pub struct Chains<G> {
+    /// For what the client sends.
+    pub input: Chain<G>,
+    /// For what it is sent.
+    pub output: Chain<G>,
 }
 
 /// A child that runs. One that is let go stays counted for good.
@@ -68,15 +78,23 @@ impl<L: Ledger, C: Job + Drop> Drop for Held<L, C> {
     }
 }
 
-/// A connection whose child runs, and what the child says, on its way to the client.
+/// A child that runs and holds its connection itself.
 #[derive(Drop)]
-pub struct Talk<L: Ledger, C: Job + Drop, F, O, X> {
+pub struct Handed<L: Ledger, C: Job + Drop> {
+    held: Held<L, C>,
+    serial: u64,
+}
+
+/// A connection whose child runs, and what the child says, on its way to the client, through a chain of line wrappers.
+#[derive(Drop)]
+pub struct Talk<L: Ledger, C: Job + Drop, F, O, X, G> {
     held: Held<L, C>,
     serial: u64,
     port: u16,
     from: F,
     writer: O,
     shut: X,
+    chain: Chain<G>,
 }
 
 /// What passes on the streams of connections.
@@ -95,36 +113,51 @@ pub struct Attendant<'a, R, W> {
 }
 
 impl<R: Wait, W: Write> Attendant<'_, R, W> {
-    /// Lets a connection go that its child holds itself, and waits for the child: the connection ends when its last holder closes it, and the
-    /// place is given back once the child was waited for.
-    pub fn hand_over<L, C, E, I, O, X>(
+    /// Lets a connection go that its child holds itself: it ends when its last holder closes it. The child is to be waited for by `see_out`.
+    pub fn hand_over<L, C, I, O, X>(
         &self,
-        endings: &mut E,
         running: Running<L, C>,
         line: Line<I, O, X>,
-    )
+    ) -> Handed<L, C>
     where
         L: Ledger,
-        C: Job,
-        E: Endings<L, C, Place = Place<L>, Child = Running<L, C>>,
+        C: Job + Drop,
         I: Drop,
         O: Drop,
         X: Drop,
     {
-        let serial = line.serial;
-        drop(line);
-        tell_end(endings, wait_in_rounds(running, false), serial);
+        Handed {
+            held: Held {
+                running: Some(running),
+            },
+            serial: line.serial,
+        }
+    }
+
+    /// Waits for the child of a connection that it holds itself; the place is given back once it was waited for.
+    pub fn see_out<L, C, E>(&self, endings: &mut E, handed: Handed<L, C>)
+    where
+        L: Ledger,
+        C: Job + Drop,
+        E: Endings<L, C, Place = Place<L>, Child = Running<L, C>>,
+    {
+        let Handed { mut held, serial } = handed;
+        if let Some(running) = held.running.take() {
+            tell_end(endings, wait_in_rounds(running, false), serial);
+        }
     }
 
     /// Takes the pipe ends of a child that runs: what the client sends goes to it by `pass_up`, and what it says goes to the client by
     /// `pass_down`. A child without pipe ends is ended by force, and the connection with it: there is nothing to pass on then.
-    pub fn begin<L, C, E, I, O, X>(
+    pub fn begin<L, C, E, I, O, X, G>(
         &self,
         endings: &mut E,
         mut running: Running<L, C>,
         line: Line<I, O, X>,
-    ) -> Option<(Upward<I, C::Input>, Talk<L, C, C::Output, O, X>)>
+        chains: Chains<G>,
+    ) -> Option<(Upward<I, C::Input, G>, Talk<L, C, C::Output, O, X, G>)>
     where
+        G: Drop,
         L: Ledger,
         C: Job + Drop,
         C::Input: Drop,
@@ -147,6 +180,7 @@ impl<R: Wait, W: Write> Attendant<'_, R, W> {
             return None;
         };
         writer.follow(&from, self.patience);
+        let Chains { input, output } = chains;
         let talk = Talk {
             held: Held {
                 running: Some(running),
@@ -156,35 +190,40 @@ impl<R: Wait, W: Write> Attendant<'_, R, W> {
             from,
             writer,
             shut,
+            chain: output,
         };
-        Some((Upward { port, reader, to }, talk))
+        let upward = Upward {
+            port,
+            reader,
+            to,
+            chain: input,
+        };
+        Some((upward, talk))
     }
 
-    /// Passes on what the client sends, through a chain of line wrappers, until it ends or the child takes no more.
-    pub fn pass_up<I, P, G>(&self, upward: Upward<I, P>, chain: &Mutex<Chain<G>>)
+    /// Passes on what the client sends until it ends or the child takes no more.
+    pub fn pass_up<I, P, G>(&self, upward: Upward<I, P, G>)
     where
         I: Read + Drop,
         P: Write + Drop,
-        G: LineStage,
+        G: LineStage + Drop,
     {
-        let Upward { port, reader, to } = upward;
+        let Upward {
+            port,
+            reader,
+            to,
+            chain,
+        } = upward;
         if self.recording {
             let tap = self.recorder(port, Way::Input);
-            pump_stream(self.rt, self.alloc, reader, to, chain, tap);
+            pump_stream(self.alloc, reader, to, chain, tap);
         } else {
-            pump_stream(self.rt, self.alloc, reader, to, chain, NoTap);
+            pump_stream(self.alloc, reader, to, chain, NoTap);
         }
     }
 
-    /// Passes on what the child says, through a chain of line wrappers, until it says no more; then ends the child, and the connection. A
-    /// child that nobody passes anything to (`is_fed` is false: there was no thread for `pass_up`) is ended by force, and nothing is passed on.
-    pub fn pass_down<L, C, E, F, O, X, G>(
-        &self,
-        endings: &mut E,
-        talk: Talk<L, C, F, O, X>,
-        chain: &Mutex<Chain<G>>,
-        is_fed: bool,
-    )
+    /// Passes on what the child says until it says no more; then ends the child, and the connection.
+    pub fn pass_down<L, C, E, F, O, X, G>(&self, endings: &mut E, talk: Talk<L, C, F, O, X, G>)
     where
         L: Ledger,
         C: Job + Drop,
@@ -192,7 +231,7 @@ impl<R: Wait, W: Write> Attendant<'_, R, W> {
         F: Read + Drop,
         O: Write + Drop,
         X: Shut + Drop,
-        G: LineStage,
+        G: LineStage + Drop,
     {
         let Talk {
             mut held,
@@ -201,31 +240,27 @@ impl<R: Wait, W: Write> Attendant<'_, R, W> {
             from,
             writer,
             shut,
+            chain,
         } = talk;
-        if is_fed {
-            self.pump_down(port, from, writer, chain);
-        } else {
-            drop(from);
-            let _ = self.log.lock(self.rt).no_pipe_ends(serial);
-        }
+        self.pump_down(port, from, writer, chain);
         if let Some(running) = held.running.take() {
-            end_child(endings, running, serial, !is_fed, &shut);
+            end_child(endings, running, serial, false, &shut);
         }
     }
 
     // Pumps what a child says to its client; both ends are let go.
-    fn pump_down<F: Read + Drop, O: Write + Drop, G: LineStage>(
+    fn pump_down<F: Read + Drop, O: Write + Drop, G: LineStage + Drop>(
         &self,
         port: u16,
         from: F,
         writer: O,
-        chain: &Mutex<Chain<G>>,
+        chain: Chain<G>,
     ) {
         if self.recording {
             let tap = self.recorder(port, Way::Output);
-            pump_stream(self.rt, self.alloc, from, writer, chain, tap);
+            pump_stream(self.alloc, from, writer, chain, tap);
         } else {
-            pump_stream(self.rt, self.alloc, from, writer, chain, NoTap);
+            pump_stream(self.alloc, from, writer, chain, NoTap);
         }
     }
 
@@ -242,23 +277,15 @@ impl<R: Wait, W: Write> Attendant<'_, R, W> {
 }
 
 // Pumps what one side says to the other, through a chain of line wrappers; both ends are let go.
-fn pump_stream<H, E, F, G, T>(
-    rt: &H,
-    alloc: Global,
-    reader: E,
-    writer: F,
-    chain: &Mutex<Chain<G>>,
-    tap: T,
-)
+fn pump_stream<E, F, G, T>(alloc: Global, reader: E, writer: F, chain: Chain<G>, tap: T)
 where
-    H: Wait,
     E: Read + Drop,
     F: Write + Drop,
-    G: LineStage,
+    G: LineStage + Drop,
     T: Tap + Drop,
 {
     let (mut reader, mut writer, mut tap) = (reader, writer, tap);
-    let mut chain = chain.lock(rt);
+    let mut chain = chain;
     pump(alloc, &mut reader, &mut writer, &mut chain, &mut tap, TURNS);
 }
 

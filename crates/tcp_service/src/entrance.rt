@@ -1,6 +1,5 @@
 //! How a connection is let in: accepted, named, and counted.
 use crate::connection::{Reserved, Work};
-use child_jobs::Plan;
 use child_table::Place;
 use dir_calls::Dir;
 use event_journals::Journal;
@@ -23,7 +22,6 @@ pub(crate) struct Entrance<'a, A, L: Premises, N: Callers, D: Dir + Drop, J: Jou
     pub site: &'a Site<L, N, D, J>,
     pub caller: &'a Mutex<Caller<N>>,
     pub names: &'a Names,
-    pub plan: &'a Plan,
     pub log: &'a Mutex<Log<W>>,
 }
 
@@ -38,26 +36,15 @@ fn line_of<I, O, X>(accepted: Accepted<I, O, X>, serial: u64, port: u16) -> Line
     }
 }
 
-// The client with its name, and the plan with the server's end of this connection.
-fn plan_for<I, O, X>(
+// The two ends of a connection, with their names.
+fn ends_of<I, O, X>(
     alloc: Global,
     names: &Names,
-    plan: &Plan,
     accepted: &Accepted<I, O, X>,
-) -> Result<(Peer, Plan), AllocError> {
+) -> Result<(Peer, Local), AllocError> {
     let peer = names.peer(alloc, accepted.ip, accepted.port)?;
     let local = names.local(alloc, accepted.local.ip(), accepted.local.port())?;
-    Ok((peer, plan_at(alloc, plan, local)?))
-}
-
-// The plan, with the server's end of a connection.
-fn plan_at(alloc: Global, plan: &Plan, local: Local) -> Result<Plan, AllocError> {
-    Ok(Plan::new(
-        plan.program().copy(alloc)?,
-        plan.inherited().copy(alloc)?,
-        local,
-        plan.banner().to_vec(alloc)?,
-    ))
+    Ok((peer, local))
 }
 
 // A connection has found no memory.
@@ -109,7 +96,7 @@ where
         &self,
         accepted: Accepted<I, O, X>,
     ) -> Entry<Work<L, I, O, X>> {
-        let Ok((peer, plan)) = plan_for(self.alloc, self.names, self.plan, &accepted) else {
+        let Ok((peer, local)) = ends_of(self.alloc, self.names, &accepted) else {
             return refuse_for_memory(self.rt, self.log);
         };
         let (serial, place) = match self.admit(&peer) {
@@ -121,7 +108,7 @@ where
             reserved: Reserved { place: Some(place) },
             line: line_of(accepted, serial, peer.port()),
             peer,
-            plan,
+            local,
         })
     }
 

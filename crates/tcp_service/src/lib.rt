@@ -5,16 +5,19 @@
 mod connection;
 mod entrance;
 pub mod logged_desk;
+pub mod opening;
 pub mod service;
 pub mod serving;
 pub mod site_desk;
 
 pub use logged_desk::{Living, LoggedDesk};
+pub use opening::{Rules, RulesHandle};
 pub use server_log::Log;
 pub use server_words::{Level, Mode};
-pub use service::{Service, Worker};
+pub use service::{Service, Worker, Wrapping};
 pub use serving::serve;
 pub use site_desk::SiteDesk;
 pub use tcp_connections::{
-    AcceptFault, Accepted, Acceptor, Follow, Names, NotStarted, Patience, ServeEnd, Shut, Starter,
+    AcceptFault, Accepted, Acceptor, Chains, Follow, Names, NotStarted, Patience, ServeEnd, Shut,
+    Starter, Supply,
 };

@@ -13,10 +13,34 @@ use std::sync::ledger::Ledger;
 use std::sync::{Mutex, Wait};
 use tcp_connections::Endings;
 
-/// What tells how many connections are alive.
+/// What a desk tells the log beside its events.
 pub trait Living {
     /// How many connections are alive, retired ones too.
     fn live(&self) -> u64;
+
+    /// The system's number of the error (`errno`) by which the rules could not be opened or read, where it has one.
+    fn error(&self) -> Option<i32>;
+
+    /// The address of the rule that is met first for this client, where that rule is damaged and can be found once more.
+    fn damaged_rule(&self, alloc: Global, peer: &Peer) -> Option<String>;
+}
+
+// What the log tells of why a connection was given up: what the system was asked for, or what is damaged, and how that failed.
+#[derive(Drop)]
+enum Reason {
+    // the rules could not be opened or read; the system's words
+    Rules(String),
+    // the rule with this address is damaged
+    Rule(String),
+}
+
+impl Reason {
+    fn cause<'a>(&'a self, rules: &'a str) -> Cause<'a> {
+        match self {
+            Reason::Rules(why) => Cause::new(rules.as_bytes(), why.as_str()),
+            Reason::Rule(address) => Cause::new(address.as_bytes(), "damaged rule"),
+        }
+    }
 }
 
 /// The desk of one connection: its calls go to another desk, and the lines of each event are written while the log is locked, so that lines
@@ -35,8 +59,24 @@ pub struct LoggedDesk<'a, K, R, W> {
     pub serial: u64,
     /// What the connection is served by.
     pub plan: &'a Plan,
+    /// The path of the rules file as it was given.
+    pub rules: &'a str,
     /// The system's number of the error by which it refused the program, if it did.
     pub refusal: &'a Mutex<Option<i32>>,
+}
+
+impl<K: Living, R, W> LoggedDesk<'_, K, R, W> {
+    // Why the rules could not be opened or read, or which rule is damaged.
+    fn reason_of(&self, cause: DropCause, peer: &Peer) -> Option<Reason> {
+        match cause {
+            DropCause::Directory | DropCause::ReadFault => {
+                let why = words_of_error(self.alloc, self.desk.error()?).ok()?;
+                Some(Reason::Rules(why))
+            }
+            DropCause::Damaged => Some(Reason::Rule(self.desk.damaged_rule(self.alloc, peer)?)),
+            _ => None,
+        }
+    }
 }
 
 impl<L, C, K, R, W> Endings<L, C> for LoggedDesk<'_, K, R, W>
@@ -135,8 +175,10 @@ impl<L: Premises, K: Desk<L> + Living, R: Wait, W: Write> Desk<L> for LoggedDesk
     }
 
     fn dropped(&mut self, place: K::Place, number: u64, peer: &Peer, cause: DropCause) {
+        let reason = self.reason_of(cause, peer);
+        let why = reason.as_ref().map(|reason| reason.cause(self.rules));
         let mut log = self.log.lock(self.rt);
         self.desk.dropped(place, number, peer, cause);
-        let _ = log.dropped(number, cause, self.desk.live());
+        let _ = log.dropped(number, cause, why, self.desk.live());
     }
 }

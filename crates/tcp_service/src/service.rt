@@ -1,9 +1,10 @@
 //! What a server does for all of its connections.
 use server_words::Mode;
 use site_lock::{Caller, Callers};
-use std::sync::{Mutex, Wait};
-use tcp_connections::{Names, Patience};
-use wrapper_chain::{Chain, LineStage};
+use std::alloc::{AllocError, Global};
+use std::sync::Mutex;
+use tcp_connections::{Chains, Names, Patience, Supply};
+use wrapper_chain::LineStage;
 
 /// What a server does for all of its connections.
 #[derive(Drop)]
@@ -18,30 +19,33 @@ pub struct Service {
     pub patience: Patience,
     /// Whether what goes both ways is recorded (`-w recordio`).
     pub recording: bool,
+    /// What the system gives it for its connections.
+    pub supply: Supply,
 }
 
-/// What serves one connection at a time: a caller of the site, and a chain of line wrappers for each way.
+/// What makes the line wrappers of connections that are pumped.
+pub trait Wrapping {
+    /// A wrapper.
+    type Stage: LineStage + Drop;
+
+    /// Those of one connection, which are new.
+    ///
+    /// # Errors
+    /// There was no memory.
+    fn chains(&self, alloc: Global) -> Result<Chains<Self::Stage>, AllocError>;
+}
+
+/// What serves one connection at a time: a caller of the site, which makes the events of its connections.
 #[derive(Drop)]
-pub struct Worker<N: Callers, G> {
+pub struct Worker<N: Callers> {
     pub(crate) caller: Mutex<Caller<N>>,
-    pub(crate) input: Mutex<Chain<G>>,
-    pub(crate) output: Mutex<Chain<G>>,
 }
 
-impl<N: Callers, G: LineStage> Worker<N, G> {
-    /// One that makes the events of its connections by this caller; what a client sends passes through `input`, and what is sent to it
-    /// through `output`.
-    pub fn new(caller: Caller<N>, input: Chain<G>, output: Chain<G>) -> Worker<N, G> {
+impl<N: Callers> Worker<N> {
+    /// One with this caller.
+    pub fn new(caller: Caller<N>) -> Worker<N> {
         Worker {
             caller: Mutex::new(caller),
-            input: Mutex::new(input),
-            output: Mutex::new(output),
         }
-    }
-
-    // Makes the chains new for another connection.
-    pub(crate) fn renew<R: Wait>(&self, rt: &R) {
-        self.input.lock(rt).renew();
-        self.output.lock(rt).renew();
     }
 }

@@ -1,7 +1,8 @@
-//! The server: it lets connections in, each served by a thread of its own, until it comes to an end.
+//! The server: it lets connections in, each served by a worker and its threads, until it comes to an end.
 use crate::connection::Server;
 use crate::entrance::Entrance;
-use crate::service::{Service, Worker};
+use crate::opening::Rules;
+use crate::service::{Service, Worker, Wrapping};
 use child_jobs::{Job, Plan};
 use dir_calls::Dir;
 use event_journals::Journal;
@@ -14,19 +15,21 @@ use std::sync::{Mutex, Wait};
 use std::thread::Threads;
 use std::time::Clock;
 use tcp_connections::{Acceptor, Attendant, Follow, ServeEnd, Starter, serve_through};
-use wrapper_chain::LineStage;
 
 /// Serves connections until it comes to an end, and then waits until all that were let in are over.
 ///
 /// `workers` are as many as the limit of connections says, and one more: the first lets connections in. `plan` is what each connection is
-/// served by, with the server's end of that connection in place of the plan's own. `starter` starts programs that have what the service's mode
-/// says as their standard input and output. Once no more connections are let in, the acceptor is closed.
-pub fn serve<A, L, N, D, J, S, G, R, W>(
+/// served by, with the server's end of that connection in place of the plan's own. `wrapping` makes the line wrappers of those that are pumped.
+/// `starter` starts programs that have what the service's mode says as their standard input and output. Each connection opens `rules` for itself.
+/// Once no more connections are let in, the acceptor is closed.
+pub fn serve<A, L, N, D, J, U, S, M, R, W>(
     rt: &R,
     alloc: Global,
     acceptor: &mut A,
     site: &Site<L, N, D, J>,
-    workers: &[Worker<N, G>],
+    rules: &U,
+    workers: &[Worker<N>],
+    wrapping: &M,
     starter: &S,
     plan: &Plan,
     service: &Service,
@@ -39,12 +42,15 @@ where
     D: Dir + Send + Drop,
     D::File: Send,
     J: Journal + Send,
+    U: Rules<L, D::File> + Sync,
+    U::Handle: Send,
     S: Starter<A::Shut> + Sync,
     S::Job: Send + Drop,
     <S::Job as Job>::Input: Send + Drop,
     <S::Job as Job>::Output: Send + Drop,
     A::Writer: Follow<<S::Job as Job>::Output>,
-    G: LineStage + Send + Drop,
+    M: Wrapping + Sync,
+    M::Stage: Send + Drop,
     R: Threads + Wait + Clock + Sync,
     W: Write + Send,
 {
@@ -54,8 +60,11 @@ where
     let _ = log.lock(rt).status(site.live(rt));
     let server = Server {
         site,
+        rules,
         workers,
+        wrapping,
         starter,
+        plan,
         mode: service.mode,
         attendant: Attendant {
             rt,
@@ -72,7 +81,6 @@ where
         site,
         caller: &first.caller,
         names: &service.names,
-        plan,
         log,
     };
     serve_through(
@@ -82,5 +90,6 @@ where
         &server,
         workers.len(),
         service.count,
+        service.supply,
     )
 }

@@ -1,5 +1,6 @@
 //! The calls of one connection, by one caller of a site.
 use crate::logged_desk::Living;
+use crate::opening::{Rules, RulesHandle};
 use child_jobs::{Job, Running};
 use child_table::Place;
 use dir_calls::Dir;
@@ -7,7 +8,7 @@ use event_journals::Journal;
 use one_connection::{Desk, OpenFault, decide_by_pass};
 use rule_lookup::{DecideFault, Decision, DropCause, Peer, StartFault, Status};
 use server_yard::{Pass, Premises};
-use site_lock::{Caller, Callers, Site, turns};
+use site_lock::{Caller, Callers, Site};
 use std::alloc::Global;
 use std::sync::Wait;
 use tcp_connections::Endings;
@@ -15,39 +16,82 @@ use tcp_connections::Endings;
 /// A caller of a site, as the desk of one connection at a time: each call is the site's of its name, made by this caller.
 ///
 /// Others use the site too, so nothing is known here of where a connection stands: what `serve_one` says over it holds of the file that was
-/// opened, whichever it was. That each call is made in its turn the site itself sees to.
+/// opened, whichever it was. That each call is made in its turn the site itself sees to. The rules are opened by a handle of the connection's
+/// own, before the site is asked: no other connection waits meanwhile.
 #[derive(Drop)]
-pub struct SiteDesk<'a, L: Premises, N: Callers, D: Dir + Drop, J: Journal, R> {
+pub struct SiteDesk<
+    'a,
+    L: Premises,
+    N: Callers,
+    D: Dir + Drop,
+    J: Journal,
+    R,
+    O: Rules<L, D::File>,
+> {
     rt: &'a R,
     site: &'a Site<L, N, D, J>,
     caller: &'a mut Caller<N>,
+    rules: &'a O,
+    // what the connection opened the rules by
+    handle: Option<O::Handle>,
 }
 
-impl<'a, L: Premises, N: Callers, D: Dir + Drop, J: Journal, R: Wait> SiteDesk<'a, L, N, D, J, R> {
-    /// The desk of this caller.
-    pub fn new(
-        rt: &'a R,
-        site: &'a Site<L, N, D, J>,
-        caller: &'a mut Caller<N>,
-    ) -> SiteDesk<'a, L, N, D, J, R> {
-        SiteDesk { rt, site, caller }
-    }
-}
-
-impl<L: Premises, N: Callers, D: Dir + Drop, J: Journal, R: Wait> Living
-    for SiteDesk<'_, L, N, D, J, R> {
-    fn live(&self) -> u64 {
-        self.site.live(self.rt)
-    }
-}
-
-impl<L, N, D, J, R, C> Endings<L, C> for SiteDesk<'_, L, N, D, J, R>
+impl<'a, L, N, D, J, R, O> SiteDesk<'a, L, N, D, J, R, O>
 where
     L: Premises,
     N: Callers,
     D: Dir + Drop,
     J: Journal,
     R: Wait,
+    O: Rules<L, D::File>,
+{
+    /// The desk of this caller, for a connection that opens these rules.
+    pub fn new(
+        rt: &'a R,
+        site: &'a Site<L, N, D, J>,
+        caller: &'a mut Caller<N>,
+        rules: &'a O,
+    ) -> SiteDesk<'a, L, N, D, J, R, O> {
+        SiteDesk {
+            rt,
+            site,
+            caller,
+            rules,
+            handle: None,
+        }
+    }
+}
+
+impl<L, N, D, J, R, O> Living for SiteDesk<'_, L, N, D, J, R, O>
+where
+    L: Premises,
+    N: Callers,
+    D: Dir + Drop,
+    J: Journal,
+    R: Wait,
+    O: Rules<L, D::File>,
+{
+    fn live(&self) -> u64 {
+        self.site.live(self.rt)
+    }
+
+    fn error(&self) -> Option<i32> {
+        self.handle.as_ref()?.error()
+    }
+
+    fn damaged_rule(&self, alloc: Global, peer: &Peer) -> Option<String> {
+        self.rules.damaged_rule(alloc, peer)
+    }
+}
+
+impl<L, N, D, J, R, O, C> Endings<L, C> for SiteDesk<'_, L, N, D, J, R, O>
+where
+    L: Premises,
+    N: Callers,
+    D: Dir + Drop,
+    J: Journal,
+    R: Wait,
+    O: Rules<L, D::File>,
     C: Job + Drop,
 {
     type Place = Place<L>;
@@ -63,8 +107,15 @@ where
     }
 }
 
-impl<L: Premises, N: Callers, D: Dir + Drop, J: Journal, R: Wait> Desk<L>
-    for SiteDesk<'_, L, N, D, J, R> {
+impl<L, N, D, J, R, O> Desk<L> for SiteDesk<'_, L, N, D, J, R, O>
+where
+    L: Premises,
+    N: Callers,
+    D: Dir + Drop,
+    J: Journal,
+    R: Wait,
+    O: Rules<L, D::File>,
+{
     ghost use Rattle.std.specs.Prelude.{◌≡◌, ◌-◌, ◌^◌, ⊤, true, IfOk, IfErr, OnOk, OnErr, IsTrue};
     ghost use Rattle.one_connection.specs.Openings.{Decides, FailsToDecide, opening_of};
     ghost use Rattle.server_yard.specs.Passes.{IsDecidedBy, pass_serial};
@@ -102,11 +153,17 @@ impl<L: Premises, N: Callers, D: Dir + Drop, J: Journal, R: Wait> Desk<L>
         serial: u64,
         _peer: &Peer,
     ) -> Result<Pass<L, D::File>, OpenFault> {
-        match self.site.open(self.rt, self.caller, alloc, serial) {
-            Ok((pass, _)) => Ok(pass),
-            Err(turns::OpenFault::OutOfTurn) => Err(OpenFault::OutOfTurn),
-            Err(turns::OpenFault::Device) => Err(OpenFault::Directory),
-            Err(turns::OpenFault::OutOfMemory) => Err(OpenFault::OutOfMemory),
+        let Ok(mut handle) = self.rules.handle(alloc) else {
+            return Err(OpenFault::OutOfMemory);
+        };
+        let found = handle.open(alloc);
+        self.handle = Some(handle);
+        match found {
+            Ok(finding) => match self.site.opened(self.rt, self.caller, serial, finding) {
+                Some((pass, _)) => Ok(pass),
+                None => Err(OpenFault::OutOfTurn),
+            },
+            Err(fault) => Err(OpenFault::from(fault)),
         }
     }
 

@@ -12,13 +12,14 @@ use Rattle.ucspi_tools.specs.declared.tool.Tool.{Tool}
 use Rattle.ucspi_tools.specs.declared.tool.Tool.TheVariants.{Tcpserver, Rulesim, Tcprules, Tcprulescheck, Addcr, Delcr, Fixcrio, Recordio}
 
 -- a run of `tcpserver` with its words, and how its connections are passed where these don't say it; of `rulesim`; of `tcprules`, whether it is to
--- tell causes, and the paths of the rules file and of the scratch file; of `tcprulescheck`, whether it is to tell causes, and the path of the rules
--- file; of `addcr`; of `delcr`; of `fixcrio` and of `recordio` with a program and its arguments; the version of the program; a line for each
+-- tell causes, and the paths of the rules file and of the scratch file; of `tcprules` over a text alone, and whether a warning makes it fail; of
+-- `tcprulescheck`, whether it is to tell causes, and the path of the rules file; of `addcr`; of `delcr`; of `fixcrio` and of `recordio` with a program and its arguments; the version of the program; a line for each
 -- tool; the usage line of a tool; or that of `ucspi`
 pub data Wanted : Type 0 where
   serves : Mode → List (List ℕ) → Wanted
   simulates : Wanted
   installs : Bool → List ℕ → List ℕ → Wanted
+  reviews : Bool → Wanted
   checks : Bool → List ℕ → Wanted
   adds : Wanted
   deletes : Wanted
@@ -34,6 +35,7 @@ abbrev pub wanted : Choice → Wanted
 wanted (choice.Tcpserver mode words) = serves mode (texts_of words.now)
 wanted choice.Rulesim = simulates
 wanted (choice.Tcprules cdb tmp verbose) = installs verbose cdb.now tmp.now
+wanted (choice.Review strict) = reviews strict
 wanted (choice.Tcprulescheck cdb verbose) = checks verbose cdb.now
 wanted choice.Addcr = adds
 wanted choice.Delcr = deletes
@@ -71,8 +73,18 @@ abbrev pub tcprules_at : Bool → List (List ℕ) → Wanted
 tcprules_at verbose (cdb ∷ tmp ∷ []) = if is_utf8 cdb && is_utf8 tmp then installs verbose cdb tmp else usage_of Tcprules
 tcprules_at verbose words = usage_of Tcprules
 
+-- a first word `-n` or `-N` asks for the warnings of a text alone; by the second a warning makes it fail
+abbrev pub strictness : List (List ℕ) → Option Bool
+strictness [] = None
+strictness (word ∷ words) = if bytes_eq word (codes "-n") then Some false else (if bytes_eq word (codes "-N") then Some true else None)
+
+-- no other word goes with it
+abbrev pub tcprules_under : Option Bool → List (List ℕ) → Wanted
+tcprules_under (Some strict) words = alone (reviews strict) Tcprules (drop 1 words)
+tcprules_under None words = tcprules_at (is_verbose words) (operands words)
+
 abbrev pub tcprules_by : List (List ℕ) → Wanted
-tcprules_by words = tcprules_at (is_verbose words) (operands words)
+tcprules_by words = tcprules_under (strictness words) words
 
 -- `tcprulescheck` has one
 abbrev pub tcprulescheck_at : Bool → List (List ℕ) → Wanted
@@ -186,6 +198,7 @@ abbrev pub tool_in : Wanted → Option Tool
 tool_in (serves mode words) = Some Tcpserver
 tool_in simulates = Some Rulesim
 tool_in (installs verbose cdb tmp) = Some Tcprules
+tool_in (reviews strict) = Some Tcprules
 tool_in (checks verbose cdb) = Some Tcprulescheck
 tool_in adds = Some Addcr
 tool_in deletes = Some Delcr

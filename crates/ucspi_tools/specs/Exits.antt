@@ -1,7 +1,9 @@
 -- With which code a run of a tool exits.
-use Rattle.std.specs.Prelude.{ℕ, Result, Ok, Err}
+use Rattle.std.specs.Prelude.{ℕ, Bool, ◌&&◌, Result, Ok, Err, if◌then◌else◌}
 use Rattle.rule_lookup.specs.declared.outcome.Status.{Status}
 use Rattle.rule_lookup.specs.declared.outcome.Status.TheVariants.{Code, Signal}
+use Rattle.rules_tools.specs.declared.review.ReviewFault.{ReviewFault}
+use Rattle.rules_tools.specs.declared.review.ReviewFault.TheVariants as review
 use Rattle.rules_tools.specs.declared.tcprules.TcprulesFault.{TcprulesFault}
 use Rattle.rules_tools.specs.declared.tcprules.TcprulesFault.TheVariants as rules
 use Rattle.rules_tools.specs.declared.tcprulescheck.CheckFault.{CheckFault}
@@ -28,6 +30,15 @@ rules_exit (rules.Device phase) = 111
 rules_exit rules.OutOfMemory = 111
 rules_exit fault = 100
 
+-- 100 for a refused text, and 111 for a fault of the system
+abbrev pub review_exit : ReviewFault → ℕ
+review_exit (review.Text fault) = 100
+review_exit fault = 111
+
+-- that of a text which was looked over: 1 where it has a warning and that makes the run fail
+abbrev pub warned_exit : Bool → Bool → ℕ
+warned_exit strict warned = if strict && warned then 1 else 0
+
 -- 100 for a wrong variable, and 111 for all that is amiss with the file or the system
 abbrev pub check_exit : CheckFault → ℕ
 check_exit check.BadIp = 100
@@ -47,6 +58,7 @@ exit_of (tool.Usage words) = 100
 exit_of (tool.Server fault) = server_exit fault
 exit_of (tool.Script fault) = script_exit fault
 exit_of (tool.Rules fault) = rules_exit fault
+exit_of (tool.Review fault) = review_exit fault
 exit_of (tool.Check fault) = check_exit fault
 exit_of (tool.Filter fault) = 111
 exit_of (tool.Between fault) = 111

@@ -1,9 +1,9 @@
 //! Which tool the words of a command line ask for.
-ghost use Rattle.std.specs.Prelude.{◌≡◌};
+ghost use Rattle.std.specs.Prelude.{◌≡◌, drop};
 ghost use Rattle.std.specs.List.{list_all};
 ghost use Rattle.std.specs.Str.{is_utf8};
 ghost use Rattle.stream_tools.specs.Programs.{texts_of};
-ghost use Rattle.ucspi_tools.specs.Choices.{CallsFor, IsLastPart, alone, asked_by, choice_by_word, is_verbose, operands, run_of, tcprules_by, tcprules_at, tcprulescheck_by, tcprulescheck_at, tcpserver_by, tool_in, wanted, with_program};
+ghost use Rattle.ucspi_tools.specs.Choices.{CallsFor, IsLastPart, alone, asked_by, choice_by_word, is_verbose, operands, reviews, run_of, strictness, tcprules_by, tcprules_at, tcprulescheck_by, tcprulescheck_at, tcpserver_by, tool_in, wanted, with_program};
 
 use crate::tool::Tool;
 use memchr::memrchr;
@@ -30,6 +30,8 @@ pub enum Choice<'a> {
         /// Whether the cause of a fault of the system is told.
         verbose: bool,
     },
+    /// A run of `tcprules` over a text alone, and whether a warning makes it fail.
+    Review(bool),
     /// A run of `tcprulescheck` with the path of the rules file.
     Tcprulescheck {
         /// That path.
@@ -70,6 +72,7 @@ impl Choice<'_> {
             Choice::Tcpserver { .. } => Some(Tool::Tcpserver),
             Choice::Rulesim => Some(Tool::Rulesim),
             Choice::Tcprules { .. } => Some(Tool::Tcprules),
+            Choice::Review(_) => Some(Tool::Tcprules),
             Choice::Tcprulescheck { .. } => Some(Tool::Tcprulescheck),
             Choice::Addcr => Some(Tool::Addcr),
             Choice::Delcr => Some(Tool::Delcr),
@@ -211,8 +214,41 @@ fn is_text(word: &[u8]) -> bool
 fn choose_tcprules(words: &[Vec<u8>]) -> Choice<'_>
     ensures { wanted result ≡ tcprules_by (texts_of words.now) }
 {
-    let (verbose, paths) = split_verbose(words);
-    choose_installation(verbose, paths)
+    match strictness(words) {
+        Some(strict) => choose_review(strict, words),
+        None => {
+            let (verbose, paths) = split_verbose(words);
+            choose_installation(verbose, paths)
+        }
+    }
+}
+
+/// The word that asks for the warnings of a text alone, where it stands first.
+const REVIEW: &str = "-n";
+
+/// The same, so that a warning makes the run fail.
+const STRICT_REVIEW: &str = "-N";
+
+/// Whether a first word asks for the warnings of a text alone, and then whether one makes the run fail.
+fn strictness(words: &[Vec<u8>]) -> Option<bool>
+    ensures { result ≡ strictness (texts_of words.now) }
+{
+    match words.first() {
+        Some(word) if word.as_slice() == REVIEW.as_bytes() => Some(false),
+        Some(word) if word.as_slice() == STRICT_REVIEW.as_bytes() => Some(true),
+        _ => None,
+    }
+}
+
+/// The run over a text alone, for which the first of the words asks.
+fn choose_review(strict: bool, words: &[Vec<u8>]) -> Choice<'_>
+    ensures { wanted result ≡ alone (reviews strict) Tool.Tcprules (drop 1 (texts_of words.now)) }
+{
+    if words.len() > 1 {
+        Choice::UsageOf(Tool::Tcprules)
+    } else {
+        Choice::Review(strict)
+    }
 }
 
 /// The run of `tcprulescheck`.

@@ -1,9 +1,9 @@
 //! Why a run of a tool fails, and the code with which the program exits then.
 ghost use Rattle.std.specs.Prelude.{◌≡◌};
-ghost use Rattle.ucspi_tools.specs.Exits.{check_exit, end_code, exit_of, rules_exit, script_exit, server_exit, status_exit};
+ghost use Rattle.ucspi_tools.specs.Exits.{check_exit, end_code, exit_of, review_exit, rules_exit, script_exit, server_exit, status_exit, warned_exit};
 
 use rule_lookup::Status;
-use rules_tools::{CheckFault, TcprulesFault};
+use rules_tools::{CheckFault, ReviewFault, TcprulesFault};
 use script_tool::SimFault;
 use server_parts::ServerFault;
 use std::io;
@@ -16,6 +16,9 @@ pub const BAD_INPUT: u8 = 100;
 
 /// The exit code of faults of the system, want of memory among them.
 pub const SYSTEM_FAULT: u8 = 111;
+
+/// The exit code of a text with a warning, where that makes the run fail.
+pub const WARNED: u8 = 1;
 
 /// How many bytes the line of a fault may have: the longest has about a hundred.
 const LINE: usize = 512;
@@ -35,6 +38,9 @@ pub enum ToolFault {
     /// Rules were not installed.
     #[error("{0}")]
     Rules(#[from] TcprulesFault),
+    /// A text was not looked over to its end.
+    #[error("{0}")]
+    Review(#[from] ReviewFault),
     /// No decision is told.
     #[error("{0}")]
     Check(#[from] CheckFault),
@@ -62,6 +68,7 @@ impl ToolFault {
             ToolFault::Server(fault) => server_code(fault),
             ToolFault::Script(fault) => script_code(fault),
             ToolFault::Rules(fault) => rules_code(fault),
+            ToolFault::Review(fault) => review_code(fault),
             ToolFault::Check(fault) => check_code(fault),
             ToolFault::Filter(_) | ToolFault::Between(_) => SYSTEM_FAULT,
             ToolFault::WriteFault | ToolFault::OutOfMemory => SYSTEM_FAULT,
@@ -96,6 +103,22 @@ fn rules_code(fault: TcprulesFault) -> u8
         TcprulesFault::OutOfMemory => SYSTEM_FAULT,
         _ => BAD_INPUT,
     }
+}
+
+fn review_code(fault: ReviewFault) -> u8
+    ensures { result ≡ review_exit fault }
+{
+    match fault {
+        ReviewFault::Text(_) => BAD_INPUT,
+        ReviewFault::ReadFault | ReviewFault::WriteFault | ReviewFault::OutOfMemory => SYSTEM_FAULT,
+    }
+}
+
+/// The exit code of a text that was looked over: whether a warning makes the run fail, and whether there was one.
+pub fn warned_code(strict: bool, warned: bool) -> u8
+    ensures { result ≡ warned_exit strict warned }
+{
+    if strict && warned { WARNED } else { 0 }
 }
 
 fn check_code(fault: CheckFault) -> u8

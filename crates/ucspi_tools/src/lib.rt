@@ -11,7 +11,8 @@ pub mod tool;
 
 pub use program::run_program;
 pub use rules_tools::{
-    CheckFailure, CheckFault, RulesFailure, TcprulesFault, run_tcprules, run_tcprulescheck,
+    CheckFailure, CheckFault, ReviewFault, RulesFailure, TcprulesFault, run_review, run_tcprules,
+    run_tcprulescheck,
 };
 pub use script_tool::{SimFault, run_rulesim};
 pub use stream_tools::{

@@ -1,8 +1,8 @@
 //! The program `ucspi`: its words, and the tool that they ask for.
 use crate::about::{tell_tools, tell_version};
 use crate::choice::{Choice, choose};
-use crate::fault::{FaultLine, ToolFault, end, status_code, written};
-use crate::rules::{Causes, check, install};
+use crate::fault::{FaultLine, ToolFault, end, status_code, warned_code, written};
+use crate::rules::{Causes, check, install, review};
 use patient_streams::Patient;
 use script_tool::run_script;
 use server_tool::run_tcpserver;
@@ -97,6 +97,7 @@ where
             let lines = causes;
             install(rt, &mut log, (cdb, tmp), Causes { verbose, lines })?;
         }
+        Choice::Review(strict) => return Ok(warned_code(strict, review(rt, &mut log)?)),
         Choice::Tcprulescheck { cdb, verbose } => {
             let lines = causes;
             check(rt, cdb, Causes { verbose, lines })?;

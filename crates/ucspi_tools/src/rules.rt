@@ -3,11 +3,14 @@ use crate::tool::Tool;
 use fault_causes::append_os_cause;
 use patient_streams::Patient;
 use rules_tools::path::{folder_path, split_path};
-use rules_tools::{Cause, CauseOf, CheckFault, TcprulesFault, run_tcprules, run_tcprulescheck};
+use rules_tools::{
+    Cause, CauseOf, CheckFault, ReviewFault, TcprulesFault, run_review, run_tcprules,
+    run_tcprulescheck,
+};
 use std::alloc::Global;
 use std::fs::{File, Files};
 use std::io;
-use std::io::Write;
+use std::io::{BufWriter, Write};
 use std::os::unix::fs::FileExt;
 use std::rt::Env;
 use std::time::Clock;
@@ -66,6 +69,28 @@ where
             causes.tell(alloc, Tool::Tcprules, failure.cause, (cdb, tmp));
             Err(failure.fault)
         }
+    }
+}
+
+/// Looks over a rule text from standard input, and writes its warnings to `errors`: whether there was one.
+///
+/// # Errors
+/// As of `rules_tools::run_review`.
+pub(crate) fn review<R, E>(rt: &R, errors: &mut E) -> Result<bool, ReviewFault>
+where
+    R: Input + AllocGlobal + Clock,
+    E: Write,
+{
+    let alloc = rt.alloc();
+    let mut reader = Patient::new(rt, rt.reader());
+    let mut lines = match BufWriter::new(alloc, errors) {
+        Ok(lines) => lines,
+        Err(_) => return Err(ReviewFault::OutOfMemory),
+    };
+    let outcome = run_review(alloc, &mut reader, &mut lines);
+    match (outcome, lines.flush()) {
+        (Ok(_), Err(_)) => Err(ReviewFault::WriteFault),
+        (outcome, _) => outcome,
     }
 }
 

@@ -83,3 +83,11 @@ returns-in-replay-clause-read c =
 pub returns-in-replay-clause-refused : goal.returns-in-replay-clause-refused
 returns-in-replay-clause-refused c =
     refuses_as _ _ c.alone-in-replay.result (ap (λ (name : List ℕ). command_named name (texts c.args.words.now)) (sym c.in-replay.is)) c.alone-in-replay.ensures.refused
+
+pub returns-in-verdicts-clause-read : goal.returns-in-verdicts-clause-read
+returns-in-verdicts-clause-read c =
+    reads_as _ _ c.alone-in-verdicts.result (ap (λ (name : List ℕ). command_named name (texts c.args.words.now)) (sym c.in-verdicts.is)) c.alone-in-verdicts.ensures.read
+
+pub returns-in-verdicts-clause-refused : goal.returns-in-verdicts-clause-refused
+returns-in-verdicts-clause-refused c =
+    refuses_as _ _ c.alone-in-verdicts.result (ap (λ (name : List ℕ). command_named name (texts c.args.words.now)) (sym c.in-verdicts.is)) c.alone-in-verdicts.ensures.refused

@@ -1,0 +1,11 @@
+pub mod CaseLemmas
+mod Cases
+pub mod ExactLemmas
+pub mod FrontLemmas
+pub mod LineLemmas
+pub mod ReadLemmas
+pub mod ReportLemmas
+pub mod StepLemmas
+pub mod TableLemmas
+pub mod UserLemmas
+pub mod WholeLemmas

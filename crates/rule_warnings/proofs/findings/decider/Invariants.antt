@@ -1,0 +1,8 @@
+use Rattle.std.proofs.Common.{take}
+use Rattle.rule_lines.specs.ReadAddresses.{addresses_read}
+use Rattle.rule_warnings.specs.Tables.{line_under}
+use Rattle.rule_warnings.proofs.StepLemmas.{IsLeastSoFar}
+use Rattle.rule_warnings.proofs.findings.decider.Given as goal
+
+abbrev pub invariant-loop-place : goal.invariant-loop-place
+invariant-loop-place l = IsLeastSoFar (line_under l.seen.lent l.seen.made) (take l.place (addresses_read l.addresses)) l.least

@@ -1,0 +1,8 @@
+use Rattle.std.proofs.Common.{◌≡◌, false, take}
+use Rattle.std.specs.List.{list_any}
+use Rattle.rule_lines.specs.ReadAddresses.{addresses_read}
+use Rattle.rule_warnings.specs.Clients.{is_form}
+use Rattle.rule_warnings.proofs.findings.has_client.Given as goal
+
+abbrev pub invariant-loop-place : goal.invariant-loop-place
+invariant-loop-place l = list_any is_form (take l.place (addresses_read l.addresses)) ≡ false

@@ -1,0 +1,12 @@
+use Rattle.std.proofs.Common.{◌<◌, ◌∙◌, length, arith}
+use Rattle.rule_lines.specs.ReadAddresses.{addresses_read}
+use Rattle.rule_warnings.specs.Tables.{line_under}
+use Rattle.rule_warnings.proofs.StepLemmas.{noted-more}
+use Rattle.rule_warnings.proofs.findings.note_each.Goals as goal
+
+pub loop-place-preserved : goal.loop-place-preserved
+loop-place-preserved c =
+    let addresses = addresses_read c.args.addresses.now in
+    let inside : c.loop-place.place < length addresses = omega (arith, c.loop-place-test.true, c.count-place-end.ensures) in
+    noted-more (line_under c.args.seen.now.lent c.args.seen.now.made) (line_under c.loop-place.seen.lent c.loop-place.seen.made) (line_under c.note_made.new.self.lent c.note_made.new.self.made) addresses c.loop-place.place c.args.number c.deref.result.now inside
+    (c.deref.ensures.value ∙ c.in_ok-write_address.ensures) c.loop-place.invariant c.in_ok-note_made.ensures

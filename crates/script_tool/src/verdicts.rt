@@ -1,0 +1,239 @@
+//! What `rulesim` prints for the log of a server: which verdicts would be others under the rules that stand.
+ghost use Rattle.std.specs.Prelude.{◌≡◌, ◌++◌, ℕ, List, Option, Some, None, true, OnOk, IfOk, IfSome};
+ghost use Rattle.rule_lines.specs.Lines.{lines_of};
+ghost use Rattle.rule_lookup.specs.Peers.{fits, given};
+ghost use Rattle.script_tool.specs.Judging.{HasRoom, Judges};
+ghost use Rattle.script_tool.specs.Kept.{Reads};
+ghost use Rattle.script_tool.specs.Logs.{asked, change_line, decided_now, differs, found_text, host_text, log_printed, now_text, sums_text, unread_line, verdict_name, was_text};
+ghost use Rattle.script_tool.specs.Sim.{Prints};
+ghost use Rattle.verdict_lines.specs.LogLines.{Tells, TellsPeer, reading};
+ghost use Rattle.verdict_lines.specs.Meanings.{client_of, told_of};
+
+use crate::sim::{MOST_LINES, SimFault, read_fault, without_feed};
+use crate::simulation::Standing;
+use byte_text::{push_number, push_text};
+use rule_lines::Verdict;
+use rule_lookup::{Decision, Found, Peer, PeerFault};
+use status_lines::push_address;
+use std::alloc::{AllocError, Global};
+use std::io::{BufRead, Write};
+use verdict_lines::{End, LogLine, VerdictLine, read_line};
+
+/// How many lines tell a verdict, how many of these verdicts would be another now, and how many lines of a verdict can't be read.
+#[derive(Clone, Copy, PartialEq, Eq, Debug)]
+pub struct Sums {
+    told: u64,
+    changed: u64,
+    unread: u64,
+}
+
+/// Takes what is left to be read as the log of a server, and writes a line for each verdict of it that would be another under the rules
+/// that stand, and the sums. So many lines were read before.
+///
+/// # Errors
+/// As of `SimFault`, but never `BadCommand`.
+pub fn compare_log<R: BufRead, W: Write>(
+    alloc: Global,
+    standing: &Standing,
+    before: u64,
+    reader: &mut R,
+    writer: &mut W,
+) -> Result<(), SimFault>
+    requires { (text : Option (List ℕ)) × Reads standing.now text }
+    ensures { (text : Option (List ℕ)) → Reads standing.now text → IfSome (R.remaining reader.old) (λ log.
+        Prints (W.contents writer.old) (W.contents writer.new)
+        (record { output = log_printed text (lines_of log); bad = None }) result) }
+{
+    let mut sums = Sums {
+        told: 0,
+        changed: 0,
+        unread: 0,
+    };
+    let mut line = Vec::new(alloc);
+    for _number in before..MOST_LINES {
+        line.clear();
+        match reader.read_until(b'\n', &mut line) {
+            Ok(0) => return write_sums(alloc, writer, sums),
+            Ok(_) => {}
+            Err(error) => return Err(read_fault(&error)),
+        }
+        match judge(alloc, standing, without_feed(line.as_slice()), &mut sums) {
+            Ok(out) => match writer.write_all(out.as_slice()) {
+                Ok(()) => {}
+                Err(_) => return Err(SimFault::WriteFault),
+            },
+            Err(_) => return Err(SimFault::OutOfMemory),
+        }
+    }
+    Err(SimFault::ReadFault)
+}
+
+/// Writes the sums.
+fn write_sums<W: Write>(alloc: Global, writer: &mut W, sums: Sums) -> Result<(), SimFault>
+    ensures { Prints (W.contents writer.old) (W.contents writer.new)
+        (record { output = sums_text sums; bad = None }) result }
+{
+    let mut out = Vec::new(alloc);
+    match push_sums(&mut out, sums) {
+        Ok(()) => {}
+        Err(_) => return Err(SimFault::OutOfMemory),
+    }
+    match writer.write_all(out.as_slice()) {
+        Ok(()) => Ok(()),
+        Err(_) => Err(SimFault::WriteFault),
+    }
+}
+
+/// What a line of the log prints; the sums have it then.
+fn judge(
+    alloc: Global,
+    standing: &Standing,
+    line: &[u8],
+    sums: &mut Sums,
+) -> Result<Vec<u8>, AllocError>
+    requires known { (text : Option (List ℕ)) × Reads standing.now text }
+    requires room { HasRoom sums.old }
+    ensures { (text : Option (List ℕ)) → Reads standing.now text
+        → IfOk result (λ out. Judges text (reading line.now) sums.old sums.new out.items) }
+{
+    match read_line(line) {
+        LogLine::Other => Ok(Vec::new(alloc)),
+        LogLine::Unread => {
+            sums.unread += 1;
+            Ok(Vec::new(alloc))
+        }
+        LogLine::Verdict(told) => judge_verdict(alloc, standing, &told, sums),
+    }
+}
+
+fn judge_verdict(
+    alloc: Global,
+    standing: &Standing,
+    told: &VerdictLine<'_>,
+    sums: &mut Sums,
+) -> Result<Vec<u8>, AllocError>
+    requires known { (text : Option (List ℕ)) × Reads standing.now text }
+    requires room { HasRoom sums.old }
+    requires name { fits (given (told.now).peer.host) ≡ true }
+    ensures { (text : Option (List ℕ)) → Reads standing.now text
+        → IfOk result (λ out. Judges text (Tells (told_of told.now)) sums.old sums.new out.items) }
+{
+    sums.told += 1;
+    let peer = asked(alloc, &told.peer)?;
+    let now = standing.decide(alloc, &peer)?;
+    if !differ(told.verdict, now.verdict) {
+        return Ok(Vec::new(alloc));
+    }
+    sums.changed += 1;
+    let mut out = Vec::new(alloc);
+    push_change(&mut out, told, &now)?;
+    Ok(out)
+}
+
+/// The peer that is asked about.
+fn asked(alloc: Global, end: &End<'_>) -> Result<Peer, AllocError>
+    requires { fits (given (end.now).host) ≡ true }
+    ensures { IfOk result (λ peer. peer ≡ asked (client_of end.now None)) }
+{
+    match Peer::new(alloc, end.ip, 0, end.host, None) {
+        Ok(peer) => Ok(peer),
+        Err(PeerFault::OutOfMemory) => Err(AllocError),
+        Err(PeerFault::BadHost) => unreachable!(),
+        Err(PeerFault::BadInfo) => unreachable!(),
+    }
+}
+
+fn differ(was: Verdict, now: Verdict) -> bool
+    ensures { result ≡ differs was now }
+{
+    match (was, now) {
+        (Verdict::Allow, Verdict::Allow) | (Verdict::Deny, Verdict::Deny) => false,
+        (Verdict::Allow, Verdict::Deny) | (Verdict::Deny, Verdict::Allow) => true,
+    }
+}
+
+/// Adds the line of a verdict that another takes the place of. After an `Err` a part of it may stand at the end of `out`.
+fn push_change(out: &mut Vec<u8>, told: &VerdictLine<'_>, now: &Decision) -> Result<(), AllocError>
+    ensures { OnOk result
+        (out.new.items ≡ out.old.items ++ change_line (told_of told.now) now.now) }
+{
+    push_was(out, told)?;
+    push_now(out, now)
+}
+
+fn push_was(out: &mut Vec<u8>, told: &VerdictLine<'_>) -> Result<(), AllocError>
+    ensures { OnOk result (out.new.items ≡ out.old.items ++ was_text (told_of told.now)) }
+{
+    push_number(out, told.serial)?;
+    push_text(out, " ")?;
+    push_address(out, told.peer.ip)?;
+    push_text(out, " ")?;
+    push_text(out, host_text(told.peer.host))?;
+    push_text(out, " was ")?;
+    push_text(out, verdict_name(told.verdict))
+}
+
+fn push_now(out: &mut Vec<u8>, now: &Decision) -> Result<(), AllocError>
+    ensures { OnOk result (out.new.items ≡ out.old.items ++ now_text now.now) }
+{
+    push_text(out, ", now ")?;
+    push_text(out, verdict_name(now.verdict))?;
+    push_text(out, " ")?;
+    push_found(out, &now.found)?;
+    push_text(out, "\n")
+}
+
+fn push_found(out: &mut Vec<u8>, found: &Found) -> Result<(), AllocError>
+    ensures { OnOk result (out.new.items ≡ out.old.items ++ found_text found.now) }
+{
+    match found {
+        Found::Address(address) => {
+            push_text(out, "rule ")?;
+            push_text(out, address.as_str())?;
+            push_text(out, ":")
+        }
+        Found::Default => push_text(out, "default:"),
+        Found::NoFile => push_text(out, "no file"),
+    }
+}
+
+fn verdict_name(verdict: Verdict) -> &'static str
+    ensures { result.now ≡ verdict_name verdict }
+{
+    match verdict {
+        Verdict::Allow => "ok",
+        Verdict::Deny => "deny",
+    }
+}
+
+fn host_text(host: Option<&str>) -> &str
+    ensures { result.now ≡ host_text (given host.entry) }
+{
+    match host {
+        Some(name) => name,
+        None => "",
+    }
+}
+
+/// Adds the lines of the sums. After an `Err` a part of them may stand at the end of `out`.
+fn push_sums(out: &mut Vec<u8>, sums: Sums) -> Result<(), AllocError>
+    ensures { OnOk result (out.new.items ≡ out.old.items ++ sums_text sums) }
+{
+    push_text(out, "changed ")?;
+    push_number(out, sums.changed)?;
+    push_text(out, " of ")?;
+    push_number(out, sums.told)?;
+    push_text(out, "\n")?;
+    push_unread(out, sums.unread)
+}
+
+fn push_unread(out: &mut Vec<u8>, unread: u64) -> Result<(), AllocError>
+    ensures { OnOk result (out.new.items ≡ out.old.items ++ unread_line unread) }
+{
+    if unread == 0 {
+        return Ok(());
+    }
+    push_text(out, "unread ")?;
+    push_number(out, unread)?;
+    push_text(out, "\n")
+}

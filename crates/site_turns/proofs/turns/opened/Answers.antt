@@ -1,0 +1,16 @@
+use Rattle.std.proofs.Common.{ap, subst, sym, ◌∙◌}
+use Rattle.server_yard.specs.Passes.{pass_bytes}
+use Rattle.server_yard.specs.Standing.{LeadsOpened, YardState, standing_of}
+use Rattle.server_yard.specs.Yards.{yard_state}
+use Rattle.site_turns.proofs.Spoken.{spoken_state}
+use Rattle.site_turns.proofs.turns.opened.Goals as goal
+
+pub returns-clause-step : goal.returns-clause-step
+returns-clause-step g c = λ honest. λ stands.
+    let old = c.args.yard.now in
+    let mid = c.speaker.new.self in
+    let state = g.D.Dir.state in
+    let same = spoken_state state g.J.Journal.lists c.args.caller old mid c.speaker.ensures.speaks c.speaker.ensures.same in
+    let pass = c.opened-pass in
+    subst (λ (s : YardState). LeadsOpened c.args.serial (pass_bytes g.D.File.RulesFile.bytes pass.result) s (yard_state state pass.new.self))
+    same (pass.ensures.step honest (stands ∙ ap standing_of (sym same)))

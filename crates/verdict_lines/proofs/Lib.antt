@@ -1,0 +1,6 @@
+pub mod Cases
+pub mod FieldLemmas
+pub mod FrontLemmas
+pub mod LineLemmas
+pub mod PartLemmas
+pub mod PeerLemmas

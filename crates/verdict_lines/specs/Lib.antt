@@ -1,0 +1,4 @@
+-- Lines of a log, read back.
+pub mod LogLines
+pub mod Meanings
+pub mod Parts
