@@ -125,8 +125,9 @@ fn numbers_between(low: u32, high: u32) -> Numbers
     }
 }
 
-/// The value of decimal digits, maybe none, if it is within `u32`.
-fn number(part: &[u8]) -> Option<u32>
+/// The value of decimal digits, maybe none, if it is within `u32`: of none it is 0. Nothing where a byte is no digit or the
+/// value is larger.
+pub fn number(part: &[u8]) -> Option<u32>
     ensures { MatchOption result
         (is_number part.now ≡ false)
         (λ n. (is_number part.now ≡ true) × (n ≡ digits_value 10 part.now)) }

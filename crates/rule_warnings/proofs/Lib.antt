@@ -5,6 +5,7 @@ pub mod FrontLemmas
 pub mod LineLemmas
 pub mod ReadLemmas
 pub mod ReportLemmas
+pub mod SpanLemmas
 pub mod StepLemmas
 pub mod TableLemmas
 pub mod UserLemmas

@@ -6,6 +6,7 @@ use Rattle.std.specs.List.{list_all, list_any, filter_map}
 use Rattle.std.proofs.KnownBytes.{Appends-nil, Appends-trans}
 use Rattle.std.proofs.lemmas.List.{append-nil}
 use Rattle.std.proofs.lemmas.List.Concat.{flat_map-append}
+use Rattle.std.proofs.lemmas.Option.{none-some, same_Some}
 use Rattle.rule_lines.specs.declared.fault.LineKind.{LineKind}
 use Rattle.rule_lines.specs.declared.fault.LineKind.TheVariants.{NoVerdict, BadSetting, BadRange}
 use Rattle.rule_lines.specs.declared.fault.LineFault.{LineFault}
@@ -54,6 +55,19 @@ seen-push f g earlier line n here before noted a =
     noted a ∙ ap (λ o. cond (is_some o) o (cond (list_any (bytes_eq a) (addresses_in line)) (Some n) None)) (before a)
     ∙ sym (first_from-push 1 n earlier line a (omega (arith, here)))
 
+-- the line of an address is one of those so far
+within_test : (t : Bool) (o : Option ℕ) (n k m : ℕ) → (o ≡ Some k → k < n + 1 + m) → cond t (Some n) o ≡ Some k → k < n + suc m
+within_test true o n k m later is = omega (arith, same_Some n k is)
+within_test false o n k m later is = omega (arith, later is)
+
+from-within : (n k : ℕ) (lines : List (List ℕ)) (address : List ℕ) → first_from n lines address ≡ Some k → k < n + length lines
+from-within n k [] address is = absurd (none-some k is)
+from-within n k (line ∷ lines) address is =
+    within_test (list_any (bytes_eq address) (addresses_in line)) (first_from (n + 1) lines address) n k (length lines) (from-within (n + 1) k lines address) is
+
+pub seen-within : (table : List ℕ → Option ℕ) (earlier : List (List ℕ)) (number : ℕ) → length earlier ≡ number → ((a : List ℕ) → table a ≡ first_in earlier a) → (a : List ℕ) (n : ℕ) → table a ≡ Some n → n ≤ number + 1
+seen-within table earlier number counted seen a n is = omega (arith, counted, from-within 1 n earlier a (sym (seen a) ∙ is))
+
 some_length : (n : ℕ) → (suc n == 0) ≡ false
 some_length n = ne_eqb (suc n) 0 (λ same. omega (arith, same))
 
@@ -75,19 +89,19 @@ no_lines [] = refl
 no_lines (b ∷ bs) = length-trimmed (lines_of (b ∷ bs)) ∙ lines-some b bs (b == 10) ∙ sym (some_length (length bs))
 
 -- a faultless line
-none-some : {P : Type 0} (kind : LineKind) → Some kind ≡ None → P
-none-some kind is = absurd (cc)
+some-none : {P : Type 0} (kind : LineKind) → Some kind ≡ None → P
+some-none kind is = absurd (cc)
 
 beside : (b : Bool) (o : Option LineKind) → cond b (Some BadRange) o ≡ None → b ≡ false
 beside false o is = refl
-beside true o is = none-some BadRange is
+beside true o is = some-none BadRange is
 
 settled : (b : Bool) (o : Option LineKind) → cond b (Some BadSetting) o ≡ None → o ≡ None
 settled false o is = is
-settled true o is = none-some BadSetting is
+settled true o is = some-none BadSetting is
 
 under : (limit : ℕ) (line : List ℕ) (verdict : Option Verdict) → fault_under limit line verdict ≡ None → is_bad_range (address_in line) ≡ false
-under limit line None is = none-some NoVerdict is
+under limit line None is = some-none NoVerdict is
 under limit line (Some verdict) is = beside (is_bad_range (address_in line)) _ (settled (is_none (settings_after _ verdict (instructions_in line))) (fault_beside limit line) is)
 
 rule_of : (b : Bool) (o : Option LineKind) → b ≡ false → cond b None o ≡ None → o ≡ None

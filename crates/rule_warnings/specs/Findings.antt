@@ -26,3 +26,9 @@ abbrev pub RefusedBy : Limits → List ℕ → WarnFault → Type 0
 RefusedBy limits text (Line fault) = fault_of limits text ≡ Some fault
 RefusedBy limits text WriteFault = ⊥
 RefusedBy limits text OutOfMemory = Unit {0}
+
+-- what holds where a text is refused
+abbrev pub OnRefusal : WarnFault → Type 0 → Type 0
+OnRefusal (Line fault) fact = fact
+OnRefusal WriteFault fact = Unit {0}
+OnRefusal OutOfMemory fact = Unit {0}

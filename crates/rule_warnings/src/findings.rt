@@ -1,7 +1,6 @@
 //! What is found in one line.
-ghost use Rattle.std.specs.Prelude.{◌≡◌, ◌≤◌, ◌&&◌, ◌==◌, ℕ, List, [], not, is_none, min, None, true, false, length, drop, IfOk, OnOk, MatchOption};
+ghost use Rattle.std.specs.Prelude.{◌≡◌, ◌≤◌, ◌&&◌, ◌==◌, ℕ, List, [], not, is_none, None, true, false, length, drop, IfOk, OnOk, MatchOption};
 ghost use Rattle.std.specs.Char.{is_ascii_uppercase};
-ghost use Rattle.std.specs.Option.{option_map_or};
 ghost use Rattle.std.specs.List.{list_any, position_or_len};
 ghost use Rattle.rule_lines.specs.Lines.{is_blank};
 ghost use Rattle.rule_lines.specs.Pairs.{address_in, is_ignored};
@@ -9,12 +8,13 @@ ghost use Rattle.rule_lines.specs.ReadAddresses.{addresses_read};
 ghost use Rattle.rule_lines.specs.Spread.{is_bad_range, spread};
 ghost use Rattle.rule_warnings.specs.Clients.{asks_user, is_form};
 ghost use Rattle.rule_warnings.specs.Findings.{kinds_in};
-ghost use Rattle.rule_warnings.specs.Tables.{line_under, noted_all};
+ghost use Rattle.rule_warnings.specs.Tables.{IsUpTo, line_under, noted_all};
 ghost use Rattle.rule_warnings.specs.Warnings.{addresses_in, decided_by, has_no_client, has_user, is_lost, is_moved_comment, kinds_by, looks_ignored};
 
 use crate::addresses::{count, write_address};
 use crate::client::{asks_user, contains, first_equals, has_capitals, is_form};
 use crate::seen::Seen;
+use crate::spans::{is_cut, lesser};
 use memchr::memchr;
 use rule_lines::lines::is_blank;
 use rule_lines::spread::{ReadAddress, read_address};
@@ -53,18 +53,20 @@ pub fn look_at<'a>(
     seen: &mut Seen<'a>,
     buffer: &mut Vec<u8>,
 ) -> Result<Findings, AllocError>
-    requires { is_ignored line.now ≡ false → is_bad_range (address_in line.now) ≡ false }
-    ensures kinds { IfOk result (λ found. kinds_in found ≡ kinds_by (line_under seen.old.lent seen.old.made) line.now
-        (is_last && is_none (line_under seen.new.lent seen.new.made []))) }
-    ensures noted { OnOk result ((other : List ℕ) → line_under seen.new.lent seen.new.made other
-        ≡ noted_all (line_under seen.old.lent seen.old.made) (addresses_in line.now) number other) }
+    requires range { is_ignored line.now ≡ false → is_bad_range (address_in line.now) ≡ false }
+    requires earlier { IsUpTo seen.old number }
+    ensures kinds { IfOk result (λ found. kinds_in found ≡ kinds_by (line_under seen.old) line.now
+        (is_last && is_none (line_under seen.new []))) }
+    ensures noted { OnOk result ((other : List ℕ) → line_under seen.new other
+        ≡ noted_all (line_under seen.old) (addresses_in line.now) number other) }
 {
     let rule = look_at_rule(alloc, line, number, seen, buffer)?;
+    let nobody_else = is_last && seen.line_of(alloc, b"")?.is_none();
     Ok(Findings {
         no_client: rule.no_client,
         unknown_user: rule.unknown_user,
         decided_by: rule.decided_by,
-        nobody_else: is_last && seen.line_of(b"").is_none(),
+        nobody_else,
         ignored: looks_ignored(line),
     })
 }
@@ -77,13 +79,14 @@ fn look_at_rule<'a>(
     seen: &mut Seen<'a>,
     buffer: &mut Vec<u8>,
 ) -> Result<RuleFindings, AllocError>
-    requires { is_ignored line.now ≡ false → is_bad_range (address_in line.now) ≡ false }
+    requires range { is_ignored line.now ≡ false → is_bad_range (address_in line.now) ≡ false }
+    requires earlier { IsUpTo seen.old number }
     ensures no_client { IfOk result (λ found. found.no_client ≡ has_no_client line.now) }
     ensures user { IfOk result (λ found. found.unknown_user ≡ has_user line.now) }
     ensures decided { IfOk result (λ found. found.decided_by
-        ≡ decided_by (line_under seen.old.lent seen.old.made) (addresses_in line.now)) }
-    ensures noted { OnOk result ((other : List ℕ) → line_under seen.new.lent seen.new.made other
-        ≡ noted_all (line_under seen.old.lent seen.old.made) (addresses_in line.now) number other) }
+        ≡ decided_by (line_under seen.old) (addresses_in line.now)) }
+    ensures noted { OnOk result ((other : List ℕ) → line_under seen.new other
+        ≡ noted_all (line_under seen.old) (addresses_in line.now) number other) }
 {
     match address_of(line) {
         Some(address) => look_at_address(alloc, address, number, seen, buffer),
@@ -114,13 +117,14 @@ fn look_at_address<'a>(
     seen: &mut Seen<'a>,
     buffer: &mut Vec<u8>,
 ) -> Result<RuleFindings, AllocError>
-    requires { is_bad_range address.now ≡ false }
+    requires range { is_bad_range address.now ≡ false }
+    requires earlier { IsUpTo seen.old number }
     ensures no_client { IfOk result (λ found. found.no_client ≡ not (list_any is_form (spread address.now))) }
     ensures user { IfOk result (λ found. found.unknown_user ≡ asks_user address.now) }
     ensures decided { IfOk result (λ found. found.decided_by
-        ≡ decided_by (line_under seen.old.lent seen.old.made) (spread address.now)) }
-    ensures noted { OnOk result ((other : List ℕ) → line_under seen.new.lent seen.new.made other
-        ≡ noted_all (line_under seen.old.lent seen.old.made) (spread address.now) number other) }
+        ≡ decided_by (line_under seen.old) (spread address.now)) }
+    ensures noted { OnOk result ((other : List ℕ) → line_under seen.new other
+        ≡ noted_all (line_under seen.old) (spread address.now) number other) }
 {
     let addresses = match read_address(address) {
         Some(addresses) => addresses,
@@ -150,32 +154,23 @@ fn has_client(addresses: &ReadAddress<'_>, buffer: &mut Vec<u8>) -> Result<bool,
 
 /// The first line that decides one of the addresses, where each of them was seen in a line.
 fn decider(
+    alloc: Global,
     addresses: &ReadAddress<'_>,
     seen: &Seen<'_>,
     buffer: &mut Vec<u8>,
 ) -> Result<Option<u64>, AllocError>
     ensures { IfOk result (λ line.
-        line ≡ decided_by (line_under seen.now.lent seen.now.made) (addresses_read addresses.now)) }
+        line ≡ decided_by (line_under seen.now) (addresses_read addresses.now)) }
 {
     let mut least = None;
     for place in 0..count(addresses) {
         write_address(addresses, place, buffer)?;
-        match seen.line_of(buffer) {
+        match seen.line_of(alloc, buffer)? {
             Some(line) => least = Some(lesser(least, line)),
             None => return Ok(None),
         }
     }
     Ok(least)
-}
-
-/// The lesser of a line and another, if there is one.
-fn lesser(least: Option<u64>, line: u64) -> u64
-    ensures { result ≡ option_map_or (λ n. min n line) least line }
-{
-    match least {
-        Some(least) => least.min(line),
-        None => line,
-    }
 }
 
 /// The first line that decides one of the addresses, where each of them was seen in a line; they are seen from then on. After
@@ -187,12 +182,13 @@ fn decide<'a>(
     seen: &mut Seen<'a>,
     buffer: &mut Vec<u8>,
 ) -> Result<Option<u64>, AllocError>
+    requires { IsUpTo seen.old number }
     ensures decided { IfOk result (λ line.
-        line ≡ decided_by (line_under seen.old.lent seen.old.made) (addresses_read addresses.entry)) }
-    ensures noted { OnOk result ((other : List ℕ) → line_under seen.new.lent seen.new.made other
-        ≡ noted_all (line_under seen.old.lent seen.old.made) (addresses_read addresses.entry) number other) }
+        line ≡ decided_by (line_under seen.old) (addresses_read addresses.entry)) }
+    ensures noted { OnOk result ((other : List ℕ) → line_under seen.new other
+        ≡ noted_all (line_under seen.old) (addresses_read addresses.entry) number other) }
 {
-    match decider(&addresses, seen, buffer)? {
+    match decider(alloc, &addresses, seen, buffer)? {
         Some(line) => Ok(Some(line)),
         None => {
             note_all(alloc, addresses, number, seen, buffer)?;
@@ -209,12 +205,18 @@ fn note_all<'a>(
     seen: &mut Seen<'a>,
     buffer: &mut Vec<u8>,
 ) -> Result<(), AllocError>
-    requires { decided_by (line_under seen.old.lent seen.old.made) (addresses_read addresses) ≡ None }
-    ensures { OnOk result ((other : List ℕ) → line_under seen.new.lent seen.new.made other
-        ≡ noted_all (line_under seen.old.lent seen.old.made) (addresses_read addresses.entry) number other) }
+    requires undecided { decided_by (line_under seen.old) (addresses_read addresses) ≡ None }
+    requires earlier { IsUpTo seen.old number }
+    ensures { OnOk result ((other : List ℕ) → line_under seen.new other
+        ≡ noted_all (line_under seen.old) (addresses_read addresses.entry) number other) }
 {
     match addresses {
         ReadAddress::One(address) if !is_folding(address) => seen.note_lent(address, number),
+        ReadAddress::Range {
+            front,
+            numbers,
+            back,
+        } if is_cut(front, numbers, back) => seen.note_range(alloc, front, numbers, back, number),
         _ => note_each(alloc, &addresses, number, seen, buffer),
     }
 }
@@ -234,8 +236,8 @@ fn note_each(
     seen: &mut Seen<'_>,
     buffer: &mut Vec<u8>,
 ) -> Result<(), AllocError>
-    ensures { OnOk result ((other : List ℕ) → line_under seen.new.lent seen.new.made other
-        ≡ noted_all (line_under seen.old.lent seen.old.made) (addresses_read addresses.now) number other) }
+    ensures { OnOk result ((other : List ℕ) → line_under seen.new other
+        ≡ noted_all (line_under seen.old) (addresses_read addresses.now) number other) }
 {
     for place in 0..count(addresses) {
         write_address(addresses, place, buffer)?;

@@ -8,6 +8,7 @@ mod findings;
 pub mod laws;
 pub mod report;
 mod seen;
+mod spans;
 pub mod warning;
 
 pub use client::is_form;

@@ -3,7 +3,7 @@ ghost use Rattle.std.specs.Prelude.{◌≡◌, ◌<◌, ◌⊎◌, ◌++◌, ◌
 ghost use Rattle.std.specs.Io.KnownBytes.{Appends};
 ghost use Rattle.rule_lines.specs.Faults.{first_faulty, IsAccepted};
 ghost use Rattle.rule_lines.specs.Lines.{lines_of};
-ghost use Rattle.rule_warnings.specs.Findings.{kinds_in, RefusedBy, WarnFails};
+ghost use Rattle.rule_warnings.specs.Findings.{kinds_in, OnRefusal, RefusedBy, WarnFails};
 ghost use Rattle.rule_warnings.specs.Warnings.{report_of, warning_line, warnings_at, warnings_of, when, when_decided};
 ghost use Rattle.rule_warnings.specs.declared.report.WarnFault.TheVariants.{OutOfMemory};
 
@@ -52,6 +52,7 @@ pub fn write_warnings<W: Write>(
     ensures written { OnOk result (Appends (W.contents writer.old) (W.contents writer.new) (report_of text.now)) }
     ensures warned { IfOk result (λ warned. warned ≡ not (length (warnings_of text.now) == 0)) }
     ensures refused { IfErr result (WarnFails limits.now text.now) }
+    ensures untouched { IfErr result (λ fault. OnRefusal fault (writer.new ≡ writer.old)) }
 {
     accept(alloc, text, limits)?;
     if text.is_empty() {

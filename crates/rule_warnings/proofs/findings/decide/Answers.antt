@@ -6,4 +6,4 @@ use Rattle.rule_warnings.proofs.findings.decide.Goals as goal
 
 pub returns-in-Some-clause-noted : goal.returns-in-Some-clause-noted
 returns-in-Some-clause-noted c =
-    decided-all (line_under c.args.seen.now.lent c.args.seen.now.made) (addresses_read c.args.addresses) c.in-Some.line c.args.number (sym c.in_ok-line.ensures ∙ c.in-Some.is)
+    decided-all (line_under c.args.seen.now) (addresses_read c.args.addresses) c.in-Some.line c.args.number (sym c.in_ok-line.ensures ∙ c.in-Some.is)

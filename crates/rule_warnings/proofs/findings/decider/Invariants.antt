@@ -5,4 +5,4 @@ use Rattle.rule_warnings.proofs.StepLemmas.{IsLeastSoFar}
 use Rattle.rule_warnings.proofs.findings.decider.Given as goal
 
 abbrev pub invariant-loop-place : goal.invariant-loop-place
-invariant-loop-place l = IsLeastSoFar (line_under l.seen.lent l.seen.made) (take l.place (addresses_read l.addresses)) l.least
+invariant-loop-place l = IsLeastSoFar (line_under l.seen) (take l.place (addresses_read l.addresses)) l.least

@@ -8,5 +8,5 @@ pub loop-place-preserved : goal.loop-place-preserved
 loop-place-preserved c =
     let addresses = addresses_read c.args.addresses.now in
     let inside : c.loop-place.place < length addresses = omega (arith, c.loop-place-test.true, c.count-place-end.ensures) in
-    noted-more (line_under c.args.seen.now.lent c.args.seen.now.made) (line_under c.loop-place.seen.lent c.loop-place.seen.made) (line_under c.note_made.new.self.lent c.note_made.new.self.made) addresses c.loop-place.place c.args.number c.deref.result.now inside
+    noted-more (line_under c.args.seen.now) (line_under c.loop-place.seen) (line_under c.note_made.new.self) addresses c.loop-place.place c.args.number c.deref.result.now inside
     (c.deref.ensures.value ∙ c.in_ok-write_address.ensures) c.loop-place.invariant c.in_ok-note_made.ensures

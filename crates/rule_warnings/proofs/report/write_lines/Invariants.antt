@@ -5,7 +5,7 @@ use Rattle.rule_warnings.proofs.report.write_lines.Given as goal
 
 abbrev pub invariant-loop-rest : goal.invariant-loop-rest
 invariant-loop-rest g l =
-    IsWrittenUpTo l.limit l.text l.rest l.number (line_under l.seen.lent l.seen.made) l.warned (g.W.Write.contents l.fn.writer) (g.W.Write.contents l.writer)
+    IsWrittenUpTo l.limit l.text l.rest l.number (line_under l.seen) l.warned (g.W.Write.contents l.fn.writer) (g.W.Write.contents l.writer)
 
 abbrev pub decreases-loop-rest : goal.decreases-loop-rest
 decreases-loop-rest g l = length l.rest
