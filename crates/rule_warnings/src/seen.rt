@@ -131,7 +131,7 @@ impl<'a> Seen<'a> {
             ≡ noted_all (line_under self.old) (addresses_under front.now (Some numbers) back.now) line other) }
     {
         let around = around(alloc, front, back)?;
-        let mut spans = or_none(alloc, self.spans.remove(&around[..]));
+        let mut spans = or_none(alloc, self.spans.remove(&around[..]))?;
         spans.push(Span { numbers, line })?;
         self.spans.insert(around, spans)?;
         Ok(())
@@ -149,12 +149,12 @@ fn around(alloc: Global, front: &[u8], back: &[u8]) -> Result<Vec<u8>, AllocErro
     Ok(around)
 }
 
-/// The spans, or none.
-fn or_none(alloc: Global, spans: Option<Vec<Span>>) -> Vec<Span>
-    ensures { result.items ≡ items_of spans }
+/// The spans that there are; else none, and room for one: most ranges stand alone.
+fn or_none(alloc: Global, spans: Option<Vec<Span>>) -> Result<Vec<Span>, AllocError>
+    ensures { IfOk result (λ kept. kept.items ≡ items_of spans) }
 {
     match spans {
-        Some(spans) => spans,
-        None => Vec::new(alloc),
+        Some(spans) => Ok(spans),
+        None => Vec::with_capacity(alloc, 1),
     }
 }

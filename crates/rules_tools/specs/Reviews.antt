@@ -23,3 +23,10 @@ abbrev pub told_warning : WarnFault → ReviewFault
 told_warning (warn.Line fault) = Text fault
 told_warning warn.WriteFault = WriteFault
 told_warning warn.OutOfMemory = OutOfMemory
+
+-- what holds where no warning was looked for: the text could not be read, or is refused
+abbrev pub OnNoReview : ReviewFault → Type 0 → Type 0
+OnNoReview ReadFault fact = fact
+OnNoReview (Text fault) fact = fact
+OnNoReview WriteFault fact = Unit {0}
+OnNoReview OutOfMemory fact = Unit {0}

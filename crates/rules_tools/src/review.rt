@@ -3,7 +3,7 @@ ghost use Rattle.std.specs.Prelude.{◌≡◌, ◌==◌, not, length, IfOk, IfEr
 ghost use Rattle.std.specs.Io.KnownBytes.{Appends};
 ghost use Rattle.rule_lines.specs.Faults.{IsAccepted};
 ghost use Rattle.rule_warnings.specs.Warnings.{report_of, warnings_of};
-ghost use Rattle.rules_tools.specs.Reviews.{ReviewFails, profile, told_warning};
+ghost use Rattle.rules_tools.specs.Reviews.{OnNoReview, ReviewFails, profile, told_warning};
 
 use crate::tcprules::{TcprulesFault, read_text};
 use rule_lines::{Limits, LineFault};
@@ -56,6 +56,7 @@ pub fn run_review<R: Read, W: Write>(
     ensures warned { IfOk result (λ warned. IfSome (R.remaining reader.old) (λ text.
         warned ≡ not (length (warnings_of text) == 0))) }
     ensures refused { IfErr result (ReviewFails (R.remaining reader.old)) }
+    ensures untouched { IfErr result (λ fault. OnNoReview fault (errors.new ≡ errors.old)) }
 {
     let limits = Limits::profile();
     let text = match read_text(alloc, reader, limits.text) {

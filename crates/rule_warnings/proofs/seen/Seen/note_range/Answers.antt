@@ -13,7 +13,7 @@ returns c =
     let key = around c.args.front.now c.args.back.now in
     let span : Span = record { numbers = c.args.numbers; line = c.args.line } in
     let asked : c.deref.result.now ≡ key = c.deref.ensures.value ∙ c.in_ok-around.ensures in
-    let had : c.or_none-spans.result.items ≡ spans_under old key = c.or_none-spans.ensures ∙ ap items_of c.remove.ensures.value ∙ ap (spans_under old) asked in
+    let had : c.in_ok-spans.spans.items ≡ spans_under old key = c.in_ok-spans.ensures ∙ ap items_of c.remove.ensures.value ∙ ap (spans_under old) asked in
     noted-range old new c.args.front.now c.args.back.now c.args.numbers c.args.line c.requires.range c.requires.earlier (λ other. refl)
     (pushed key old.spans c.remove.new.self new.spans c.push.new.self span
     (subst (λ (k : List ℕ). Updated k old.spans c.remove.new.self None) asked c.remove.ensures.updates)
