@@ -388,9 +388,28 @@ def check_long_text(program, checks):
             checks.holds("its memory", looked_over[2] <= 2 * compiled[2], "%d KiB, and compiling took %d" % (looked_over[2], compiled[2]))
 
 
+def check_wide_ranges(program, checks):
+    """A text of ranges of 256 addresses each: its warnings, and at most twice the memory of compiling it."""
+    count = 100 if os.sep + "try" + os.sep in program else 5000
+    lines = [b"0-255.%d.%d.1:deny\n" % (number // 250, number % 250) for number in range(count)]
+    # covered by one line, and by two; one address of it stood in none
+    lines += [b"5.0.7.1:allow\n", b"17-30.0.9.1:allow\n", b"0.0.3-4.1:allow\n", b"0.0.0-250.1:allow\n", b":deny\n"]
+    told = [(count + 1, b"line 8 decides first"), (count + 2, b"line 10 decides first"), (count + 3, b"line 4 decides first")]
+    wanted = b"".join(b"tcprules: line %d: %s\n" % warning for warning in told)
+    with tempfile.TemporaryDirectory() as folder:
+        path = os.path.join(folder, "text")
+        with open(path, "wb") as file:
+            file.write(b"".join(lines))
+        compiled = measured([program, "tcprules", "rules.cdb", "rules.tmp"], path, folder)
+        checks.expect("wide ranges are compiled", compiled[:2], (b"", 0))
+        looked_over = measured([program, "tcprules", "-N"], path, folder)
+        checks.expect("wide ranges", looked_over[:2], (wanted, 1))
+        checks.holds("their memory", looked_over[2] <= 2 * compiled[2], "%d KiB, and compiling took %d" % (looked_over[2], compiled[2]))
+
+
 def check(program, failures):
     checks = Checks("rule warnings", failures)
-    for part in (check_rows, check_words, check_refused, check_streams, check_memory, check_forms, check_random, check_long_text):
+    for part in (check_rows, check_words, check_refused, check_streams, check_memory, check_forms, check_random, check_long_text, check_wide_ranges):
         part(program, checks)
     return checks.tests
 

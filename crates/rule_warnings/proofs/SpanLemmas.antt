@@ -1,12 +1,11 @@
 -- The ranges that have an address: which number of it, and what one more range adds.
-use Rattle.std.proofs.Common.{◌≡◌, ◌≢◌, ℕ, zero, suc, ◌+◌, ◌-◌, ◌^◌, ◌<◌, ◌≤◌, Bool, true, false, not, ◌&&◌, ◌||◌, ◌==◌, cond, nat_eq, nat_lt, nat_le, min, List, [], ◌∷◌, ◌++◌, map, length, get_or, take, drop, Option, None, Some, option_map, option_and_then, bytes_eq, decimal, is_some, refl, sym, ap, subst, ◌∙◌, inl, inr, arith, append_assoc, length-append, ne_eqb}
+use Rattle.std.proofs.Common.{◌≡◌, ◌≢◌, ℕ, suc, ◌+◌, ◌-◌, ◌<◌, ◌≤◌, Bool, true, false, not, ◌&&◌, ◌||◌, ◌==◌, cond, nat_eq, nat_lt, nat_le, min, List, [], ◌∷◌, ◌++◌, length, get_or, take, drop, Option, None, Some, option_map, option_and_then, bytes_eq, decimal, is_some, refl, sym, ap, subst, ◌∙◌, inl, inr, arith, append_assoc, length-append, ne_eqb}
 use Rattle.std.specs.List.{before_first, after_first, ends_with, list_any, position_or_len, range_with_len}
 use Rattle.std.specs.Str.{all_ascii_digits}
 use Rattle.std.specs.Str.Parse.{digits_value}
 use Rattle.std.proofs.Math.Seq.{drop-append_seam, take-append_seam}
 use Rattle.std.proofs.lemmas.Bool.{and_parts, cases_Bool, eqb-true, le-leb, leb-true, lt-ltb, ltb-true, not-true, or_from}
 use Rattle.std.proofs.Math.Nat.{zero-add}
-use Rattle.std.proofs.lemmas.Bool.Decides.{nat_tests}
 use Rattle.std.proofs.lemmas.Fmt.{decimal_is_IsNumeral}
 use Rattle.std.proofs.lemmas.List.Sums.{position_or_len_is}
 use Rattle.std.proofs.lemmas.Str.Parse.{digit_at, numerals_by_value, tells_all_ascii_digits}
@@ -180,9 +179,9 @@ cut-sound address start cut is =
 -- what stands around a number is told by it
 around_same : (a b x y : List ℕ) → has_byte 45 a ≡ false → has_byte 45 b ≡ false → around a x ≡ around b y → (a ≡ b) × (x ≡ y)
 around_same a b x y plain other same = (
-      sym (before_first-stop 45 a x plain) ∙ ap (before_first (λ c. c == 45)) same ∙ before_first-stop 45 b y other,
-      sym (after_first-stop 45 a x plain) ∙ ap (after_first (λ c. c == 45)) same ∙ after_first-stop 45 b y other,
-    )
+  sym (before_first-stop 45 a x plain) ∙ ap (before_first (λ c. c == 45)) same ∙ before_first-stop 45 b y other,
+  sym (after_first-stop 45 a x plain) ∙ ap (after_first (λ c. c == 45)) same ∙ after_first-stop 45 b y other,
+)
 
 -- ---- one more range
 
@@ -312,6 +311,7 @@ spanned-none spans none address = at_none (places address) where
   from_none : (o : Option CutParts) → option_and_then (λ cut. line_among (spans (around cut.front cut.back)) cut.number) o ≡ None
   from_none None = refl
   from_none (Some cut) = ap (λ (l : List Span). line_among l cut.number) (none (around cut.front cut.back))
+
   at_none : (starts : List ℕ) → soonest (line_from spans address) starts ≡ None
   at_none [] = refl
   at_none (start ∷ starts) = ap (λ o. sooner o (soonest (line_from spans address) starts)) (from_none (cut_at address start)) ∙ sooner-none _ ∙ at_none starts

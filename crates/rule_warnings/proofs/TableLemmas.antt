@@ -62,7 +62,7 @@ noted-made old new key address line is none lent spans h other =
     ∙ ap (λ (table : HashMap (Vec ℕ Global) (Vec Span Global) _). line_under (record new { lent = old.lent; spans = table }) other) spans
     ∙ ap (λ o. either_line (either_line (by_lent old.lent other) o) (line_spanned (spans_under old) other)) (made-updates key.items old.made new.made (Some line) h other ∙ ap (λ (l : List ℕ). cond (bytes_eq l other) (Some line) (by_made old.made other)) is)
     ∙ put_made (bytes_eq address other) (by_lent old.lent other) (by_made old.made other) (line_spanned (spans_under old) other) line
-      (λ same. subst (λ (l : List ℕ). by_lent old.lent l ≡ None) ((bytes_eq-Decides address other).0 same) (none_first (by_lent old.lent address) (by_made old.made address) (line_spanned (spans_under old) address) none))
+    (λ same. subst (λ (l : List ℕ). by_lent old.lent l ≡ None) ((bytes_eq-Decides address other).0 same) (none_first (by_lent old.lent address) (by_made old.made address) (line_spanned (spans_under old) address) none))
     ∙ ap (λ b. cond (b && bytes_eq address other) (Some line) (line_under old other)) (sym none)
 
 pub noted-lent : (old new : Seen) (key : Bor (List ℕ)) (line : ℕ) → is_none (line_under old key.now) ≡ true → new.made ≡ old.made → new.spans ≡ old.spans → UpdatesBy (λ (x y : Bor (List ℕ)). pointwise nat_eq x.now y.now) (λ (k : Bor (List ℕ)). pointwise nat_eq key.now k.now) old.lent new.lent (Some line) → (other : List ℕ) → line_under new other ≡ noted (line_under old) key.now line other

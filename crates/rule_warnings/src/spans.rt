@@ -75,7 +75,8 @@ fn line_in(number: u8, span: Span) -> Option<u64>
 fn has_number(numbers: Numbers, number: u8) -> bool
     ensures { result ≡ has_number numbers number }
 {
-    numbers.first <= number && u16::from(number) < u16::from(numbers.first).saturating_add(numbers.count)
+    numbers.first <= number
+        && u16::from(number) < u16::from(numbers.first).saturating_add(numbers.count)
 }
 
 /// Whether a range is one that addresses are cut for: its numbers are a whole part between dots, at most 255, and no `-` stands
