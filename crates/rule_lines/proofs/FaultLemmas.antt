@@ -1,11 +1,11 @@
 -- The least kind for which a line is faulty, and its pairs.
 use Rattle.std.proofs.Common.{◌≡◌, ℕ, ◌<◌, Bool, true, false, cond, not, nat_lt, is_ok, is_some, is_none, Option, None, Some, option_map, option_and_then, unwrap_or, Result, Ok, Err, MatchResult, List, [], ◌∷◌, ◌++◌, length, take, drop, get_or, ◌+◌, ◌-◌, ◌==◌, refl, sym, ap, subst, ◌∙◌, arith}
-use Rattle.std.proofs.lemmas.Bool.{cond-false, false_from_ne_true, or_right}
+use Rattle.std.proofs.lemmas.Bool.{cond-false, eqb-true, false_from_ne_true, or_right}
 use Rattle.std.proofs.lemmas.Option.{none-some}
 use Rattle.std.proofs.lemmas.Str.{IsUtf8-from_is_utf8, is_utf8-from_IsUtf8}
 use Rattle.std.specs.Str.{is_utf8, IsUtf8}
 use Rattle.std.specs.List.{position_or_len}
-use Rattle.std.proofs.lemmas.List.{take_rest}
+use Rattle.std.proofs.lemmas.List.{length-map, take_more, take_rest}
 use Rattle.std.proofs.lemmas.List.Sums.{passes_at_first}
 use Rattle.memchr.specs.Find.{Nowhere, Passes, is_byte}
 use Rattle.rule_lines.specs.declared.fault.LineKind.{LineKind}
@@ -14,20 +14,17 @@ use Rattle.rule_lines.specs.declared.fault.RuleFault.{RuleFault}
 use Rattle.rule_lines.specs.declared.fault.RuleFault.TheVariants.{Kind, OutOfMemory}
 use Rattle.rule_lines.specs.declared.instr.Instr.{Instr}
 use Rattle.rule_lines.specs.declared.instr.Verdict.{Verdict}
-use Rattle.rule_lines.specs.declared.instr.Verdict.TheVariants.{Allow}
 use Rattle.rule_lines.specs.declared.spread.ReadAddress.{ReadAddress}
-use Rattle.rule_lines.specs.Codes.{code_of, decoded}
+use Rattle.rule_lines.specs.Codes.{code_of}
 use Rattle.rule_lines.specs.Faults.{fault_beside, fault_under}
 use Rattle.rule_lines.specs.Lines.{has_byte}
 use Rattle.rule_lines.specs.Pairs.{Rule, address_in, instr_of, instructions_in, is_ignored, pairs_under, pairs_with, settings_after, verdict_of}
-use Rattle.rule_lines.specs.Rows.{the_instr}
 use Rattle.rule_lines.specs.RuleFaults.{Names, fault_behind, fault_within}
 use Rattle.rule_lines.specs.Settings.{Assignment}
 use Rattle.rule_lines.specs.Spread.{is_bad_range, spread}
 use Rattle.rule_lines.specs.ReadAddresses.{addresses_read}
-use Rattle.rule_lines.proofs.CodeLemmas.{decoded-code_of, option_map_found}
+use Rattle.rule_lines.proofs.CodeLemmas.{option_map_found}
 use Rattle.rule_lines.proofs.FoundLemmas.{list_any-found, list_any-nowhere}
-use Rattle.rule_lines.proofs.SettingLemmas.{IsInstr-instr_of}
 
 -- a list that reads as text is UTF-8, and one that does not is none
 pub is_utf8-read : {T E : Type 0} (bs : List ℕ) (P : T → Type 0) (Q : E → Type 0) (r : Result T E) → MatchResult r (λ s. P s × IsUtf8 bs) (λ e. ¬ (IsUtf8 bs) × Q e) → is_ok r ≡ is_utf8 bs
@@ -95,27 +92,12 @@ none-parts false true false long none = (refl, refl)
 pub fault_beside-none : (limit : ℕ) (line : List ℕ) → fault_beside limit line ≡ None → (is_utf8 line ≡ true) × (has_byte 0 line ≡ false)
 fault_beside-none limit line none = none-parts (is_bad_range (address_in line)) (is_utf8 line) (has_byte 0 line) (nat_lt limit (length line)) none
 
--- the code of a line without a fault is that of its instruction
-module _ (limit : ℕ) (line new : List ℕ) (read : IsReadLine limit line [] new) (none : fault_beside limit line ≡ None) (colon : has_byte 58 line ≡ true) where
-  -- the code decodes to the instruction
-  decoded-read : decoded new ≡ Some read.instr
-  decoded-read =
-      let text = fault_beside-none limit line none in
-      let known = IsInstr-instr_of line read.instr text.0 text.1 colon (ap (λ t. instr_of t (instructions_in line)) (sym text.0) ∙ read.is) in
-      ap decoded read.code ∙ decoded-code_of read.instr known
-
-  -- so it is a code
-  pub is_some-decoded : is_some (decoded new) ≡ true
-  is_some-decoded = ap is_some decoded-read
-
-  -- the pairs of the line
-  pub pairs-read : (list list' : List Rule) (addresses : ReadAddress) (address : List ℕ) → addresses_read addresses ≡ spread address → address ≡ address_in line → list' ≡ list ++ pairs_with (the_instr new) (addresses_read addresses)
-      → list' ≡ list ++ pairs_under (instr_of (is_utf8 line) (instructions_in line)) (address_in line)
-  pairs-read list list' addresses address spread_is address_is pushed =
-      pushed
-      ∙ ap (λ rules. list ++ rules) (ap (λ o. pairs_with (unwrap_or o (record { verdict = Allow; settings = [] })) (addresses_read addresses)) decoded-read
-      ∙ ap (pairs_with read.instr) (spread_is ∙ ap spread address_is)
-      ∙ sym (ap (λ o. pairs_under o (address_in line)) read.is))
+-- a line has as many rules as addresses
+pub count-read : (line : List ℕ) (instr : Instr) (addresses : ReadAddress) (address : List ℕ) → instr_of (is_utf8 line) (instructions_in line) ≡ Some instr → addresses_read addresses ≡ spread address → address ≡ address_in line → length (addresses_read addresses) ≡ length (pairs_under (instr_of (is_utf8 line) (instructions_in line)) (address_in line))
+count-read line instr addresses address is spread_is address_is =
+    ap length (spread_is ∙ ap spread address_is)
+    ∙ sym (length-map (spread (address_in line)) (λ (a : List ℕ). let rule : Rule = record { address = a; instr = instr } in rule))
+    ∙ ap (λ o. length (pairs_under o (address_in line))) (sym is)
 
 -- what stands before the first colon of a line
 pub address_in-cut : (line : List ℕ) (colon : ℕ) → colon ≡ position_or_len (λ b. b == 58) line → take colon line ≡ address_in line
@@ -124,6 +106,12 @@ address_in-cut line colon first = ap (λ n. take n line) first
 -- what stands after it
 pub instructions_in-cut : (line : List ℕ) (colon : ℕ) → colon ≡ position_or_len (λ b. b == 58) line → take (length line - (colon + 1)) (drop (colon + 1) line) ≡ instructions_in line
 instructions_in-cut line colon first = take_rest line (colon + 1) ∙ ap (λ n. drop (n + 1) line) first
+
+-- and what goes up to it
+pub front-cut : (line : List ℕ) (colon : ℕ) → colon < length line → colon ≡ position_or_len (λ b. b == 58) line → take (colon + 1) line ≡ address_in line ++ 58 ∷ []
+front-cut line colon inside first =
+    let here : get_or line colon 0 ≡ 58 = eqb-true (get_or line colon 0) 58 (ap (λ n. get_or line n 0 == 58) first ∙ passes_at_first (λ b. b == 58) line 0 (omega (arith, first))) in
+    take_more line colon 0 inside ∙ (λ i. address_in-cut line colon first i ++ here i ∷ [])
 
 -- a colon that stands within a line is among its bytes
 pub has_byte-colon : (line : List ℕ) (colon : ℕ) → colon < length line → colon ≡ position_or_len (λ b. b == 58) line → has_byte 58 line ≡ true

@@ -1,9 +1,9 @@
 -- An address in lower case from its first `=` on, where it stands at the end of a list of bytes.
-use Rattle.std.proofs.Common.{◌≡◌, ℕ, ◌+◌, ◌-◌, ◌≤◌, List, [], ◌++◌, map, length, take, drop, eqb, refl, ap, ◌∙◌, arith, append_assoc, length-append, length-drop}
+use Rattle.std.proofs.Common.{◌≡◌, ℕ, suc, ◌+◌, ◌-◌, ◌≤◌, Bool, true, false, cond, not, List, [], ◌∷◌, ◌++◌, map, length, take, drop, eqb, refl, sym, ap, ◌∙◌, arith, append_assoc, length-append, length-drop}
 use Rattle.std.specs.Char.{to_ascii_lowercase}
 use Rattle.std.specs.List.{position_or_len}
 use Rattle.std.proofs.Math.Seq.{take-append-add, drop-append-add}
-use Rattle.std.proofs.lemmas.List.{append-nil, length-map, take-append-drop, take_all, take_at, drop_all}
+use Rattle.std.proofs.lemmas.List.{append-nil, length-map, length-take-le, take-append-drop, take_all, take_at, drop_all, drop_at}
 use Rattle.rule_lines.specs.Spread.{folded}
 use borrow.Rule.Slice.PartMut.{put_mid}
 
@@ -38,3 +38,34 @@ take-folded out address items rest n items_are n_is =
 pub append_folded-is : (out address held lowered rest : List ℕ) (at n : ℕ) → held ≡ out ++ address → at ≡ length out + position_or_len (λ b. eqb b 61) address → lowered ≡ map to_ascii_lowercase (take (length held - at) (drop at held)) → n ≡ length (out ++ address) → take n (put_mid at (length held - at) held lowered ++ rest) ≡ out ++ folded address
 append_folded-is out address held lowered rest at n held_is at_is lowered_is n_is =
     rw (lowered_is, held_is) (take-folded out address (put_mid at (length (out ++ address) - at) (out ++ address) (map to_ascii_lowercase (take (length (out ++ address) - at) (drop at (out ++ address))))) rest n (put_mid-folded out address at (length (out ++ address) - at) at_is refl) n_is)
+
+-- bytes written over others leave the length
+pub length-put_mid : (at count : ℕ) (held written : List ℕ) → length written ≡ count → at + count ≤ length held → length (put_mid at count held written) ≡ length held
+length-put_mid at count held written long inside =
+    omega (arith, length-append (take at held) (written ++ drop count (drop at held)), length-append written (drop count (drop at held)), length-take-le at held (omega arith), length-drop count (drop at held), length-drop at held)
+
+-- a first place is within the bytes
+first-bound : (b : Bool) (r n : ℕ) → r ≤ n → cond (not b) (1 + r) 0 ≤ suc n
+first-bound true r n within = omega arith
+first-bound false r n within = omega arith
+
+position_or_len-le : (p : ℕ → Bool) (bs : List ℕ) → position_or_len p bs ≤ length bs
+position_or_len-le p [] = omega arith
+position_or_len-le p (b ∷ bs) = first-bound (p b) (position_or_len p bs) (length bs) (position_or_len-le p bs)
+
+-- bytes that begin as an address does up to its first `=`, or that are the rest of it in lower case
+module _ (address bytes : List ℕ) (at : ℕ) (is : at ≡ position_or_len (λ b. eqb b 61) address) where
+  pub folded-joined : take at address ≡ take at bytes → map to_ascii_lowercase (drop at address) ≡ drop at bytes → folded address ≡ bytes
+  folded-joined front back =
+      (λ i. take (sym is i) address ++ map to_ascii_lowercase (drop (sym is i) address)) ∙ (λ i. front i ++ back i) ∙ take-append-drop at bytes
+
+  long : length (take at address) ≡ at
+  long = length-take-le at address (omega (arith, is, position_or_len-le (λ b. eqb b 61) address))
+
+  pub folded-cut : folded address ≡ bytes → (take at address ≡ take at bytes) × (map to_ascii_lowercase (drop at address) ≡ drop at bytes) × (length address ≡ length bytes)
+  folded-cut same =
+      let parts : take at address ++ map to_ascii_lowercase (drop at address) ≡ bytes = (λ i. take (is i) address ++ map to_ascii_lowercase (drop (is i) address)) ∙ same in (
+        sym (take_at (take at address) (map to_ascii_lowercase (drop at address)) at long) ∙ ap (take at) parts,
+        sym (drop_at (take at address) (map to_ascii_lowercase (drop at address)) at long) ∙ ap (drop at) parts,
+        sym (length-folded address) ∙ ap length same,
+      )

@@ -1,7 +1,7 @@
 -- The rules of a text without a fault, and those of a list: each instruction sets what may be set.
 use Rattle.std.proofs.Common.{◌≡◌, ℕ, ◌+◌, Bool, true, false, cond, is_none, is_some, nat_lt, Option, None, Some, List, [], ◌∷◌, ◌++◌, length, unwrap_or, refl, sym, ap, ◌∙◌}
 use Rattle.std.proofs.lemmas.Bool.{not-false, or_parts}
-use Rattle.std.specs.List.{flat_map}
+use Rattle.std.specs.List.{AllByRecursion, flat_map}
 use Rattle.std.specs.Str.{is_utf8}
 use Rattle.rule_lines.specs.declared.fault.LineKind.{LineKind}
 use Rattle.rule_lines.specs.declared.fault.LineKind.TheVariants.{BadSetting, LongText}
@@ -10,12 +10,12 @@ use Rattle.rule_lines.specs.declared.instr.Instr.{Instr}
 use Rattle.rule_lines.specs.declared.instr.Verdict.{Verdict}
 use Rattle.rule_lines.specs.declared.instr.Verdict.TheVariants.{Allow}
 use Rattle.rule_lines.specs.declared.limits.Limits.{Limits}
-use Rattle.rule_lines.specs.declared.list.Row.{Row}
 use Rattle.rule_lines.specs.Codes.{IsInstr, decoded}
 use Rattle.rule_lines.specs.Faults.{IsAccepted, fault_beside, fault_in, fault_under, first_faulty, or_later}
+use Rattle.rule_lines.specs.Kept.{AreKept, IsKeptLine, rules_at, rules_in, the_instr}
 use Rattle.rule_lines.specs.Lines.{Line, has_byte, lines_of, trimmed}
 use Rattle.rule_lines.specs.Pairs.{Rule, address_in, instr_of, instructions_in, is_ignored, pairs_in, pairs_of, pairs_under, pairs_with, settings_after, verdict_of}
-use Rattle.rule_lines.specs.Rows.{AreRows, AreRules, addresses_in, code_in, count_under, rules_in, the_instr}
+use Rattle.rule_lines.specs.Rows.{AreRules}
 use Rattle.rule_lines.specs.Spread.{spread}
 use Rattle.rule_lines.proofs.CodeLemmas.{IsInstr-decoded}
 use Rattle.rule_lines.proofs.FaultLemmas.{fault_beside-none}
@@ -32,7 +32,7 @@ AreRules-pairs_with instr [] known = tt
 AreRules-pairs_with instr (address ∷ addresses) known = (known, AreRules-pairs_with instr addresses known)
 
 -- a rule line without a fault has none of the kinds from the third on
-fault_under-none : (limit : ℕ) (line : List ℕ) (verdict : Option Verdict) → fault_under limit line verdict ≡ None → fault_beside limit line ≡ None
+pub fault_under-none : (limit : ℕ) (line : List ℕ) (verdict : Option Verdict) → fault_under limit line verdict ≡ None → fault_beside limit line ≡ None
 fault_under-none limit line None none = absurd cc
 fault_under-none limit line (Some verdict) none = settled (is_none (settings_after (is_utf8 line) verdict (instructions_in line))) none
   where
@@ -41,7 +41,7 @@ fault_under-none limit line (Some verdict) none = settled (is_none (settings_aft
     settled false none = none
 
 -- a line that is not ignored has a colon
-has_byte-rule : (line : List ℕ) → is_ignored line ≡ false → has_byte 58 line ≡ true
+pub has_byte-rule : (line : List ℕ) → is_ignored line ≡ false → has_byte 58 line ≡ true
 has_byte-rule [] rule = absurd cc
 has_byte-rule (b ∷ bs) rule = not-false _ (or_parts _ _ rule).1
 
@@ -83,12 +83,13 @@ IsInstr-unwrap_or : (bytes : List ℕ) (instr : Option Instr) (other : Instr) �
 IsInstr-unwrap_or bytes (Some instr) other is some = IsInstr-decoded bytes instr is
 IsInstr-unwrap_or bytes None other is some = absurd cc
 
--- the rules of the rows of a list
-pub AreRules-rows : (bytes : List ℕ) (rows : List Row) (before total : ℕ) → AreRows bytes before rows total → AreRules (rules_in bytes rows)
-AreRules-rows bytes [] before total are = tt
-AreRules-rows bytes (row ∷ rows) before total are =
-    let code = code_in bytes row in
-    let known : IsInstr (the_instr code) = IsInstr-unwrap_or code (decoded code) (record { verdict = Allow; settings = [] }) refl are.0.decodes in
-    let addresses = addresses_in bytes row in
-    AreRules-append (pairs_with (the_instr code) addresses) (rules_in bytes rows) (AreRules-pairs_with (the_instr code) addresses known)
-    (AreRules-rows bytes rows (before + count_under row) total are.1)
+-- the rules of kept lines
+AreRules-kept_lines : (lines : List Line) → AllByRecursion (λ (line : Line). (line.ended ≡ true) × IsKeptLine line.bytes) lines → AreRules (flat_map (λ (line : Line). rules_at line.bytes) lines)
+AreRules-kept_lines [] are = tt
+AreRules-kept_lines (line ∷ lines) are =
+    let code = instructions_in line.bytes in
+    let known : IsInstr (the_instr code) = IsInstr-unwrap_or code (decoded code) (record { verdict = Allow; settings = [] }) refl are.0.1.decodes in
+    AreRules-append (rules_at line.bytes) _ (AreRules-pairs_with (the_instr code) (spread (address_in line.bytes)) known) (AreRules-kept_lines lines are.1)
+
+pub AreRules-kept : (kept : List ℕ) → AreKept kept → AreRules (rules_in kept)
+AreRules-kept kept are = AreRules-kept_lines (lines_of kept) are

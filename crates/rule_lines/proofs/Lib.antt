@@ -1,4 +1,5 @@
 pub mod Cases
+pub mod CodeBytes
 pub mod CodeLemmas
 pub mod CutLemmas
 pub mod DecodeLemmas
@@ -6,6 +7,8 @@ pub mod FaultLemmas
 pub mod FoldLemmas
 pub mod FoundLemmas
 pub mod KnownLemmas
+pub mod KeepLemmas
+pub mod KeptLemmas
 pub mod LineLemmas
 pub mod NumberLemmas
 pub mod ParseLemmas

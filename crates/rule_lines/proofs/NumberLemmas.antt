@@ -37,14 +37,14 @@ number_between-from front back address middle (Some n) is says =
     append_assoc front (decimal n) back ∙ (ap (λ m. front ++ (m ++ back)) says ∙ sym is)
 
 -- an address of a range has one of its numbers
-pub number_from_Contains : (front back address : List ℕ) (numbers : Numbers) → Contains (addresses_under front (Some numbers) back) address → (n : ℕ) × (numbers.first ≤ n) × (n < numbers.first + numbers.count) × (front ++ decimal n ++ back ≡ address)
+pub number_from_Contains : (front back address : List ℕ) (numbers : Numbers) → Contains (addresses_under front numbers back) address → (n : ℕ) × (numbers.first ≤ n) × (n < numbers.first + numbers.count) × (front ++ decimal n ++ back ≡ address)
 number_from_Contains front back address numbers among =
     let named = λ (n : ℕ). front ++ decimal n ++ back in
     let inside : among.0 < numbers.count = omega (arith, length-map-range_with_len named numbers.first numbers.count, among.1) in
     (numbers.first + among.0, omega arith, omega arith, sym (get_or-map-range_with_len named numbers.first numbers.count among.0 (numbers.first + among.0) address inside refl) ∙ among.2)
 
 -- and each of its numbers makes one
-pub Contains-from_number : (front back address : List ℕ) (numbers : Numbers) (n : ℕ) → numbers.first ≤ n → n < numbers.first + numbers.count → front ++ decimal n ++ back ≡ address → Contains (addresses_under front (Some numbers) back) address
+pub Contains-from_number : (front back address : List ℕ) (numbers : Numbers) (n : ℕ) → numbers.first ≤ n → n < numbers.first + numbers.count → front ++ decimal n ++ back ≡ address → Contains (addresses_under front numbers back) address
 Contains-from_number front back address numbers n low high is =
     let named = λ (n : ℕ). front ++ decimal n ++ back in
     let inside : n - numbers.first < numbers.count = omega arith in

@@ -29,7 +29,7 @@ record IsClean (bytes : List ℕ) : Type 0 where
   zeros : has_byte 0 bytes ≡ false
 
 -- no part of bytes has a byte that they don't have
-has_byte-parts : (b : ℕ) (xs ys : List ℕ) → has_byte b (xs ++ ys) ≡ false → (has_byte b xs ≡ false) × (has_byte b ys ≡ false)
+pub has_byte-parts : (b : ℕ) (xs ys : List ℕ) → has_byte b (xs ++ ys) ≡ false → (has_byte b xs ≡ false) × (has_byte b ys ≡ false)
 has_byte-parts b xs ys without =
     or_parts (has_byte b xs) (has_byte b ys) (sym (list_any-append (λ x. x == b) xs ys) ∙ without)
 

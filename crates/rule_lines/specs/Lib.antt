@@ -3,6 +3,7 @@
 pub mod Codes
 pub mod Faults
 pub mod FaultTexts
+pub mod Kept
 pub mod Lines
 pub mod Lookups
 pub mod Pairs

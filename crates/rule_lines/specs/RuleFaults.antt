@@ -3,14 +3,23 @@ use Rattle.std.specs.Prelude.{◌≡◌, ℕ, Bool, is_none, List, Option, Some,
 use Rattle.rule_lines.specs.declared.fault.LineKind.{LineKind}
 use Rattle.rule_lines.specs.declared.fault.LineKind.TheVariants.{NoVerdict, BadSetting}
 use Rattle.rule_lines.specs.declared.fault.RuleFault.{RuleFault}
+use Rattle.rule_lines.specs.declared.fault.ParseFault.{ParseFault}
+use Rattle.rule_lines.specs.declared.fault.ParseFault.TheVariants.{Line as AtLine, OutOfMemory as NoMemory}
 use Rattle.rule_lines.specs.declared.fault.RuleFault.TheVariants.{Kind, OutOfMemory}
 use Rattle.rule_lines.specs.declared.instr.Verdict.{Verdict}
+use Rattle.rule_lines.specs.Faults.{first_faulty}
+use Rattle.rule_lines.specs.Lines.{lines_of}
 use Rattle.rule_lines.specs.Pairs.{settings_after, verdict_of}
 
 -- it has this fault, or there was no memory for its rules
 abbrev pub Names : Option LineKind → RuleFault → Type 0
 Names fault (Kind kind) = fault ≡ Some kind
 Names fault OutOfMemory = Unit {0}
+
+-- the fault of the first faulty line, or there was no memory for the rules of the lines
+abbrev pub RefusesLines : ℕ → List ℕ → ParseFault → Type 0
+RefusesLines limit text (AtLine fault) = first_faulty limit 1 (lines_of text) ≡ Some fault
+RefusesLines limit text NoMemory = Unit {0}
 
 -- the first two kinds of fault: of the word, and of what follows it
 abbrev pub fault_behind : Bool → List ℕ → Option Verdict → Option LineKind

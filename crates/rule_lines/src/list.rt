@@ -1,16 +1,18 @@
 //! Lists of rules.
-ghost use Rattle.std.specs.Prelude.{option_map, ◌≡◌, ◌≢◌, ◌↔◌, ◌++◌, ◌<◌, ◌≤◌, ◌+◌, ◌*◌, ◌^◌, ℕ, [], ◌==◌, length, take, slice_get, is_some, true, IsTrue, IfOk, OnOk, OnErr, MatchOption, decimal};
+ghost use Rattle.std.specs.Prelude.{◌≡◌, ◌≢◌, ◌↔◌, ◌++◌, ◌<◌, ◌≤◌, ◌+◌, ◌^◌, ℕ, ◌==◌, length, map, slice_get, IsTrue, IfOk, OnOk, OnErr, MatchOption, decimal};
+ghost use Rattle.std.specs.Char.{to_ascii_lowercase};
 ghost use Rattle.std.specs.List.{Contains};
 ghost use Rattle.byte_text.specs.Outcomes.{AppendsPart};
-ghost use Rattle.rule_lines.specs.Codes.{code_of, decoded};
+ghost use Rattle.rule_lines.specs.Codes.{code_of};
+ghost use Rattle.rule_lines.specs.Kept.{AreKept, IsStored, rules_in};
 ghost use Rattle.rule_lines.specs.Lookups.{found_among, code_found};
-ghost use Rattle.rule_lines.specs.Pairs.{pairs_with};
-ghost use Rattle.rule_lines.specs.Rows.{the_instr, AreRows, AreRules, HasForm, IsOpen, IsRow, addresses_in, addresses_under, back_in, code_in, count_of, front_in, line_start, rules_in};
+ghost use Rattle.rule_lines.specs.Rows.{AreRules, addresses_under};
 ghost use Rattle.rule_lines.specs.Spread.{folded};
-ghost use Rattle.rule_lines.specs.ReadAddresses.{addresses_read, back_of, front_of, numbers_of};
+ghost use Rattle.rule_lines.specs.ReadAddresses.{addresses_read};
 
 use crate::code::{DecodeFault, decode_instr};
 use crate::instr::Instr;
+use crate::kept::{KeptLine, LinePlace, first_kept, rule_at};
 use crate::spread::{Numbers, ReadAddress};
 use byte_text::whole_or_none;
 use itoa::Buffer;
@@ -19,162 +21,14 @@ use std::alloc::{AllocError, Global};
 use std::marker::Model;
 use std::str;
 
-/// Lines one after another with one code, whose addresses have parts of the same lengths with the same numbers between them. The code
-/// stands in the bytes of the list from `code_start` to `start`, and from there to `end` the parts of each address. Before them stand as
-/// many addresses as `before`.
-#[derive(Clone, Copy, Debug)]
-struct Row {
-    code_start: usize,
-    start: usize,
-    front: usize,
-    numbers: Option<Numbers>,
-    back: usize,
-    lines: usize,
-    end: usize,
-    before: usize,
-}
-
-impl Row {
-    /// The one address of a line, or what stands before the number in each of them.
-    fn front<'a>(&self, bytes: &'a [u8], line: usize) -> &'a [u8]
-        requires row { IsRow bytes.now self.now.before self.now }
-        requires line { line < self.now.lines }
-        ensures { result.now ≡ front_in bytes.now self.now line }
-    {
-        let start = self.line_start(bytes, line);
-        &bytes[start..start + self.front]
-    }
-
-    /// What stands after the number.
-    fn back<'a>(&self, bytes: &'a [u8], line: usize) -> &'a [u8]
-        requires row { IsRow bytes.now self.now.before self.now }
-        requires line { line < self.now.lines }
-        ensures { result.now ≡ back_in bytes.now self.now line }
-    {
-        let start = self.line_start(bytes, line) + self.front;
-        &bytes[start..start + self.back]
-    }
-
-    /// Where the address of a line begins.
-    fn line_start(&self, bytes: &[u8], line: usize) -> usize
-        requires row { IsRow bytes.now self.now.before self.now }
-        requires line { line < self.now.lines }
-        ensures start { result ≡ line_start self.now line }
-        ensures inside { result + self.now.front + self.now.back ≤ length bytes.now }
-    {
-        self.start + line * (self.front + self.back)
-    }
-
-    /// The code of the instruction.
-    fn code<'a>(&self, bytes: &'a [u8]) -> &'a [u8]
-        requires { IsRow bytes.now self.now.before self.now }
-        ensures { result.now ≡ code_in bytes.now self.now }
-    {
-        &bytes[self.code_start..self.start]
-    }
-
-    /// How many addresses a line has.
-    fn count(&self) -> usize
-        ensures { result ≡ count_of self.now.numbers }
-    {
-        match self.numbers {
-            Some(numbers) => usize::from(numbers.count),
-            None => 1,
-        }
-    }
-
-    /// Whether an address is one of those of a line.
-    fn has_address(&self, bytes: &[u8], address: &[u8]) -> bool
-        requires { IsRow bytes.now self.now.before self.now }
-        ensures { IsTrue result ↔ Contains (addresses_in bytes.now self.now) address.now }
-    {
-        for line in 0..self.lines {
-            if is_named(
-                self.front(bytes, line),
-                self.numbers,
-                self.back(bytes, line),
-                address,
-            ) {
-                return true;
-            }
-        }
-        false
-    }
-
-    /// Whether a line with an address of this form and this code goes on with it at the end of the bytes.
-    fn goes_on(&self, bytes: &[u8], form: Form, code: &[u8]) -> bool
-        requires { IsRow bytes.now self.now.before self.now }
-        ensures { IsTrue result → HasForm bytes.now self.now form code.now }
-    {
-        self.front == form.front
-            && self.back == form.back
-            && are_same(self.numbers, form.numbers)
-            && self.end == bytes.len()
-            && self.code(bytes) == code
-    }
-}
-
-/// Whether there are the same numbers.
-fn are_same(some: Option<Numbers>, others: Option<Numbers>) -> bool
-    ensures { IsTrue result → some ≡ others }
-{
-    match (some, others) {
-        (None, None) => true,
-        (Some(some), Some(others)) => some.first == others.first && some.count == others.count,
-        _ => false,
-    }
-}
-
-/// How long the parts of an address are, and the numbers between them.
-#[derive(Clone, Copy)]
-struct Form {
-    front: usize,
-    numbers: Option<Numbers>,
-    back: usize,
-}
-
-/// The form of an address.
-fn form_of(addresses: ReadAddress<'_>) -> Form
-    ensures front { result.front ≡ length (front_of addresses.entry) }
-    ensures numbers { result.numbers ≡ numbers_of addresses.entry }
-    ensures back { result.back ≡ length (back_of addresses.entry) }
-{
-    match addresses {
-        ReadAddress::One(address) => Form {
-            front: address.len(),
-            numbers: None,
-            back: 0,
-        },
-        ReadAddress::Range {
-            front,
-            numbers,
-            back,
-        } => Form {
-            front: front.len(),
-            numbers: Some(numbers),
-            back: back.len(),
-        },
-    }
-}
-
-/// The number in the address at a place of a line, from 0, if the line has a range.
-fn number_at(numbers: Option<Numbers>, place: usize) -> Option<u32>
-    requires { place < count_of numbers }
-    ensures { result ≡ option_map (λ range. range.first + place) numbers }
-{
-    match numbers {
-        Some(numbers) => Some(u32::from(numbers.first) + place as u32),
-        None => None,
-    }
-}
-
-/// The rules of a text in order, one for each address. A range is kept once, however many addresses it stands for, and so is the
-/// instruction of lines one after another.
+/// The rules of a text in order, one for each address. The list keeps the text, with the code of each instruction in its place, and
+/// reads a rule out of it when it is asked for: so it takes less memory than the text, however many rules that has.
 #[derive(Debug, Drop)]
 pub struct RuleList {
-    bytes: Vec<u8>,
-    rows: Vec<Row>,
+    kept: Vec<u8>,
     len: usize,
+    /// A line from which the rules at and after it are looked for.
+    near: LinePlace,
 }
 
 impl Model for RuleList {
@@ -183,20 +37,19 @@ impl Model for RuleList {
 
     ghost Value = { List Rule };
 
-    ghost use Rattle.rule_lines.specs.Rows.{rules_in, AreRows};
+    ghost use Rattle.rule_lines.specs.Kept.{Keeps, rules_in};
 
-    ghost view = { λ l. rules_in l.bytes.items l.rows.items };
+    ghost view = { λ l. rules_in l.kept.items };
 
-    ghost invariant = { λ l. AreRows l.bytes.items 0 l.rows.items l.len };
+    ghost invariant = { λ l. Keeps l.kept.items l.len l.near };
 }
 
 /// A rule of a list: an address with its instruction, lent by the list.
 #[derive(Debug, Drop)]
 pub struct Pair<'a> {
-    front: &'a [u8],
-    number: Option<u32>,
-    back: &'a [u8],
-    code: &'a [u8],
+    line: KeptLine<'a>,
+    /// Which of the line's addresses it has.
+    place: usize,
 }
 
 impl<'a> Model for Pair<'a> {
@@ -204,13 +57,14 @@ impl<'a> Model for Pair<'a> {
 
     ghost Value = { Rule };
 
-    ghost use Rattle.std.specs.Prelude.{◌≡◌, is_some, true};
+    ghost use Rattle.std.specs.Prelude.{◌≡◌, ◌<◌, is_some, length, true};
     ghost use Rattle.rule_lines.specs.Codes.{decoded};
-    ghost use Rattle.rule_lines.specs.Rows.{the_instr, address_of};
+    ghost use Rattle.rule_lines.specs.Kept.{rule_of_line};
+    ghost use Rattle.rule_lines.specs.ReadAddresses.{addresses_read};
 
-    ghost view = { λ p. record { address = address_of p.front.now p.number p.back.now; instr = the_instr p.code.now } };
+    ghost view = { λ p. rule_of_line p.line p.place };
 
-    ghost invariant = { λ p. is_some (decoded p.code.now) ≡ true };
+    ghost invariant = { λ p. (is_some (decoded p.line.code.now) ≡ true) × (p.place < length (addresses_read p.line.addresses)) };
 }
 
 impl<'a> Pair<'a> {
@@ -228,11 +82,19 @@ impl<'a> Pair<'a> {
     fn append_parts(&self, out: &mut Vec<u8>) -> Result<(), AllocError>
         ensures { AppendsPart self.now.address out.old.items out.new.items result }
     {
-        out.extend_from_slice(self.front)?;
-        if let Some(number) = self.number {
-            let mut buffer = Buffer::new();
-            out.extend_from_slice(buffer.format(number).as_bytes())?;
-            out.extend_from_slice(self.back)?;
+        match self.line.addresses {
+            ReadAddress::One(address) => append_folded(out, address)?,
+            ReadAddress::Range {
+                front,
+                numbers,
+                back,
+            } => {
+                let number = number_at(numbers, self.place);
+                out.extend_from_slice(front)?;
+                let mut buffer = Buffer::new();
+                out.extend_from_slice(buffer.format(number).as_bytes())?;
+                out.extend_from_slice(back)?;
+            }
         }
         Ok(())
     }
@@ -241,14 +103,14 @@ impl<'a> Pair<'a> {
     pub fn code(&self) -> &'a [u8]
         ensures { result.now ≡ code_of self.now.instr }
     {
-        self.code
+        self.line.code
     }
 
     /// The instruction.
     pub fn instr(&self, alloc: Global) -> Result<Instr, AllocError>
         ensures { IfOk result (λ i. i ≡ self.now.instr) }
     {
-        match decode_instr(alloc, self.code) {
+        match decode_instr(alloc, self.line.code) {
             Ok(instr) => Ok(instr),
             Err(DecodeFault::OutOfMemory) => Err(AllocError),
             Err(DecodeFault::Code(_)) => unreachable!(
@@ -258,16 +120,45 @@ impl<'a> Pair<'a> {
     }
 }
 
+/// The number in the address at a place of a range, from 0.
+fn number_at(numbers: Numbers, place: usize) -> u32
+    requires { place < numbers.count }
+    ensures { result ≡ numbers.first + place }
+{
+    u32::from(numbers.first) + place as u32
+}
+
+/// A rule as it is stored: its address, and the code of its instruction.
+#[derive(Debug, Drop)]
+pub struct StoredRule {
+    /// The address.
+    pub key: Vec<u8>,
+    /// The code of the instruction.
+    pub code: Vec<u8>,
+}
+
+impl StoredRule {
+    /// One with neither. It takes no memory.
+    pub fn new(alloc: Global) -> StoredRule {
+        StoredRule {
+            key: Vec::new(alloc),
+            code: Vec::new(alloc),
+        }
+    }
+}
+
 impl RuleList {
-    /// No rules, and room for those of a text of so many bytes: none of its lines takes more than it has.
-    pub(crate) fn with_room(alloc: Global, bytes: usize) -> Result<RuleList, AllocError>
-        ensures { IfOk result (λ list. list ≡ []) }
+    /// The list of kept lines, which have so many rules.
+    pub(crate) fn new(kept: Vec<u8>, len: usize) -> RuleList
+        requires kept { AreKept kept.items }
+        requires counted { len ≡ length (rules_in kept.items) }
+        ensures { result ≡ rules_in kept.items }
     {
-        Ok(RuleList {
-            bytes: Vec::with_capacity(alloc, bytes)?,
-            rows: Vec::new(alloc),
-            len: 0,
-        })
+        RuleList {
+            kept,
+            len,
+            near: LinePlace::FRONT,
+        }
     }
 
     /// How many rules there are: as many as addresses. Each of them sets what may be set.
@@ -285,35 +176,59 @@ impl RuleList {
         self.len == 0
     }
 
-    /// The rule at place `i`, from 0, or `None` past the end. It takes time logarithmic in the number of the text's lines.
+    /// The rule at place `i`, from 0, or `None` past the end. The lines before it are gone over, but for those before a place that was
+    /// written last (`write_rule`), where that is not behind it.
     pub fn get(&self, i: usize) -> Option<Pair<'_>>
         ensures { result ≡ slice_get self.now i }
     {
         if i >= self.len {
             return None;
         }
-        let bytes = self.bytes.as_slice();
-        let rows = self.rows.as_slice();
-        let after = rows.partition_point(|row| row.before <= i);
-        let row = rows[after - 1];
-        let (line, place) = split_place(i - row.before, row.count());
+        let found = rule_at(&self.kept, self.near.not_behind(i), i)?;
         Some(Pair {
-            front: row.front(bytes, line),
-            number: number_at(row.numbers, place),
-            back: row.back(bytes, line),
-            code: row.code(bytes),
+            line: found.line,
+            place: found.place,
         })
+    }
+
+    /// Puts the rule at place `i`, from 0, into `rule`, and says whether there is one. Where rules are written one after another, each
+    /// line is read once for each of its rules.
+    ///
+    /// # Errors
+    /// There was no memory. `rule` may have any bytes then.
+    pub fn write_rule(&mut self, i: usize, rule: &mut StoredRule) -> Result<bool, AllocError>
+        ensures same { self.new ≡ self.old }
+        ensures written { IfOk result (λ found.
+            IsStored (slice_get self.old i) found rule.new.key.items rule.new.code.items) }
+    {
+        if i >= self.len {
+            return Ok(false);
+        }
+        let Some(found) = rule_at(&self.kept, self.near.not_behind(i), i) else {
+            return Ok(false);
+        };
+        let resume = found.resume;
+        let pair = Pair {
+            line: found.line,
+            place: found.place,
+        };
+        rule.key.clear();
+        pair.append_address(&mut rule.key)?;
+        rule.code.clear();
+        rule.code.extend_from_slice(pair.code())?;
+        self.near = resume;
+        Ok(true)
     }
 
     /// An equal list.
     pub fn copy(&self) -> Result<RuleList, AllocError>
         ensures { IfOk result (λ l. l ≡ self.now) }
     {
-        let alloc = *self.bytes.allocator();
+        let alloc = *self.kept.allocator();
         Ok(RuleList {
-            bytes: Vec::from_slice(alloc, &self.bytes)?,
-            rows: Vec::from_slice(alloc, &self.rows)?,
+            kept: Vec::from_slice(alloc, &self.kept)?,
             len: self.len,
+            near: self.near,
         })
     }
 
@@ -321,116 +236,30 @@ impl RuleList {
     pub fn find(&self, address: &[u8]) -> Option<&[u8]>
         ensures { code_found result ≡ found_among self.now address.now }
     {
-        let bytes = self.bytes.as_slice();
-        for row in &self.rows {
-            if row.has_address(bytes, address) {
-                return Some(row.code(bytes));
+        let mut rest = self.kept.as_slice();
+        while !rest.is_empty() {
+            let (line, after) = first_kept(rest);
+            if line.has_address(address) {
+                return Some(line.code);
             }
+            rest = after;
         }
         None
     }
+}
 
-    /// Adds the rules of a line: its addresses, each with the instruction that has this code. For want of memory nothing is
-    /// added.
-    pub(crate) fn push(&mut self, addresses: ReadAddress<'_>, code: &[u8]) -> Result<(), AllocError>
-        requires { is_some (decoded code.now) ≡ true }
-        ensures ok { OnOk result (self.new
-            ≡ self.old ++ pairs_with (the_instr code.now) (addresses_read addresses.entry)) }
-        ensures err { OnErr result (self.new ≡ self.old) }
+impl KeptLine<'_> {
+    /// Whether an address is one of those of the line.
+    fn has_address(&self, address: &[u8]) -> bool
+        ensures { IsTrue result ↔ Contains (addresses_read self.now.addresses) address.now }
     {
-        let count = count_in(&addresses);
-        if count == 0 {
-            return Ok(());
-        }
-        // A list of more than `usize::MAX` addresses is one for which there is no memory.
-        let len = self.len.checked_add(count).ok_or(AllocError)?;
-        let form = form_of(addresses);
-        open_row(&mut self.bytes, &mut self.rows, self.len, form, code)?;
-        append_addresses(&mut self.bytes, addresses)?;
-        let last = self.rows.len() - 1;
-        let row = self.rows[last];
-        self.rows[last] = Row {
-            lines: row.lines + 1,
-            end: self.bytes.len(),
-            ..row
-        };
-        self.len = len;
-        Ok(())
-    }
-}
-
-/// The line of a row in which an address is, and its place there.
-fn split_place(place: usize, count: usize) -> (usize, usize)
-    requires { 0 < count }
-    ensures sum { place ≡ result.0 * count + result.1 }
-    ensures inside { result.1 < count }
-{
-    // most rows have one address in each line, and a division takes long
-    if count == 1 {
-        (place, 0)
-    } else {
-        (place / count, place % count)
-    }
-}
-
-/// How many addresses there are.
-fn count_in(addresses: &ReadAddress<'_>) -> usize
-    ensures { result ≡ length (addresses_read addresses.now) }
-{
-    match addresses {
-        ReadAddress::One(_) => 1,
-        ReadAddress::Range { numbers, .. } => usize::from(numbers.count),
-    }
-}
-
-/// Sees to it that a line with an address of this form and this code goes on with the last row, at the end of the bytes: with an empty
-/// one where the last one is another. After an `Err` there may be any more bytes at the end.
-fn open_row(
-    bytes: &mut Vec<u8>,
-    rows: &mut Vec<Row>,
-    before: usize,
-    form: Form,
-    code: &[u8],
-) -> Result<(), AllocError>
-    requires rows { AreRows bytes.old.items 0 rows.old.items before }
-    requires some { 0 < count_of form.numbers }
-    requires code { is_some (decoded code.now) ≡ true }
-    ensures rows { AreRows bytes.new.items 0 rows.new.items before }
-    ensures rules { rules_in bytes.new.items rows.new.items ≡ rules_in bytes.old.items rows.old.items }
-    ensures open { OnOk result (IsOpen bytes.new.items rows.new.items form code.now) }
-{
-    if let Some(last) = rows.last()
-        && last.goes_on(bytes, form, code)
-    {
-        return Ok(());
-    }
-    let code_start = bytes.len();
-    bytes.extend_from_slice(code)?;
-    let start = bytes.len();
-    rows.push(Row {
-        code_start,
-        start,
-        front: form.front,
-        numbers: form.numbers,
-        back: form.back,
-        lines: 0,
-        end: start,
-        before,
-    })?;
-    Ok(())
-}
-
-/// Adds the parts of addresses at the end of the bytes. After an `Err` there may be any more bytes at the end.
-fn append_addresses(bytes: &mut Vec<u8>, addresses: ReadAddress<'_>) -> Result<(), AllocError>
-    ensures kept { take (length bytes.old.items) bytes.new.items ≡ bytes.old.items }
-    ensures added { OnOk result (bytes.new.items
-        ≡ bytes.old.items ++ (front_of addresses.entry ++ back_of addresses.entry)) }
-{
-    match addresses {
-        ReadAddress::One(address) => append_folded(bytes, address),
-        ReadAddress::Range { front, back, .. } => {
-            bytes.extend_from_slice(front)?;
-            bytes.extend_from_slice(back)
+        match self.addresses {
+            ReadAddress::One(own) => is_folded(own, address),
+            ReadAddress::Range {
+                front,
+                numbers,
+                back,
+            } => is_named(front, numbers, back, address),
         }
     }
 }
@@ -447,17 +276,37 @@ fn append_folded(out: &mut Vec<u8>, address: &[u8]) -> Result<(), AllocError>
     Ok(())
 }
 
-/// Whether an address is one of those of a row: the one part, or the two with one of the numbers between them.
-fn is_named(front: &[u8], numbers: Option<Numbers>, back: &[u8], address: &[u8]) -> bool
+/// Whether an address is one of those of a range: the two parts with one of the numbers between them.
+fn is_named(front: &[u8], numbers: Numbers, back: &[u8], address: &[u8]) -> bool
     ensures { IsTrue result ↔ Contains (addresses_under front.now numbers back.now) address.now }
 {
-    match numbers {
-        None => front == address,
-        Some(numbers) => match number_between(front, address, back) {
-            Some(number) => is_among(numbers, number),
-            None => false,
-        },
+    match number_between(front, address, back) {
+        Some(number) => is_among(numbers, number),
+        None => false,
     }
+}
+
+/// Whether bytes are an address with its letters from the first `=` on in lower case.
+fn is_folded(address: &[u8], bytes: &[u8]) -> bool
+    ensures { IsTrue result ↔ (folded address.now ≡ bytes.now) }
+{
+    let place = memchr(b'=', address).unwrap_or(address.len());
+    address.len() == bytes.len()
+        && address[..place] == bytes[..place]
+        && is_lowered(&address[place..], &bytes[place..])
+}
+
+/// Whether bytes are others with their letters in lower case.
+fn is_lowered(bytes: &[u8], lowered: &[u8]) -> bool
+    requires { length bytes.now ≡ length lowered.now }
+    ensures { IsTrue result ↔ (map to_ascii_lowercase bytes.now ≡ lowered.now) }
+{
+    for place in 0..bytes.len() {
+        if bytes[place].to_ascii_lowercase() != lowered[place] {
+            return false;
+        }
+    }
+    true
 }
 
 /// Whether a number is one of those of a range.

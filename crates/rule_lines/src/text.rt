@@ -1,21 +1,30 @@
 //! Rule texts.
-ghost use Rattle.std.specs.Prelude.{◌≡◌, ◌<◌, ◌++◌, ◌==◌, None, false, length, IfOk, IfErr, OnOk};
+ghost use Rattle.std.specs.Prelude.{◌≡◌, ◌<◌, ◌≤◌, ◌+◌, ◌++◌, ◌==◌, ℕ, [], None, false, drop, length, take, IfOk, IfErr, OnOk};
 ghost use Rattle.std.specs.List.{position_or_len};
 ghost use Rattle.std.specs.Str.{is_utf8};
-ghost use Rattle.rule_lines.specs.Faults.{fault_beside, fault_in, fault_under, IsAccepted, Refuses};
-ghost use Rattle.rule_lines.specs.Pairs.{address_in, instructions_in, pairs_in, pairs_of, rule_pairs, verdict_of};
-ghost use Rattle.rule_lines.specs.RuleFaults.{Names};
+ghost use Rattle.rule_lines.specs.Faults.{fault_beside, fault_in, fault_under, first_faulty, IsAccepted, Refuses};
+ghost use Rattle.rule_lines.specs.Kept.{IsKept, IsKeptOf};
+ghost use Rattle.rule_lines.specs.Lines.{has_byte, lines_of};
+ghost use Rattle.rule_lines.specs.Pairs.{address_in, instructions_in, is_ignored, pairs_of, verdict_of};
+ghost use Rattle.rule_lines.specs.RuleFaults.{Names, RefusesLines};
 ghost use Rattle.rule_lines.specs.Spread.{is_bad_range};
 
 use crate::fault::{LineFault, LineKind, ParseFault, RuleFault};
 use crate::instructions::append_code;
+use crate::kept::count_in;
 use crate::limits::Limits;
 use crate::lines::{first_line, trim_blanks};
 use crate::list::RuleList;
 use crate::spread::read_address;
 use memchr::memchr;
-use std::alloc::Global;
+use std::alloc::{AllocError, Global};
 use std::str;
+
+/// That a text is over the text limit.
+const LONG_TEXT: ParseFault = ParseFault::Line(LineFault {
+    line: 0,
+    kind: LineKind::LongText,
+});
 
 /// The rules of an accepted text, in order. Any other text is refused with its first faulty line and the least kind for
 /// which that is faulty; a text over the text limit with line 0, before all.
@@ -25,74 +34,111 @@ pub fn parse(alloc: Global, text: &[u8], limits: &Limits) -> Result<RuleList, Pa
     ensures refused { IfErr result (Refuses limits.now text.now) }
 {
     if text.len() as u64 > limits.text {
-        return Err(ParseFault::Line(LineFault {
-            line: 0,
-            kind: LineKind::LongText,
-        }));
+        return Err(LONG_TEXT);
     }
-    let mut list = RuleList::with_room(alloc, text.len())?;
-    let mut code = Vec::new(alloc);
-    let mut rest = text;
+    parse_owned(Vec::from_slice(alloc, text)?, limits)
+}
+
+/// The same of a text that the list takes over, so that it does not stand in memory twice.
+pub fn parse_owned(text: Vec<u8>, limits: &Limits) -> Result<RuleList, ParseFault>
+    ensures accepted { IfOk result (λ _. IsAccepted limits.now text.items) }
+    ensures pairs { IfOk result (λ list. list ≡ pairs_of text.items) }
+    ensures refused { IfErr result (Refuses limits.now text.items) }
+{
+    if text.len() as u64 > limits.text {
+        return Err(LONG_TEXT);
+    }
+    let mut kept = text;
+    let count = keep_lines(&mut kept, limits.line)?;
+    kept.shrink_to_fit();
+    Ok(RuleList::new(kept, count))
+}
+
+/// Puts the kept lines of a text in its place, and says how many rules they have.
+fn keep_lines(text: &mut Vec<u8>, limit: u64) -> Result<usize, ParseFault>
+    ensures faultless { OnOk result (first_faulty limit 1 (lines_of text.old.items) ≡ None) }
+    ensures kept { IfOk result (λ count. IsKept text.old.items text.new.items count) }
+    ensures refused { IfErr result (RefusesLines limit text.old.items) }
+{
+    let mut line_kept = Vec::new(*text.allocator());
+    let mut start = 0;
+    let mut end = 0;
     let mut number = 0;
-    while !rest.is_empty() {
-        let (line, after) = first_line(rest);
+    let mut count = 0usize;
+    while start < text.len() {
+        let (line, after) = first_line(&text[start..]);
+        let next = text.len() - after.len();
         number += 1;
-        match read_line(trim_blanks(line), limits.line, &mut list, &mut code) {
-            Ok(()) => rest = after,
+        match keep_line(trim_blanks(line), limit, &mut line_kept) {
+            // A text of more than `usize::MAX` addresses is one for which there is no memory.
+            Ok(more) => count = count.checked_add(more).ok_or(AllocError)?,
             Err(RuleFault::Kind(kind)) => {
                 return Err(ParseFault::Line(LineFault { line: number, kind }));
             }
             Err(RuleFault::OutOfMemory) => return Err(ParseFault::OutOfMemory),
         }
+        overwrite(text, end, &line_kept);
+        end += line_kept.len();
+        start = next;
     }
-    Ok(list)
+    text.truncate(end);
+    Ok(count)
 }
 
-/// Adds the rules of a trimmed line. The bytes of `code` are overwritten.
+/// Puts bytes over others, from a place on.
+fn overwrite(text: &mut Vec<u8>, place: usize, bytes: &[u8])
+    requires inside { place + length bytes.now ≤ length text.old.items }
+    ensures front { take (place + length bytes.now) text.new.items ≡ take place text.old.items ++ bytes.now }
+    ensures rest { (n : ℕ) → place + length bytes.now ≤ n → drop n text.new.items ≡ drop n text.old.items }
+    ensures len { length text.new.items ≡ length text.old.items }
+{
+    text[place..place + bytes.len()].copy_from_slice(bytes);
+}
+
+/// Puts what is kept of a trimmed line in place of the bytes of `kept`, and says how many rules it has.
 ///
 /// # Errors
-/// The least kind for which the line is faulty, and `OutOfMemory`. After them the list may have any rules.
-fn read_line(
-    line: &[u8],
-    limit: u64,
-    list: &mut RuleList,
-    code: &mut Vec<u8>,
-) -> Result<(), RuleFault>
+/// The least kind for which the line is faulty, and `OutOfMemory`.
+fn keep_line(line: &[u8], limit: u64, kept: &mut Vec<u8>) -> Result<usize, RuleFault>
+    requires { has_byte 10 line.now ≡ false }
     ensures faultless { OnOk result (fault_in limit line.now ≡ None) }
-    ensures pairs { OnOk result (list.new ≡ list.old ++ pairs_in line.now) }
+    ensures kept { IfOk result (IsKeptOf line.now kept.new.items) }
     ensures refused { IfErr result (Names (fault_in limit line.now)) }
 {
+    kept.clear();
     match memchr(b':', line) {
-        Some(colon) if line[0] != b'#' => read_rule(line, colon, limit, list, code),
-        _ => Ok(()),
+        Some(colon) if line[0] != b'#' => keep_rule(line, colon, limit, kept),
+        _ => Ok(0),
     }
 }
 
 /// The same for a line that is a rule, whose first colon stands at `colon`.
-fn read_rule(
+fn keep_rule(
     line: &[u8],
     colon: usize,
     limit: u64,
-    list: &mut RuleList,
-    code: &mut Vec<u8>,
-) -> Result<(), RuleFault>
+    kept: &mut Vec<u8>,
+) -> Result<usize, RuleFault>
+    requires one_line { has_byte 10 line.now ≡ false }
+    requires rule { is_ignored line.now ≡ false }
     requires inside { colon < length line.now }
     requires first { colon ≡ position_or_len (λ b. b == 58) line.now }
+    requires empty { kept.old.items ≡ [] }
     ensures faultless { OnOk result (fault_under limit line.now (verdict_of (instructions_in line.now)) ≡ None) }
-    ensures pairs { OnOk result (list.new ≡ list.old ++ rule_pairs line.now) }
+    ensures kept { IfOk result (IsKeptOf line.now kept.new.items) }
     ensures refused { IfErr result (Names (fault_under limit line.now (verdict_of (instructions_in line.now)))) }
 {
     let is_text = is_text(line);
-    code.clear();
-    append_code(is_text, &line[colon + 1..], code)?;
+    kept.extend_from_slice(&line[..colon + 1])?;
+    append_code(is_text, &line[colon + 1..], kept)?;
+    kept.extend_from_slice(b"\n")?;
     let Some(addresses) = read_address(&line[..colon]) else {
         return Err(RuleFault::Kind(LineKind::BadRange));
     };
     if let Some(kind) = fault_beside_range(line, is_text, limit) {
         return Err(RuleFault::Kind(kind));
     }
-    list.push(addresses, code)?;
-    Ok(())
+    Ok(count_in(&addresses))
 }
 
 /// What is wrong with a rule line whose instructions and range can be read.

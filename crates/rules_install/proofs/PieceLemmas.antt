@@ -1,10 +1,12 @@
 -- The bytes of the pieces: those of one record or table, and those of all after it.
-use Rattle.std.proofs.Common.{◌≡◌, ℕ, suc, ◌+◌, ◌-◌, ◌*◌, ◌<◌, ◌≤◌, List, [], ◌∷◌, ◌++◌, None, Some, length, get_or, drop, replicate, flat_map, slice_get, refl, sym, ap, ◌∙◌, inl, inr, arith, append_assoc, length-set}
+use Rattle.std.proofs.Common.{◌≡◌, ℕ, suc, ◌+◌, ◌-◌, ◌*◌, ◌<◌, ◌≤◌, List, [], ◌∷◌, ◌++◌, Bool, true, false, Option, None, Some, length, get_or, drop, replicate, flat_map, slice_get, refl, sym, ap, ◌∙◌, inl, inr, arith, append_assoc, length-set}
 use Rattle.std.specs.List.{fold, range_with_len}
+use Rattle.std.proofs.lemmas.Bool.{false≢true}
 use Rattle.std.proofs.lemmas.List.{at_drop_all, drop_more, get_or-map, length-map, length-replicate, nil_from_length}
 use Rattle.std.proofs.lemmas.List.Folds.{length-flat_map-take}
 use Rattle.std.proofs.lemmas.Option.{get_or_from_slice_get, none-some, slice_get_cases, slice_get_within}
 use Rattle.rule_lines.specs.Codes.{code_of}
+use Rattle.rule_lines.specs.Kept.{IsStored}
 use Rattle.rule_lines.specs.Pairs.{Rule}
 use Rattle.cdb_write.specs.Format.{Pair, record_of, records_of, two_numbers}
 use Rattle.cdb_write.specs.Image.{finished_length, free_slot, records_length, slots_of, table_bytes, with_entry}
@@ -84,3 +86,13 @@ pub table_bytes-some : (entries : List (ℕ × ℕ)) → 0 < length entries → 
 table_bytes-some entries some =
     let empty : ℕ × ℕ = (0, 0) in
     omega (arith, length-two_numbers (slots_of entries), length-fold_with_entry (replicate (2 * length entries) empty) entries, length-replicate (2 * length entries) empty)
+
+-- the rule that was written
+pub stored-here : (at : Option Rule) (found : Bool) (key code : List ℕ) → IsStored at found key code → found ≡ true → (rule : Rule) × (at ≡ Some rule) × (key ≡ rule.address) × (code ≡ code_of rule.instr)
+stored-here None found key code is holds = absurd (false≢true (sym is ∙ holds))
+stored-here (Some rule) found key code is holds = (rule, refl, is.1, is.2)
+
+-- and that there was none
+pub stored-none : (at : Option Rule) (found : Bool) (key code : List ℕ) → IsStored at found key code → found ≡ false → at ≡ None
+stored-none None found key code is fails = refl
+stored-none (Some rule) found key code is fails = absurd (false≢true (sym fails ∙ is.0))

@@ -13,7 +13,7 @@ ghost use Rattle.rules_install.specs.declared.fault.InstallFault.TheVariants.{Ov
 use crate::pieces::{Piece, Pieces};
 use crate::{InstallFault, Names, Phase};
 use dir_calls::{Dir, DirFault, Name};
-use rule_lines::{Limits, RuleList};
+use rule_lines::{Limits, RuleList, StoredRule};
 use std::alloc::{AllocError, Global};
 
 /// An installation under way: the rules, the names, and how far it has come.
@@ -21,8 +21,8 @@ use std::alloc::{AllocError, Global};
 pub struct Install {
     pieces: Pieces,
     names: Names,
-    // the key of the record under way
-    key: Vec<u8>,
+    // the rule of the record under way
+    rule: StoredRule,
     // the piece under way, how much of it was appended, and the place of the next
     rest: Vec<u8>,
     taken: usize,
@@ -62,7 +62,7 @@ impl Install {
         Ok(Install {
             pieces: Pieces::new(alloc, list, limits.file)?,
             names,
-            key: Vec::new(alloc),
+            rule: StoredRule::new(alloc),
             rest: Vec::new(alloc),
             taken: 0,
             next: Piece::Zeros,
@@ -148,7 +148,7 @@ impl Install {
         self.taken = 0;
         let made = self
             .pieces
-            .make(alloc, self.next, &mut self.key, &mut self.rest)?;
+            .make(alloc, self.next, &mut self.rule, &mut self.rest)?;
         if let Some(next) = made {
             self.next = next;
         }

@@ -9,7 +9,7 @@ ghost use Rattle.rules_install.specs.Pieces.{Continues};
 use crate::InstallFault;
 use cdb_write::layout::{HEADER_LENGTH, LENGTHS_LENGTH, SLOTS_LENGTH, TABLE_COUNT, file_limit};
 use cdb_write::{Tables, append_record, hash, header, table_piece};
-use rule_lines::{Pair, RuleList};
+use rule_lines::{RuleList, StoredRule};
 use std::alloc::{AllocError, Global};
 use std::marker::Model;
 
@@ -43,19 +43,16 @@ impl Model for Pieces {
     ghost invariant = { λ p. AreTablesOf (stored p.list) p.tables p.end };
 }
 
-// Puts the key of a rule in place of the bytes.
-fn write_key(pair: &Pair<'_>, key: &mut Vec<u8>) -> Result<(), AllocError>
-    ensures { OnOk result (key.new.items ≡ pair.now.address) }
-{
-    key.clear();
-    pair.append_address(key)
-}
-
 /// Where the records of a list stand, by their tables, and where the tables begin, if the finished file keeps to the limit.
-fn place_records(alloc: Global, list: &RuleList, limit: u64) -> Result<(Tables, u32), InstallFault>
-    ensures prepared { IfOk result (λ placed. AreTablesOf (stored list.now) placed.0 placed.1) }
-    ensures fits { IfOk result (λ _. finished_length (stored list.now) ≤ limit_of limit) }
-    ensures refused { result ≡ Err InstallFault.TooLarge → limit_of limit < finished_length (stored list.now) }
+fn place_records(
+    alloc: Global,
+    list: &mut RuleList,
+    limit: u64,
+) -> Result<(Tables, u32), InstallFault>
+    ensures same { list.new ≡ list.old }
+    ensures prepared { IfOk result (λ placed. AreTablesOf (stored list.old) placed.0 placed.1) }
+    ensures fits { IfOk result (λ _. finished_length (stored list.old) ≤ limit_of limit) }
+    ensures refused { result ≡ Err InstallFault.TooLarge → limit_of limit < finished_length (stored list.old) }
     ensures faults { IfErr result (λ fault. (fault ≡ InstallFault.TooLarge) ⊎ (fault ≡ InstallFault.OutOfMemory)) }
 {
     let limit = file_limit(limit);
@@ -63,15 +60,14 @@ fn place_records(alloc: Global, list: &RuleList, limit: u64) -> Result<(Tables, 
     let mut end = HEADER_LENGTH as u64;
     let mut finished = end;
     let mut place = 0;
-    let mut key = Vec::new(alloc);
-    while let Some(pair) = list.get(place) {
-        write_key(&pair, &mut key)?;
-        let length = (key.len() as u64).saturating_add(pair.code().len() as u64);
+    let mut rule = StoredRule::new(alloc);
+    while list.write_rule(place, &mut rule)? {
+        let length = (rule.key.len() as u64).saturating_add(rule.code.len() as u64);
         finished = length.saturating_add(finished + (LENGTHS_LENGTH + SLOTS_LENGTH) as u64);
         if finished > limit {
             return Err(InstallFault::TooLarge);
         }
-        tables.push((hash(&key), end as u32))?;
+        tables.push((hash(&rule.key), end as u32))?;
         end += LENGTHS_LENGTH as u64 + length;
         place += 1;
     }
@@ -80,13 +76,13 @@ fn place_records(alloc: Global, list: &RuleList, limit: u64) -> Result<(Tables, 
 
 impl Pieces {
     /// The pieces of the file of a list, if the file keeps to the limit.
-    pub fn new(alloc: Global, list: RuleList, limit: u64) -> Result<Pieces, InstallFault>
+    pub fn new(alloc: Global, mut list: RuleList, limit: u64) -> Result<Pieces, InstallFault>
         ensures kept { IfOk result (λ pieces. pieces ≡ list) }
         ensures fits { IfOk result (λ _. finished_length (stored list) ≤ limit_of limit) }
         ensures refused { result ≡ Err InstallFault.TooLarge → limit_of limit < finished_length (stored list) }
         ensures faults { IfErr result (λ fault. (fault ≡ InstallFault.TooLarge) ⊎ (fault ≡ InstallFault.OutOfMemory)) }
     {
-        let (tables, end) = place_records(alloc, &list, limit)?;
+        let (tables, end) = place_records(alloc, &mut list, limit)?;
         Ok(Pieces { list, tables, end })
     }
 
@@ -97,19 +93,20 @@ impl Pieces {
         &self.list
     }
 
-    /// Puts the piece at a place, if there is one, in place of the bytes of `piece`, and answers the place of the next. The bytes of `key`
+    /// Puts the piece at a place, if there is one, in place of the bytes of `piece`, and answers the place of the next. The bytes of `rule`
     /// are overwritten.
     ///
     /// # Errors
     /// There was no memory. `piece` has no bytes then.
     pub fn make(
-        &self,
+        &mut self,
         alloc: Global,
         place: Piece,
-        key: &mut Vec<u8>,
+        rule: &mut StoredRule,
         piece: &mut Vec<u8>,
     ) -> Result<Option<Piece>, AllocError>
-        ensures made { IfOk result (Continues self.now place piece.new.items) }
+        ensures same { self.new ≡ self.old }
+        ensures made { IfOk result (Continues self.old place piece.new.items) }
         ensures unmade { OnErr result (piece.new.items ≡ []) }
     {
         piece.clear();
@@ -118,14 +115,14 @@ impl Pieces {
                 *piece = vec![in alloc; 0; HEADER_LENGTH]?;
                 Ok(Some(Piece::Record(0)))
             }
-            Piece::Record(i) => match self.list.get(i) {
-                Some(pair) => {
-                    write_key(&pair, key)?;
-                    append_record(piece, key, pair.code())?;
+            Piece::Record(i) => {
+                if self.list.write_rule(i, rule)? {
+                    append_record(piece, &rule.key, &rule.code)?;
                     Ok(Some(Piece::Record(i + 1)))
+                } else {
+                    self.table(alloc, 0, piece)
                 }
-                None => self.table(alloc, 0, piece),
-            },
+            }
             Piece::Table(t) => self.table(alloc, t, piece),
         }
     }

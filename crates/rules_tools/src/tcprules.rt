@@ -15,7 +15,7 @@ use crate::turn::{NoTurn, take_turn};
 use dir_calls::{Name, NameFault};
 use dir_disk::{Disk, DiskDir, FolderError, FolderFault, OsDir};
 use fault_causes::Noted;
-use rule_lines::{Limits, LineFault, LineKind, ParseFault, RuleList, parse};
+use rule_lines::{Limits, LineFault, LineKind, ParseFault, RuleList, parse_owned};
 use rules_install::whole::finish;
 use rules_install::{Install, InstallFault, Names, Phase};
 use std::alloc::{AllocError, Global};
@@ -172,7 +172,7 @@ fn compile<R: Read>(alloc: Global, reader: &mut R, names: Names) -> Result<Insta
 fn read_list<R: Read>(alloc: Global, reader: &mut R) -> Result<RuleList, TcprulesFault> {
     let limits = Limits::profile();
     let text = read_text(alloc, reader, limits.text)?;
-    Ok(parse(alloc, text.as_slice(), &limits)?)
+    Ok(parse_owned(text, &limits)?)
 }
 
 /// The folder of the rules file.

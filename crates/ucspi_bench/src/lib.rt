@@ -11,7 +11,7 @@ use dir_calls::Name;
 use dir_disk::OsDir;
 use journals::time_journals;
 use places::{TURNS, time_places};
-use rule_lines::{Limits, ParseFault, RuleList, parse};
+use rule_lines::{Limits, ParseFault, RuleList, StoredRule, parse};
 use rule_lookup::{DropCause, Peer, PeerFault};
 use rules_install::whole::install;
 use rules_install::{InstallFault, Names};
@@ -31,7 +31,7 @@ use std::time::Instant;
 use ucspi_env::HostTable;
 use yards::time_yard;
 
-/// How many calls of `RuleList::get` are timed.
+/// How many questions are put to a host table.
 const CALLS: usize = 1_000_000;
 
 /// The limit of connections alive at once, and of those from one address, of `replay`.
@@ -53,30 +53,26 @@ fn list_of(alloc: Global, lines: usize) -> Result<RuleList, ParseFault> {
     parse(alloc, text.as_str().as_bytes(), &Limits::profile())
 }
 
-/// Gets rules all over a list, and answers how many bytes their codes have.
-fn get_many(list: &RuleList) -> usize {
+/// Writes the rules of a list, one after another, and answers how many bytes they have.
+fn write_all(alloc: Global, list: &mut RuleList) -> Result<usize, AllocError> {
     let mut total = 0usize;
-    let len = list.len();
-    if len == 0 {
-        return total;
+    let mut rule = StoredRule::new(alloc);
+    for place in 0..list.len() {
+        list.write_rule(place, &mut rule)?;
+        total = total.saturating_add(rule.key.len()).saturating_add(rule.code.len());
     }
-    for call in 0..CALLS {
-        if let Some(pair) = list.get(call.wrapping_mul(7919) % len) {
-            total = total.saturating_add(pair.code().len());
-        }
-    }
-    total
+    Ok(total)
 }
 
-/// Prints how many microseconds a million calls of `RuleList::get` take, on the list of a text of so many lines.
-fn time_get<R: Print + Clock>(rt: &R, alloc: Global, lines: usize) -> io::Result<()> {
-    let Ok(list) = list_of(alloc, lines) else {
+/// Prints how many microseconds it takes to write the rules of a text of so many lines, one after another.
+fn time_rules<R: Print + Clock>(rt: &R, alloc: Global, lines: usize) -> io::Result<()> {
+    let Ok(mut list) = list_of(alloc, lines) else {
         return Err(io::Error::from(io::ErrorKind::OutOfMemory));
     };
     let began = Instant::now(rt)?;
-    let bytes = get_many(&list);
+    let bytes = write_all(alloc, &mut list)?;
     let taken = began.elapsed(rt)?;
-    println!(rt; "{} microseconds, {bytes} bytes", taken.as_micros())
+    println!(rt; "{} microseconds, {} rules, {bytes} bytes", taken.as_micros(), list.len())
 }
 
 /// An event of a connection that is let in. There are 256 addresses.
@@ -307,7 +303,7 @@ where
         "hosts" => time_hosts(rt, alloc, size),
         "install" => time_install(rt, alloc, size),
         "journals" => time_both_journals(rt, alloc, size),
-        "get" => time_get(rt, alloc, size),
+        "rules" => time_rules(rt, alloc, size),
         "maker" => time_maker(rt, alloc, size),
         "places" => time_places_out(rt, alloc, size),
         "replay" => time_replay(rt, alloc, size),

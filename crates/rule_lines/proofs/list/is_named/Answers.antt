@@ -4,15 +4,15 @@ use Rattle.std.proofs.lemmas.Bool.{false≢true}
 use Rattle.rule_lines.proofs.NumberLemmas.{number_from_Contains, Contains-from_number, same_number}
 use Rattle.rule_lines.proofs.list.is_named.Goals as goal
 
-pub returns-in-Some-number_between : goal.returns-in-Some-number_between
-returns-in-Some-number_between c =
+pub returns-in-Some : goal.returns-in-Some
+returns-in-Some c =
     let front = c.args.front.now in
     let back = c.args.back.now in
     let address = c.args.address.now in
-    let numbers = c.in-Some.numbers in
-    let number = c.in-Some-number_between.number in
-    let is = c.in-Some-number_between.ensures in
-    rw c.in-Some.is (
+    let numbers = c.args.numbers in
+    let number = c.in-Some.number in
+    let is = c.in-Some.ensures in
+    (
       λ yes. let among = c.is_among.ensures.0 yes in Contains-from_number front back address numbers number among.0 among.1 is,
       λ contained.
           let found = number_from_Contains front back address numbers contained in
@@ -22,13 +22,13 @@ returns-in-Some-number_between c =
           c.is_among.ensures.1 (omega arith, omega arith),
     )
 
-pub returns-in-None-number_between : goal.returns-in-None-number_between
-returns-in-None-number_between c =
-    let numbers = c.in-Some.numbers in
-    rw c.in-Some.is (
+pub returns-in-None : goal.returns-in-None
+returns-in-None c =
+    let numbers = c.args.numbers in
+    (
       λ no. absurd (false≢true no),
       λ contained.
           let found = number_from_Contains c.args.front.now c.args.back.now c.args.address.now numbers contained in
           let high : found.0 < numbers.first + numbers.count = found.2 in
-          absurd (c.in-None-number_between.ensures found.0 (omega arith) found.3),
+          absurd (c.in-None.ensures found.0 (omega arith) found.3),
     )

@@ -7,4 +7,4 @@ use Rattle.rule_lines.proofs.list.Pair.code.Goals as goal
 
 pub returns : goal.returns
 returns c =
-    sym (code_of-the_instr c.self.inside.code.now c.self.invariant) ∙ ap (λ (rule : Rule). code_of rule.instr) c.self.view_is
+    sym (code_of-the_instr c.self.inside.line.code.now c.self.invariant.0) ∙ ap (λ (rule : Rule). code_of rule.instr) c.self.view_is

@@ -6,6 +6,6 @@ use Rattle.rule_lines.proofs.list.Pair.instr.Goals as goal
 
 pub unreachable-requires : goal.unreachable-requires
 unreachable-requires c =
-    let code = c.self.inside.code.now in
+    let code = c.self.inside.line.code.now in
     let refused = rw c.in-Err-Code.field-0-is at c.in-Err-Code.ensures.refused in
-    refused (IsCode-from_some code (decoded code) refl c.self.invariant)
+    refused (IsCode-from_some code (decoded code) refl c.self.invariant.0)

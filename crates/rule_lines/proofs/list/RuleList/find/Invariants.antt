@@ -1,10 +1,11 @@
--- The rules of the rows that are left have the answer.
-use Rattle.std.proofs.Common.{◌≡◌, drop}
+-- The rules of the lines that are left have the answer.
+use Rattle.std.proofs.Common.{◌≡◌, length}
+use Rattle.rule_lines.specs.Kept.{AreKept, rules_in}
 use Rattle.rule_lines.specs.Lookups.{found_among}
-use Rattle.rule_lines.specs.Rows.{rules_in}
 use Rattle.rule_lines.proofs.list.RuleList.find.Given as goal
 
-abbrev pub invariant-loop-row : goal.invariant-loop-row
-invariant-loop-row l =
-    found_among (rules_in l.bytes (drop l.row-index l.row-items)) l.address
-    ≡ found_among (rules_in l.bytes l.row-items) l.address
+abbrev pub invariant-loop-rest : goal.invariant-loop-rest
+invariant-loop-rest l = AreKept l.rest × (found_among (rules_in l.rest) l.address ≡ found_among l.self l.address)
+
+abbrev pub decreases-loop-rest : goal.decreases-loop-rest
+decreases-loop-rest l = length l.rest

@@ -8,23 +8,25 @@ use Rattle.cdb_write.proofs.RecordLemmas.{length-record_bytes}
 use Rattle.cdb_read.specs.Compiled.{pair_of, stored}
 use Rattle.rules_install.specs.Pieces.{from_piece}
 use Rattle.rules_install.specs.declared.pieces.Piece.TheVariants.{Zeros, Record, Table}
-use Rattle.rules_install.proofs.PieceLemmas.{behind, past_from_none, place-fits, records-more, records-past, rule-fits}
+use Rattle.rules_install.proofs.PieceLemmas.{behind, past_from_none, place-fits, records-more, records-past, rule-fits, stored-here, stored-none}
 use Rattle.rules_install.proofs.pieces.Pieces.make.Goals as goal
 
 pub append_record-requires-clause-key_fits : goal.append_record-requires-clause-key_fits
 append_record-requires-clause-key_fits c =
-    let key : length c.deref.result.now ≡ length c.in-Some.pair.address = ap length (c.deref.ensures.value ∙ c.in_ok-write_key-in-Some.ensures) in
-    let here = rule-fits c.self.inside.list c.in-Record.i c.in-Some.pair (sym c.in-Some.ensures) in
-    omega (arith, c.self.invariant.fits)
+    let found = stored-here _ _ _ _ c.in_ok-write_rule-in-Record.ensures.written c.if-branch.true in
+    let here = rule-fits c.self.inside.list c.in-Record.i found.0 found.1 in
+    omega (arith, c.self.invariant.fits, ap length (c.deref.ensures.value ∙ found.2))
 
 pub append_record-requires-clause-value_fits : goal.append_record-requires-clause-value_fits
 append_record-requires-clause-value_fits c =
-    let here = rule-fits c.self.inside.list c.in-Record.i c.in-Some.pair (sym c.in-Some.ensures) in
-    omega (arith, c.self.invariant.fits, ap length c.code.ensures)
+    let found = stored-here _ _ _ _ c.in_ok-write_rule-in-Record.ensures.written c.if-branch.true in
+    let here = rule-fits c.self.inside.list c.in-Record.i found.0 found.1 in
+    omega (arith, c.self.invariant.fits, ap length (c.deref-then-branch.ensures.value ∙ found.3))
 
 pub overflow_add-result : goal.overflow_add-result
 overflow_add-result c =
-    let here = place-fits c.self.inside.list c.in-Record.i c.in-Some.pair (sym c.in-Some.ensures) in
+    let found = stored-here _ _ _ _ c.in_ok-write_rule-in-Record.ensures.written c.if-branch.true in
+    let here = place-fits c.self.inside.list c.in-Record.i found.0 found.1 in
     omega (arith, c.self.invariant.fits)
 
 pub returns-in_ok-piece-in-Zeros-clause-made : goal.returns-in_ok-piece-in-Zeros-clause-made
@@ -35,29 +37,33 @@ returns-in_ok-piece-in-Zeros-clause-made c =
     let whole : from_piece rules Zeros ≡ c.in_ok-piece-in-Zeros.field-0.items ++ from_piece rules (Record 0) = behind c.in_ok-piece-in-Zeros.field-0.items (records_of (stored rules)) (replicate 2048 0) (records_of (stored rules)) (tables_of (stored rules)) (sym zeros) refl in
     (omega arith, ap (from_piece rules) c.in-Zeros.is ∙ whole)
 
-pub returns-in_ok-append_record-in-Some-clause-made : goal.returns-in_ok-append_record-in-Some-clause-made
-returns-in_ok-append_record-in-Some-clause-made c =
+pub returns-in_ok-append_record-in-Record-clause-made : goal.returns-in_ok-append_record-in-Record-clause-made
+returns-in_ok-append_record-in-Record-clause-made c =
     let rules = c.args.self.now in
-    let rule = c.in-Some.pair in
+    let found = stored-here _ _ _ _ c.in_ok-write_rule-in-Record.ensures.written c.if-branch.true in
+    let rule = found.0 in
     let rest = records_of (drop (c.in-Record.i + 1) (stored rules)) in
-    let key : c.deref.result.now ≡ rule.address = c.deref.ensures.value ∙ c.in_ok-write_key-in-Some.ensures in
+    let key : c.deref.result.now ≡ rule.address = c.deref.ensures.value ∙ found.2 in
+    let code : c.deref-then-branch.result.now ≡ code_of rule.instr = c.deref-then-branch.ensures.value ∙ found.3 in
     let piece = c.append_record.new.out.items in
     let record_is : piece ≡ record_of (pair_of rule) =
-    c.in_ok-append_record-in-Some.ensures.appended ∙ ap (λ (old : List ℕ). old ++ record_bytes c.deref.result.now c.code.result.now) c.clear.ensures.items
-    ∙ ap (λ (bytes : List ℕ). record_bytes bytes c.code.result.now) key ∙ ap (record_bytes rule.address) c.code.ensures in
+    c.in_ok-append_record-in-Record.ensures.appended ∙ ap (λ (old : List ℕ). old ++ record_bytes c.deref.result.now c.deref-then-branch.result.now) c.clear.ensures.items
+    ∙ (λ i. record_bytes (key i) (code i)) in
     let long : length piece ≡ 8 + length rule.address + length (code_of rule.instr) =
     ap length record_is ∙ length-record_bytes rule.address (code_of rule.instr) in
-    let at = subst (λ (rs : List Rule). slice_get rs c.in-Record.i ≡ Some rule) c.self.view_is (sym c.in-Some.ensures) in
+    let at = subst (λ (rs : List Rule). slice_get rs c.in-Record.i ≡ Some rule) c.self.view_is found.1 in
     let split : from_piece rules (Record c.in-Record.i) ≡ (record_of (pair_of rule) ++ rest) ++ tables_of (stored rules) =
     ap (λ (bytes : List ℕ). bytes ++ tables_of (stored rules)) (records-more rules c.in-Record.i rule at) in
-    (omega arith, ap (from_piece rules) c.in-Record.is ∙ split ∙ behind piece rest (record_of (pair_of rule)) rest (tables_of (stored rules)) (sym record_is) refl)
+    (omega (arith, long), ap (from_piece rules) c.in-Record.is ∙ split ∙ behind piece rest (record_of (pair_of rule)) rest (tables_of (stored rules)) (sym record_is) refl)
 
-pub returns-in-None-clause-made : goal.returns-in-None-clause-made
-returns-in-None-clause-made c =
+pub returns-else-branch-clause-made : goal.returns-else-branch-clause-made
+returns-else-branch-clause-made c =
     let rules = c.args.self.now in
-    let past = past_from_none c.self.inside.list c.in-Record.i (sym c.in-None.ensures) in
+    let same : c.write_rule.new.self ≡ rules = c.in_ok-write_rule-in-Record.ensures.same ∙ c.self.view_is in
+    let past = past_from_none c.self.inside.list c.in-Record.i (stored-none _ _ _ _ c.in_ok-write_rule-in-Record.ensures.written c.if-branch.false) in
     let none : records_of (drop c.in-Record.i (stored rules)) ≡ [] =
     ap (λ (rs : List Rule). records_of (drop c.in-Record.i (stored rs))) (sym c.self.view_is) ∙ records-past c.self.inside.list c.in-Record.i past in
     let whole : from_piece rules (Table 0) ≡ from_piece rules c.args.place =
     ap (λ (bytes : List ℕ). bytes ++ tables_of (stored rules)) (sym none) ∙ ap (from_piece rules) (sym c.in-Record.is) in
-    subst (λ (bytes : List ℕ). IfOk c.table.result (λ next. MatchOption next ((bytes ≡ []) × (c.table.new.piece.items ≡ [])) (λ n. (0 < length c.table.new.piece.items) × (bytes ≡ c.table.new.piece.items ++ from_piece rules n)))) whole c.table.ensures.made
+    let made = subst (λ (rs : List Rule). IfOk c.table.result (λ next. MatchOption next ((from_piece rs (Table 0) ≡ []) × (c.table.new.piece.items ≡ [])) (λ n. (0 < length c.table.new.piece.items) × (from_piece rs (Table 0) ≡ c.table.new.piece.items ++ from_piece rs n)))) same c.table.ensures.made in
+    subst (λ (bytes : List ℕ). IfOk c.table.result (λ next. MatchOption next ((bytes ≡ []) × (c.table.new.piece.items ≡ [])) (λ n. (0 < length c.table.new.piece.items) × (bytes ≡ c.table.new.piece.items ++ from_piece rules n)))) whole made

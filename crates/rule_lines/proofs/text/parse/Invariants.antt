@@ -1,9 +1,0 @@
-use Rattle.std.proofs.Common.{length}
-use Rattle.rule_lines.proofs.ParseLemmas.{IsReadUpTo}
-use Rattle.rule_lines.proofs.text.parse.Given as goal
-
-abbrev pub invariant-loop-rest : goal.invariant-loop-rest
-invariant-loop-rest l = IsReadUpTo l.limits.line l.text l.rest l.number l.list
-
-abbrev pub decreases-loop-rest : goal.decreases-loop-rest
-decreases-loop-rest l = length l.rest

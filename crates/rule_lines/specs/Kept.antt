@@ -1,0 +1,82 @@
+-- The lines that a list keeps, one for each rule line of its text: the address as it stands there, a colon, and the code of the instruction.
+use Rattle.std.specs.Prelude.{◌≡◌, ℕ, ◌+◌, ◌<◌, ◌≤◌, Bool, true, false, is_some, List, [], length, drop, get_or, slice_get, Option, Some, None, unwrap_or, flat_map}
+use Rattle.std.specs.List.{AllByRecursion}
+use Rattle.rule_lines.specs.declared.instr.Instr.{Instr}
+use Rattle.rule_lines.specs.declared.instr.Verdict.TheVariants.{Allow}
+use Rattle.rule_lines.specs.declared.kept.FoundRule.{FoundRule}
+use Rattle.rule_lines.specs.declared.kept.KeptLine.{KeptLine}
+use Rattle.rule_lines.specs.declared.kept.LinePlace.{LinePlace}
+use Rattle.rule_lines.specs.Codes.{code_of, decoded}
+use Rattle.rule_lines.specs.Lines.{Line, has_byte, lines_of}
+use Rattle.rule_lines.specs.Pairs.{Rule, address_in, instructions_in, pairs_in, pairs_of, pairs_with}
+use Rattle.rule_lines.specs.ReadAddresses.{addresses_read}
+use Rattle.rule_lines.specs.Spread.{is_bad_range, spread}
+
+-- the instruction of a code
+abbrev pub the_instr : List ℕ → Instr
+the_instr code = unwrap_or (decoded code) (record { verdict = Allow; settings = [] })
+
+-- the rules of a kept line: what stands behind its colon is a code
+abbrev pub rules_at : List ℕ → List Rule
+rules_at line = pairs_with (the_instr (instructions_in line)) (spread (address_in line))
+
+-- the rules of kept lines
+abbrev pub rules_in : List ℕ → List Rule
+rules_in kept = flat_map (λ (line : Line). rules_at line.bytes) (lines_of kept)
+
+-- a line that may be kept
+pub record IsKeptLine (line : List ℕ) : Type 0 where
+  pub colon : has_byte 58 line ≡ true
+  pub range : is_bad_range (address_in line) ≡ false
+  pub decodes : is_some (decoded (instructions_in line)) ≡ true
+
+-- all lines are kept ones, and a line feed ends each of them
+abbrev pub AreKept : List ℕ → Type 0
+AreKept kept = AllByRecursion (λ (line : Line). (line.ended ≡ true) × IsKeptLine line.bytes) (lines_of kept)
+
+-- what is kept of a trimmed line: as many rules as it has, and no more bytes
+pub record IsKeptOf (line kept : List ℕ) (count : ℕ) : Type 0 where
+  pub lines : AreKept kept
+  pub rules : rules_in kept ≡ pairs_in line
+  pub counted : count ≡ length (pairs_in line)
+  pub short : length kept ≤ length line
+
+-- what is kept of a text: its rules, of which there are so many
+pub record IsKept (text kept : List ℕ) (count : ℕ) : Type 0 where
+  pub lines : AreKept kept
+  pub rules : rules_in kept ≡ pairs_of text
+  pub counted : count ≡ length (pairs_of text)
+
+-- the rules of a line that was read
+abbrev pub rules_under : KeptLine → List Rule
+rules_under line = pairs_with (the_instr line.code.now) (addresses_read line.addresses)
+
+-- the rule at a place of it
+abbrev pub rule_of_line : KeptLine → ℕ → Rule
+rule_of_line line place = record { address = get_or (addresses_read line.addresses) place []; instr = the_instr line.code.now }
+
+-- a line begins there, behind so many rules
+pub record IsLineAt (kept : List ℕ) (line : LinePlace) : Type 0 where
+  pub start_in : line.start ≤ length kept
+  pub before_in : line.before ≤ length (rules_in kept)
+  pub rest : rules_in (drop line.start kept) ≡ drop line.before (rules_in kept)
+  pub lines : AreKept (drop line.start kept)
+
+-- the rule at place i was found, and a line from which the next one is found
+pub record IsFound (kept : List ℕ) (i : ℕ) (found : FoundRule) : Type 0 where
+  pub rule : slice_get (rules_in kept) i ≡ Some (rule_of_line found.line found.place)
+  pub place : found.place < length (addresses_read found.line.addresses)
+  pub decodes : is_some (decoded found.line.code.now) ≡ true
+  pub resume : IsLineAt kept found.resume
+  pub resume_by : found.resume.before ≤ i + 1
+
+-- kept lines, the number of their rules, and one of the lines
+pub record Keeps (kept : List ℕ) (len : ℕ) (near : LinePlace) : Type 0 where
+  pub counted : len ≡ length (rules_in kept)
+  pub lines : AreKept kept
+  pub near_is : IsLineAt kept near
+
+-- a rule as it is stored, or none
+abbrev pub IsStored : Option Rule → Bool → List ℕ → List ℕ → Type 0
+IsStored None found key code = found ≡ false
+IsStored (Some rule) found key code = (found ≡ true) × (key ≡ rule.address) × (code ≡ code_of rule.instr)

@@ -1,0 +1,120 @@
+//! The lines that a list keeps: an address, a colon, and the code of the instruction.
+ghost use Rattle.std.specs.Prelude.{◌≡◌, ◌++◌, ◌+◌, ◌-◌, ◌<◌, ◌≤◌, ◌^◌, ℕ, List, None, true, drop, is_some, length, slice_get, MatchOption};
+ghost use Rattle.rule_lines.specs.Codes.{decoded};
+ghost use Rattle.rule_lines.specs.Kept.{AreKept, IsFound, IsKeptLine, IsLineAt, rules_at, rules_in, rules_under};
+ghost use Rattle.rule_lines.specs.ReadAddresses.{addresses_read};
+
+use crate::lines::first_line;
+use crate::spread::{ReadAddress, read_address};
+use memchr::memchr;
+
+/// A kept line, read: its addresses, and the code of its instruction.
+#[derive(Clone, Copy, Debug)]
+pub(crate) struct KeptLine<'a> {
+    pub(crate) addresses: ReadAddress<'a>,
+    pub(crate) code: &'a [u8],
+}
+
+/// Where a kept line begins, and how many rules the lines before it have.
+#[derive(Clone, Copy, Debug)]
+pub(crate) struct LinePlace {
+    pub(crate) start: usize,
+    pub(crate) before: usize,
+}
+
+impl LinePlace {
+    /// The first line.
+    pub(crate) const FRONT: LinePlace = LinePlace {
+        start: 0,
+        before: 0,
+    };
+
+    /// This line, or the first one where the rule at place `i` stands before this.
+    pub(crate) fn not_behind(self, i: usize) -> LinePlace
+        ensures line { (kept : List ℕ) → AreKept kept → IsLineAt kept self → IsLineAt kept result }
+        ensures before { result.before ≤ i }
+    {
+        if self.before <= i {
+            self
+        } else {
+            LinePlace::FRONT
+        }
+    }
+}
+
+/// A rule that was found: its line, which of the line's addresses it has, and a line from which the next one is found.
+#[derive(Clone, Copy)]
+pub(crate) struct FoundRule<'a> {
+    pub(crate) line: KeptLine<'a>,
+    pub(crate) place: usize,
+    pub(crate) resume: LinePlace,
+}
+
+/// A kept line, read.
+fn read_kept(line: &[u8]) -> KeptLine<'_>
+    requires { IsKeptLine line.now }
+    ensures rules { rules_under result ≡ rules_at line.now }
+    ensures decodes { is_some (decoded result.code.now) ≡ true }
+{
+    let Some(colon) = memchr(b':', line) else {
+        unreachable!("a kept line has a colon");
+    };
+    match read_address(&line[..colon]) {
+        Some(addresses) => KeptLine {
+            addresses,
+            code: &line[colon + 1..],
+        },
+        None => unreachable!("a kept line has no bad range"),
+    }
+}
+
+/// The first of the kept lines, of which there is one, and the others.
+pub(crate) fn first_kept(kept: &[u8]) -> (KeptLine<'_>, &[u8])
+    requires some { 0 < length kept.now }
+    requires kept { AreKept kept.now }
+    ensures rules { rules_in kept.now ≡ rules_under result.0 ++ rules_in result.1.now }
+    ensures decodes { is_some (decoded result.0.code.now) ≡ true }
+    ensures kept { AreKept result.1.now }
+    ensures follows { result.1.now ≡ drop (length kept.now - length result.1.now) kept.now }
+    ensures shorter { length result.1.now < length kept.now }
+{
+    let (line, after) = first_line(kept);
+    (read_kept(line), after)
+}
+
+/// How many addresses there are.
+pub(crate) fn count_in(addresses: &ReadAddress<'_>) -> usize
+    ensures { result ≡ length (addresses_read addresses.now) }
+{
+    match addresses {
+        ReadAddress::One(_) => 1,
+        ReadAddress::Range { numbers, .. } => usize::from(numbers.count),
+    }
+}
+
+/// The rule at place `i` of kept lines, looked for from a line on.
+pub(crate) fn rule_at(kept: &[u8], from: LinePlace, i: usize) -> Option<FoundRule<'_>>
+    requires fits { length (rules_in kept.now) < 2 ^ 64 }
+    requires from { IsLineAt kept.now from }
+    requires behind { from.before ≤ i }
+    ensures { MatchOption result (slice_get (rules_in kept.now) i ≡ None) (IsFound kept.now i) }
+{
+    let mut here = from;
+    while here.start < kept.len() {
+        let (line, after) = first_kept(&kept[here.start..]);
+        let next = LinePlace {
+            start: kept.len() - after.len(),
+            before: here.before + count_in(&line.addresses),
+        };
+        if i < next.before {
+            let is_last = i + 1 == next.before;
+            return Some(FoundRule {
+                line,
+                place: i - here.before,
+                resume: if is_last { next } else { here },
+            });
+        }
+        here = next;
+    }
+    None
+}
