@@ -247,16 +247,16 @@ module _ (front back : List ℕ) (numbers : Numbers) (other : List ℕ) where
   text n = front ++ decimal n ++ back
 
   -- by a number of it
-  in_range : (n : ℕ) → IsInRange numbers n → other ≡ text n → list_any (bytes_eq other) (addresses_under front (Some numbers) back) ≡ true
+  in_range : (n : ℕ) → IsInRange numbers n → other ≡ text n → list_any (bytes_eq other) (addresses_under front numbers back) ≡ true
   in_range n has is =
       let above = has.above in
       let below = has.below in
       let place = n - numbers.first in
       let within : place < numbers.count = omega arith in
-      list_any_at (bytes_eq other) (addresses_under front (Some numbers) back) place [] (rw (length-map-range_with_len text numbers.first numbers.count) within)
+      list_any_at (bytes_eq other) (addresses_under front numbers back) place [] (rw (length-map-range_with_len text numbers.first numbers.count) within)
       ((bytes_eq-Decides other _).1 (is ∙ sym (get_or-map-range_with_len text numbers.first numbers.count place n [] within (omega arith))))
 
-  hit-is : (plain : is_front front ≡ true) (start : ℕ) (o : Option CutParts) → cut_at other start ≡ o → hits (around front back) numbers o ≡ true → list_any (bytes_eq other) (addresses_under front (Some numbers) back) ≡ true
+  hit-is : (plain : is_front front ≡ true) (start : ℕ) (o : Option CutParts) → cut_at other start ≡ o → hits (around front back) numbers o ≡ true → list_any (bytes_eq other) (addresses_under front numbers back) ≡ true
   hit-is plain start None is hit = absurd (cc)
   hit-is plain start (Some cut) is hit =
       let parts = and_parts (bytes_eq (around front back) (around cut.front cut.back)) (has_number numbers cut.number) hit in
@@ -265,7 +265,7 @@ module _ (front back : List ℕ) (numbers : Numbers) (other : List ℕ) where
       in_range cut.number (has_number-is numbers cut.number parts.1)
       (sound.whole ∙ ap (λ (l : List ℕ). l ++ decimal cut.number ++ cut.back) (sym same.0) ∙ ap (λ (l : List ℕ). front ++ decimal cut.number ++ l) (sym same.1))
 
-  is-hit : is_front front ≡ true → is_back back ≡ true → numbers.first + numbers.count ≤ 256 → (i : ℕ) → i < length (addresses_under front (Some numbers) back) → bytes_eq other (get_or (addresses_under front (Some numbers) back) i []) ≡ true → list_any (λ start. hits (around front back) numbers (cut_at other start)) (places other) ≡ true
+  is-hit : is_front front ≡ true → is_back back ≡ true → numbers.first + numbers.count ≤ 256 → (i : ℕ) → i < length (addresses_under front numbers back) → bytes_eq other (get_or (addresses_under front numbers back) i []) ≡ true → list_any (λ start. hits (around front back) numbers (cut_at other start)) (places other) ≡ true
   is-hit first last fits i within same =
       let n = numbers.first + i in
       let inside : i < numbers.count = rw (length-map-range_with_len text numbers.first numbers.count) at within in
@@ -279,14 +279,14 @@ module _ (front back : List ℕ) (numbers : Numbers) (other : List ℕ) where
       (ap (λ start. hits (around front back) numbers (cut_at other start)) (get_or-range_with_len 0 (length other + 1) (length front) 0 (omega arith)) ∙ ap (λ start. hits (around front back) numbers (cut_at other start)) (zero-add (length front)) ∙ hit)
 
   -- an address is one of a range exactly where it is cut around one of its numbers
-  hits-exactly : is_cut front numbers back ≡ true → list_any (λ start. hits (around front back) numbers (cut_at other start)) (places other) ≡ list_any (bytes_eq other) (addresses_under front (Some numbers) back)
+  hits-exactly : is_cut front numbers back ≡ true → list_any (λ start. hits (around front back) numbers (cut_at other start)) (places other) ≡ list_any (bytes_eq other) (addresses_under front numbers back)
   hits-exactly cut =
       let three = and_parts (is_front front && is_back back && nat_lt 0 numbers.count) (nat_le (numbers.first + numbers.count) 256) cut in
       let two = and_parts (is_front front && is_back back) (nat_lt 0 numbers.count) three.0 in
       let one = and_parts (is_front front) (is_back back) two.0 in
       same_tests _ _
       (λ any. found_at (λ start. hits (around front back) numbers (cut_at other start)) (places other) 0 any (λ i within hit. hit-is one.0 (get_or (places other) i 0) _ refl hit))
-      (λ any. found_at (bytes_eq other) (addresses_under front (Some numbers) back) [] any (λ i within same. is-hit one.0 one.1 (leb-true _ _ three.1) i within same))
+      (λ any. found_at (bytes_eq other) (addresses_under front numbers back) [] any (λ i within same. is-hit one.0 one.1 (leb-true _ _ three.1) i within same))
 
 -- ---- so the addresses of a range are noted
 
@@ -297,13 +297,13 @@ settled None None false line earlier = refl
 settled None (Some n) false line earlier = refl
 settled None (Some n) true line earlier = let within = earlier n refl in let same : min n line ≡ n = omega arith in ap Some same
 
-pub noted-range : (old new : Seen) (front back : List ℕ) (numbers : Numbers) (line : ℕ) → is_cut front numbers back ≡ true → IsUpTo old line → ((other : List ℕ) → line_alone new other ≡ line_alone old other) → IsPushed (spans_under old) (spans_under new) (around front back) (record { numbers = numbers; line = line }) → (other : List ℕ) → line_under new other ≡ noted_all (line_under old) (addresses_under front (Some numbers) back) line other
+pub noted-range : (old new : Seen) (front back : List ℕ) (numbers : Numbers) (line : ℕ) → is_cut front numbers back ≡ true → IsUpTo old line → ((other : List ℕ) → line_alone new other ≡ line_alone old other) → IsPushed (spans_under old) (spans_under new) (around front back) (record { numbers = numbers; line = line }) → (other : List ℕ) → line_under new other ≡ noted_all (line_under old) (addresses_under front numbers back) line other
 noted-range old new front back numbers line cut earlier alone p other =
     let key = around front back in
     ap (λ o. either_line o (line_spanned (spans_under new) other)) (alone other)
     ∙ ap (either_line (line_alone old other)) (spanned-pushed (spans_under old) (spans_under new) key (record { numbers = numbers; line = line }) p other)
     ∙ ap (λ b. either_line (line_alone old other) (sooner (line_spanned (spans_under old) other) (cond b (Some line) None))) (hits-exactly front back numbers other cut)
-    ∙ settled (line_alone old other) (line_spanned (spans_under old) other) (list_any (bytes_eq other) (addresses_under front (Some numbers) back)) line (earlier other)
+    ∙ settled (line_alone old other) (line_spanned (spans_under old) other) (list_any (bytes_eq other) (addresses_under front numbers back)) line (earlier other)
 
 -- no ranges
 pub spanned-none : (spans : List ℕ → List Span) → ((key : List ℕ) → spans key ≡ []) → (address : List ℕ) → line_spanned spans address ≡ None

@@ -128,7 +128,7 @@ impl<'a> Seen<'a> {
         requires range { is_cut front.now numbers back.now ≡ true }
         requires earlier { IsUpTo self.old line }
         ensures { OnOk result ((other : List ℕ) → line_under self.new other
-            ≡ noted_all (line_under self.old) (addresses_under front.now (Some numbers) back.now) line other) }
+            ≡ noted_all (line_under self.old) (addresses_under front.now numbers back.now) line other) }
     {
         let around = around(alloc, front, back)?;
         let mut spans = or_none(alloc, self.spans.remove(&around[..]))?;
