@@ -7,6 +7,7 @@ Usage: tests/crash_blocks.py [PROGRAM]. CRASH_SYSTEMS=ext4,xfs names the file sy
 CRASH_MOMENTS=N says how many moments of each, and CRASH_SEED=N is the number from which all that is random comes. Without a sync of the file, or of the
 folder, crashes must be found that do harm: two controls. Needs root, /dev/fuse, loop devices, strace, and the programs that make the file systems.
 """
+import errno
 import os
 import random
 import re
@@ -357,11 +358,10 @@ def number_of(name, default):
     return int(os.environ.get(name) or default)
 
 
-def skipped(name, system):
+def skipped(system):
     """Why a file system can't be tried here, or nothing."""
-    programs = [system.make[0], *system.repair[:1]]
-    lost = [program for program in programs if not shutil.which(program)]
-    return "skipped: crashes of %s, since there is no %s" % (name, lost[0]) if lost else None
+    lost = [program for program in (system.make[0], *system.repair[:1]) if not shutil.which(program)]
+    return "there is no " + lost[0] if lost else None
 
 
 def try_system(trial, calls, count, seed):
@@ -397,28 +397,46 @@ def chosen():
 def try_apart(program, folder):
     """All of it, in a namespace of its own; prints what fails, and how many tests there were."""
     seed, count = number_of("CRASH_SEED", 1), number_of("CRASH_MOMENTS", MOMENTS)
-    loop_devices.mount_apart()
-    loop_devices.mount("crash", folder, "tmpfs", "mode=700")
+    # the programs that make file systems are not in each user's path
+    os.environ["PATH"] += ":/usr/sbin:/sbin"
+    try:
+        loop_devices.mount_apart()
+        loop_devices.mount("crash", folder, "tmpfs", "mode=700")
+        loop_devices.try_one(folder)
+    except OSError as fault:
+        return tell_skipped("real file systems", fault)
     calls = {}
     for size in SIZES_IN_TURN:
         os.mkdir(os.path.join(folder, "traced %d" % size))
         calls[size] = calls_of(program, os.path.join(folder, "traced %d" % size), size)
     tries = [(name, SYSTEMS[name], lambda trial: try_system(trial, calls, count, seed)) for name in chosen()]
     tries += [(name, system, lambda trial, inner=inner: try_control(trial, inner, seed)) for name, (inner, system) in CONTROLS.items()]
+    lost = {}
     for name, system, use in tries:
-        reason = skipped(name, system)
+        reason = skipped(system)
         if reason:
-            print(reason, flush=True)
+            lost.setdefault(reason, []).append(name)
             continue
         trial = Trial(program, name, system, os.path.join(folder, name))
         try:
             use(trial)
         except (OSError, ValueError, LookupError, subprocess.SubprocessError) as fault:
-            trial.faults.append("%s: %s" % (type(fault).__name__, fault))
+            if isinstance(fault, OSError) and fault.errno == errno.ENODEV:
+                lost.setdefault("the system does not know it", []).append(name)
+            else:
+                trial.faults.append("%s: %s" % (type(fault).__name__, fault))
         for fault in trial.faults:
             print("FAILED %s: %s" % (name, fault), flush=True)
-        print("TESTS %d" % (trial.moments + trial.reads), flush=True)
+        # each moment, and what was read beside the installations
+        print("TESTS %d" % (trial.moments + 1), flush=True)
         shutil.rmtree(trial.folder)
+    for reason, names in lost.items():
+        tell_skipped(", ".join(names), reason)
+    return None
+
+
+def tell_skipped(what, reason):
+    print("skipped: crashes of %s, since %s" % (what, reason), flush=True)
 
 
 def missing():
@@ -427,10 +445,13 @@ def missing():
 
 
 def check(program, failures):
-    """Counts the moments and what was read beside them, and adds a line to the failures for each that is bad."""
-    reason = missing()
-    if reason:
-        print("skipped: crashes of real file systems, since " + reason)
+    """Counts the moments, and adds a line to the failures for each that is bad."""
+    unknown = [name for name in chosen() if name not in SYSTEMS]
+    if unknown:
+        failures.append("crash_blocks: no file system %s; there are %s" % (unknown[0], " ".join(SYSTEMS)))
+        return 1
+    if missing():
+        tell_skipped("real file systems", missing())
         return 0
     tests = 0
     with tempfile.TemporaryDirectory() as folder:
@@ -443,13 +464,16 @@ def check(program, failures):
                     tests += int(line.split()[1])
                 else:
                     print(line, end="", flush=True)
-        if process.returncode != 0 or tests == 0:
+        if process.returncode != 0:
             failures.append("crash_blocks: it ended with %d" % process.returncode)
     return tests
 
 
 if __name__ == "__main__":
-    if sys.argv[1:2] == ["--apart"]:
-        try_apart(*sys.argv[2:])
-    else:
+    if sys.argv[1:2] != ["--apart"]:
         run_alone(check)
+    try:
+        try_apart(*sys.argv[2:])
+    except KeyboardInterrupt:
+        # whoever started it tells of it
+        sys.exit(1)

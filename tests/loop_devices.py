@@ -110,6 +110,15 @@ def mounted(path, folder, kind, options=""):
                 forget(device)
 
 
+def try_one(folder):
+    """Makes a loop device on a file of this folder, and gives it back; raises where there can be none."""
+    path = os.path.join(folder, "small")
+    with open(path, "wb") as file:
+        file.truncate(1 << 20)
+    with attached(path):
+        os.unlink(path)
+
+
 def missing():
     """What of this can't be had here, or nothing."""
     if os.geteuid() != 0:
