@@ -263,12 +263,20 @@ def fill(folder):
         os.fsync(file.fileno())
 
 
+class Bad(Exception):
+    """What is wrong with the rules after a crash."""
+
+
+class Lost(Exception):
+    """How the rules were lost after a crash, as they may be where there is no journal: a file whose name was replaced may be gone before the name."""
+
+
 class Trial:
     """Records of one file system, and the moments that are made of them."""
 
     def __init__(self, program, name, system, folder):
         self.program, self.name, self.system, self.folder = program, name, system, folder
-        self.moments = self.bad = self.looks = self.installations = self.killed = self.reads = 0
+        self.moments = self.bad = self.lost = self.looks = self.installations = self.killed = self.reads = 0
         self.faults = []
         self.texts = None
         for inner in ("disk", "system"):
@@ -317,22 +325,28 @@ class Trial:
             said = list(record.marks(moment.came))
             done = next(int(mark.split()[1]) for mark in said if mark.startswith("done"))
             begun = next(int(mark.split()[1].rstrip(",")) for mark in said if mark.startswith("begun"))
-            amiss = self.look(images.make(moment), range(done, begun + 1))
-            if amiss:
+            try:
+                self.look(images.make(moment), range(done, begun + 1))
+            except Lost:
+                self.lost += 1
+            except Bad as bad:
                 self.bad += 1
-                self.faults.append("a crash after %s, with %s of %d pieces: %s" % ("; ".join(reversed(said[:4])), moment.how, moment.pieces, amiss))
+                self.faults.append("a crash after %s, with %s of %d pieces: %s" % ("; ".join(reversed(said[:4])), moment.how, moment.pieces, bad))
 
     def look(self, image, numbers):
-        """What is amiss with an image, if anything: as it is, and where there is no journal once more after its repair."""
-        amiss = self.look_once(image, numbers, not self.system.repair)
-        if not amiss and self.system.repair:
-            subprocess.run([*self.system.repair, image], stdin=subprocess.DEVNULL, stdout=subprocess.DEVNULL, stderr=subprocess.DEVNULL, timeout=LIMIT)
-            amiss = self.look_once(image, numbers, True)
-            return amiss and "after its repair " + amiss
-        return amiss
+        """Looks at an image as it is. Where there is no journal the rules may be lost, and it is looked at once more after its repair, which may damage
+        them."""
+        if not self.system.repair:
+            return self.look_once(image, numbers, True)
+        self.look_once(image, numbers, False)
+        subprocess.run([*self.system.repair, image], stdin=subprocess.DEVNULL, stdout=subprocess.DEVNULL, stderr=subprocess.DEVNULL, timeout=LIMIT)
+        try:
+            return self.look_once(image, numbers, True)
+        except Bad as bad:
+            raise Lost("after its repair: %s" % bad) from bad
 
     def look_once(self, image, numbers, is_last):
-        """What is amiss with a file system: whether rules that may stand there do, and whether others can be installed at last."""
+        """Looks whether rules that may stand there do, and now and then whether others can be installed."""
         self.looks += 1
         site = Site(self.program, self.path("system/site"), self.texts)
         try:
@@ -340,18 +354,18 @@ class Trial:
                 content = rule_files.content(site.rules)
                 found = self.texts.which(content, numbers)
                 if found is None:
-                    return "not text %d to %d, but %s" % (numbers[0], numbers[-1], self.texts.described(content, numbers[-1]))
+                    kind = Lost if content is None and self.system.repair else Bad
+                    raise kind("not text %d to %d, but %s" % (numbers[0], numbers[-1], self.texts.described(content, numbers[-1])))
                 answer = site.answer()
                 if answer != self.texts.answer(found):
-                    return "tcprulescheck of text %d: %r" % (found, answer)
+                    raise Bad("tcprulescheck of text %d: %r" % (found, answer))
                 if is_last and self.looks % 4 == 0:
                     site.begun = numbers[-1]
                     site.install()
                     if site.faults or self.texts.which(rule_files.content(site.rules), [site.begun]) is None:
-                        return "no text can be installed: %r" % site.faults
+                        raise Bad("no text can be installed: %r" % site.faults)
         except OSError as fault:
-            return "it can't be read: %s" % fault
-        return None
+            raise (Lost if self.system.repair else Bad)("it can't be read: %s" % fault) from fault
 
 
 def number_of(name, default):
@@ -371,8 +385,9 @@ def try_system(trial, calls, count, seed):
         wanted = min(count - trial.moments, MOMENTS_OF_A_RECORD)
         record = trial.recorded("%s %d" % (trial.name, series.randrange(1 << 30)), lambda site: in_turn(site, calls, series))
         trial.look_at(record, wanted, series)
-    print("crash_blocks: %s: %d moments, %d bad; %d installations, %d killed, %d reads beside them; %.0f seconds" % (
-        trial.name, trial.moments, trial.bad, trial.installations, trial.killed, trial.reads, time.monotonic() - began), flush=True)
+    lost = ", %d lost, as they may be without a journal" % trial.lost if trial.system.repair else ""
+    print("crash_blocks: %s: %d moments, %d bad%s; %d installations, %d killed, %d reads beside them; %.0f seconds" % (
+        trial.name, trial.moments, trial.bad, lost, trial.installations, trial.killed, trial.reads, time.monotonic() - began), flush=True)
 
 
 def try_control(trial, inner, seed):
