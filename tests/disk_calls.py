@@ -2,7 +2,7 @@
 mishaps in turn; installations there; names, files in memory and the texts of faults."""
 import probes
 
-CHOICES = ("kept", "empty", "junk")
+CHOICES = ("kept", "empty", "junk", "torn")
 DEVICE = "device fault"
 NO_NAME = "no such name"
 NO_SCRATCH = "no scratch file"
@@ -14,12 +14,12 @@ def file_of(content):
 
 
 OLD, NEW, NEWER, ABC = file_of(b"old"), file_of(b"new"), file_of(b"newer"), file_of(b"abc")
-EMPTY = file_of(b"")
+EMPTY, BAD = file_of(b""), file_of(b"\xff\xff\xff")
 
 
-def after_stop(name, kept, empty, junk):
+def after_stop(name, kept, empty, junk, torn):
     """What each stop leaves under a name."""
-    return [("crash %s %s" % (choice, name), left) for choice, left in zip(CHOICES, (kept, empty, junk))]
+    return [("crash %s %s" % (choice, name), left) for choice, left in zip(CHOICES, (kept, empty, junk, torn))]
 
 
 def put(name, text):
@@ -41,18 +41,18 @@ MEMORY = [
             ("open t", "none"),
             ("failures", "0"),
         ]
-        + after_stop("t", "none", "none", "none"),
+        + after_stop("t", "none", "none", "none", "none"),
     ),
     (
         "a stop after settling",
         [("fresh t", "done"), ("append abc", "3"), ("settle", "done")]
-        + after_stop("t", ABC, EMPTY, file_of(b"\xff\xff\xff"))
+        + after_stop("t", ABC, EMPTY, BAD, BAD)
         + [("sync", "done")]
-        + after_stop("t", ABC, ABC, ABC),
+        + after_stop("t", ABC, ABC, ABC, ABC),
     ),
     (
         "a stop before settling",
-        [("fresh t", "done"), ("append abc", "3")] + after_stop("t", ABC, "none", "none"),
+        [("fresh t", "done"), ("append abc", "3")] + after_stop("t", ABC, "none", "none", BAD),
     ),
     (
         # a is taken away and put anew, and then moved onto b; what a stop left goes on from there
@@ -61,11 +61,11 @@ MEMORY = [
         + [("settle", "done")]
         + put("a", "new")
         + [("rename a b", "done")]
-        + after_stop("a", "none", OLD, NEW)
-        + after_stop("b", NEW, "none", "none")
+        + after_stop("a", "none", OLD, NEW, NEW)
+        + after_stop("b", NEW, "none", "none", NEW)
         + [("settle", "done")]
-        + after_stop("a", "none", "none", "none")
-        + after_stop("b", NEW, NEW, NEW)
+        + after_stop("a", "none", "none", "none", "none")
+        + after_stop("b", NEW, NEW, NEW, NEW)
         + [("stop junk", "done"), ("append x", NO_SCRATCH)]
         + put("b", "newer")
         + [("crash junk b", "none"), ("crash empty b", NEW)],
@@ -74,6 +74,20 @@ MEMORY = [
         # no change of names is pending but the one that made the file
         "a name moved onto itself",
         put("a", "abc") + [("rename a a", "done"), ("open a", ABC), ("crash junk a", "none")],
+    ),
+    (
+        # both names stand for one file then, and the one moved onto the other changes nothing; taken away, it leaves the other
+        "a rename that a stop tears",
+        put("a", "old")
+        + [("settle", "done"), ("rename a b", "done"), ("stop torn", "done"), ("open a", OLD), ("open b", OLD)]
+        + [("rename a b", "done"), ("open a", OLD), ("crash empty b", OLD)]
+        + put("a", "new")
+        + [("open b", OLD), ("rename a b", "done")]
+        + after_stop("a", "none", OLD, NEW, NEW)
+        + after_stop("b", NEW, OLD, OLD, NEW)
+        + [("settle", "done")]
+        + after_stop("a", "none", "none", "none", "none")
+        + after_stop("b", NEW, NEW, NEW, NEW),
     ),
     (
         "an opened file keeps its bytes",
@@ -205,7 +219,32 @@ def failing_calls(disks):
         fails = 1 <= call <= 5
         script = put("name", "old") + [("settle", "done"), ("replace tmp name new", DEVICE if fails else "done")]
         script.append(("crash empty name", OLD if fails else NEW))
+        # torn, the name may have the new file from the rename on, which is the fourth call
+        script.append(("crash torn name", OLD if 1 <= call <= 4 else NEW))
         disks.script("call %d of a replacement fails" % call, ["fuse", str(call + 4 if call > 0 else 0)], script)
+    torn_installations(disks)
+
+
+def torn_installations(disks):
+    """Rules installed where others stand, in memory, with each call failing in turn: a stop that tears names leaves one of the two files, whole,
+    and the second where the installation succeeded."""
+    compiled = [disks.answers(["memory"], [text, "open rules"])[-1] for text in (ALLOW, DENY)]
+    first = calls_until_done(disks, [ALLOW])
+    last = calls_until_done(disks, [ALLOW, DENY])
+    disks.check("calls of two installations", 0 < first < last, (first, last))
+    for call in range(first + 1, last + 1):
+        answers = disks.answers(["fuse", str(call)], [ALLOW, DENY, "crash torn rules", "open rules"])
+        left = [compiled.index(answer) for answer in answers[2:3] if answer in compiled]
+        holds = answers[:2] == ["done", DEVICE] and left == [1 if call == last else 0] and answers[3] in compiled
+        disks.check("call %d of an installation fails, and a stop tears it" % call, holds, [answer[:80] for answer in answers])
+
+
+def calls_until_done(disks, commands):
+    """How many calls of a directory these commands make: the first that may fail without being noticed is behind them."""
+    for call in range(1, 100):
+        if DEVICE not in disks.answers(["fuse", str(call)], commands):
+            return call - 1
+    return 0
 
 
 def calls_of(disks, first, second):

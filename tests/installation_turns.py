@@ -187,7 +187,7 @@ def is_written(path):
 
 def two_installations(folder):
     """Two of them: while the first is under way nobody but its user can open its lock file, and the second waits for it."""
-    first = folder.start(b"11.:deny\n", before=slow("fsync", 1))
+    first = folder.start(b"11.:deny\n", before=slow("fsync", 2))
     come_to("the scratch file", lambda: is_written(folder.path("tmp")))
     mode = os.stat(folder.path(LOCK)).st_mode
     folder.expect("who may open the lock file", (stat.S_ISREG(mode), stat.S_IMODE(mode)), (True, 0o600))
@@ -229,7 +229,7 @@ def turned_before_it_has_the_lock(folder):
 
 
 def turned_before_the_rename(folder):
-    ended = turned(folder, "before the rename", slow("fsync", 1), "tmp")
+    ended = turned(folder, "before the rename", slow("fsync", 2), "tmp")
     folder.expect("a link that is turned before the rename", ended, (111, "tcprules: device fault at named\ntcprules: cause: cur: Stale file handle\n"))
     folder.expect("no rules stand in the folder before", os.path.exists(folder.path("v1", "rules")), False)
 

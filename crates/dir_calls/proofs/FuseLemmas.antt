@@ -2,7 +2,7 @@
 use Rattle.std.proofs.Common.{◌≡◌, ◌⊎◌, inl, inr, ℕ, Bool, true, false, ◌<◌, ◌≤◌, ◌+◌, ◌-◌, ◌^◌, min, ⊎_elim, refl, sym, subst, ap, arith}
 use Rattle.std.specs.Prelude.{Result, Ok, Err, List}
 use Rattle.dir_calls.specs.Directory.{Directory, FileState, KeepsSynced}
-use Rattle.dir_calls.specs.Calls.{Call, makes, appends, patches, syncs, renames, settles}
+use Rattle.dir_calls.specs.Calls.{Call, makes, renews, appends, patches, syncs, renames, settles}
 use Rattle.dir_calls.specs.Outcomes.{Fails, LeavesNames}
 use Rattle.dir_calls.specs.Fuse.{one_more, failures_with}
 use Rattle.dir_calls.specs.Moments.{CountsFault}
@@ -16,6 +16,7 @@ same_files files = record { each = λ number file is synced. is }
 same_names : (call : Call) (d : Directory) → LeavesNames call d d.names
 same_names settles d = record { count = 0; settled = refl; pending = refl }
 same_names (makes name) d = (d, passes_start (makes name) d, refl)
+same_names (renews name) d = inl (d, passes_start (renews name) d, refl)
 same_names (appends piece) d = (d, passes_start (appends piece) d, refl)
 same_names (patches place bytes) d = (d, passes_start (patches place bytes) d, refl)
 same_names syncs d = (d, passes_start syncs d, refl)

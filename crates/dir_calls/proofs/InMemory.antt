@@ -1,17 +1,17 @@
 -- A directory in memory after a change.
-use Rattle.std.proofs.Common.{Global, ◌≡◌, true, false, ℕ, zero, suc, ◌+◌, ◌-◌, ◌≤◌, ◌<◌, List, [], ◌∷◌, ◌++◌, length, get_or, take, drop, refl, sym, ◌∙◌, ap, subst, arith, append_assoc, length-append, length-take, length-drop}
+use Rattle.std.proofs.Common.{Global, ◌≡◌, Bool, true, false, ℕ, zero, suc, ◌+◌, ◌-◌, ◌≤◌, ◌<◌, List, [], ◌∷◌, ◌++◌, length, get_or, take, drop, refl, sym, ◌∙◌, ap, subst, arith, append_assoc, length-append, length-take, length-drop}
 use Rattle.std.proofs.lemmas.List.{drop-drop, with_items_is, take_all, drop_all, take-append-le, drop-append-le, take-append-drop}
 use Rattle.std.proofs.lemmas.List.Sums.{fold-append}
 use Rattle.std.proofs.lemmas.Option.{slice_get-map, slice_get_past, slice_get_read}
 use Rattle.std.specs.FinMap.{insert, remove}
-use Rattle.std.specs.Option.{ForSome, option_map}
+use Rattle.std.specs.Option.{ForSome, option_eq, option_map}
 use Rattle.std.specs.Vec.{with_items}
-use Rattle.std.specs.Prelude.{Vec, map, slice_get, slice_set, option_to_list, option_and_then, Option, None, Some, if◌then◌else◌}
+use Rattle.std.specs.Prelude.{nat_eq, Vec, map, slice_get, slice_set, option_to_list, option_and_then, Option, None, Some, if◌then◌else◌}
 use Rattle.dir_calls.specs.declared.stored.Stored.{Stored}
 use Rattle.dir_calls.specs.declared.stored.Stored.TheVariants.{Open}
-use Rattle.dir_calls.specs.NameTable.{Names, NameTable, NameChange, takes, puts, moves, same_name, after_change, after_changes, current, push, all_settled}
+use Rattle.dir_calls.specs.NameTable.{Names, NameTable, NameChange, takes, puts, moves, after_change, after_changes, current, push, all_settled}
 use Rattle.dir_calls.specs.Directory.{Directory, FileState, number_of}
-use Rattle.dir_calls.specs.Calls.{renames, after, moved, taken_from, with_names, with_file, with_scratch, rewritten}
+use Rattle.dir_calls.specs.Calls.{renames, after, is_number, moved, taken_from, with_names, with_file, with_scratch, rewritten}
 use Rattle.dir_calls.specs.Folder.{table_of}
 use Rattle.dir_calls.specs.Stored.{file_of}
 use Rattle.dir_calls.proofs.Pairs.{insert-remove}
@@ -29,12 +29,17 @@ table_of-all origin settled count changes is = λ i. record { settled = standing
     standing : after_changes origin (take count changes) ≡ current (table_of origin settled changes)
     standing = ap (after_changes origin) (take_all count changes (omega (arith, is))) ∙ sym (current-table_of origin settled changes)
 
--- a name is moved
-module _ (d : Directory) (from to : List ℕ) (number : ℕ) (is : number_of d from ≡ Some number) where
-  pub renamed_self : same_name from to ≡ true → d ≡ after (renames from to) d
-  renamed_self same = sym (ap (moved d from to) is ∙ ap (λ s. if s then d else with_names d (push d.names (moves from to number))) same)
+-- what is found under a name is compared as the definition does
+pub same_found : {b : Bool} (found number : Option ℕ) (n : ℕ) → found ≡ number → option_eq nat_eq found (Some n) ≡ b → is_number n number ≡ b
+same_found {b} found None n same is = subst (λ (o : Option ℕ). option_eq nat_eq o (Some n) ≡ b) same is
+same_found {b} found (Some m) n same is = subst (λ (o : Option ℕ). option_eq nat_eq o (Some n) ≡ b) same is
 
-  pub renamed_other : same_name from to ≡ false → with_names d (push d.names (moves from to number)) ≡ after (renames from to) d
+-- a name is moved onto another for the same file, or not
+module _ (d : Directory) (from to : List ℕ) (number : ℕ) (is : number_of d from ≡ Some number) where
+  pub renamed_same : is_number number (number_of d to) ≡ true → d ≡ after (renames from to) d
+  renamed_same same = sym (ap (moved d from to) is ∙ ap (λ s. if s then d else with_names d (push d.names (moves from to number))) same)
+
+  pub renamed_other : is_number number (number_of d to) ≡ false → with_names d (push d.names (moves from to number)) ≡ after (renames from to) d
   renamed_other other = sym (ap (moved d from to) is ∙ ap (λ s. if s then d else with_names d (push d.names (moves from to number))) other)
 
 map_set : (f : FileState → FileState) (files : List Stored) (k : ℕ) (old new : Stored) → old ≡ get_or files k old → file_of new ≡ f (file_of old) → map file_of (slice_set files k new) ≡ with_file f k (map file_of files)

@@ -5,10 +5,10 @@ use Rattle.std.specs.Option.{option_map}
 use Rattle.std.specs.FinMap.{get, remove}
 use Rattle.dir_calls.specs.declared.fault.DirFault.{DirFault}
 use Rattle.dir_calls.specs.declared.fault.DirFault.TheVariants.{NoScratch, NoName, Device, OutOfMemory}
-use Rattle.dir_calls.specs.NameTable.{Names, NameTable, NameChange, takes, puts, moves, CanBeLeft, same_name, after_change, current, push}
+use Rattle.dir_calls.specs.NameTable.{Names, NameTable, NameChange, takes, puts, moves, CanBeLeft, after_change, current, push}
 use Rattle.dir_calls.specs.Directory.{Directory, FileState, KeepsSynced, names_of, number_of}
-use Rattle.dir_calls.specs.Images.{IsImage}
-use Rattle.dir_calls.specs.Calls.{Call, makes, appends, patches, syncs, renames, settles, after, rewritten, longer, patched, lasting, with_file, with_scratch, with_names, taken_from, without, moved}
+use Rattle.dir_calls.specs.Images.{IsImage, MayHaveName}
+use Rattle.dir_calls.specs.Calls.{Call, makes, renews, appends, patches, syncs, renames, settles, after, is_number, rewritten, longer, patched, lasting, with_file, with_scratch, with_names, taken_from, without, moved}
 use Rattle.dir_calls.specs.Outcomes.{Passes, LeavesNames, Fails, Does, LeftBy}
 use Rattle.dir_calls.specs.Lasting.{IsAmong, StandsFor, LastsAmong, HasAmong}
 use Rattle.dir_calls.proofs.NamesOf.{get-remove_other, get-insert_same, get-insert_other}
@@ -23,15 +23,18 @@ stays files later contents None keeps stands = stands
 stays files later contents (Some n) keeps stands = (stands.0, stands.1, keeps.each n _ stands.2 refl)
 
 -- images have what lasts
-at_number : (d image : Directory) (contents : Contents) (number : Option ℕ) → IsImage d image → StandsFor d.files contents number
+at_number : (d image : Directory) (name : List ℕ) (names : Names) (contents : Contents) (number : Option ℕ) → IsImage d image → CanBeLeft d.names names → get names name ≡ number → StandsFor d.files contents number
     → IsAmong contents (option_map (λ file. file.bytes) (option_and_then (λ n. slice_get image.files n) number))
-at_number d image contents None is stands = stands
-at_number d image contents (Some n) is stands =
+at_number d image name names contents None is can same stands = stands
+at_number d image name names contents (Some n) is can same stands =
     let left = is.files n _ stands.2 in
-    subst (λ (o : Option FileState). IsAmong contents (option_map (λ file. file.bytes) o)) (sym left.1) (subst (λ bytes. IsAmong contents (Some bytes)) (sym (left.2.bytes refl)) stands.1)
+    let has_name : MayHaveName d.names n = record { name = name; names = names; left = can; stands = same } in
+    subst (λ (o : Option FileState). IsAmong contents (option_map (λ file. file.bytes) o)) (sym left.1) (subst (λ bytes. IsAmong contents (Some bytes)) (sym (left.2.bytes has_name refl)) stands.1)
 
 pub image_has : (d image : Directory) (name : List ℕ) (contents : Contents) → LastsAmong d name contents → IsImage d image → HasAmong name contents image
-image_has d image name contents lasts is = at_number d image contents (get (names_of image) name) is (lasts.each (names_of image) is.names)
+image_has d image name contents lasts is =
+    let left = is.names.each name in
+    at_number d image name left.0 contents (get (names_of image) name) is left.1 (sym left.2) (subst (λ number. StandsFor d.files contents number) (sym left.2) (lasts.each left.0 left.1))
 
 -- synced files stay
 same_files : (files : List FileState) → KeepsSynced files files
@@ -73,14 +76,15 @@ scratch_named change d (Some k) = refl
 -- No call changes a synced file.
 pub after_keeps : (call : Call) (d : Directory) → KeepsSynced d.files (after call d).files
 after_keeps (makes name) d = more_files d.files _
+after_keeps (renews name) d = more_files d.files _
 after_keeps (appends piece) d = scratch_changed (longer piece) d d.scratch (rewritten_spares (λ file. file.bytes ++ piece))
 after_keeps (patches place bytes) d = scratch_changed (patched place bytes) d d.scratch (rewritten_spares _)
 after_keeps syncs d = scratch_changed lasting d d.scratch lasting_spares
-after_keeps (renames from to) d = by (number_of d from) (same_name from to)
+after_keeps (renames from to) d = by (number_of d from)
   where
-    by : (number : Option ℕ) (same : Bool) → KeepsSynced d.files (moved d from to number).files
-    by None same = same_files d.files
-    by (Some n) same = chosen (same_name from to)
+    by : (number : Option ℕ) → KeepsSynced d.files (moved d from to number).files
+    by None = same_files d.files
+    by (Some n) = chosen (is_number n (number_of d to))
       where
         chosen : (s : Bool) → KeepsSynced d.files (if s then d else with_names d (push d.names (moves from to n))).files
         chosen true = same_files d.files
@@ -95,6 +99,10 @@ passes_keeps : (call : Call) (d state : Directory) → Passes call d state → K
 passes_keeps (makes name) d state (inl is) = subst (λ (s : Directory). KeepsSynced d.files s.files) (sym is) (same_files d.files)
 passes_keeps (makes name) d state (inr (inl is)) = subst (λ (s : Directory). KeepsSynced d.files s.files) (sym is) (same_files d.files)
 passes_keeps (makes name) d state (inr (inr is)) = subst (λ (s : Directory). KeepsSynced d.files s.files) (sym is) (after_keeps (makes name) d)
+passes_keeps (renews name) d state (inl is) = subst (λ (s : Directory). KeepsSynced d.files s.files) (sym is) (same_files d.files)
+passes_keeps (renews name) d state (inr (inl is)) = subst (λ (s : Directory). KeepsSynced d.files s.files) (sym is) (same_files d.files)
+passes_keeps (renews name) d state (inr (inr (inl is))) = subst (λ (s : Directory). KeepsSynced d.files s.files) (sym is) (same_files d.files)
+passes_keeps (renews name) d state (inr (inr (inr is))) = subst (λ (s : Directory). KeepsSynced d.files s.files) (sym is) (after_keeps (renews name) d)
 passes_keeps (appends piece) d state passes = either (appends piece) d state passes
 passes_keeps (patches place bytes) d state passes = either (patches place bytes) d state passes
 passes_keeps syncs d state passes = either syncs d state passes
@@ -112,6 +120,8 @@ passes_lasts call d state name contents keeps passes = record { each = λ names 
 failed_left : (call : Call) (d : Directory) (table : NameTable) (names : Names) → LeavesNames call d table → CanBeLeft table names → (state : Directory) × Passes call d state × CanBeLeft state.names names
 failed_left settles d table names leaves left = (d, passes_start settles d, left_some d.names table names leaves left)
 failed_left (makes name) d table names leaves left = (leaves.0, leaves.1, subst (λ (t : NameTable). CanBeLeft t names) leaves.2 left)
+failed_left (renews name) d table names (inl leaves) left = (leaves.0, leaves.1, subst (λ (t : NameTable). CanBeLeft t names) leaves.2 left)
+failed_left (renews name) d table names (inr some) left = (without d name, inr (inl refl), left_some (without d name).names table names some left)
 failed_left (appends piece) d table names leaves left = (leaves.0, leaves.1, subst (λ (t : NameTable). CanBeLeft t names) leaves.2 left)
 failed_left (patches place bytes) d table names leaves left = (leaves.0, leaves.1, subst (λ (t : NameTable). CanBeLeft t names) leaves.2 left)
 failed_left syncs d table names leaves left = (leaves.0, leaves.1, subst (λ (t : NameTable). CanBeLeft t names) leaves.2 left)
@@ -215,7 +225,7 @@ module _ (d : Directory) (from to : List ℕ) (n : ℕ) (bytes : List ℕ) (numb
 
       numbers : (s : Directory) → Passes (renames from to) d s → (names : Names) → CanBeLeft s.names names → StandsFor d.files (Some bytes ∷ contents) (get names to)
       numbers s (inl is) names left = same_names d to (Some bytes ∷ contents) more s.names (ap (λ e. e.names) is) names left
-      numbers s (inr is) names left = chosen (same_name from to) names (subst (λ (e : Directory). CanBeLeft e.names names) (is ∙ ap (moved d from to) number) left)
+      numbers s (inr is) names left = chosen (is_number n (number_of d to)) names (subst (λ (e : Directory). CanBeLeft e.names names) (is ∙ ap (moved d from to) number) left)
 
 -- once the names are settled, what stands under a name lasts alone
 pub settled_lasts : (d : Directory) (name : List ℕ) (contents : Contents) → StandsFor d.files contents (number_of d name) → LastsAmong (after settles d) name contents

@@ -8,10 +8,13 @@ pub mod Moments
 pub mod NameRules
 pub mod NameTables
 pub mod NamesOf
+pub mod OneName
 pub mod Pairs
 pub mod Passing
+pub mod Renames
 pub mod Replacing
 pub mod Results
 pub mod Scratches
 pub mod Stops
+pub mod Torn
 pub mod WithFiles

@@ -11,6 +11,10 @@ current-push table change = fold-append after_change table.settled table.pending
 pub left_current : (table : NameTable) → CanBeLeft table (current table)
 left_current table = record { count = length table.pending; are = sym (ap (after_changes table.settled) (take_all (length table.pending) table.pending (omega arith))) }
 
+-- the names before the last change
+pub left_last : (table : NameTable) (change : NameChange) → current table ≡ after_changes table.settled (take (length table.pending) (table.pending ++ change ∷ []))
+left_last table change = sym (ap (after_changes table.settled) (take-append-le (length table.pending) table.pending (change ∷ []) (omega arith) ∙ take_all (length table.pending) table.pending (omega arith)))
+
 within : (n m : ℕ) → (n ≤ m) ⊎ (m < n)
 within n m = grind arith
 

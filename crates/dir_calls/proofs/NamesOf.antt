@@ -19,6 +19,9 @@ same_name-other a b other = by _ refl
 pub get-remove_other : (names : Names) (a b : List ℕ) → a ≢ b → get (remove names b) a ≡ get names a
 get-remove_other names a b other = get-remove nat_list_cmp_total names b a ∙ ap (λ r. cond r None (get names a)) (same_name-other a b other)
 
+pub get-remove_same : (names : Names) (a : List ℕ) → get (remove names a) a ≡ None
+get-remove_same names a = get-remove nat_list_cmp_total names a a ∙ ap (λ r. cond r None (get names a)) (same_name-self a)
+
 pub get-insert_same : (names : Names) (a : List ℕ) (number : ℕ) → get (insert names a number) a ≡ Some number
 get-insert_same names a number = get-insert nat_list_cmp_total names a number a ∙ ap (λ r. cond r (Some number) (get names a)) (same_name-self a)
 

@@ -26,7 +26,7 @@ look-append : (es : Pairs) (k : List ℕ) (v : ℕ) (q : List ℕ) → look es k
 look-append es k v q none = sym (find_look (es ++ (k, v) ∷ []) q) ∙ find-append (slice_cmp nat_cmp) nat_list_cmp_total es k v q (find_look es k ∙ none) ∙ ap (cond (same_name q k) (Some v)) (find_look es q)
 
 -- names that tie are the same, so that one answer serves for both
-same_is : (a b : List ℕ) → same_name a b ≡ true → a ≡ b
+pub same_is : (a b : List ℕ) → same_name a b ≡ true → a ≡ b
 same_is a b e = same_text a b (sym e ∙ sym (texts_ties a b))
 
 look-others : (a b : List ℕ) (es : Pairs) (q : List ℕ) → look (others a b es) q ≡ cond (same_name q a || same_name q b) None (look es q)

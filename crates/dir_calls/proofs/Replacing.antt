@@ -14,9 +14,10 @@ use Rattle.dir_calls.specs.Moments.{Elapses}
 use Rattle.dir_calls.specs.Replacing.{Stays, HasSynced}
 use Rattle.dir_calls.proofs.Lasting.{CallKeeps, image_has, left_has, does_lasts, passes_lasts, lasts_more, renames_keeps, settled_lasts}
 use Rattle.dir_calls.proofs.Moments.{one_call}
-use Rattle.dir_calls.proofs.NamesOf.{get-insert_same, same_name-other}
+use Rattle.dir_calls.proofs.NamesOf.{get-insert_same}
 use Rattle.dir_calls.proofs.NameTables.{current-push}
 use Rattle.dir_calls.proofs.Passing.{passes_start}
+use Rattle.dir_calls.proofs.Renames.{moved_files, moved_number}
 
 -- ---- what stays under a name in a run of calls
 
@@ -166,17 +167,12 @@ stays_moved state moment left_since from to bytes olds old mid new outcome so_fa
     (stays_more state moment left_since to olds (Some bytes ∷ olds) old mid (λ w among. inr among) so_far) only time does keeps (λ _. keeps)
 
 -- once it is moved and settled, it alone stands there
-pub replaced : (d : Directory) (from to bytes : List ℕ) → from ≢ to → HasSynced from bytes d → LastsAmong (after settles (after (renames from to) d)) to (Some bytes ∷ [])
-replaced d from to bytes differ has = settled_lasts (after (renames from to) d) to (Some bytes ∷ []) (subst (λ (e : Directory). StandsFor e.files (Some bytes ∷ []) (number_of e to)) (sym moved_is) stands)
+pub replaced : (d : Directory) (from to bytes : List ℕ) → HasSynced from bytes d → LastsAmong (after settles (after (renames from to) d)) to (Some bytes ∷ [])
+replaced d from to bytes has = settled_lasts (after (renames from to) d) to (Some bytes ∷ []) stands
   where
     at : SyncedAt d from bytes
     at = synced_at d from bytes has
 
-    new : Directory
-    new = with_names d (push d.names (moves from to at.n))
-
-    moved_is : after (renames from to) d ≡ new
-    moved_is = ap (moved d from to) at.number ∙ ap (λ (s : Bool). if s then d else new) (same_name-other from to differ)
-
-    stands : StandsFor d.files (Some bytes ∷ []) (number_of new to)
-    stands = subst (λ number. StandsFor d.files (Some bytes ∷ []) number) (sym (ap (λ (m : Names). get m to) (current-push d.names (moves from to at.n)) ∙ get-insert_same (remove (names_of d) from) to at.n)) (bytes, inl refl, at.file)
+    stands : StandsFor (after (renames from to) d).files (Some bytes ∷ []) (number_of (after (renames from to) d) to)
+    stands = subst (λ (files : List FileState). StandsFor files (Some bytes ∷ []) (number_of (after (renames from to) d) to)) (sym (moved_files d from to (number_of d from)))
+        (subst (λ number. StandsFor d.files (Some bytes ∷ []) number) (sym (moved_number d from to at.n at.number)) (bytes, inl refl, at.file))

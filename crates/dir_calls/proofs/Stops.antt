@@ -37,14 +37,14 @@ chosen_left Kept table = record { count = length table.pending; are = ap (after_
 chosen_left Empty table = record { count = 0; are = refl }
 chosen_left Junk table = record { count = length table.pending - 1; are = refl }
 
-file_left : (choice : Choice) (file : FileState) → IsLeftOf file (stopped_file choice file)
-file_left choice file = record { bytes = λ synced. ap (λ s. if s then file.bytes else chosen_bytes choice file.bytes) synced; synced = refl }
+pub file_left : (table : NameTable) (number : ℕ) (choice : Choice) (file : FileState) → IsLeftOf table number file (stopped_file choice file)
+file_left table number choice file = record { bytes = λ named synced. ap (λ s. if s then file.bytes else chosen_bytes choice file.bytes) synced; synced = refl }
 
 pub stopped_is : (choice : Choice) (d : Directory) → IsImage d (stopped choice d)
 stopped_is choice d = record {
-  names = chosen_left choice d.names;
+  names = record { each = λ name. (after_changes d.names.settled (chosen_changes choice d.names.pending), chosen_left choice d.names, refl) };
   none_pending = refl;
   count = length-map d.files (stopped_file choice);
-  files = λ number file there. (stopped_file choice file, slice_get-map (stopped_file choice) d.files number ∙ ap (option_map (stopped_file choice)) there, file_left choice file);
+  files = λ number file there. (stopped_file choice file, slice_get-map (stopped_file choice) d.files number ∙ ap (option_map (stopped_file choice)) there, file_left d.names number choice file);
   no_scratch = refl;
 }

@@ -1,10 +1,13 @@
 -- The calls that change a directory, and the directory after each.
-use Rattle.std.specs.Prelude.{ℕ, zero, suc, ◌+◌, true, false, List, [], ◌∷◌, ◌++◌, length, take, drop, Option, None, Some, if◌then◌else◌}
-use Rattle.dir_calls.specs.NameTable.{NameTable, takes, puts, moves, same_name, push, all_settled}
+use Rattle.std.specs.Prelude.{ℕ, zero, suc, ◌+◌, ◌==◌, Bool, true, false, List, [], ◌∷◌, ◌++◌, length, take, drop, Option, None, Some, if◌then◌else◌}
+use Rattle.dir_calls.specs.NameTable.{NameTable, takes, puts, moves, push, all_settled}
 use Rattle.dir_calls.specs.Directory.{Directory, FileState, number_of}
 
+-- the one call that no directory makes as one is `renews`: a name is taken away, all changes of names are made lasting, and then a new
+-- file is made under the name
 pub data Call : Type 0 where
   makes : List ℕ → Call
+  renews : List ℕ → Call
   appends : List ℕ → Call
   patches : ℕ → List ℕ → Call
   syncs : Call
@@ -52,6 +55,10 @@ taken_from names name (Some number) = push names (takes name)
 abbrev pub without : Directory → List ℕ → Directory
 without d name = with_names d (taken_from d.names name (number_of d name))
 
+-- and with all changes of names lasting
+abbrev pub cleared : Directory → List ℕ → Directory
+cleared d name = with_names d (all_settled (without d name).names)
+
 -- the directory with a new empty file under a name, the scratch file
 abbrev pub made : Directory → List ℕ → Directory
 made d name = record {
@@ -60,14 +67,21 @@ made d name = record {
   scratch = Some (length d.files);
 }
 
--- the directory with a name that stands for this number moved onto another
+-- the number at a name is this one
+abbrev pub is_number : ℕ → Option ℕ → Bool
+is_number number None = false
+is_number number (Some there) = there == number
+
+-- the directory with a name that stands for this number moved onto another, unless that stands for it too
 abbrev pub moved : Directory → List ℕ → List ℕ → Option ℕ → Directory
 moved d from to None = d
-moved d from to (Some number) = if same_name from to then d else with_names d (push d.names (moves from to number))
+moved d from to (Some number) =
+    if is_number number (number_of d to) then d else with_names d (push d.names (moves from to number))
 
 -- the directory after a call that did all of its work
 abbrev pub after : Call → Directory → Directory
 after (makes name) d = made d name
+after (renews name) d = made (cleared d name) name
 after (appends piece) d = with_scratch (longer piece) d.scratch d
 after (patches place bytes) d = with_scratch (patched place bytes) d.scratch d
 after syncs d = closed (with_scratch lasting d.scratch d)

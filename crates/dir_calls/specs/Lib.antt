@@ -1,5 +1,6 @@
 -- What a directory is, what each call does to it, and what a stop at any moment may leave.
 pub mod Calls
+pub mod Clearing
 pub mod Directory
 pub mod Entries
 pub mod Files
@@ -21,3 +22,4 @@ pub mod Replacing
 pub mod Same
 pub mod Stop
 pub mod Stored
+pub mod Torn

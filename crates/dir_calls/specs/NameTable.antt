@@ -44,7 +44,7 @@ push table change = record { settled = table.settled; pending = table.pending ++
 abbrev pub all_settled : NameTable → NameTable
 all_settled table = record { settled = current table; pending = [] }
 
--- the names after the first of the pending changes, as many as there may be
+-- the names at some moment since they were last settled: after the first of the pending changes, some or all or none
 pub record CanBeLeft (table : NameTable) (names : Names) : Type 0 where
   pub count : ℕ
   pub are : names ≡ after_changes table.settled (take count table.pending)

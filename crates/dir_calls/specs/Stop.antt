@@ -1,6 +1,6 @@
 -- What a stop leaves of a directory in memory, by a choice.
-use Rattle.std.specs.Prelude.{ℕ, true, ◌-◌, List, [], map, length, take, replicate, None, if◌then◌else◌}
-use Rattle.dir_calls.specs.NameTable.{NameTable, NameChange, after_changes}
+use Rattle.std.specs.Prelude.{ℕ, true, ◌-◌, List, [], ◌∷◌, map, length, take, replicate, None, if◌then◌else◌}
+use Rattle.dir_calls.specs.NameTable.{NameTable, NameChange, takes, puts, moves, after_changes}
 use Rattle.dir_calls.specs.Directory.{Directory, FileState}
 use Rattle.dir_calls.specs.declared.choice.Choice.{Choice}
 use Rattle.dir_calls.specs.declared.choice.Choice.TheVariants.{Kept, Empty, Junk}
@@ -25,3 +25,17 @@ stopped_names choice names = record { settled = after_changes names.settled (cho
 
 abbrev pub stopped : Choice → Directory → Directory
 stopped choice d = record { names = stopped_names choice d.names; files = map (stopped_file choice) d.files; scratch = None }
+
+-- what the changes put, without what they take away
+abbrev pub puts_of : List NameChange → List NameChange
+puts_of [] = []
+puts_of (takes name ∷ changes) = puts_of changes
+puts_of (puts name number ∷ changes) = puts name number ∷ puts_of changes
+puts_of (moves from to number ∷ changes) = puts to number ∷ puts_of changes
+
+abbrev pub torn_names : NameTable → NameTable
+torn_names names = record { settled = after_changes names.settled (puts_of names.pending); pending = [] }
+
+-- what a stop leaves that tears changes of names: each name that was put stands, and none is taken away
+abbrev pub torn : Directory → Directory
+torn d = record { names = torn_names d.names; files = map (stopped_file Junk) d.files; scratch = None }

@@ -1,12 +1,12 @@
 //! Copies of a directory in memory as a stop leaves it.
 ghost use Rattle.std.specs.Prelude.{◌≡◌, ◌≤◌, map, length, take, drop, IfOk};
-ghost use Rattle.dir_calls.specs.Entries.{change_of};
-ghost use Rattle.dir_calls.specs.Folder.{directory_of};
+ghost use Rattle.dir_calls.specs.Entries.{change_of, names_in};
+ghost use Rattle.dir_calls.specs.Folder.{directory_of, settled_directory};
 ghost use Rattle.dir_calls.specs.Stored.{file_of};
-ghost use Rattle.dir_calls.specs.Stop.{chosen_bytes, chosen_changes, stopped_file, stopped};
+ghost use Rattle.dir_calls.specs.Stop.{chosen_bytes, chosen_changes, stopped_file, stopped, torn};
 
 use crate::choice::Choice;
-use crate::entries::{after_edits, copied_names};
+use crate::entries::{Entry, after_edits, after_puts, copied_names};
 use crate::folder::Folder;
 use crate::stored::{Stored, close};
 use std::alloc::{AllocError, Global};
@@ -60,18 +60,36 @@ fn taken(folder: &Folder, choice: Choice) -> usize
     }
 }
 
+// A directory with these names, all of them settled, and no scratch file.
+fn settled_folder(alloc: Global, names: Vec<Entry>, files: Vec<Stored>) -> Result<Folder, AllocError>
+    ensures { IfOk result (λ left. directory_of left ≡ settled_directory (names_in names.items) (map file_of files.items)) }
+{
+    Ok(Folder {
+        origin: copied_names(alloc, &names)?,
+        edits: Vec::new(alloc),
+        settled: 0,
+        names,
+        files,
+        scratch: None,
+    })
+}
+
 /// The directory as a stop leaves it. Synced files share their bytes.
 pub fn stopped_folder(alloc: Global, folder: &Folder, choice: Choice) -> Result<Folder, AllocError>
     ensures { IfOk result (λ left. directory_of left ≡ stopped choice (directory_of folder.now)) }
 {
     let count = taken(folder, choice);
     let names = after_edits(alloc, &folder.origin, &folder.edits[..count])?;
-    Ok(Folder {
-        origin: copied_names(alloc, &names)?,
-        edits: Vec::new(alloc),
-        settled: 0,
-        names,
-        files: left_files(alloc, &folder.files, choice)?,
-        scratch: None,
-    })
+    let files = left_files(alloc, &folder.files, choice)?;
+    settled_folder(alloc, names, files)
+}
+
+/// The directory as a stop leaves it that tears changes of names. Synced files share their bytes.
+pub fn torn_folder(alloc: Global, folder: &Folder) -> Result<Folder, AllocError>
+    ensures { IfOk result (λ left. directory_of left ≡ torn (directory_of folder.now)) }
+{
+    let settled = after_edits(alloc, &folder.origin, &folder.edits[..folder.settled])?;
+    let names = after_puts(alloc, &settled, &folder.edits[folder.settled..])?;
+    let files = left_files(alloc, &folder.files, Choice::Junk)?;
+    settled_folder(alloc, names, files)
 }

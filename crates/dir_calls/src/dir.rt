@@ -87,7 +87,7 @@ pub trait Dir {
         ensures within { IsTrue honest → OnOk result
             (CallIncludes state moment left_since syncs self.old self.new) };
 
-    /// Moves one name onto another as one step. A name moved onto itself changes nothing.
+    /// Moves one name onto another. Where both stand for one file nothing changes, as for a name moved onto itself.
     fn rename(&mut self, alloc: Global, from: &Name, to: &Name) -> Result<(), DirFault>
         ensures does { IsTrue honest → DoesCall state (renames from.now to.now) self.old self.new result }
         ensures found { IsTrue honest → OnOk result (IsSome (number_of (state self.old) from.now)) }

@@ -151,7 +151,7 @@ impl Folder {
         self.settled = self.edits.len();
     }
 
-    /// Moves a name that stands for this number onto another.
+    /// Moves a name that stands for this number onto another, unless that stands for it too.
     pub fn rename(
         &mut self,
         alloc: Global,
@@ -163,7 +163,7 @@ impl Folder {
         ensures ok { OnOk result (directory_of self.new ≡ after (renames from.now to.now) (directory_of self.old)) }
         ensures err { OnErr result (directory_of self.new ≡ directory_of self.old) }
     {
-        if from == to {
+        if self.number(to) == Some(number) {
             return Ok(());
         }
         let names = with_name(alloc, &self.names, from, to, number)?;

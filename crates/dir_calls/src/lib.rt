@@ -9,6 +9,7 @@ pub mod fault;
 mod folder;
 pub mod fuse_dir;
 mod held;
+pub mod laws;
 pub mod mem_dir;
 pub mod name;
 pub mod replace;

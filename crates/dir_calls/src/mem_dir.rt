@@ -5,11 +5,11 @@ ghost use Rattle.dir_calls.specs.Methods.{AppendsSome, CallElapses, CallIncludes
 ghost use Rattle.dir_calls.specs.Moments.{CountsFault};
 ghost use Rattle.dir_calls.specs.Images.{IsImage};
 ghost use Rattle.dir_calls.specs.Folder.{directory_of, empty_directory};
-ghost use Rattle.dir_calls.specs.Stop.{stopped};
+ghost use Rattle.dir_calls.specs.Stop.{stopped, torn};
 ghost use Rattle.dir_calls.specs.Past.{LeftSince, past_call, left_now};
 ghost use Rattle.std.proofs.Common.{inl};
 
-use crate::crash::stopped_folder;
+use crate::crash::{stopped_folder, torn_folder};
 use crate::folder::Folder;
 use crate::{Choice, Dir, DirFault, MemFile, Name};
 use http_server::Log;
@@ -46,6 +46,18 @@ impl MemDir {
     {
         Ok(MemDir {
             folder: stopped_folder(alloc, &self.folder, choice)?,
+            past: Log::new(),
+        })
+    }
+
+    /// The directory that a stop now leaves which tears changes of names: each name that was put stands, and none is taken away, so that
+    /// after a rename both names stand for the file. Files that are not synced hold 255 in each byte.
+    pub fn crash_torn(&self, alloc: Global) -> Result<MemDir, AllocError>
+        ensures chosen { IfOk result (λ left. mem_state left ≡ torn (mem_state self.now)) }
+        ensures image { IfOk result (λ left. IsImage (mem_state self.now) (mem_state left)) }
+    {
+        Ok(MemDir {
+            folder: torn_folder(alloc, &self.folder)?,
             past: Log::new(),
         })
     }

@@ -2,15 +2,16 @@
 use Rattle.std.proofs.Common.{◌≡◌, ◌≢◌, ◌⊎◌, inl, inr, ⊎_elim, ℕ, zero, suc, ◌+◌, ◌≤◌, Bool, true, false, List, [], ◌∷◌, ◌++◌, length, refl, sym, ◌∙◌, subst, ap, append_assoc, length-append, arith}
 use Rattle.std.specs.Prelude.{slice_get, Option, Some, None, option_and_then, if◌then◌else◌}
 use Rattle.std.specs.Option.{option_map, ForSome}
-use Rattle.dir_calls.specs.NameTable.{NameTable, moves, push, same_name, all_settled}
+use Rattle.dir_calls.specs.NameTable.{NameTable, moves, push, all_settled}
 use Rattle.dir_calls.specs.Directory.{Directory, FileState, KeepsSynced, content, number_of, scratch_of}
 use Rattle.dir_calls.specs.Images.{IsImage}
-use Rattle.dir_calls.specs.Calls.{Call, makes, appends, renames, settles, after, closed, longer, moved, with_file, with_names, with_scratch, without}
+use Rattle.dir_calls.specs.Calls.{Call, makes, appends, renames, settles, after, closed, longer, is_number, moved, with_file, with_names, with_scratch, without}
 use Rattle.dir_calls.specs.Outcomes.{Fails, LeavesNames, LeftBy}
 use Rattle.dir_disk.specs.OsDir.{GivesUp, Holds, IsWritable, kept_back, shape}
 use Rattle.dir_disk.specs.DiskSteps.{AllOrNone}
 use Rattle.dir_disk.specs.KeptImages.{file_was, shape_of}
 use Rattle.dir_calls.proofs.FuseLemmas.{fails_idle}
+use Rattle.dir_calls.proofs.Renames.{moved_files}
 use Rattle.dir_calls.proofs.WithFiles.{changed, twice, names_kept}
 use Rattle.dir_disk.proofs.DiskWrites.{keeps_more}
 use Rattle.dir_disk.proofs.KeptWrites.{writable, kept_nowhere, closed_from, closed_into}
@@ -70,7 +71,8 @@ pick f (Some m) false d from to n = refl
 
 moved_with : (f : FileState → FileState) (s o : Option ℕ) (d : Directory) (from to : List ℕ) → with_scratch f s (moved d from to o) ≡ moved (with_scratch f s d) from to o
 moved_with f s None d from to = refl
-moved_with f s (Some n) d from to = pick f s (same_name from to) d from to n
+moved_with f None (Some n) d from to = refl
+moved_with f (Some m) (Some n) d from to = pick f (Some m) (is_number n (number_of d to)) d from to n
 
 picked : (t : Bool) (d : Directory) (names : NameTable) → (if t then d else with_names d names).scratch ≡ d.scratch
 picked true d names = refl
@@ -78,7 +80,7 @@ picked false d names = refl
 
 pub moved_scratch : (d : Directory) (from to : List ℕ) (o : Option ℕ) → (moved d from to o).scratch ≡ d.scratch
 moved_scratch d from to None = refl
-moved_scratch d from to (Some n) = picked (same_name from to) d (push d.names (moves from to n))
+moved_scratch d from to (Some n) = picked (is_number n (number_of d to)) d (push d.names (moves from to n))
 
 pub number_with : (f : FileState → FileState) (s : Option ℕ) (d : Directory) (name : List ℕ) → number_of (with_scratch f s d) name ≡ number_of d name
 number_with f None d name = refl
@@ -95,20 +97,12 @@ fails_renamed d e from to pending (inl same) = subst (λ (x : Directory). Fails 
 fails_renamed d e from to pending (inr done) =
     subst (λ (x : Directory). Fails (renames from to) (kept_back pending d) x) (sym (ap (kept_back pending) done ∙ kept_renamed d from to pending)) (whole (kept_back pending d))
   where
-    files : (k : Directory) (o : Option ℕ) → (moved k from to o).files ≡ k.files
-    files k None = refl
-    files k (Some n) = either (same_name from to) k (push k.names (moves from to n))
-      where
-        either : (t : Bool) (k : Directory) (names : NameTable) → (if t then k else with_names k names).files ≡ k.files
-        either true k names = refl
-        either false k names = refl
-
     whole : (k : Directory) → Fails (renames from to) k (after (renames from to) k)
-    whole k = record { names = (after (renames from to) k, inr refl, refl); files = record { each = λ number file there synced. ap (λ (l : List FileState). slice_get l number) (files k (number_of k from)) ∙ there } }
+    whole k = record { names = (after (renames from to) k, inr refl, refl); files = record { each = λ number file there synced. ap (λ (l : List FileState). slice_get l number) (moved_files k from to (number_of k from)) ∙ there } }
 
 pub moved_holds : {H : Type 0} (number : H → ℕ) (d : Directory) (from to : List ℕ) (o : Option ℕ) (scratch : Option H) (written : ℕ) → Holds number d scratch written → Holds number (moved d from to o) scratch written
 moved_holds number d from to None scratch written holds = holds
-moved_holds number d from to (Some n) scratch written holds = either (same_name from to) (push d.names (moves from to n))
+moved_holds number d from to (Some n) scratch written holds = either (is_number n (number_of d to)) (push d.names (moves from to n))
   where
     either : (t : Bool) (names : NameTable) → Holds number (if t then d else with_names d names) scratch written
     either true names = holds

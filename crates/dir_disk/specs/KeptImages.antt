@@ -2,6 +2,7 @@
 use Rattle.std.proofs.Common.{◌≡◌, ◌⊎◌, inl, inr, ⊎_elim, ℕ, zero, suc, Bool, false, List, [], ◌∷◌, length, refl, sym, ◌∙◌, subst, ap}
 use Rattle.std.specs.Prelude.{true, slice_get, Option, Some, None}
 use Rattle.std.specs.Option.{option_map}
+use Rattle.dir_calls.specs.NameTable.{NameTable}
 use Rattle.dir_calls.specs.Directory.{Directory, FileState}
 use Rattle.dir_calls.specs.Images.{IsLeftOf, IsImage}
 use Rattle.dir_calls.specs.Calls.{with_file, with_scratch, longer}
@@ -33,8 +34,8 @@ count_with change (suc n) (f ∷ files) = ap suc (count_with change n files)
 pub record KeepsOpen (change : FileState → FileState) (number : ℕ) (files : List FileState) : Type 0 where
   pub each : (file : FileState) → slice_get files number ≡ Some file → (file.synced ≡ false) × ((change file).synced ≡ false)
 
-any_left : (was left : FileState) → was.synced ≡ false → left.synced ≡ true → IsLeftOf was left
-any_left was left is synced = record { bytes = λ old. absurd (cc); synced = synced }
+any_left : (table : NameTable) (number : ℕ) (was left : FileState) → was.synced ≡ false → left.synced ≡ true → IsLeftOf table number was left
+any_left table number was left is synced = record { bytes = λ named old. absurd (cc); synced = synced }
 
 pub image_with : (change : FileState → FileState) (number : ℕ) (d image : Directory) → KeepsOpen change number d.files → IsImage d image → IsImage (with_scratch change (Some number) d) image
 image_with change number d image keeps is = record {
@@ -45,10 +46,10 @@ image_with change number d image keeps is = record {
   no_scratch = is.no_scratch;
 }
   where
-    left : (m : ℕ) (now : FileState) → m ≡ number → (file : FileState) → slice_get d.files number ≡ Some file → now ≡ change file → (left : FileState) × (slice_get image.files m ≡ Some left) × IsLeftOf now left
+    left : (m : ℕ) (now : FileState) → m ≡ number → (file : FileState) → slice_get d.files number ≡ Some file → now ≡ change file → (left : FileState) × (slice_get image.files m ≡ Some left) × IsLeftOf d.names m now left
     left m now same file there changed =
         let was = is.files number file there in
-        (was.0, ap (slice_get image.files) same ∙ was.1, any_left now was.0 (ap (λ (f : FileState). f.synced) changed ∙ (keeps.each file there).1) was.2.synced)
+        (was.0, ap (slice_get image.files) same ∙ was.1, any_left d.names m now was.0 (ap (λ (f : FileState). f.synced) changed ∙ (keeps.each file there).1) was.2.synced)
 
 pub image_without : (change : FileState → FileState) (number : ℕ) (d image : Directory) → KeepsOpen change number d.files → IsImage (with_scratch change (Some number) d) image → IsImage d image
 image_without change number d image keeps is = record {
@@ -59,10 +60,10 @@ image_without change number d image keeps is = record {
   no_scratch = is.no_scratch;
 }
   where
-    left : (m : ℕ) (file : FileState) → m ≡ number → slice_get d.files m ≡ Some file → slice_get (with_file change number d.files) m ≡ Some (change file) → (left : FileState) × (slice_get image.files m ≡ Some left) × IsLeftOf file left
+    left : (m : ℕ) (file : FileState) → m ≡ number → slice_get d.files m ≡ Some file → slice_get (with_file change number d.files) m ≡ Some (change file) → (left : FileState) × (slice_get image.files m ≡ Some left) × IsLeftOf d.names m file left
     left m file same there now =
         let was = is.files m (change file) now in
-        (was.0, was.1, any_left file was.0 (keeps.each file (ap (slice_get d.files) (sym same) ∙ there)).0 was.2.synced)
+        (was.0, was.1, any_left d.names m file was.0 (keeps.each file (ap (slice_get d.files) (sym same) ∙ there)).0 was.2.synced)
 
 -- what a file is whose shape is known
 pub shape_of : (files : List FileState) (number count : ℕ) (file : FileState) → option_map shape (slice_get files number) ≡ Some (count, false) → slice_get files number ≡ Some file

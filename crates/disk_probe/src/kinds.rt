@@ -1,5 +1,5 @@
 //! The commands that directories of one kind take: `crash CHOICE NAME` shows what a stop leaves under a name, `stop CHOICE` goes on with what
-//! a stop leaves; a directory over a disk takes `remove NAME` and `calls` too.
+//! a stop leaves, where a choice may be `torn` too; a directory over a disk takes `remove NAME` and `calls`.
 use crate::commands::{OwnCommands, Words, name_of, show_name};
 use crate::test_disk::TestDisk;
 use dir_calls::{Choice, Dir, DirFault, FuseDir, MemDir};
@@ -17,13 +17,16 @@ fn choice_of(word: &str) -> Option<Choice> {
     }
 }
 
-/// The directory that a stop leaves, or adds why there is none.
+/// The directory that a stop leaves, by a choice or torn, or adds why there is none.
 fn stopped(alloc: Global, dir: &MemDir, words: &Words<'_>, out: &mut Answer) -> Option<MemDir> {
-    let Some(choice) = choice_of(words.first) else {
-        out.fail();
-        return None;
+    let left = match (words.first, choice_of(words.first)) {
+        ("torn", _) => dir.crash_torn(alloc),
+        (_, Some(choice)) => dir.crash(alloc, choice),
+        _ => {
+            out.fail();
+            return None;
+        }
     };
-    let left = dir.crash(alloc, choice);
     if left.is_err() {
         out.show_line(&DirFault::OutOfMemory);
     }

@@ -247,13 +247,15 @@ impl TestDisk {
         self.answered(met, ())
     }
 
-    // Moves a name.
+    // Moves a name, unless the other stands for the same file.
     fn move_name(&mut self, from: &str, to: &str) -> io::Result<()> {
         let met = self.met()?;
         let number = self.number_of(from)?;
-        self.forget(from);
-        self.forget(to);
-        add_name(self.alloc, &mut self.names, to, number)?;
+        if self.number_of(to).ok() != Some(number) {
+            self.forget(from);
+            self.forget(to);
+            add_name(self.alloc, &mut self.names, to, number)?;
+        }
         self.answered(met, ())
     }
 

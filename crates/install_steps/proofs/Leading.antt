@@ -107,7 +107,7 @@ module _ (w : World) (s t : Installing) (d e : Directory) (at : IsUnderWay w s d
       } in
       let step : Step w (Stepped Fresh) v = record {
         table = stepped (follows_to Fresh next);
-        moves = (s.rules, s.names.tmp, may.consistent.known, scratch_name s w.rules at.missing at.rules may.consistent.names, refl);
+        moves = (s.rules, s.names.tmp, makes s.names.tmp, may.consistent.known, scratch_name s w.rules at.missing at.rules may.consistent.names, inl refl, refl);
       } in
       (v, step, goes_on w s t d e at same v (length w.accepted) (moved call (makes s.names.tmp) is does) refl refl (sym reached))
 

@@ -1,5 +1,5 @@
 -- The next step of an installation is one that its world may take.
-use Rattle.std.proofs.Common.{◌≡◌, ◌≢◌, Bool, true, false, List, ℕ, refl, sym, ◌∙◌, ap, subst}
+use Rattle.std.proofs.Common.{◌≡◌, ◌≢◌, inl, Bool, true, false, List, ℕ, refl, sym, ◌∙◌, ap, subst}
 use Rattle.std.specs.Prelude.{Option, None, Some}
 use Rattle.dir_calls.specs.Calls.{Call}
 use Rattle.dir_calls.specs.Directory.{Directory}
@@ -40,7 +40,7 @@ scratch_name s rules missing ruled differ =
 
 calls_at : (w : World) (s : Installing) (missing : Missing) (reached : Option Phase) (patched : Bool) → w.rules ≡ Some (rules_named s.names missing) → s.names.cdb ≢ s.names.tmp → reached ≢ Some Done → HasReached w s reached
     → (call : Call) → IsCallOf s (next_of reached patched) call → IsCallTo (next_of reached patched) w.under_way w.rules call
-calls_at w s missing None patched ruled differ undone has call is = (s.names.tmp, scratch_name s w.rules missing ruled differ, is)
+calls_at w s missing None patched ruled differ undone has call is = (s.names.tmp, scratch_name s w.rules missing ruled differ, inl is)
 calls_at w s missing (Some Fresh) true ruled differ undone has call is = call_into Synced w.under_way w.rules _ _ call has.under_way ruled is
 calls_at w s missing (Some Fresh) false ruled differ undone has call is = call_into Filling w.under_way w.rules _ _ call has.under_way ruled is
 calls_at w s missing (Some Filling) true ruled differ undone has call is = call_into Synced w.under_way w.rules _ _ call has.under_way ruled is

@@ -8,6 +8,7 @@ use Rattle.dir_calls.specs.Calls.{makes, syncs, renames, settles, after, lasting
 use Rattle.dir_calls.specs.Lasting.{StandsFor, LastsAmong}
 use Rattle.dir_calls.proofs.NamesOf.{get-insert_same, same_name-other}
 use Rattle.dir_calls.proofs.NameTables.{current-push, left_settled}
+use Rattle.dir_calls.proofs.Renames.{moved_file}
 use Rattle.rule_lines.specs.Pairs.{Rule}
 use Rattle.rules_install.specs.declared.Phase.{Phase}
 use Rattle.rules_install.specs.declared.Phase.TheVariants.{Fresh, Filling, Synced, Named, Done}
@@ -114,21 +115,8 @@ synced_has s d next fits = subst (λ reached. FitsPhase s d reached) (named_next
 pub has_name : (s : Installing) (d : Directory) → next_phase s ≡ Named → FitsPhase s d s.reached → number_of d s.names.tmp ≡ None → ⊥
 has_name s d next fits none = has_number d.files (number_of d s.names.tmp) _ (synced_has s d next fits) none
 
-pub rename_fits : (d : Directory) (from to : List ℕ) (file : FileState) → to ≢ from → file_at d from ≡ Some file → file_at (after (renames from to) d) to ≡ Some file
-rename_fits d from to file differ has =
-    ap (λ (e : Directory). file_at e to) moved_is
-    ∙ ap (λ (m : Names). option_and_then (λ n. slice_get d.files n) (get m to)) (current-push d.names (moves from to at.n))
-    ∙ ap (option_and_then (λ n. slice_get d.files n)) (get-insert_same (remove (names_of d) from) to at.n)
-    ∙ at.there
-  where
-    at : Numbered d.files (number_of d from) file
-    at = numbered d.files (number_of d from) file has
-
-    new : Directory
-    new = with_names d (push d.names (moves from to at.n))
-
-    moved_is : after (renames from to) d ≡ new
-    moved_is = ap (moved d from to) at.is ∙ ap (λ (s : Bool). if s then d else new) (same_name-other from to (λ same. differ (sym same)))
+pub rename_fits : (d : Directory) (from to : List ℕ) (file : FileState) → file_at d from ≡ Some file → file_at (after (renames from to) d) to ≡ Some file
+rename_fits d from to file has = let at = numbered d.files (number_of d from) file has in moved_file d from to at.n at.is ∙ at.there
 
 -- ---- the names are settled
 

@@ -2,6 +2,7 @@
 ghost use Rattle.std.specs.Prelude.{◌≡◌, ◌⊎◌, ◌<◌, ◌^◌, ◌-◌, ◌+◌, IsTrue, false, None, Option, IsSome, IfOk, IfErr, IfSome, OnOk, take};
 ghost use Rattle.dir_calls.specs.Names.{name_fault};
 ghost use Rattle.dir_calls.specs.Replacing.{KeepsWhatLasts};
+ghost use Rattle.dir_calls.specs.Clearing.{IsClear};
 ghost use Rattle.dir_disk.specs.OsParts.{os_left_since, os_moment, os_state};
 ghost use Rattle.rules_install.specs.Installs.{installing};
 ghost use Rattle.rules_install.specs.ParseFaults.{of_parse};
@@ -12,7 +13,7 @@ ghost use Rattle.rules_tools.specs.declared.tcprules.TcprulesFault.TheVariants.{
 use crate::cause::{Cause, CauseOf};
 use crate::path::{folder_path, split_path};
 use crate::turn::{NoTurn, take_turn};
-use dir_calls::{Name, NameFault};
+use dir_calls::{Dir, DirFault, Name, NameFault};
 use dir_disk::{Disk, DiskDir, FolderError, FolderFault, OsDir};
 use fault_causes::Noted;
 use rule_lines::{Limits, LineFault, LineKind, ParseFault, RuleList, parse_owned};
@@ -216,7 +217,7 @@ fn install_in<S: Files<File = File>>(
 ) -> Result<(), RulesFailure>
     requires { (installing install.old).over ≡ false }
 {
-    match finish(alloc, dir, install) {
+    match install_over(alloc, dir, install, names) {
         Ok(()) => Ok(()),
         Err(fault) => {
             let mut cause = None;
@@ -230,6 +231,37 @@ fn install_in<S: Files<File = File>>(
             })
         }
     }
+}
+
+/// Clears the folder, and installs what was compiled. A fault of the clearing is one on the way to `Fresh`.
+fn install_over<S: Files<File = File>>(
+    alloc: Global,
+    dir: &mut OsDir<&S>,
+    install: &mut Install,
+    names: &Names,
+) -> Result<(), InstallFault>
+    requires { (installing install.old).over ≡ false }
+{
+    if let Err(fault) = clear_folder(dir, names) {
+        return Err(InstallFault::Disk(fault, Phase::Fresh));
+    }
+    finish(alloc, dir, install)
+}
+
+/// Takes away what a `tcprules` that was killed left under the scratch name, and makes all changes of names lasting, so that no installation
+/// begins over pending ones: what stood under the name of the rules file may be overwritten on the disk only once that name is gone for good.
+/// What lasts under the name of the rules file lasts there, and stands there whenever the machine stops meanwhile.
+///
+/// # Errors
+/// `Device`, and then changes of names may still be pending.
+pub fn clear_folder<D: Disk + Drop>(dir: &mut DiskDir<D>, names: &Names) -> Result<(), DirFault>
+    ensures clear { IsTrue D.honest → OnOk result (IsClear names.now.tmp (os_state D.state dir.new)) }
+    ensures stays { IsTrue D.honest → KeepsWhatLasts (os_state D.state) (os_moment D.moment)
+        (os_left_since D.left_since) names.now.cdb dir.old dir.new }
+    ensures faults { IfErr result (λ fault. fault ≡ DirFault.Device) }
+{
+    dir.remove(names.tmp())?;
+    dir.settle()
 }
 
 /// Takes what stands under the scratch name away, as well as that can be done: a fault of that is told to nobody. What lasts under the name of

@@ -27,7 +27,7 @@ Reads-empty {Y} readers empty name =
 pub Reads-content : (d : Directory) (text : Option (List ℕ)) → Shows (names_of d) d.files text → Reads (content d (sim_names.cdb)) text
 Reads-content d None shows =
     subst (λ (o : Option ℕ). Reads (option_map (λ (f : FileState). f.bytes) (option_and_then (λ number. slice_get d.files number) o)) None) (sym shows) tt
-Reads-content d (Some text) (file, stands, is) =
+Reads-content d (Some text) (file, stands, is, other) =
     subst (λ (o : Option FileState). Reads (option_map (λ (f : FileState). f.bytes) o) (Some text)) (sym stands) is
 
 -- what is made of a file, if there is one, is that file

@@ -1,20 +1,21 @@
 -- What the calls of a directory, and a stop, do to the texts that stand there.
-use Rattle.std.proofs.Common.{◌≡◌, ◌≢◌, inl, inr, ℕ, ◌-◌, true, List, [], ◌∷◌, ◌++◌, length, take, refl, sym, ◌∙◌, ap, subst, arith}
+use Rattle.std.proofs.Common.{◌≡◌, ◌≢◌, ◌⊎◌, inl, inr, ⊎_elim, Bool, ℕ, ◌-◌, true, false, List, [], ◌∷◌, ◌++◌, length, take, refl, sym, ◌∙◌, ap, subst, arith}
 use Rattle.std.specs.Prelude.{slice_get, map, Option, None, Some, option_and_then, if◌then◌else◌}
 use Rattle.std.specs.Option.{option_map}
 use Rattle.std.specs.FinMap.{get, remove}
 use Rattle.std.proofs.lemmas.List.{length-append, take_all, take-append-le}
 use Rattle.std.proofs.lemmas.List.Sums.{fold-append}
-use Rattle.std.proofs.lemmas.Option.{slice_get-map}
+use Rattle.std.proofs.lemmas.Option.{slice_get-map, slice_get_within}
 use Rattle.dir_calls.specs.declared.choice.Choice.{Choice}
 use Rattle.dir_calls.specs.declared.choice.Choice.TheVariants.{Kept, Empty, Junk}
 use Rattle.dir_calls.specs.NameTable.{Names, NameTable, NameChange, takes, puts, moves, after_change as names_after, after_changes, current, push}
 use Rattle.dir_calls.specs.Directory.{Directory, FileState, KeepsSynced, names_of, number_of, file_at}
-use Rattle.dir_calls.specs.Calls.{Call, makes, appends, patches, syncs, renames, settles, after, lasting, longer, patched, taken_from, with_scratch, with_names, moved}
+use Rattle.dir_calls.specs.Calls.{Call, makes, appends, patches, syncs, renames, settles, after, lasting, longer, patched, taken_from, with_scratch, with_names, is_number, moved}
 use Rattle.dir_calls.specs.Stop.{chosen_bytes, chosen_changes, stopped_file, stopped as after_stop}
 use Rattle.dir_calls.proofs.Lasting.{after_keeps}
-use Rattle.dir_calls.proofs.NamesOf.{get-remove_other, get-insert_same, get-insert_other, same_name-other}
+use Rattle.dir_calls.proofs.NamesOf.{get-remove_other, get-insert_same, get-insert_other, get-remove_same}
 use Rattle.dir_calls.proofs.NameTables.{current-push}
+use Rattle.dir_calls.proofs.Renames.{number_is}
 use Rattle.rules_install.specs.Filled.{whole_file}
 use Rattle.rules_install.specs.Installing.{Installing, synced_file}
 use Rattle.rules_install.specs.Steps.{IsCallOf}
@@ -35,13 +36,44 @@ shows_kept : (names : Names) (files later : List FileState) (text : Option (List
 shows_kept names files later None keeps shows = shows
 shows_kept names files later (Some text) keeps shows =
     let at = numbered files (get names (sim_names.cdb)) _ shows.1 in
-    (shows.0, ap (option_and_then (λ n. slice_get later n)) at.is ∙ keeps.each at.n _ at.there refl, shows.2)
+    (shows.0, ap (option_and_then (λ n. slice_get later n)) at.is ∙ keeps.each at.n _ at.there refl, shows.2, shows.3)
 
--- names that agree at the rules file's show the same
-shows_same : (names other : Names) (files : List FileState) (text : Option (List ℕ)) → get other (sim_names.cdb) ≡ get names (sim_names.cdb) → Shows names files text → Shows other files text
-shows_same names other files None same shows = same ∙ shows
-shows_same names other files (Some text) same shows =
-    (shows.0, ap (option_and_then (λ n. slice_get files n)) same ∙ shows.1, shows.2)
+-- the scratch file's name stands for the file that it stood for, or for none
+abbrev HasTmpOf : Names → Names → Type 0
+HasTmpOf names other = (get other (sim_names.tmp) ≡ get names (sim_names.tmp)) ⊎ (get other (sim_names.tmp) ≡ None)
+
+-- names that agree at the rules file's, and at the scratch file's or have none, show the same
+shows_same : (names other : Names) (files : List FileState) (text : Option (List ℕ)) → get other (sim_names.cdb) ≡ get names (sim_names.cdb) → HasTmpOf names other → Shows names files text → Shows other files text
+shows_same names other files None same tmp shows = same ∙ shows
+shows_same names other files (Some text) same tmp shows =
+    (shows.0, ap (option_and_then (λ n. slice_get files n)) same ∙ shows.1, shows.2, λ one. ⊎_elim (λ there. shows.3 (sym same ∙ one ∙ there)) (λ none. absurd (some_none (sym at.is ∙ sym same ∙ one ∙ none))) tmp)
+  where
+    at : Numbered files (get names (sim_names.cdb)) (record { bytes = shows.0; synced = true })
+    at = numbered files (get names (sim_names.cdb)) _ shows.1
+
+    some_none : ◌≡◌ {A = Option ℕ} (Some at.n) None → ⊥
+    some_none is = cc
+
+-- a scratch file's name for a new file
+shows_fresh : (names other : Names) (files : List FileState) (text : Option (List ℕ)) → get other (sim_names.cdb) ≡ get names (sim_names.cdb) → get other (sim_names.tmp) ≡ Some (length files) → Shows names files text → Shows other files text
+shows_fresh names other files None same tmp shows = same ∙ shows
+shows_fresh names other files (Some text) same tmp shows =
+    (shows.0, ap (option_and_then (λ n. slice_get files n)) same ∙ shows.1, shows.2, λ one. newer (sym at.is ∙ sym same ∙ one ∙ tmp))
+  where
+    at : Numbered files (get names (sim_names.cdb)) (record { bytes = shows.0; synced = true })
+    at = numbered files (get names (sim_names.cdb)) _ shows.1
+
+    newer : ◌≡◌ {A = Option ℕ} (Some at.n) (Some (length files)) → ⊥
+    newer is = let same : at.n ≡ length files = cc in omega (arith, same, slice_get_within files at.n _ at.there)
+
+-- so the rules file's name is none for the scratch file
+two_files : (names : Names) (files : List FileState) (text : Option (List ℕ)) (n : ℕ) → Shows names files text → get names (sim_names.tmp) ≡ Some n → is_number n (get names (sim_names.cdb)) ≡ false
+two_files names files None n shows tmp = ap (is_number n) shows
+two_files names files (Some text) n shows tmp = by (is_number n (get names (sim_names.cdb))) refl
+  where
+    by : (same : Bool) → same ≡ is_number n (get names (sim_names.cdb)) → is_number n (get names (sim_names.cdb)) ≡ false
+    by true is = absurd (shows.3 (number_is n (get names (sim_names.cdb)) (sym is) ∙ sym tmp))
+    by false is = sym is
 
 -- ---- files alone are changed
 
@@ -73,7 +105,7 @@ with_change change t = record { standing = after_change t.standing change; settl
 
 -- the names so far show what they did, and the last change makes them show what the change of texts makes of it
 module _ (d : Directory) (base : NameTable) (last : NameChange) (files : List FileState) (t : Texts) (change : Change) (settled : base.settled ≡ d.names.settled)
-    (same : get (current base) (sim_names.cdb) ≡ get (names_of d) (sim_names.cdb)) (keeps : KeepsSynced d.files files)
+    (same : get (current base) (sim_names.cdb) ≡ get (names_of d) (sim_names.cdb)) (tmp : HasTmpOf (names_of d) (current base)) (keeps : KeepsSynced d.files files)
     (shown : (text : Option (List ℕ)) → Shows (names_of d) d.files text → Shows (names_after (current base) last) files (after_change text change)) (has : HasTexts d t) where
   left_more : (choice : Choice) → Shows (after_changes base.settled (chosen_changes choice (base.pending ++ last ∷ []))) files (left_by choice (with_change change t))
   left_more Kept =
@@ -84,7 +116,7 @@ module _ (d : Directory) (base : NameTable) (last : NameChange) (files : List Fi
   left_more Junk =
       subst (λ (l : List NameChange). Shows (after_changes base.settled l) files (left_by Junk (with_change change t))) (sym (all_but_last base.pending last))
       (subst (λ (l : List Change). Shows (current base) files (left_by Kept (record { standing = t.standing; settled = t.settled; changes = l }))) (sym (all_but_last t.changes change))
-      (shows_same (names_of d) (current base) files (left_by Kept t) same (shows_kept (names_of d) d.files files (left_by Kept t) keeps (has.left Kept))))
+      (shows_same (names_of d) (current base) files (left_by Kept t) same tmp (shows_kept (names_of d) d.files files (left_by Kept t) keeps (has.left Kept))))
 
   changed_once : (scratch : Option ℕ) → HasTexts (record { names = push base last; files = files; scratch = scratch }) (with_change change t)
   changed_once scratch = record {
@@ -97,20 +129,22 @@ module _ (d : Directory) (base : NameTable) (last : NameChange) (files : List Fi
 -- the names without the scratch file's
 untaken : (table : NameTable) (number : Option ℕ) → ((taken_from table (sim_names.tmp) number).settled ≡ table.settled)
     × (get (current (taken_from table (sim_names.tmp) number)) (sim_names.cdb) ≡ get (current table) (sim_names.cdb))
-untaken table None = (refl, refl)
+    × HasTmpOf (current table) (current (taken_from table (sim_names.tmp) number))
+untaken table None = (refl, refl, inl refl)
 untaken table (Some number) = (
   refl,
   ap (λ (n : Names). get n (sim_names.cdb)) (current-push table (takes (sim_names.tmp))) ∙ get-remove_other (current table) (sim_names.cdb) (sim_names.tmp) apart,
+  inr (ap (λ (n : Names). get n (sim_names.tmp)) (current-push table (takes (sim_names.tmp))) ∙ get-remove_same (current table) (sim_names.tmp)),
 )
 
 makes_texts : (d : Directory) (t : Texts) → HasTexts d t → HasTexts (after (makes (sim_names.tmp)) d) (changed None t)
 makes_texts d t has =
-    changed_once d base (puts (sim_names.tmp) (length d.files)) _ t None less.0 less.1 keeps shown has (Some (length d.files))
+    changed_once d base (puts (sim_names.tmp) (length d.files)) _ t None less.0 less.1 less.2 keeps shown has (Some (length d.files))
   where
     base : NameTable
     base = taken_from d.names (sim_names.tmp) (number_of d (sim_names.tmp))
 
-    less : (base.settled ≡ d.names.settled) × (get (current base) (sim_names.cdb) ≡ get (names_of d) (sim_names.cdb))
+    less : (base.settled ≡ d.names.settled) × (get (current base) (sim_names.cdb) ≡ get (names_of d) (sim_names.cdb)) × HasTmpOf (names_of d) (current base)
     less = untaken d.names (number_of d (sim_names.tmp))
 
     keeps : KeepsSynced d.files (after (makes (sim_names.tmp)) d).files
@@ -118,14 +152,14 @@ makes_texts d t has =
 
     shown : (text : Option (List ℕ)) → Shows (names_of d) d.files text → Shows (names_after (current base) (puts (sim_names.tmp) (length d.files))) (after (makes (sim_names.tmp)) d).files text
     shown text shows =
-        shows_same (names_of d) _ _ text (get-insert_other (current base) (sim_names.cdb) (sim_names.tmp) (length d.files) apart ∙ less.1)
-        (shows_kept (names_of d) d.files _ text keeps shows)
+        shows_kept _ d.files _ text keeps
+        (shows_fresh (names_of d) _ d.files text (get-insert_other (current base) (sim_names.cdb) (sim_names.tmp) (length d.files) apart ∙ less.1) (get-insert_same (current base) (sim_names.tmp) (length d.files)) shows)
 
 -- ---- it is moved onto the name of the rules file
 
 renames_texts : (d : Directory) (t : Texts) (text file : List ℕ) → file_at d (sim_names.tmp) ≡ Some (record { bytes = file; synced = true }) → IsFileOf text file → HasTexts d t
     → HasTexts (after (renames (sim_names.tmp) (sim_names.cdb)) d) (at_phase text t Named)
-renames_texts d t text file there is has = subst (λ e. HasTexts e (at_phase text t Named)) (sym moved_is) (changed_once d d.names last d.files t (Some text) refl refl (record { each = λ n file is synced. is }) shown has d.scratch)
+renames_texts d t text file there is has = subst (λ e. HasTexts e (at_phase text t Named)) (sym moved_is) (changed_once d d.names last d.files t (Some text) refl refl (inl refl) (record { each = λ n file is synced. is }) shown has d.scratch)
   where
     at : Numbered d.files (number_of d (sim_names.tmp)) (record { bytes = file; synced = true })
     at = numbered d.files (number_of d (sim_names.tmp)) _ there
@@ -138,11 +172,20 @@ renames_texts d t text file there is has = subst (λ e. HasTexts e (at_phase tex
 
     moved_is : after (renames (sim_names.tmp) (sim_names.cdb)) d ≡ new
     moved_is =
-        ap (moved d (sim_names.tmp) (sim_names.cdb)) at.is ∙ ap (λ s. if s then d else new) (same_name-other (sim_names.tmp) (sim_names.cdb) (λ same. apart (sym same)))
+        ap (moved d (sim_names.tmp) (sim_names.cdb)) at.is ∙ ap (λ s. if s then d else new) (two_files (names_of d) d.files t.standing at.n has.standing at.is)
 
     shown : (old : Option (List ℕ)) → Shows (names_of d) d.files old → Shows (names_after (names_of d) last) d.files (Some text)
     shown old shows =
-        (file, ap (option_and_then (λ n. slice_get d.files n)) (get-insert_same (remove (names_of d) (sim_names.tmp)) (sim_names.cdb) at.n) ∙ at.there, is)
+        (file, ap (option_and_then (λ n. slice_get d.files n)) cdb ∙ at.there, is, λ one. absurd (some_none (sym cdb ∙ one ∙ tmp)))
+      where
+        some_none : ◌≡◌ {A = Option ℕ} (Some at.n) None → ⊥
+        some_none is = cc
+
+        cdb : get (names_after (names_of d) last) (sim_names.cdb) ≡ Some at.n
+        cdb = get-insert_same (remove (names_of d) (sim_names.tmp)) (sim_names.cdb) at.n
+
+        tmp : get (names_after (names_of d) last) (sim_names.tmp) ≡ None
+        tmp = get-insert_other (remove (names_of d) (sim_names.tmp)) (sim_names.tmp) (sim_names.cdb) at.n (λ same. apart (sym same)) ∙ get-remove_same (names_of d) (sim_names.tmp)
 
 -- ---- the names are settled, or the machine stops
 

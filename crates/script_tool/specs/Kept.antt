@@ -1,5 +1,5 @@
 -- How the state of a run of `rulesim` is kept: in a directory in memory, and in files that are compiled of the texts.
-use Rattle.std.specs.Prelude.{◌≡◌, ℕ, ◌+◌, ◌-◌, ◌<◌, true, false, List, Option, Some, None, codes}
+use Rattle.std.specs.Prelude.{◌≡◌, ◌≢◌, ℕ, ◌+◌, ◌-◌, ◌<◌, true, false, List, Option, Some, None, codes}
 use Rattle.std.specs.FinMap.{get}
 use Rattle.std.specs.BTreeMap.{get_by_text}
 use Rattle.dir_calls.specs.declared.choice.Choice.{Choice}
@@ -29,11 +29,13 @@ pub record IsFileOf (text file : List ℕ) : Type 0 where
   pub compiled : Compiled file text
   pub accepted : IsAccepted profile text
 
--- where these are the names, a synced file of this text stands under the name of the rules file, or nothing does
+-- where these are the names, a synced file of this text stands under the name of the rules file, which is not the one under the scratch
+-- file's name, or nothing does
 abbrev pub Shows : Names → List FileState → Option (List ℕ) → Type 0
 Shows names files None = get names (sim_names.cdb) ≡ None
 Shows names files (Some text) =
     (file : List ℕ) × (file_among names files (sim_names.cdb) ≡ Some (record { bytes = file; synced = true })) × IsFileOf text file
+    × (get names (sim_names.cdb) ≢ get names (sim_names.tmp))
 
 -- a directory has the text that stands, and those that stops leave
 pub record HasTexts (d : Directory) (t : Texts) : Type 0 where

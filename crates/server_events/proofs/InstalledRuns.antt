@@ -16,6 +16,7 @@ use Rattle.dir_calls.specs.Replacing.{HasSynced}
 use Rattle.dir_calls.proofs.Lasting.{image_has, settled_lasts}
 use Rattle.dir_calls.proofs.NamesOf.{get-insert_same, same_name-other}
 use Rattle.dir_calls.proofs.NameTables.{current-push}
+use Rattle.dir_calls.proofs.Renames.{moved_file}
 use Rattle.dir_calls.proofs.Replacing.{written}
 use Rattle.dir_calls.proofs.Scratches.{appended_is}
 use Rattle.rule_lines.specs.Pairs.{Rule}
@@ -73,7 +74,7 @@ module _ (r : RulesName) (tmp : List ℕ) (other : tmp ≢ r.name) where
       let with_synced : World = world_at r (synced_dir tmp file d) (in_phase server Synced) texts least (Some u) kept in
       let with_name : World = world_at r (named_dir tmp r.name file d) (in_phase server Named) texts least (Some u) kept in
       let whole : FileState = record { bytes = file; synced = false } in
-      let makes_it : Step before (Stepped Fresh) with_file = record { table = is_step server (Stepped Fresh) refl; moves = (rules, tmp, is.are, other, refl) } in
+      let makes_it : Step before (Stepped Fresh) with_file = record { table = is_step server (Stepped Fresh) refl; moves = (rules, tmp, makes tmp, is.are, other, inl refl, refl) } in
       let fills_it : Step with_file (Stepped Filling) with_bytes = record { table = is_step (in_phase server Fresh) (Stepped Filling) refl; moves = (appends file, inl (file, refl), refl) } in
       let syncs_it : Step with_bytes (Stepped Synced) with_synced = record { table = is_step (in_phase server Filling) (Stepped Synced) refl; moves = (u, refl, refl, (whole, appended_is d tmp file, is), refl) } in
       let names_it : Step with_synced (Stepped Named) with_name = record { table = is_step (in_phase server Synced) (Stepped Named) refl; moves = (u, r, refl, refl, refl) } in
@@ -91,24 +92,15 @@ module _ (r : RulesName) (tmp : List ℕ) (other : tmp ≢ r.name) where
 -- ---- what stands under the name then
 
 -- a synced file that is moved onto a name stands there
-pub moved_synced : (from to bytes : List ℕ) (d : Directory) → from ≢ to → HasSynced from bytes d → HasSynced to bytes (after (renames from to) d)
-moved_synced from to bytes d other has = by (number_of d from) refl has
+pub moved_synced : (from to bytes : List ℕ) (d : Directory) → HasSynced from bytes d → HasSynced to bytes (after (renames from to) d)
+moved_synced from to bytes d has = by (number_of d from) refl has
   where
     by : (number : Option ℕ) → number_of d from ≡ number → option_and_then (λ n. slice_get d.files n) number ≡ Some (record { bytes = bytes; synced = true }) → HasSynced to bytes (after (renames from to) d)
     by None is there = absurd (cc)
-    by (Some n) is there = subst (HasSynced to bytes) (sym moved_is) (ap (option_and_then (λ k. slice_get d.files k)) number ∙ there)
-      where
-        new : Directory
-        new = with_names d (push d.names (moves from to n))
+    by (Some n) is there = moved_file d from to n is ∙ there
 
-        moved_is : after (renames from to) d ≡ new
-        moved_is = ap (moved d from to) is ∙ ap (λ s. if s then d else new) (same_name-other from to other)
-
-        number : number_of new to ≡ Some n
-        number = ap (λ (m : Names). get m to) (current-push d.names (moves from to n)) ∙ get-insert_same (remove (names_of d) from) to n
-
-pub named_synced : (tmp name file : List ℕ) (d : Directory) → tmp ≢ name → HasSynced name file (named_dir tmp name file d)
-named_synced tmp name file d other = moved_synced tmp name file (synced_dir tmp file d) other (written d tmp file)
+pub named_synced : (tmp name file : List ℕ) (d : Directory) → HasSynced name file (named_dir tmp name file d)
+named_synced tmp name file d = moved_synced tmp name file (synced_dir tmp file d) (written d tmp file)
 
 pub content_synced : (name bytes : List ℕ) (d : Directory) → HasSynced name bytes d → content d name ≡ Some bytes
 content_synced name bytes d has = ap (option_map (λ (file : FileState). file.bytes)) has

@@ -2,9 +2,9 @@
 use Rattle.std.proofs.Common.{◌≡◌, ◌≢◌, ◌⊎◌, inl, inr, ⊎_elim, Bool, true, false, ℕ, List, length, refl, sym, ◌∙◌, ap, subst}
 use Rattle.std.specs.Prelude.{Option, None, Some, if◌then◌else◌}
 use Rattle.std.specs.FinMap.{get, remove}
-use Rattle.dir_calls.specs.NameTable.{Names, NameTable, NameChange, takes, puts, moves, CanBeLeft, same_name, after_change, current, push}
+use Rattle.dir_calls.specs.NameTable.{Names, NameTable, NameChange, takes, puts, moves, CanBeLeft, after_change, current, push}
 use Rattle.dir_calls.specs.Directory.{Directory, FileState, KeepsSynced, names_of, number_of}
-use Rattle.dir_calls.specs.Calls.{Call, makes, appends, patches, syncs, renames, settles, after, longer, patched, lasting, with_scratch, with_names, taken_from, without, moved}
+use Rattle.dir_calls.specs.Calls.{Call, makes, renews, appends, patches, syncs, renames, settles, after, longer, patched, lasting, with_scratch, with_names, taken_from, without, cleared, is_number, moved}
 use Rattle.dir_calls.specs.Outcomes.{Passes, LeavesNames, Fails}
 use Rattle.dir_calls.proofs.Lasting.{after_keeps}
 use Rattle.dir_calls.proofs.NamesOf.{get-remove_other, get-insert_same, get-insert_other}
@@ -18,6 +18,7 @@ EachLeft table name P = (names : Names) → CanBeLeft table names → P (get nam
 -- a call puts only numbers with a property under a name, and does not take it away
 abbrev pub PutsOnly : Call → Directory → List ℕ → (Option ℕ → Type 0) → Type 0
 PutsOnly (makes other) d name P = name ≢ other
+PutsOnly (renews other) d name P = name ≢ other
 PutsOnly (renames from to) d name P = (to ≡ name) × ((number : ℕ) → number_of d from ≡ Some number → P (Some number))
 PutsOnly call d name P = Unit {0}
 
@@ -39,7 +40,7 @@ left_more name P table change before new names left = ⊎_elim (before names) (�
 pub left_now : (table : NameTable) (name : List ℕ) (P : Option ℕ → Type 0) → EachLeft table name P → P (get (current table) name)
 left_now table name P each = each (current table) (left_current table)
 
--- each state within a call that puts only such numbers under the name
+-- the numbers under a name whose directory loses another name, or has a new file under it
 module _ (d : Directory) (name : List ℕ) (P : Option ℕ → Type 0) (each : EachLeft d.names name P) where
   same_names : (state : Directory) → state.names ≡ d.names → EachLeft state.names name P
   same_names state same names left = each names (subst (λ (table : NameTable). CanBeLeft table names) same left)
@@ -55,6 +56,8 @@ module _ (d : Directory) (name : List ℕ) (P : Option ℕ → Type 0) (each : E
       left_more name P names (puts other (length d.files)) (gone other differ (number_of d other))
       (subst P (sym (get-insert_other (current names) name other (length d.files) differ)) (left_now names name P (gone other differ (number_of d other))))
 
+-- each state within a call that puts only such numbers under the name
+module _ (d : Directory) (name : List ℕ) (P : Option ℕ → Type 0) (each : EachLeft d.names name P) where
   put_onto : (from to : List ℕ) (number : ℕ) → to ≡ name → P (Some number) → EachLeft (push d.names (moves from to number)) name P
   put_onto from to number same has =
       left_more name P d.names (moves from to number) each
@@ -63,26 +66,36 @@ module _ (d : Directory) (name : List ℕ) (P : Option ℕ → Type 0) (each : E
   onto : (from to : List ℕ) → to ≡ name → (number : Option ℕ) → ((n : ℕ) → number ≡ Some n → P (Some n)) → EachLeft (moved d from to number).names name P
   onto from to same None has = each
   onto from to same (Some number) has =
-      elim (same_name from to) as (λ (b : Bool). EachLeft (if b then d else with_names d (push d.names (moves from to number))).names name P) [
+      elim (is_number number (number_of d to)) as (λ (b : Bool). EachLeft (if b then d else with_names d (push d.names (moves from to number))).names name P) [
         | true ↦ each
         | false ↦ put_onto from to number same (has number refl)
       ]
 
+  clear : (other : List ℕ) → name ≢ other → EachLeft (cleared d other).names name P
+  clear other differ names left =
+      let gone_too = gone d name P each other differ (number_of d other) in
+      subst (λ (m : Names). P (get m name)) (sym (left_settled (without d other).names names left)) (left_now (without d other).names name P gone_too)
+
   filled : (change : FileState → FileState) (state : Directory) → (state ≡ d) ⊎ (state ≡ with_scratch change d.scratch d) → EachLeft state.names name P
-  filled change state (inl is) = same_names state (ap (λ e. e.names) is)
-  filled change state (inr is) = same_names state (ap (λ e. e.names) is ∙ names-with_scratch change d d.scratch)
+  filled change state (inl is) = same_names d name P each state (ap (λ e. e.names) is)
+  filled change state (inr is) = same_names d name P each state (ap (λ e. e.names) is ∙ names-with_scratch change d d.scratch)
 
   pub left_within : (call : Call) (state : Directory) → PutsOnly call d name P → Passes call d state → EachLeft state.names name P
-  left_within (makes other) state only (inl is) = same_names state (ap (λ e. e.names) is)
-  left_within (makes other) state only (inr (inl is)) = subst (λ (e : Directory). EachLeft e.names name P) (sym is) (gone other only (number_of d other))
-  left_within (makes other) state only (inr (inr is)) = subst (λ (e : Directory). EachLeft e.names name P) (sym is) (new other only)
+  left_within (makes other) state only (inl is) = same_names d name P each state (ap (λ e. e.names) is)
+  left_within (makes other) state only (inr (inl is)) = subst (λ (e : Directory). EachLeft e.names name P) (sym is) (gone d name P each other only (number_of d other))
+  left_within (makes other) state only (inr (inr is)) = subst (λ (e : Directory). EachLeft e.names name P) (sym is) (new d name P each other only)
+  left_within (renews other) state only (inl is) = same_names d name P each state (ap (λ e. e.names) is)
+  left_within (renews other) state only (inr (inl is)) = subst (λ (e : Directory). EachLeft e.names name P) (sym is) (gone d name P each other only (number_of d other))
+  left_within (renews other) state only (inr (inr (inl is))) = subst (λ (e : Directory). EachLeft e.names name P) (sym is) (clear other only)
+  left_within (renews other) state only (inr (inr (inr is))) =
+      subst (λ (e : Directory). EachLeft e.names name P) (sym is) (new (cleared d other) name P (clear other only) other only)
   left_within (appends piece) state only passes = filled (longer piece) state passes
   left_within (patches place bytes) state only passes = filled (patched place bytes) state passes
-  left_within syncs state only (inl is) = same_names state (ap (λ e. e.names) is)
-  left_within syncs state only (inr is) = same_names state (ap (λ e. e.names) is ∙ names-with_scratch lasting d d.scratch)
-  left_within (renames from to) state only (inl is) = same_names state (ap (λ e. e.names) is)
+  left_within syncs state only (inl is) = same_names d name P each state (ap (λ e. e.names) is)
+  left_within syncs state only (inr is) = same_names d name P each state (ap (λ e. e.names) is ∙ names-with_scratch lasting d d.scratch)
+  left_within (renames from to) state only (inl is) = same_names d name P each state (ap (λ e. e.names) is)
   left_within (renames from to) state only (inr is) = subst (λ (e : Directory). EachLeft e.names name P) (sym is) (onto from to only.0 (number_of d from) only.1)
-  left_within settles state only (inl is) = same_names state (ap (λ e. e.names) is)
+  left_within settles state only (inl is) = same_names d name P each state (ap (λ e. e.names) is)
   left_within settles state only (inr is) = subst (λ (e : Directory). EachLeft e.names name P) (sym is) settled
     where
       settled : EachLeft (after settles d).names name P
@@ -92,6 +105,8 @@ module _ (d : Directory) (name : List ℕ) (P : Option ℕ → Type 0) (each : E
 left_of_failed : (call : Call) (d : Directory) (table : NameTable) (names : Names) → LeavesNames call d table → CanBeLeft table names → (state : Directory) × Passes call d state × CanBeLeft state.names names
 left_of_failed settles d table names leaves left = (d, passes_start settles d, left_some d.names table names leaves left)
 left_of_failed (makes name) d table names leaves left = (leaves.0, leaves.1, subst (λ (t : NameTable). CanBeLeft t names) leaves.2 left)
+left_of_failed (renews name) d table names (inl leaves) left = (leaves.0, leaves.1, subst (λ (t : NameTable). CanBeLeft t names) leaves.2 left)
+left_of_failed (renews name) d table names (inr some) left = (without d name, inr (inl refl), left_some (without d name).names table names some left)
 left_of_failed (appends piece) d table names leaves left = (leaves.0, leaves.1, subst (λ (t : NameTable). CanBeLeft t names) leaves.2 left)
 left_of_failed (patches place bytes) d table names leaves left = (leaves.0, leaves.1, subst (λ (t : NameTable). CanBeLeft t names) leaves.2 left)
 left_of_failed syncs d table names leaves left = (leaves.0, leaves.1, subst (λ (t : NameTable). CanBeLeft t names) leaves.2 left)
@@ -117,6 +132,10 @@ pub within_keeps : (call : Call) (d state : Directory) → Passes call d state �
 within_keeps (makes name) d state (inl is) = before_or_after (makes name) d state (inl is)
 within_keeps (makes name) d state (inr (inl is)) = subst (λ (s : Directory). KeepsSynced d.files s.files) (sym is) (same_files d.files)
 within_keeps (makes name) d state (inr (inr is)) = before_or_after (makes name) d state (inr is)
+within_keeps (renews name) d state (inl is) = before_or_after (renews name) d state (inl is)
+within_keeps (renews name) d state (inr (inl is)) = subst (λ (s : Directory). KeepsSynced d.files s.files) (sym is) (same_files d.files)
+within_keeps (renews name) d state (inr (inr (inl is))) = subst (λ (s : Directory). KeepsSynced d.files s.files) (sym is) (same_files d.files)
+within_keeps (renews name) d state (inr (inr (inr is))) = before_or_after (renews name) d state (inr is)
 within_keeps (appends piece) d state passes = before_or_after (appends piece) d state passes
 within_keeps (patches place bytes) d state passes = before_or_after (patches place bytes) d state passes
 within_keeps syncs d state passes = before_or_after syncs d state passes

@@ -34,6 +34,7 @@ use Rattle.server_events.specs.Steps.{Legal, Step, none, more}
 use Rattle.server_events.specs.Witness.{an_older_text, for_everybody, somebody, texts_of_that}
 use Rattle.server_events.specs.Worlds.{Accepted, IsOf, IsStart, KeptFile, RulesName, UnderWay, World}
 use Rattle.server_events.proofs.InstalledRuns.{content_synced, decided_by_file, filled_dir, in_phase, installs, legal_then, named_dir, named_synced, next_text, world_at}
+use Rattle.server_events.proofs.StandingTexts.{begins_alone}
 use Rattle.server_events.proofs.TableLemmas.{is_step}
 
 -- ---- what was settled stays so
@@ -177,7 +178,7 @@ begins_one file is d =
     let before : World = world d at_start texts_0 None [] in
     let with_file : World = world (after (makes the_scratch) d) (in_phase at_start Fresh) texts_1 (Some u) [] in
     let with_bytes : World = world (filled_dir the_scratch file d) (in_phase at_start Filling) texts_1 (Some u) [] in
-    let makes_it : Step before (Stepped Fresh) with_file = record { table = is_step at_start (Stepped Fresh) refl; moves = (for_everybody Deny, the_scratch, is.are, other_name, refl) } in
+    let makes_it : Step before (Stepped Fresh) with_file = record { table = is_step at_start (Stepped Fresh) refl; moves = (for_everybody Deny, the_scratch, makes the_scratch, is.are, other_name, inl refl, refl) } in
     let fills_it : Step with_file (Stepped Filling) with_bytes = record { table = is_step (in_phase at_start Fresh) (Stepped Filling) refl; moves = (appends file, inl (file, refl), refl) } in
     more makes_it (more fills_it none)
 
@@ -287,23 +288,17 @@ module _ (deny allow : List ℕ) (is_deny : IsOf (for_everybody Deny) deny) (is_
   abbrev last_world : World
   last_world = world (stopped Empty after_stop) stopped_3 texts_of_that None []
 
-  older_is_there : file_at first_dir the_rules.name ≡ Some older
-  older_is_there = ap (option_and_then (λ n. slice_get first_dir.files n)) (get-insert_same empty the_rules.name 0)
-
   first_starts : IsStart first_world
   first_starts = record {
-    text = Some (for_everybody Allow);
-    begins = (allow, older_is_there, is_allow);
-    none_pending = refl;
+    begins = begins_alone the_rules.name first_dir (Some (for_everybody Allow)) refl (0, get-insert_same empty the_rules.name 0, record { file = allow; there = refl; compiled = is_allow });
     server = refl;
-    accepted = refl;
     acknowledged = refl;
     under_way = refl;
     kept = refl;
   }
 
   new_stands : content with_name the_rules.name ≡ Some deny
-  new_stands = content_synced the_rules.name deny with_name (named_synced the_scratch the_rules.name deny given_up other_name)
+  new_stands = content_synced the_rules.name deny with_name (named_synced the_scratch the_rules.name deny given_up)
 
   still_settled : get with_name.names.settled the_rules.name ≡ Some 0
   still_settled =

@@ -59,7 +59,7 @@ kept_after w event = w.kept
 
 -- a step of an installation leaves what is kept, and the rules name
 advance_same : (phase : Phase) (w v : World) → Advances phase w v → (v.kept ≡ w.kept) × (v.rules ≡ w.rules)
-advance_same Fresh w v a = (ap (λ (x : World). x.kept) a.4, ap (λ (x : World). x.rules) a.4)
+advance_same Fresh w v a = (ap (λ (x : World). x.kept) a.6, ap (λ (x : World). x.rules) a.6)
 advance_same Filling w v a = (ap (λ (x : World). x.kept) a.2, ap (λ (x : World). x.rules) a.2)
 advance_same Synced w v a = (ap (λ (x : World). x.kept) a.4, ap (λ (x : World). x.rules) a.4)
 advance_same Named w v a = (ap (λ (x : World). x.kept) a.4, ap (λ (x : World). x.rules) a.4)

@@ -6,23 +6,12 @@ use Rattle.std.specs.FinMap.{get}
 use Rattle.rule_lines.specs.Pairs.{Rule}
 use Rattle.dir_calls.specs.NameTable.{Names, NameTable, CanBeLeft, current, all_settled}
 use Rattle.dir_calls.specs.Directory.{Directory, FileState, KeepsSynced, content, names_of, number_of}
-use Rattle.dir_calls.specs.Images.{IsImage}
+use Rattle.dir_calls.specs.Images.{IsImage, MayHaveName}
 use Rattle.dir_calls.specs.Calls.{Call}
 use Rattle.dir_calls.specs.Outcomes.{Passes, Fails}
-use Rattle.dir_calls.proofs.NameTables.{left_settled}
-use Rattle.server_events.specs.Worlds.{Accepted, IsAccepted, IsOf, StandsFor, World}
+use Rattle.dir_calls.proofs.NameTables.{left_current, left_settled}
+use Rattle.server_events.specs.Worlds.{Accepted, BeginsWith, HoldsRules, IsAccepted, StandsAt, StandsFor, World}
 use Rattle.server_events.proofs.LeftNames.{EachLeft, PutsOnly, left_failed, left_now, left_within, within_keeps}
-
--- the file with this number is synced and compiled of these rules
-pub record HoldsRules (files : List FileState) (rules : List Rule) (number : ℕ) : Type 0 where
-  pub file : List ℕ
-  pub there : slice_get files number ≡ Some (record { bytes = file; synced = true })
-  pub compiled : IsOf rules file
-
--- where a text was accepted there is such a file, and where there was none there is no file
-abbrev pub StandsAt : List FileState → Option (List Rule) → Option ℕ → Type 0
-StandsAt files None number = number ≡ None
-StandsAt files (Some rules) number = (n : ℕ) × (number ≡ Some n) × HoldsRules files rules n
 
 -- one accepted text, no older than a number, stands there
 pub record IsText (accepted : Accepted) (least : ℕ) (files : List FileState) (number : Option ℕ) : Type 0 where
@@ -100,22 +89,47 @@ pub lasts_settled : (accepted : Accepted) (least : ℕ) (name : List ℕ) (d : D
 lasts_settled accepted least name d none is names left =
     subst (λ (m : Names). IsText accepted least d.files (get m name)) (sym (left_settled_names d.names none names left)) is
 
+-- one text stands there, which a directory begins with then
+pub begins_alone : (name : List ℕ) (d : Directory) (text : Option (List Rule)) → d.names.pending ≡ [] → StandsAt d.files text (number_of d name) → BeginsWith d name (text ∷ [])
+begins_alone name d text none stands = record { each = each; only = only }
+  where
+    each : (names : Names) → CanBeLeft d.names names → (number : ℕ) × (t : Option (List Rule)) × (slice_get (text ∷ []) number ≡ Some t) × StandsAt d.files t (get names name)
+    each names left = (0, text, refl, subst (λ (m : Names). StandsAt d.files text (get m name)) (sym (left_settled_names d.names none names left)) stands)
+
+    only : (number : ℕ) (t : Option (List Rule)) → slice_get (text ∷ []) number ≡ Some t → (names : Names) × CanBeLeft d.names names × StandsAt d.files t (get names name)
+    only zero t is = let same : text ≡ t = cc in (names_of d, left_current d.names, subst (λ (u : Option (List Rule)). StandsAt d.files u (number_of d name)) same stands)
+    only (suc number) t is = absurd (cc)
+
 -- ---- after a stop
 
--- what is left of a synced file is the same file
-pub image_keeps : (d image : Directory) → IsImage d image → KeepsSynced d.files image.files
-image_keeps d image is = record { each = kept }
-  where
-    kept : (number : ℕ) (file : FileState) → slice_get d.files number ≡ Some file → file.synced ≡ true → slice_get image.files number ≡ Some file
-    kept number file there synced =
-        let left = is.files number file there in
-        let same : left.0 ≡ file = λ i. record { bytes = left.2.bytes synced i; synced = (left.2.synced ∙ sym synced) i } in
-        left.1 ∙ ap Some same
+-- what is left of a synced file that may have a name is the same file
+image_keeps : (d image : Directory) (number : ℕ) (file : FileState) → IsImage d image → MayHaveName d.names number → slice_get d.files number ≡ Some file → file.synced ≡ true → slice_get image.files number ≡ Some file
+image_keeps d image number file is named there synced =
+    let left = is.files number file there in
+    let same : left.0 ≡ file = λ i. record { bytes = left.2.bytes named synced i; synced = (left.2.synced ∙ sym synced) i } in
+    left.1 ∙ ap Some same
+
+-- so the text that stood under a name is left there
+image_stands : (d image : Directory) (name : List ℕ) (names : Names) (text : Option (List Rule)) → IsImage d image → CanBeLeft d.names names → StandsAt d.files text (get names name) → StandsAt image.files text (get names name)
+image_stands d image name names None is can stands = stands
+image_stands d image name names (Some rules) is can stands =
+    let named : MayHaveName d.names stands.0 = record { name = name; names = names; left = can; stands = stands.1 } in
+    (stands.0, stands.1, record { file = stands.2.file; there = image_keeps d image stands.0 _ is named stands.2.there refl; compiled = stands.2.compiled })
+
+image_text : (accepted : Accepted) (least : ℕ) (d image : Directory) (name : List ℕ) (names : Names) → IsImage d image → CanBeLeft d.names names → IsText accepted least d.files (get names name) → IsText accepted least image.files (get names name)
+image_text accepted least d image name names is can text = record {
+  place = text.place;
+  text = text.text;
+  accepted_as = text.accepted_as;
+  recent = text.recent;
+  stands = image_stands d image name names text.text is can text.stands;
+}
 
 pub image_lasts : (accepted : Accepted) (least : ℕ) (name : List ℕ) (d image : Directory) → Lasts accepted least name d → IsImage d image → Lasts accepted least name image
 image_lasts accepted least name d image lasts is =
+    let left = is.names.each name in
     lasts_settled accepted least name image is.none_pending
-    (text_stays accepted least d.files image.files (number_of image name) (image_keeps d image is) (lasts (names_of image) is.names))
+    (subst (IsText accepted least image.files) (sym left.2) (image_text accepted least d image name left.0 is left.1 (lasts left.0 left.1)))
 
 -- ---- what a reader finds
 

@@ -32,6 +32,7 @@ use Rattle.server_events.specs.Table.{done}
 use Rattle.server_events.specs.Witness.{for_everybody, somebody, texts_of_it, two_texts}
 use Rattle.server_events.specs.Worlds.{Accepted, IsOf, IsStart, KeptFile, RulesName, UnderWay, World}
 use Rattle.server_events.proofs.InstalledRuns.{content_left, content_synced, decided_by_file, finishes, in_phase, installs, legal_then, named_dir, named_synced, next_text, world_at}
+use Rattle.server_events.proofs.StandingTexts.{begins_alone}
 use Rattle.server_events.proofs.TableLemmas.{is_step}
 
 -- ---- compiled files
@@ -183,11 +184,8 @@ first_world = world_at the_rules no_files at_start texts_0 0 None []
 
 first_starts : IsStart first_world
 first_starts = record {
-  text = None;
-  begins = get-empty (slice_cmp nat_cmp) the_rules.name;
-  none_pending = refl;
+  begins = begins_alone the_rules.name no_files None refl (get-empty (slice_cmp nat_cmp) the_rules.name);
   server = refl;
-  accepted = refl;
   acknowledged = refl;
   under_way = refl;
   kept = refl;
@@ -216,12 +214,12 @@ module _ (deny allow : List ℕ) (is_deny : IsOf (for_everybody Deny) deny) (is_
   last_world = world_at the_rules (after settles with_third) (in_phase retired_2 Done) texts_of_it 3 None kept_2
 
   first_stands : content (after settles with_first) the_rules.name ≡ Some deny
-  first_stands = content_synced the_rules.name deny with_first (named_synced the_scratch the_rules.name deny no_files other_name)
+  first_stands = content_synced the_rules.name deny with_first (named_synced the_scratch the_rules.name deny no_files)
 
   second_stands : content after_stop the_rules.name ≡ Some allow
   second_stands =
       content_left the_rules.name allow with_second after_stop
-      (named_synced the_scratch the_rules.name allow (after settles with_first) other_name) (stopped_is AllKept (after settles with_second))
+      (named_synced the_scratch the_rules.name allow (after settles with_first)) (stopped_is AllKept (after settles with_second))
 
   two_texts_happen : Legal first_world two_texts last_world
   two_texts_happen =

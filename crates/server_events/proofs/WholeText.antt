@@ -1,5 +1,5 @@
 -- In each world that is reached one whole accepted text stands under the rules name, whatever a stop leaves.
-use Rattle.std.proofs.Common.{◌≡◌, ◌≢◌, ◌≤◌, ◌<◌, ◌+◌, inl, inr, Bool, true, ℕ, zero, suc, List, [], ◌∷◌, ◌++◌, length, refl, sym, ◌∙◌, ap, subst, arith}
+use Rattle.std.proofs.Common.{◌≡◌, ◌≢◌, ◌≤◌, ◌<◌, ◌+◌, inl, inr, ⊎_elim, Bool, true, ℕ, zero, suc, List, [], ◌∷◌, ◌++◌, length, refl, sym, ◌∙◌, ap, subst, arith}
 use Rattle.std.specs.Prelude.{slice_get, Option, None, Some, is_some, max, option_and_then, if◌then◌else◌}
 use Rattle.std.specs.FinMap.{get, remove}
 use Rattle.std.proofs.lemmas.List.{length_push}
@@ -8,20 +8,21 @@ use Rattle.rules_install.specs.declared.Phase.{Phase}
 use Rattle.rules_install.specs.declared.Phase.TheVariants.{Fresh, Filling, Synced, Named, Done}
 use Rattle.dir_calls.specs.NameTable.{Names, NameTable, puts, moves, current, push}
 use Rattle.dir_calls.specs.Directory.{Directory, FileState, content, names_of, number_of}
-use Rattle.dir_calls.specs.Calls.{Call, makes, syncs, renames, settles, after, longer, patched, lasting, with_file, with_scratch, with_names, without, moved}
+use Rattle.dir_calls.specs.Calls.{Call, makes, syncs, renames, settles, after, longer, patched, lasting, with_file, with_scratch, with_names, without, cleared, moved}
 use Rattle.dir_calls.specs.Outcomes.{Fails}
 use Rattle.dir_calls.proofs.NamesOf.{get-insert_same, same_name-other}
 use Rattle.dir_calls.proofs.NameTables.{current-push}
 use Rattle.dir_calls.proofs.Passing.{passes_end}
+use Rattle.dir_calls.proofs.Renames.{moved_files, moved_number}
 use Rattle.server_events.specs.declared.event.Event.{Event}
 use Rattle.server_events.specs.declared.event.Event.TheVariants.{Admitted, Opened, Decided, Started, StartFailed, Ended, Retired, Dropped, Stepped, StepFailed, Stop}
 use Rattle.server_events.specs.ServerState.{ServerState, phase_after}
 use Rattle.server_events.specs.Table.{Follows, fresh, filling, filling_on, synced, named, done}
-use Rattle.server_events.specs.Steps.{Advances, FailsTo, IsCallTo, IsScratchName, IsWhole, Legal, MayBeAt, MayLeave, Moves, Step, none, more}
-use Rattle.server_events.specs.Worlds.{Accepted, BeginsWith, IsAccepted, IsStart, RulesName, StartsWith, UnderWay, World, standing}
+use Rattle.server_events.specs.Steps.{Advances, FailsTo, IsCallTo, IsScratchName, IsWhole, MakesScratch, Legal, MayBeAt, MayLeave, Moves, Step, none, more}
+use Rattle.server_events.specs.Worlds.{Accepted, HoldsRules, IsAccepted, IsStart, RulesName, StartsWith, UnderWay, World, standing}
 use Rattle.server_events.specs.Headline.{HasWholeText, Reaches}
 use Rattle.server_events.proofs.LeftNames.{PutsOnly, left_now, names-with_scratch, scratch-with_scratch}
-use Rattle.server_events.proofs.StandingTexts.{HoldsRules, IsText, Lasts, image_lasts, lasts_accepted, lasts_failed, lasts_missing, lasts_more, lasts_settled, lasts_within}
+use Rattle.server_events.proofs.StandingTexts.{IsText, Lasts, image_lasts, lasts_accepted, lasts_failed, lasts_missing, lasts_more, lasts_settled, lasts_within}
 use Rattle.server_events.proofs.TableLemmas.{may_come_follows, step_is}
 
 -- ---- what holds in each world
@@ -82,7 +83,8 @@ text_under_way accepted least name d u phase number n goes is holds = record {
 call_puts : (accepted : Accepted) (least : ℕ) (d : Directory) (r : RulesName) (phase : Option Phase) (next : Phase) (under_way : Option UnderWay) (call : Call)
     → Follows phase next → IsCallTo next under_way (Some r) call → Agree accepted least r.name d phase under_way → PutsOnly call d r.name (IsText accepted least d.files)
 call_puts accepted least d r phase Fresh under_way call follows to agree =
-    subst (λ (c : Call). PutsOnly c d r.name (IsText accepted least d.files)) (sym to.2) (λ same. to.1 (sym same))
+    ⊎_elim (λ makes_it. subst (λ (c : Call). PutsOnly c d r.name (IsText accepted least d.files)) (sym makes_it) (λ same. to.1 (sym same)))
+    (λ renews_it. subst (λ (c : Call). PutsOnly c d r.name (IsText accepted least d.files)) (sym renews_it) (λ same. to.1 (sym same))) to.2
 call_puts accepted least d r phase Filling None call follows to agree = absurd to
 call_puts accepted least d r phase Filling (Some u) call follows (inl to) agree =
     subst (λ (c : Call). PutsOnly c d r.name (IsText accepted least d.files)) (sym to.1) tt
@@ -121,17 +123,22 @@ made_number : (d : Directory) (tmp : List ℕ) → number_of (after (makes tmp) 
 made_number d tmp =
     ap (λ (m : Names). get m tmp) (current-push (without d tmp).names (puts tmp (length d.files))) ∙ get-insert_same (current (without d tmp).names) tmp (length d.files)
 
-fresh_holds : (rules : Option RulesName) (accepted : Accepted) (least : ℕ) (d : Directory) (phase : Option Phase) (under_way : Option UnderWay) (text : List Rule) (tmp : List ℕ)
-    → IsScratchName rules tmp → HoldsBy rules accepted least d phase under_way
-    → HoldsBy rules (accepted ++ Some text ∷ []) least (after (makes tmp) d) (Some Fresh) (Some (record { rules = text; number = length accepted; tmp = tmp }))
-fresh_holds None accepted least d phase under_way text tmp other holds = absurd other
-fresh_holds (Some r) accepted least d phase under_way text tmp other holds =
+-- it is the scratch file
+made_at : (d : Directory) (tmp : List ℕ) (call : Call) → MakesScratch tmp call → number_of (after call d) tmp ≡ (after call d).scratch
+made_at d tmp call (inl makes_it) = subst (λ (c : Call). number_of (after c d) tmp ≡ (after c d).scratch) (sym makes_it) (made_number d tmp)
+made_at d tmp call (inr renews_it) = subst (λ (c : Call). number_of (after c d) tmp ≡ (after c d).scratch) (sym renews_it) (made_number (cleared d tmp) tmp)
+
+fresh_holds : (rules : Option RulesName) (accepted : Accepted) (least : ℕ) (d : Directory) (phase : Option Phase) (under_way : Option UnderWay) (text : List Rule) (tmp : List ℕ) (call : Call)
+    → IsScratchName rules tmp → MakesScratch tmp call → HoldsBy rules accepted least d phase under_way
+    → HoldsBy rules (accepted ++ Some text ∷ []) least (after call d) (Some Fresh) (Some (record { rules = text; number = length accepted; tmp = tmp }))
+fresh_holds None accepted least d phase under_way text tmp call other is holds = absurd other
+fresh_holds (Some r) accepted least d phase under_way text tmp call other is holds =
     let now = left_now d.names r.name (IsText accepted least d.files) holds.lasts in
     let below = place_below accepted now.place now.text now.accepted_as in
     let here = now.recent in
     record {
-      lasts = lasts_more accepted least (Some text) r.name (after (makes tmp) d) (call_lasts accepted least d r phase Fresh under_way (makes tmp) fresh (tmp, other, refl) holds);
-      agree = record { other = other; its = last_accepted accepted (Some text); last = sym (length_push accepted (Some text)); recent = omega arith; at = made_number d tmp };
+      lasts = lasts_more accepted least (Some text) r.name (after call d) (call_lasts accepted least d r phase Fresh under_way call fresh (tmp, other, is) holds);
+      agree = record { other = other; its = last_accepted accepted (Some text); last = sym (length_push accepted (Some text)); recent = omega arith; at = made_at d tmp call is };
     }
 
 -- bytes in the scratch file leave the names
@@ -193,23 +200,18 @@ synced_holds (Some r) accepted least d phase u synced there whole holds = record
 }
 
 -- the file is moved onto the name
-named_file : (d : Directory) (name : List ℕ) (u : UnderWay) → u.tmp ≢ name → HasFile d u.tmp u.rules → HasFile (after (renames u.tmp name) d) name u.rules
-named_file d name u other has = subst (λ (e : Directory). HasFile e name u.rules) (sym moved_is) (has.0, number, has.2)
-  where
-    new : Directory
-    new = with_names d (push d.names (moves u.tmp name has.0))
-
-    moved_is : after (renames u.tmp name) d ≡ new
-    moved_is = ap (moved d u.tmp name) has.1 ∙ ap (λ (s : Bool). if s then d else new) (same_name-other u.tmp name other)
-
-    number : number_of new name ≡ Some has.0
-    number = ap (λ (m : Names). get m name) (current-push d.names (moves u.tmp name has.0)) ∙ get-insert_same (remove (names_of d) u.tmp) name has.0
+named_file : (d : Directory) (name : List ℕ) (u : UnderWay) → HasFile d u.tmp u.rules → HasFile (after (renames u.tmp name) d) name u.rules
+named_file d name u has = (
+  has.0,
+  moved_number d u.tmp name has.0 has.1,
+  subst (λ (files : List FileState). HoldsRules files u.rules has.0) (sym (moved_files d u.tmp name (number_of d u.tmp))) has.2,
+)
 
 named_holds : (r : RulesName) (accepted : Accepted) (least : ℕ) (d : Directory) (phase : Option Phase) (u : UnderWay)
     → Follows phase Named → Holds accepted least r.name d phase (Some u) → Holds accepted least r.name (after (renames u.tmp r.name) d) (Some Named) (Some u)
 named_holds r accepted least d phase u named holds = record {
   lasts = call_lasts accepted least d r (Some Synced) Named (Some u) (renames u.tmp r.name) named refl holds;
-  agree = proceeds_to accepted least r.name d (after (renames u.tmp r.name) d) u Synced Named holds.agree (named_file d r.name u holds.agree.other holds.agree.at);
+  agree = proceeds_to accepted least r.name d (after (renames u.tmp r.name) d) u Synced Named holds.agree (named_file d r.name u holds.agree.at);
 }
 
 done_holds : (rules : Option RulesName) (accepted : Accepted) (least : ℕ) (d : Directory) (phase : Option Phase) (u : UnderWay)
@@ -273,10 +275,10 @@ good_advance : (phase : Phase) (w v : World) → Advances phase w v → Follows 
 good_advance Fresh w v steps follows is good =
     let u : UnderWay = record { rules = steps.0; number = length w.accepted; tmp = steps.1 } in
     let more = w.accepted ++ Some steps.0 ∷ [] in
-    let d = after (makes steps.1) w.directory in
-    subst (λ (x : World). Good x) (sym steps.4)
+    let d = after steps.2 w.directory in
+    subst (λ (x : World). Good x) (sym steps.6)
     (same_parts w.rules more w.acknowledged d (Some Fresh) v.server.phase (Some u) (Some u) is refl
-    (fresh_holds w.rules w.accepted w.acknowledged w.directory w.server.phase w.under_way steps.0 steps.1 steps.3 good))
+    (fresh_holds w.rules w.accepted w.acknowledged w.directory w.server.phase w.under_way steps.0 steps.1 steps.2 steps.4 steps.5 good))
 good_advance Filling w v steps follows is good =
     let d = after steps.0 w.directory in
     subst (λ (x : World). Good x) (sym steps.2)
@@ -342,24 +344,19 @@ good_run (more {u} {v} {w} {event} {events} step rest) good = good_run rest (goo
 
 -- ---- the start
 
--- the text with number 0 stands there
-begins_text : (d : Directory) (name : List ℕ) (text : Option (List Rule)) → BeginsWith d name text → IsText (text ∷ []) 0 d.files (number_of d name)
-begins_text d name None begins = record { place = 0; text = None; accepted_as = refl; recent = omega arith; stands = begins }
-begins_text d name (Some rules) begins = by (number_of d name) refl begins.1
+start_holds : (rules : Option RulesName) (d : Directory) (texts : Accepted) → StartsWith d rules texts → HoldsBy rules texts 0 d None None
+start_holds None d texts begins = (begins, refl)
+start_holds (Some r) d texts begins = record { lasts = lasts; agree = tt }
   where
-    by : (number : Option ℕ) → number_of d name ≡ number → option_and_then (λ n. slice_get d.files n) number ≡ Some (record { bytes = begins.0; synced = true }) → IsText (Some rules ∷ []) 0 d.files (number_of d name)
-    by None here there = absurd (cc)
-    by (Some n) here there = record { place = 0; text = Some rules; accepted_as = refl; recent = omega arith; stands = (n, here, record { file = begins.0; there = there; compiled = begins.2 }) }
-
-start_holds : (rules : Option RulesName) (d : Directory) (text : Option (List Rule)) → StartsWith d rules text → d.names.pending ≡ [] → HoldsBy rules (text ∷ []) 0 d None None
-start_holds None d text begins none_pending = (ap (λ (t : Option (List Rule)). t ∷ []) begins, refl)
-start_holds (Some r) d text begins none_pending = record { lasts = lasts_settled (text ∷ []) 0 r.name d none_pending (begins_text d r.name text begins); agree = tt }
+    lasts : Lasts texts 0 r.name d
+    lasts names left =
+        let one = begins.each names left in
+        record { place = one.0; text = one.1; accepted_as = one.2; recent = omega arith; stands = one.3 }
 
 good_start : (w : World) → IsStart w → Good w
 good_start w is =
-    let holds = start_holds w.rules w.directory is.text is.begins is.none_pending in
-    let accepted = subst (λ (a : Accepted). HoldsBy w.rules a 0 w.directory None None) (sym is.accepted) holds in
-    let least = subst (λ (n : ℕ). HoldsBy w.rules w.accepted n w.directory None None) (sym is.acknowledged) accepted in
+    let holds = start_holds w.rules w.directory w.accepted is.begins in
+    let least = subst (λ (n : ℕ). HoldsBy w.rules w.accepted n w.directory None None) (sym is.acknowledged) holds in
     same_parts w.rules w.accepted w.acknowledged w.directory None w.server.phase None w.under_way (ap (λ s. s.phase) is.server) is.under_way least
 
 pub good_reached : (history : List Event) (w : World) → Reaches history w → Good w

@@ -1,7 +1,7 @@
 -- What each event does to the world.
 use Rattle.std.specs.Prelude.{◌≡◌, ◌≢◌, ◌⊎◌, ℕ, max, true, is_some, List, [], ◌∷◌, ◌++◌, length, Option, Some, None, option_map, Ok}
 use Rattle.dir_calls.specs.Directory.{Directory, FileState, scratch_of}
-use Rattle.dir_calls.specs.Calls.{Call, makes, appends, patches, syncs, renames, settles, after}
+use Rattle.dir_calls.specs.Calls.{Call, makes, renews, appends, patches, syncs, renames, settles, after}
 use Rattle.dir_calls.specs.Outcomes.{Passes, Fails}
 use Rattle.dir_calls.specs.Images.{IsImage}
 use Rattle.cdb_read.specs.Reading.{reading}
@@ -21,9 +21,14 @@ abbrev pub IsScratchName : Option RulesName → List ℕ → Type 0
 IsScratchName None tmp = ⊥
 IsScratchName (Some r) tmp = tmp ≢ r.name
 
+-- the call by which an installation begins: it makes the scratch file, perhaps after it has taken away what an installation before left there,
+-- and has made all changes of names lasting
+abbrev pub MakesScratch : List ℕ → Call → Type 0
+MakesScratch tmp call = (call ≡ makes tmp) ⊎ (call ≡ renews tmp)
+
 -- the one call on the way to a phase, of an installation under way where one has to be; none without a rules name
 abbrev pub IsCallTo : Phase → Option UnderWay → Option RulesName → Call → Type 0
-IsCallTo Fresh under_way rules call = (tmp : List ℕ) × IsScratchName rules tmp × (call ≡ makes tmp)
+IsCallTo Fresh under_way rules call = (tmp : List ℕ) × IsScratchName rules tmp × MakesScratch tmp call
 IsCallTo Filling (Some u) (Some r) call = ((piece : List ℕ) × (call ≡ appends piece)) ⊎ ((place : ℕ) × (bytes : List ℕ) × (call ≡ patches place bytes))
 IsCallTo Synced (Some u) (Some r) call = call ≡ syncs
 IsCallTo Named (Some u) (Some r) call = call ≡ renames u.tmp r.name
@@ -39,8 +44,8 @@ IsWhole d u = (file : FileState) × (scratch_of d ≡ Some file) × IsOf u.rules
 -- acknowledges the text
 abbrev pub Advances : Phase → World → World → Type 0
 Advances Fresh w w' =
-    (rules : List Rule) × (tmp : List ℕ) × AreRules rules × IsScratchName w.rules tmp
-    × (w' ≡ record w { directory = after (makes tmp) w.directory; server = w'.server; accepted = w.accepted ++ Some rules ∷ []; under_way = Some (record { rules = rules; number = length w.accepted; tmp = tmp }) })
+    (rules : List Rule) × (tmp : List ℕ) × (call : Call) × AreRules rules × IsScratchName w.rules tmp × MakesScratch tmp call
+    × (w' ≡ record w { directory = after call w.directory; server = w'.server; accepted = w.accepted ++ Some rules ∷ []; under_way = Some (record { rules = rules; number = length w.accepted; tmp = tmp }) })
 Advances Filling w w' =
     (call : Call) × IsCallTo Filling w.under_way w.rules call × (w' ≡ record w { directory = after call w.directory; server = w'.server })
 Advances Synced w w' =

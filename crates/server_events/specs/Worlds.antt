@@ -1,6 +1,8 @@
 -- The world of a server and of the installations beside it: a directory, the rules that were accepted, and the connections.
 use Rattle.std.specs.Prelude.{◌≡◌, ◌==◌, ◌≤◌, ℕ, true, List, [], ◌∷◌, slice_get, Option, Some, None, option_and_then, if◌then◌else◌}
-use Rattle.dir_calls.specs.Directory.{Directory, content, file_at, number_of}
+use Rattle.std.specs.FinMap.{get}
+use Rattle.dir_calls.specs.NameTable.{CanBeLeft, Names}
+use Rattle.dir_calls.specs.Directory.{Directory, FileState, content}
 use Rattle.cdb_read.specs.Compiled.{stored}
 use Rattle.cdb_write.specs.IsCdb.{IsCdb}
 use Rattle.rule_lines.specs.Pairs.{Rule}
@@ -11,7 +13,8 @@ use Rattle.rule_lookup.specs.declared.decision.Missing.TheVariants.{Allow as All
 use Rattle.server_events.specs.ServerState.{ServerState, start}
 use Rattle.server_events.specs.declared.state.Connection.{Connection}
 
--- the texts that were accepted, each told by its rules; number 0 is what stood at the start, perhaps nothing
+-- the texts that were accepted, each told by its rules; the first are what stood at the start, or what a stop would have left then, perhaps
+-- nothing
 abbrev pub Accepted : Type 0
 Accepted = List (Option (List Rule))
 
@@ -83,23 +86,31 @@ pub record IsAccepted (w : World) (bytes : Option (List ℕ)) : Type 0 where
   pub recent : w.acknowledged ≤ number
   pub stands : StandsFor text bytes
 
--- at the start the rules file is missing, or synced and compiled of the text that has number 0
-abbrev pub BeginsWith : Directory → List ℕ → Option (List Rule) → Type 0
-BeginsWith d name None = number_of d name ≡ None
-BeginsWith d name (Some rules) = (file : List ℕ) × (file_at d name ≡ Some (record { bytes = file; synced = true })) × IsOf rules file
+-- the file with this number is synced and compiled of these rules
+pub record HoldsRules (files : List FileState) (rules : List Rule) (number : ℕ) : Type 0 where
+  pub file : List ℕ
+  pub there : slice_get files number ≡ Some (record { bytes = file; synced = true })
+  pub compiled : IsOf rules file
+
+-- where a text was accepted there is such a file, and where there was none there is no file
+abbrev pub StandsAt : List FileState → Option (List Rule) → Option ℕ → Type 0
+StandsAt files None number = number ≡ None
+StandsAt files (Some rules) number = (n : ℕ) × (number ≡ Some n) × HoldsRules files rules n
+
+-- one of these texts stands under the name, whatever names a stop leaves, and each of them stands there among some
+pub record BeginsWith (d : Directory) (name : List ℕ) (texts : Accepted) : Type 0 where
+  pub each : (names : Names) → CanBeLeft d.names names → (number : ℕ) × (text : Option (List Rule)) × (slice_get texts number ≡ Some text) × StandsAt d.files text (get names name)
+  pub only : (number : ℕ) (text : Option (List Rule)) → slice_get texts number ≡ Some text → (names : Names) × CanBeLeft d.names names × StandsAt d.files text (get names name)
 
 -- the same of a server that follows rules
-abbrev pub StartsWith : Directory → Option RulesName → Option (List Rule) → Type 0
-StartsWith d None text = text ≡ None
-StartsWith d (Some r) text = BeginsWith d r.name text
+abbrev pub StartsWith : Directory → Option RulesName → Accepted → Type 0
+StartsWith d None texts = texts ≡ None ∷ []
+StartsWith d (Some r) texts = BeginsWith d r.name texts
 
--- no connection, nothing under way, no pending change of names, and one text at most
+-- no connection, nothing under way, and no other text than those that a stop may leave
 pub record IsStart (w : World) : Type 0 where
-  pub text : Option (List Rule)
-  pub begins : StartsWith w.directory w.rules text
-  pub none_pending : w.directory.names.pending ≡ []
+  pub begins : StartsWith w.directory w.rules w.accepted
   pub server : w.server ≡ start w.server.limit w.server.per_address
-  pub accepted : w.accepted ≡ text ∷ []
   pub acknowledged : w.acknowledged ≡ 0
   pub under_way : w.under_way ≡ None
   pub kept : w.kept ≡ []

@@ -100,12 +100,12 @@ module _ {b b' : Books} (y : YardState) (server : ServerState) (e : Directory) (
         installed = installed_on b.lists b'.lists y (record { directory = e; rules = y.rules; server = server; installing = kept_then t (Ok p) }) k.history (Stepped p) refl refl more.happens (step_phases p) k.installed moved.0 moved.1 (by p moved.0 moved.1.step.moves moved.1.under texts);
       }
     where
-      by : (p : Phase) (v : World) → Advances p k.installed.world v → HasUnderWay v (kept_then t (Ok p)) → ((p ≡ Fresh → b'.lists ≡ option_map (λ (all : List (List Rule)). all ++ t.rules ∷ []) b.lists) × (p ≢ Fresh → b'.lists ≡ b.lists)) → IfSome b'.lists (λ all. v.accepted ≡ k.installed.first ∷ map Some all)
-      by Fresh v moves has which = subst (λ (o : Option (List (List Rule))). IfSome o (λ all. v.accepted ≡ k.installed.first ∷ map Some all)) (sym (which.0 refl)) (texts_more b.lists k.installed.world v k.installed.first t.rules (accepted_fresh k.installed.world v t moves has) k.installed.accepted)
-      by Filling v moves has which = subst (λ (o : Option (List (List Rule))). IfSome o (λ all. v.accepted ≡ k.installed.first ∷ map Some all)) (sym (which.1 (λ x. absurd (cc)))) (texts_same b.lists k.installed.world v k.installed.first (accepted_other Filling k.installed.world v (λ x. absurd (cc)) moves) k.installed.accepted)
-      by Synced v moves has which = subst (λ (o : Option (List (List Rule))). IfSome o (λ all. v.accepted ≡ k.installed.first ∷ map Some all)) (sym (which.1 (λ x. absurd (cc)))) (texts_same b.lists k.installed.world v k.installed.first (accepted_other Synced k.installed.world v (λ x. absurd (cc)) moves) k.installed.accepted)
-      by Named v moves has which = subst (λ (o : Option (List (List Rule))). IfSome o (λ all. v.accepted ≡ k.installed.first ∷ map Some all)) (sym (which.1 (λ x. absurd (cc)))) (texts_same b.lists k.installed.world v k.installed.first (accepted_other Named k.installed.world v (λ x. absurd (cc)) moves) k.installed.accepted)
-      by Done v moves has which = subst (λ (o : Option (List (List Rule))). IfSome o (λ all. v.accepted ≡ k.installed.first ∷ map Some all)) (sym (which.1 (λ x. absurd (cc)))) (texts_same b.lists k.installed.world v k.installed.first (accepted_other Done k.installed.world v (λ x. absurd (cc)) moves) k.installed.accepted)
+      by : (p : Phase) (v : World) → Advances p k.installed.world v → HasUnderWay v (kept_then t (Ok p)) → ((p ≡ Fresh → b'.lists ≡ option_map (λ (all : List (List Rule)). all ++ t.rules ∷ []) b.lists) × (p ≢ Fresh → b'.lists ≡ b.lists)) → IfSome b'.lists (λ all. v.accepted ≡ k.installed.first.accepted ++ map Some all)
+      by Fresh v moves has which = subst (λ (o : Option (List (List Rule))). IfSome o (λ all. v.accepted ≡ k.installed.first.accepted ++ map Some all)) (sym (which.0 refl)) (texts_more b.lists k.installed.world v k.installed.first.accepted t.rules (accepted_fresh k.installed.world v t moves has) k.installed.accepted)
+      by Filling v moves has which = subst (λ (o : Option (List (List Rule))). IfSome o (λ all. v.accepted ≡ k.installed.first.accepted ++ map Some all)) (sym (which.1 (λ x. absurd (cc)))) (texts_same b.lists k.installed.world v k.installed.first.accepted (accepted_other Filling k.installed.world v (λ x. absurd (cc)) moves) k.installed.accepted)
+      by Synced v moves has which = subst (λ (o : Option (List (List Rule))). IfSome o (λ all. v.accepted ≡ k.installed.first.accepted ++ map Some all)) (sym (which.1 (λ x. absurd (cc)))) (texts_same b.lists k.installed.world v k.installed.first.accepted (accepted_other Synced k.installed.world v (λ x. absurd (cc)) moves) k.installed.accepted)
+      by Named v moves has which = subst (λ (o : Option (List (List Rule))). IfSome o (λ all. v.accepted ≡ k.installed.first.accepted ++ map Some all)) (sym (which.1 (λ x. absurd (cc)))) (texts_same b.lists k.installed.world v k.installed.first.accepted (accepted_other Named k.installed.world v (λ x. absurd (cc)) moves) k.installed.accepted)
+      by Done v moves has which = subst (λ (o : Option (List (List Rule))). IfSome o (λ all. v.accepted ≡ k.installed.first.accepted ++ map Some all)) (sym (which.1 (λ x. absurd (cc)))) (texts_same b.lists k.installed.world v k.installed.first.accepted (accepted_other Done k.installed.world v (λ x. absurd (cc)) moves) k.installed.accepted)
 
   pub kept_failed : (p : Phase) (caller : ℕ) → OneMore b.told b.count b.stored y.server (StepFailed p) caller b'.told b'.count b'.stored server → b'.lists ≡ b.lists → way.LeadsOn s t y.directory e (Err (Disk Device p))
       → IsKeptBy b' (record { directory = e; rules = y.rules; server = server; installing = None })
@@ -114,7 +114,7 @@ module _ {b b' : Books} (y : YardState) (server : ServerState) (e : Directory) (
       record {
         history = k.history ++ StepFailed p ∷ [];
         is_history = history_on more k.history k.is_history;
-        installed = installed_on b.lists b'.lists y (record { directory = e; rules = y.rules; server = server; installing = None }) k.history (StepFailed p) refl refl more.happens (fail_phases p) k.installed moved.0 moved.1 (subst (λ (o : Option (List (List Rule))). IfSome o (λ all. moved.0.accepted ≡ k.installed.first ∷ map Some all)) (sym same) (texts_same b.lists k.installed.world moved.0 k.installed.first (accepted_failed p k.installed.world moved.0 moved.1.step.moves) k.installed.accepted));
+        installed = installed_on b.lists b'.lists y (record { directory = e; rules = y.rules; server = server; installing = None }) k.history (StepFailed p) refl refl more.happens (fail_phases p) k.installed moved.0 moved.1 (subst (λ (o : Option (List (List Rule))). IfSome o (λ all. moved.0.accepted ≡ k.installed.first.accepted ++ map Some all)) (sym same) (texts_same b.lists k.installed.world moved.0 k.installed.first.accepted (accepted_failed p k.installed.world moved.0 moved.1.step.moves) k.installed.accepted));
       }
 
 -- by the answer of a step

@@ -1,5 +1,6 @@
 -- What the installations of a yard left, after one event more.
 use Rattle.std.proofs.Common.{◌≡◌, ℕ, List, [], ◌∷◌, ◌++◌, map, Bool, true, false, cond, Option, None, Some, refl, sym, ap, subst, ◌∙◌}
+use Rattle.std.proofs.lemmas.List.{append-nil, append_assoc}
 use Rattle.std.specs.Prelude.{IfSome, option_map}
 use Rattle.dir_calls.specs.Directory.{Directory}
 use Rattle.rule_lines.specs.Pairs.{Rule}
@@ -7,8 +8,8 @@ use Rattle.rules_install.specs.Installing.{Installing}
 use Rattle.rules_install.specs.declared.Phase.{Phase}
 use Rattle.server_events.specs.Headline.{Reaches}
 use Rattle.server_events.specs.ServerState.{ServerState, after, start}
-use Rattle.server_events.specs.Steps.{none, more}
-use Rattle.server_events.specs.Worlds.{IsStart, RulesName, World}
+use Rattle.server_events.specs.Steps.{Legal, none, more}
+use Rattle.server_events.specs.Worlds.{Accepted, RulesName, World}
 use Rattle.server_events.specs.declared.event.Event.{Event}
 use Rattle.server_events.specs.declared.event.Event.TheVariants.{Stepped, StepFailed}
 use Rattle.server_events.proofs.InstalledRuns.{legal_then}
@@ -21,22 +22,26 @@ use Rattle.server_yard.proofs.Stepped.{GoesOn}
 pub none_installed : (lists : Option (List (List Rule))) (d : Directory) (rules : Option RulesName) (limit per_address : ℕ) → IfSome lists (λ all. all ≡ []) → Begins d rules
     → IsInstalledBy lists (record { directory = d; rules = rules; server = start limit per_address; installing = None }) []
 none_installed lists d rules limit per_address no_rules begins =
-    let w : World = record { directory = d; rules = rules; server = start limit per_address; accepted = begins.text ∷ []; acknowledged = 0; under_way = None; kept = [] } in
-    let first : IsStart w = record { text = begins.text; begins = begins.stands; none_pending = begins.none_pending; server = refl; accepted = refl; acknowledged = refl; under_way = refl; kept = refl } in
+    let w : World = record { directory = d; rules = rules; server = start limit per_address; accepted = begins.texts; acknowledged = 0; under_way = None; kept = [] } in
     record {
+      first = w;
+      starts = record { begins = begins.stand; server = refl; acknowledged = refl; under_way = refl; kept = refl };
       world = w;
-      reached = record { begin = w; starts = first; legal = none };
+      legal = none;
       has_directory = refl;
       has_rules = refl;
       has_phase = refl;
       has_installing = refl;
-      first = begins.text;
       accepted = texts lists no_rules;
     }
   where
-    texts : (o : Option (List (List Rule))) → IfSome o (λ all. all ≡ []) → IfSome o (λ all. begins.text ∷ [] ≡ begins.text ∷ map Some all)
+    texts : (o : Option (List (List Rule))) → IfSome o (λ all. all ≡ []) → IfSome o (λ all. begins.texts ≡ begins.texts ++ map Some all)
     texts None empty = tt
-    texts (Some all) empty = ap (λ (xs : List (List Rule)). begins.text ∷ map Some xs) (sym empty)
+    texts (Some all) empty = sym (append-nil begins.texts) ∙ ap (λ (xs : List (List Rule)). begins.texts ++ map Some xs) (sym empty)
+
+-- the history of the headline
+abbrev pub reached_by : {lists : Option (List (List Rule))} {y : YardState} {h : List Event} → (is : IsInstalledBy lists y h) → Reaches (installs_of h) is.world
+reached_by is = record { begin = is.first; starts = is.starts; legal = is.legal }
 
 installs-push : (h : List Event) (e : Event) → installs_of (h ++ e ∷ []) ≡ installs_of h ++ installs_of (e ∷ [])
 installs-push [] e = refl
@@ -62,32 +67,30 @@ installs-one h e one = installs-push h e ∙ ap (λ (b : Bool). installs_of h ++
 pub installed_same : {lists lists' : Option (List (List Rule))} {y y' : YardState} {h h' : List Event} → lists' ≡ lists → y'.directory ≡ y.directory → y'.rules ≡ y.rules → y'.server.phase ≡ y.server.phase → y'.installing ≡ y.installing → installs_of h' ≡ installs_of h
     → IsInstalledBy lists y h → IsInstalledBy lists' y' h'
 installed_same {lists} {lists'} {y} {y'} {h} {h'} l e r p i same is = record {
+  first = is.first;
+  starts = is.starts;
   world = is.world;
-  reached = subst (λ (es : List Event). Reaches es is.world) (sym same) is.reached;
+  legal = subst (λ (es : List Event). Legal is.first es is.world) (sym same) is.legal;
   has_directory = is.has_directory ∙ sym e;
   has_rules = is.has_rules ∙ sym r;
   has_phase = is.has_phase ∙ sym p;
   has_installing = subst (λ (o : Option Installing). HasUnderWay is.world o) (sym i) is.has_installing;
-  first = is.first;
-  accepted = subst (λ (o : Option (List (List Rule))). IfSome o (λ all. is.world.accepted ≡ is.first ∷ map Some all)) (sym l) is.accepted;
+  accepted = subst (λ (o : Option (List (List Rule))). IfSome o (λ all. is.world.accepted ≡ is.first.accepted ++ map Some all)) (sym l) is.accepted;
 }
 
 -- one more step
 pub installed_on : (lists lists' : Option (List (List Rule))) (y z : YardState) (h : List Event) (event : Event) → is_installing event ≡ true → z.rules ≡ y.rules → z.server ≡ after y.server event
     → ((a b : ServerState) → a.phase ≡ b.phase → (after a event).phase ≡ (after b event).phase) → (is : IsInstalledBy lists y h) → (v : World) → GoesOn is.world v event z.directory z.installing
-    → IfSome lists' (λ all. v.accepted ≡ is.first ∷ map Some all) → IsInstalledBy lists' z (h ++ event ∷ [])
+    → IfSome lists' (λ all. v.accepted ≡ is.first.accepted ++ map Some all) → IsInstalledBy lists' z (h ++ event ∷ [])
 installed_on lists lists' y z h event kind ruled happens phases is v on texts = record {
+  first = is.first;
+  starts = is.starts;
   world = v;
-  reached = subst (λ (es : List Event). Reaches es v) (sym (installs-one h event kind)) (record {
-    begin = is.reached.begin;
-    starts = is.reached.starts;
-    legal = legal_then is.reached.legal (more on.step none);
-  });
+  legal = subst (λ (es : List Event). Legal is.first es v) (sym (installs-one h event kind)) (legal_then is.legal (more on.step none));
   has_directory = on.directory;
   has_rules = on.rules ∙ is.has_rules ∙ sym ruled;
   has_phase = ap (λ (x : ServerState). x.phase) on.server ∙ phases is.world.server y.server is.has_phase ∙ ap (λ (x : ServerState). x.phase) (sym happens);
   has_installing = on.under;
-  first = is.first;
   accepted = texts;
 }
 
@@ -102,11 +105,11 @@ map-push : (all : List (List Rule)) (rules : List Rule) → map (λ (r : List Ru
 map-push [] rules = refl
 map-push (x ∷ xs) rules = ap (λ (rs : List (Option (List Rule))). Some x ∷ rs) (map-push xs rules)
 
-pub texts_more : (lists : Option (List (List Rule))) (w v : World) (first : Option (List Rule)) (rules : List Rule) → v.accepted ≡ w.accepted ++ Some rules ∷ [] → IfSome lists (λ all. w.accepted ≡ first ∷ map Some all) → IfSome (option_map (λ (all : List (List Rule)). all ++ rules ∷ []) lists) (λ all. v.accepted ≡ first ∷ map Some all)
+pub texts_more : (lists : Option (List (List Rule))) (w v : World) (first : Accepted) (rules : List Rule) → v.accepted ≡ w.accepted ++ Some rules ∷ [] → IfSome lists (λ all. w.accepted ≡ first ++ map Some all) → IfSome (option_map (λ (all : List (List Rule)). all ++ rules ∷ []) lists) (λ all. v.accepted ≡ first ++ map Some all)
 texts_more None w v first rules more_texts was = tt
 texts_more (Some all) w v first rules more_texts was =
-    more_texts ∙ ap (λ (xs : List (Option (List Rule))). xs ++ Some rules ∷ []) was ∙ ap (λ (xs : List (Option (List Rule))). first ∷ xs) (sym (map-push all rules))
+    more_texts ∙ ap (λ (xs : Accepted). xs ++ Some rules ∷ []) was ∙ append_assoc first (map (λ (r : List Rule). Some r) all) (Some rules ∷ []) ∙ ap (λ (xs : Accepted). first ++ xs) (sym (map-push all rules))
 
-pub texts_same : (lists : Option (List (List Rule))) (w v : World) (first : Option (List Rule)) → v.accepted ≡ w.accepted → IfSome lists (λ all. w.accepted ≡ first ∷ map Some all) → IfSome lists (λ all. v.accepted ≡ first ∷ map Some all)
+pub texts_same : (lists : Option (List (List Rule))) (w v : World) (first : Accepted) → v.accepted ≡ w.accepted → IfSome lists (λ all. w.accepted ≡ first ++ map Some all) → IfSome lists (λ all. v.accepted ≡ first ++ map Some all)
 texts_same None w v first same was = tt
 texts_same (Some all) w v first same was = same ∙ was

@@ -23,7 +23,7 @@ use Rattle.server_yard.specs.Standing.{YardState}
 use Rattle.server_yard.specs.Yards.{IsSameBeside, yard_roll, yard_state}
 use Rattle.server_yard.specs.declared.yard.Yard.{Yard}
 use Rattle.server_yard.proofs.Histories.{OneMore, history_on, history_same}
-use Rattle.server_yard.proofs.Installs.{installed_same, installs-other}
+use Rattle.server_yard.proofs.Installs.{installed_same, installs-other, reached_by}
 use Rattle.server_yard.proofs.Matching.{GoesTo, is_connection's, is_plain, phase_stays}
 
 pub own_other : (e : Event) → is_connection's e ≡ true → is_installing e ≡ false
@@ -119,7 +119,7 @@ whole_of (Some rules) bytes stands = subst (λ (o : Option (List ℕ)). IsWholeF
 pub stands_whole : {b : Books} {y : YardState} → IsKeptBy b y → (r : RulesName) → y.rules ≡ Some r → IsWholeFile (content y.directory r.name)
 stands_whole {b} {y} k r is =
     let it = k.installed in
-    let has = reached_whole (installs_of k.history) it.world r it.reached (it.has_rules ∙ is) in
+    let has = reached_whole (installs_of k.history) it.world r (reached_by it) (it.has_rules ∙ is) in
     subst (λ (x : Directory). IsWholeFile (content x r.name)) it.has_directory (whole_of has.now.text (content it.world.directory r.name) has.now.stands)
 
 -- what is known of an honest file

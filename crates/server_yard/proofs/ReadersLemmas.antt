@@ -1,5 +1,5 @@
 -- What a reader finds under the rules name of a yard, from what its installations left.
-use Rattle.std.proofs.Common.{◌≡◌, ◌≤◌, ◌<◌, ◌+◌, inl, inr, ℕ, zero, suc, true, false, cond, List, [], ◌∷◌, ◌++◌, length, map, refl, ap, subst, ◌∙◌, arith}
+use Rattle.std.proofs.Common.{◌≡◌, ◌≤◌, ◌<◌, ◌+◌, inl, inr, ℕ, zero, suc, true, false, cond, List, [], ◌∷◌, ◌++◌, length, map, refl, ap, subst, ◌∙◌, arith, length-append}
 use Rattle.std.specs.Prelude.{◌⊎◌, Option, None, Some, IfSome, max, is_some, slice_get}
 use Rattle.std.specs.FinMap.{get}
 use Rattle.std.proofs.lemmas.List.{length_push}
@@ -13,12 +13,13 @@ use Rattle.rules_install.specs.declared.Phase.TheVariants.{Fresh, Filling, Synce
 use Rattle.server_events.specs.Headline.{Reaches}
 use Rattle.server_events.specs.Steps.{Advances, Legal, Moves, Step, none, more}
 use Rattle.server_events.specs.Table.{Follows, done}
-use Rattle.server_events.specs.Worlds.{Accepted, RulesName, UnderWay, World}
+use Rattle.server_events.specs.Worlds.{Accepted, RulesName, StandsAt, UnderWay, World}
 use Rattle.server_events.specs.declared.event.Event.{Event}
 use Rattle.server_events.specs.declared.event.Event.TheVariants.{Admitted, Opened, Decided, Started, StartFailed, Ended, Retired, Dropped, Stepped, StepFailed, Stop}
-use Rattle.server_events.proofs.StandingTexts.{IsText, StandsAt}
+use Rattle.server_events.proofs.StandingTexts.{IsText}
 use Rattle.server_events.proofs.TableLemmas.{may_come_follows, step_is}
 use Rattle.server_events.proofs.WholeText.{Agree, good_reached, good_rules}
+use Rattle.server_yard.proofs.Installs.{reached_by}
 use Rattle.server_yard.specs.Installed.{IsKeptBy, installs_of}
 use Rattle.server_yard.specs.Readers.{IsAbsentOrCompiled, KeptYard, NamesCompiled, NamesStored, NamesStoredSinceDone, ReadersFind, begun_in, is_first}
 use Rattle.server_yard.specs.Rolls.{Books}
@@ -27,62 +28,62 @@ use Rattle.server_yard.specs.Standing.{YardState}
 
 -- ---- how many texts were accepted
 
--- one for each first step, and nothing is under way where there was none
-record Counted (w : World) (n : ℕ) : Type 0 where
-  texts : length w.accepted ≡ n + 1
+-- one for each first step behind those of the start, and nothing is under way where there was none
+record Counted (begun : ℕ) (w : World) (n : ℕ) : Type 0 where
+  texts : length w.accepted ≡ n + begun
   idle : n ≡ 0 → w.under_way ≡ None
 
 abbrev one_of : Event → ℕ
 one_of event = cond (is_first event) 1 0
 
 -- a step that accepts nothing, and begins nothing
-counted_same : (w v : World) (n : ℕ) → v.accepted ≡ w.accepted → (w.under_way ≡ None → v.under_way ≡ None) → Counted w n → Counted v (n + 0)
-counted_same w v n same idle c =
+counted_same : (m : ℕ) (w v : World) (n : ℕ) → v.accepted ≡ w.accepted → (w.under_way ≡ None → v.under_way ≡ None) → Counted m w n → Counted m v (n + 0)
+counted_same m w v n same idle c =
     let texts : length v.accepted ≡ length w.accepted = ap (λ (a : Accepted). length a) same in
     let was = c.texts in
     record { texts = omega (arith, texts, was); idle = λ none. idle (c.idle (omega (arith, none))) }
 
-counted_advance : (phase : Phase) (w v : World) (n : ℕ) → Advances phase w v → Counted w n → Counted v (n + one_of (Stepped phase))
-counted_advance Fresh w v n a c =
-    let texts : length v.accepted ≡ length w.accepted + 1 = ap (λ (x : World). length x.accepted) a.4 ∙ length_push w.accepted (Some a.0) in
+counted_advance : (m : ℕ) (phase : Phase) (w v : World) (n : ℕ) → Advances phase w v → Counted m w n → Counted m v (n + one_of (Stepped phase))
+counted_advance m Fresh w v n a c =
+    let texts : length v.accepted ≡ length w.accepted + 1 = ap (λ (x : World). length x.accepted) a.6 ∙ length_push w.accepted (Some a.0) in
     let was = c.texts in
     record { texts = omega (arith, texts, was); idle = λ none. absurd (omega (arith, none)) }
-counted_advance Filling w v n a c = counted_same w v n (ap (λ (x : World). x.accepted) a.2) (λ is. ap (λ (x : World). x.under_way) a.2 ∙ is) c
-counted_advance Synced w v n a c = counted_same w v n (ap (λ (x : World). x.accepted) a.4) (λ is. ap (λ (x : World). x.under_way) a.4 ∙ is) c
-counted_advance Named w v n a c = counted_same w v n (ap (λ (x : World). x.accepted) a.4) (λ is. ap (λ (x : World). x.under_way) a.4 ∙ is) c
-counted_advance Done w v n a c = counted_same w v n (ap (λ (x : World). x.accepted) a.3) (λ is. ap (λ (x : World). x.under_way) a.3) c
+counted_advance m Filling w v n a c = counted_same m w v n (ap (λ (x : World). x.accepted) a.2) (λ is. ap (λ (x : World). x.under_way) a.2 ∙ is) c
+counted_advance m Synced w v n a c = counted_same m w v n (ap (λ (x : World). x.accepted) a.4) (λ is. ap (λ (x : World). x.under_way) a.4 ∙ is) c
+counted_advance m Named w v n a c = counted_same m w v n (ap (λ (x : World). x.accepted) a.4) (λ is. ap (λ (x : World). x.under_way) a.4 ∙ is) c
+counted_advance m Done w v n a c = counted_same m w v n (ap (λ (x : World). x.accepted) a.3) (λ is. ap (λ (x : World). x.under_way) a.3) c
 
-counted_moves : (event : Event) (w v : World) (n : ℕ) → Moves event w v → Counted w n → Counted v (n + one_of event)
-counted_moves (Admitted m peer) w v n a c = counted_same w v n (ap (λ (x : World). x.accepted) a) (λ is. ap (λ (x : World). x.under_way) a ∙ is) c
-counted_moves (Opened m there) w v n a c = counted_same w v n (ap (λ (x : World). x.accepted) a.1) (λ is. ap (λ (x : World). x.under_way) a.1 ∙ is) c
-counted_moves (Decided m decision) w v n a c = counted_same w v n (ap (λ (x : World). x.accepted) a.5) (λ is. ap (λ (x : World). x.under_way) a.5 ∙ is) c
-counted_moves (Started m) w v n a c = counted_same w v n (ap (λ (x : World). x.accepted) a) (λ is. ap (λ (x : World). x.under_way) a ∙ is) c
-counted_moves (StartFailed m fault) w v n a c = counted_same w v n (ap (λ (x : World). x.accepted) a) (λ is. ap (λ (x : World). x.under_way) a ∙ is) c
-counted_moves (Ended m status) w v n a c = counted_same w v n (ap (λ (x : World). x.accepted) a) (λ is. ap (λ (x : World). x.under_way) a ∙ is) c
-counted_moves (Retired m) w v n a c = counted_same w v n (ap (λ (x : World). x.accepted) a) (λ is. ap (λ (x : World). x.under_way) a ∙ is) c
-counted_moves (Dropped m cause) w v n a c = counted_same w v n (ap (λ (x : World). x.accepted) a) (λ is. ap (λ (x : World). x.under_way) a ∙ is) c
-counted_moves (Stepped phase) w v n a c = counted_advance phase w v n a c
-counted_moves (StepFailed phase) w v n a c = counted_same w v n (ap (λ (x : World). x.accepted) a.3) (λ is. ap (λ (x : World). x.under_way) a.3) c
-counted_moves Stop w v n a c = counted_same w v n (ap (λ (x : World). x.accepted) a.1) (λ is. ap (λ (x : World). x.under_way) a.1) c
+counted_moves : (m : ℕ) (event : Event) (w v : World) (n : ℕ) → Moves event w v → Counted m w n → Counted m v (n + one_of event)
+counted_moves m (Admitted k peer) w v n a c = counted_same m w v n (ap (λ (x : World). x.accepted) a) (λ is. ap (λ (x : World). x.under_way) a ∙ is) c
+counted_moves m (Opened k there) w v n a c = counted_same m w v n (ap (λ (x : World). x.accepted) a.1) (λ is. ap (λ (x : World). x.under_way) a.1 ∙ is) c
+counted_moves m (Decided k decision) w v n a c = counted_same m w v n (ap (λ (x : World). x.accepted) a.5) (λ is. ap (λ (x : World). x.under_way) a.5 ∙ is) c
+counted_moves m (Started k) w v n a c = counted_same m w v n (ap (λ (x : World). x.accepted) a) (λ is. ap (λ (x : World). x.under_way) a ∙ is) c
+counted_moves m (StartFailed k fault) w v n a c = counted_same m w v n (ap (λ (x : World). x.accepted) a) (λ is. ap (λ (x : World). x.under_way) a ∙ is) c
+counted_moves m (Ended k status) w v n a c = counted_same m w v n (ap (λ (x : World). x.accepted) a) (λ is. ap (λ (x : World). x.under_way) a ∙ is) c
+counted_moves m (Retired k) w v n a c = counted_same m w v n (ap (λ (x : World). x.accepted) a) (λ is. ap (λ (x : World). x.under_way) a ∙ is) c
+counted_moves m (Dropped k cause) w v n a c = counted_same m w v n (ap (λ (x : World). x.accepted) a) (λ is. ap (λ (x : World). x.under_way) a ∙ is) c
+counted_moves m (Stepped phase) w v n a c = counted_advance m phase w v n a c
+counted_moves m (StepFailed phase) w v n a c = counted_same m w v n (ap (λ (x : World). x.accepted) a.3) (λ is. ap (λ (x : World). x.under_way) a.3) c
+counted_moves m Stop w v n a c = counted_same m w v n (ap (λ (x : World). x.accepted) a.1) (λ is. ap (λ (x : World). x.under_way) a.1) c
 
 begun-cons : (e : Event) (es : List Event) → begun_in (e ∷ es) ≡ one_of e + begun_in es
 begun-cons e es = sum_by-cons (λ (x : Event). cond (is_first x) 1 0) e es
 
-counted_run : {v w : World} {h : List Event} → (n : ℕ) → Legal v h w → Counted v n → Counted w (n + begun_in h)
-counted_run n (none {w}) c =
+counted_run : {v w : World} {h : List Event} → (m n : ℕ) → Legal v h w → Counted m v n → Counted m w (n + begun_in h)
+counted_run m n (none {w}) c =
     let same : n ≡ n + begun_in [] = omega arith in
-    subst (λ (k : ℕ). Counted w k) same c
-counted_run n (more {u} {v} {w} {event} {events} step rest) c =
+    subst (λ (k : ℕ). Counted m w k) same c
+counted_run m n (more {u} {v} {w} {event} {events} step rest) c =
     let first = begun-cons event events in
     let same : (n + one_of event) + begun_in events ≡ n + begun_in (event ∷ events) = omega (arith, first) in
-    subst (λ (k : ℕ). Counted w k) same (counted_run (n + one_of event) rest (counted_moves event u v n step.moves c))
+    subst (λ (k : ℕ). Counted m w k) same (counted_run m (n + one_of event) rest (counted_moves m event u v n step.moves c))
 
-counted_reached : (h : List Event) (w : World) → Reaches h w → Counted w (begun_in h)
+counted_reached : (h : List Event) (w : World) → (reaches : Reaches h w) → Counted (length reaches.begin.accepted) w (begun_in h)
 counted_reached h w reaches =
-    let texts : length reaches.begin.accepted ≡ 1 = ap (λ (a : Accepted). length a) reaches.starts.accepted in
-    let c = counted_run 0 reaches.legal (record { texts = omega (arith, texts); idle = λ none. reaches.starts.under_way }) in
+    let m = length reaches.begin.accepted in
+    let c = counted_run m 0 reaches.legal (record { texts = omega arith; idle = λ none. reaches.starts.under_way }) in
     let same : 0 + begun_in h ≡ begun_in h = omega arith in
-    subst (λ (k : ℕ). Counted w k) same c
+    subst (λ (k : ℕ). Counted m w k) same c
 
 -- ---- what was acknowledged stays
 
@@ -90,7 +91,7 @@ same_le : (w v : World) → v.acknowledged ≡ w.acknowledged → w.acknowledged
 same_le w v same = omega (arith, same)
 
 rises_advance : (phase : Phase) (w v : World) → Advances phase w v → w.acknowledged ≤ v.acknowledged
-rises_advance Fresh w v a = same_le w v (ap (λ (x : World). x.acknowledged) a.4)
+rises_advance Fresh w v a = same_le w v (ap (λ (x : World). x.acknowledged) a.6)
 rises_advance Filling w v a = same_le w v (ap (λ (x : World). x.acknowledged) a.2)
 rises_advance Synced w v a = same_le w v (ap (λ (x : World). x.acknowledged) a.4)
 rises_advance Named w v a = same_le w v (ap (λ (x : World). x.acknowledged) a.4)
@@ -161,8 +162,8 @@ rules_there : (o : Option RulesName) → is_some o ≡ true → (r : RulesName) 
 rules_there None there = absurd (cc)
 rules_there (Some r) there = (r, refl)
 
--- it has the number of the first steps up to it, which is not 0
-number_done : (h : List Event) (x y : World) → Reaches h x → Step x (Stepped Done) y → (begun_in h ≤ y.acknowledged) × (0 < begun_in h)
+-- it has the number of the first steps up to it, behind the texts of the start, and there is one
+number_done : (h : List Event) (x y : World) → (reaches : Reaches h x) → Step x (Stepped Done) y → (begun_in h + length reaches.begin.accepted ≤ y.acknowledged + 1) × (0 < begun_in h)
 number_done h x y reaches step =
     let moves = step.moves in
     let u = moves.0 in
@@ -175,11 +176,11 @@ number_done h x y reaches step =
     let raised : y.acknowledged ≡ max x.acknowledged u.number = ap (λ (z : World). z.acknowledged) moves.3 in
     (omega (arith, last, texts, raised), positive (begun_in h) counted)
   where
-    positive : (n : ℕ) → Counted x n → 0 < n
+    positive : (n : ℕ) → Counted (length reaches.begin.accepted) x n → 0 < n
     positive zero c = let none_there = c.idle refl in let there = step.moves.1 in absurd (cc)
     positive (suc n) c = omega arith
 
-done_number : (h : List Event) (w : World) → Reaches h w → (before later : List Event) → h ≡ before ++ Stepped Done ∷ later → (begun_in before ≤ w.acknowledged) × (0 < begun_in before)
+done_number : (h : List Event) (w : World) → (reaches : Reaches h w) → (before later : List Event) → h ≡ before ++ Stepped Done ∷ later → (begun_in before + length reaches.begin.accepted ≤ w.acknowledged + 1) × (0 < begun_in before)
 done_number h w reaches before later is =
     let parts = parts_of reaches.legal before (Stepped Done) later is in
     let at = number_done before parts.x parts.y (record { begin = reaches.begin; starts = reaches.starts; legal = parts.first }) parts.step in
@@ -240,16 +241,26 @@ absent_or : (d : Directory) (names : Names) (name : List ℕ) (text : Option (Li
 absent_or d names name None stands = inl stands
 absent_or d names name (Some rules) stands = inr (rules, compiled_at d names name rules stands)
 
-stored_at : (first : Option (List Rule)) (lists : List (List Rule)) (least : ℕ) (d : Directory) (names : Names) (name : List ℕ) (place : ℕ) (text : Option (List Rule)) → 0 < least → least ≤ place → slice_get (first ∷ map (λ (r : List Rule). Some r) lists) place ≡ Some text → StandsAt d.files text (get names name)
+-- what stands behind the first of a list
+behind : (first others : Accepted) (place : ℕ) (text : Option (List Rule)) → length first ≤ place → slice_get (first ++ others) place ≡ Some text → (k : ℕ) × (place ≡ k + length first) × (slice_get others k ≡ Some text)
+behind [] others place text le is = (place, omega arith, is)
+behind (x ∷ first) others zero text le is = absurd (omega (arith, le))
+behind (x ∷ first) others (suc place) text le is =
+    let rest = behind first others place text (omega (arith, le)) is in
+    let same = rest.1 in
+    (rest.0, omega (arith, same), rest.2)
+
+stored_at : (first : Accepted) (lists : List (List Rule)) (least : ℕ) (d : Directory) (names : Names) (name : List ℕ) (place : ℕ) (text : Option (List Rule)) → 0 < least → least + length first ≤ place + 1 → slice_get (first ++ map (λ (r : List Rule). Some r) lists) place ≡ Some text → StandsAt d.files text (get names name)
     → NamesStored lists least d names name
-stored_at first lists least d names name zero text some recent is stands = absurd (omega arith)
-stored_at first lists least d names name (suc place) text some recent is stands =
-    let found = stored_text lists place text is in
+stored_at first lists least d names name place text some recent is stands =
+    let there = behind first (map (λ (r : List Rule). Some r) lists) place text (omega (arith, some, recent)) is in
+    let same = there.1 in
+    let found = stored_text lists there.0 text there.2 in
     record {
-      place = place;
+      place = there.0;
       rules = found.0;
       stored = found.1;
-      recent = omega arith;
+      recent = omega (arith, same, recent);
       there = compiled_at d names name found.0 (subst (λ (t : Option (List Rule)). StandsAt d.files t (get names name)) found.2 stands);
     }
 
@@ -257,7 +268,7 @@ module _ (k : KeptYard) where
   text_of : (names : Names) → CanBeLeft k.state.directory.names names → IsText k.kept.installed.world.accepted k.kept.installed.world.acknowledged k.state.directory.files (get names k.rules.name)
   text_of names left =
       let it = k.kept.installed in
-      let holds = good_rules it.world k.rules (it.has_rules ∙ k.follows) (good_reached (installs_of k.kept.history) it.world it.reached) in
+      let holds = good_rules it.world k.rules (it.has_rules ∙ k.follows) (good_reached (installs_of k.kept.history) it.world (reached_by it)) in
       subst (λ (d : Directory). (ns : Names) → CanBeLeft d.names ns → IsText it.world.accepted it.world.acknowledged d.files (get ns k.rules.name)) it.has_directory holds.lasts names left
 
   pub always_whole : IsAbsentOrCompiled k.state.directory k.rules.name
@@ -265,30 +276,30 @@ module _ (k : KeptYard) where
       let is = text_of names left in
       absent_or k.state.directory names k.rules.name is.text is.stands
 
-  texts_are : (lists : List (List Rule)) → k.books.lists ≡ Some lists → k.kept.installed.world.accepted ≡ k.kept.installed.first ∷ map (λ (r : List Rule). Some r) lists
+  texts_are : (lists : List (List Rule)) → k.books.lists ≡ Some lists → k.kept.installed.world.accepted ≡ k.kept.installed.first.accepted ++ map (λ (r : List Rule). Some r) lists
   texts_are lists is =
       let it = k.kept.installed in
-      subst (λ (o : Option (List (List Rule))). IfSome o (λ all. it.world.accepted ≡ it.first ∷ map Some all)) is it.accepted
+      subst (λ (o : Option (List (List Rule))). IfSome o (λ all. it.world.accepted ≡ it.first.accepted ++ map Some all)) is it.accepted
 
   pub since_done : (lists : List (List Rule)) → k.books.lists ≡ Some lists → NamesStoredSinceDone k.kept.history lists k.state.directory k.rules.name
   since_done lists is before later split names left =
       let it = k.kept.installed in
-      let at = done_number (installs_of k.kept.history) it.world it.reached (installs_of before) (installs_of later) (ap installs_of split ∙ installs-done before later) in
+      let at = done_number (installs_of k.kept.history) it.world (reached_by it) (installs_of before) (installs_of later) (ap installs_of split ∙ installs-done before later) in
       let same = begun-installs before in
       let text = text_of names left in
       let recent = text.recent in
       let acknowledged = at.0 in
       let some = at.1 in
       let found = subst (λ (a : Accepted). slice_get a text.place ≡ Some text.text) (texts_are lists is) text.accepted_as in
-      stored_at it.first lists (begun_in before) k.state.directory names k.rules.name text.place text.text (omega (arith, some, same)) (omega (arith, acknowledged, recent, same)) found text.stands
+      stored_at it.first.accepted lists (begun_in before) k.state.directory names k.rules.name text.place text.text (omega (arith, some, same)) (omega (arith, acknowledged, recent, same)) found text.stands
 
   pub one_each : (lists : List (List Rule)) → k.books.lists ≡ Some lists → length lists ≡ begun_in k.kept.history
   one_each lists is =
       let it = k.kept.installed in
-      let counted = counted_reached (installs_of k.kept.history) it.world it.reached in
+      let counted = counted_reached (installs_of k.kept.history) it.world (reached_by it) in
       let texts = counted.texts in
       let same = begun-installs k.kept.history in
-      let all = ap (λ (a : Accepted). length a) (texts_are lists is) in
+      let all = ap (λ (a : Accepted). length a) (texts_are lists is) ∙ length-append it.first.accepted (map (λ (r : List Rule). Some r) lists) in
       let lengths = length-texts lists in
       omega (arith, texts, same, all, lengths)
 

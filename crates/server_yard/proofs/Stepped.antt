@@ -30,7 +30,7 @@ leaves_by : (w v u : World) → v ≡ u → u.rules ≡ w.rules → u.kept ≡ w
 leaves_by w v u is rules kept = record { rules = ap (λ (x : World). x.rules) is ∙ rules; kept = ap (λ (x : World). x.kept) is ∙ kept }
 
 advanced : (p : Phase) (w v : World) → Advances p w v → Leaves w v
-advanced Fresh w v moves = leaves_by w v _ moves.4 refl refl
+advanced Fresh w v moves = leaves_by w v _ moves.6 refl refl
 advanced Filling w v moves = leaves_by w v _ moves.2 refl refl
 advanced Synced w v moves = leaves_by w v _ moves.4 refl refl
 advanced Named w v moves = leaves_by w v _ moves.4 refl refl
@@ -122,7 +122,7 @@ same_rules v rules number tmp t is far = ap rules_in (sym is ∙ far.under_way)
 
 pub accepted_fresh : (w v : World) (t : Installing) → Advances Fresh w v → IsAsFar v t → v.accepted ≡ w.accepted ++ Some t.rules ∷ []
 accepted_fresh w v t moves far =
-    let is = moves.4 in
+    let is = moves.6 in
     let own = same_rules v moves.0 (length w.accepted) moves.1 t (ap (λ (x : World). x.under_way) is) far in
     ap (λ (x : World). x.accepted) is ∙ ap (λ (rules : List Rule). w.accepted ++ Some rules ∷ []) own
 

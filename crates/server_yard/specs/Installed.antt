@@ -1,10 +1,10 @@
 -- What the installations of a yard left in its directory.
-use Rattle.std.specs.Prelude.{◌≡◌, ◌∷◌, ◌⊎◌, ⊤, ℕ, List, Option, None, Some, IfSome, map}
+use Rattle.std.specs.Prelude.{◌≡◌, ◌++◌, ◌⊎◌, ⊤, ℕ, List, Option, None, Some, IfSome, map}
 use Rattle.std.specs.List.{filter}
 use Rattle.dir_calls.specs.Directory.{Directory, content, number_of}
 use Rattle.rule_lines.specs.Pairs.{Rule}
-use Rattle.server_events.specs.Headline.{Reaches}
-use Rattle.server_events.specs.Worlds.{IsOf, World}
+use Rattle.server_events.specs.Steps.{Legal}
+use Rattle.server_events.specs.Worlds.{IsOf, IsStart, World}
 use Rattle.server_events.specs.declared.event.Event.{Event}
 use Rattle.server_yard.specs.Rolls.{Books, IsHistory}
 use Rattle.server_yard.specs.Seating.{is_installing}
@@ -15,16 +15,18 @@ abbrev pub installs_of : List Event → List Event
 installs_of history = filter is_installing history
 
 -- The installations of a history, by themselves, are a history of the headline: they lead from a start to a world with the yard's
--- directory, rules name, phase and installation under way, whose accepted texts behind the first are the lists of rules that are stored.
+-- directory, rules name, phase and installation under way, whose accepted texts behind those of the start are the lists of rules that are
+-- stored.
 pub record IsInstalledBy (lists : Option (List (List Rule))) (y : YardState) (history : List Event) : Type 0 where
+  pub first : World
+  pub starts : IsStart first
   pub world : World
-  pub reached : Reaches (installs_of history) world
+  pub legal : Legal first (installs_of history) world
   pub has_directory : world.directory ≡ y.directory
   pub has_rules : world.rules ≡ y.rules
   pub has_phase : world.server.phase ≡ y.server.phase
   pub has_installing : HasUnderWay world y.installing
-  pub first : Option (List Rule)
-  pub accepted : IfSome lists (λ all. world.accepted ≡ first ∷ map Some all)
+  pub accepted : IfSome lists (λ all. world.accepted ≡ first.accepted ++ map Some all)
 
 -- a history of a yard, and what its installations left
 pub record IsKeptBy (books : Books) (y : YardState) : Type 0 where

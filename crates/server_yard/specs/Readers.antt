@@ -1,4 +1,4 @@
--- What a reader finds under the rules name of a yard, whatever part of the pending changes a stop takes.
+-- What a reader finds under the rules name of a yard, whatever a stop leaves there.
 use Rattle.std.specs.Prelude.{◌≡◌, ◌≤◌, ◌+◌, ◌⊎◌, ℕ, Bool, true, false, List, ◌∷◌, ◌++◌, None, Some, IfSome, slice_get}
 use Rattle.std.specs.List.{count_by}
 use Rattle.std.specs.FinMap.{get}
@@ -21,7 +21,7 @@ pub record NamesCompiled (d : Directory) (names : Names) (name : List ℕ) (rule
   pub synced : slice_get d.files number ≡ Some (record { bytes = file; synced = true })
   pub compiled : IsOf rules file
 
--- after each prefix of the pending changes the name is absent, or stands for such a file
+-- whatever a stop leaves under the name, it is absent, or stands for such a file
 abbrev pub IsAbsentOrCompiled : Directory → List ℕ → Type 0
 IsAbsentOrCompiled d name =
     (names : Names) → CanBeLeft d.names names → (get names name ≡ None) ⊎ ((rules : List Rule) × NamesCompiled d names name rules)
@@ -43,8 +43,8 @@ pub record NamesStored (lists : List (List Rule)) (least : ℕ) (d : Directory) 
   pub recent : least ≤ place + 1
   pub there : NamesCompiled d names name rules
 
--- Since an installation answered `Done`: after each prefix of the pending changes the name stands for a file of the stored list of that
--- installation or of a later one.
+-- Since an installation answered `Done`: whatever a stop leaves under the name, it stands for a file of the stored list of that installation
+-- or of a later one.
 abbrev pub NamesStoredSinceDone : List Event → List (List Rule) → Directory → List ℕ → Type 0
 NamesStoredSinceDone history lists d name =
     (before later : List Event) → history ≡ before ++ Stepped Done ∷ later

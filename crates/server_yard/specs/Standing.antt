@@ -8,7 +8,7 @@ use Rattle.rule_lookup.specs.declared.decision.Decision.{Decision}
 use Rattle.server_events.specs.Headline.{Reaches}
 use Rattle.server_events.specs.ServerState.{ServerState, start}
 use Rattle.server_events.specs.Steps.{Step}
-use Rattle.server_events.specs.Worlds.{KeptFile, RulesName, StartsWith, World, kept_by}
+use Rattle.server_events.specs.Worlds.{Accepted, KeptFile, RulesName, StartsWith, World, kept_by}
 use Rattle.server_events.specs.declared.event.Event.{Event}
 use Rattle.server_events.specs.declared.event.Event.TheVariants.{Opened, Decided}
 
@@ -60,12 +60,11 @@ LeadsDecided n bytes decision y z =
 abbrev pub standing_of : YardState → Option (List ℕ)
 standing_of y = option_and_then (λ (r : RulesName). content y.directory r.name) y.rules
 
--- A directory begins with no pending change, and under the rules name with nothing, or with a synced file that is compiled of one accepted
--- text.
+-- A directory begins with one of some accepted texts under the rules name, compiled in a synced file, or with nothing, whatever names a stop
+-- leaves.
 pub record Begins (d : Directory) (rules : Option RulesName) : Type 0 where
-  pub text : Option (List Rule)
-  pub stands : StartsWith d rules text
-  pub none_pending : d.names.pending ≡ []
+  pub texts : Accepted
+  pub stand : StartsWith d rules texts
 
 -- the same of one that is honest
 abbrev pub BeginsWell : Bool → Directory → Option RulesName → Type 0

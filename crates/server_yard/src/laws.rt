@@ -13,8 +13,8 @@ pub fn reached()
         → IsReachedBy history z files }
 {}
 
-/// What a reader finds, in each yard as its type keeps it where the premises were met when it was made. After each prefix of the pending
-/// changes the rules name is absent, or stands for a synced file that is compiled of rules. Over a journal that stores the lists of the
+/// What a reader finds, in each yard as its type keeps it where the premises were met when it was made. Whatever a stop leaves under it, the
+/// rules name is absent, or stands for a synced file that is compiled of rules. Over a journal that stores the lists of the
 /// installations, since any of them answered `Done` it stands for one that is compiled of the list of that installation or of a later one;
 /// there is one list for each.
 pub fn readers()

@@ -1,9 +1,11 @@
-use Rattle.std.proofs.Common.{◌≡◌, List, [], ℕ, IsTrue, ◌-◌, length, take, drop, length-drop, sym, ◌∙◌, ap, arith}
+use Rattle.std.proofs.Common.{◌≡◌, List, [], ℕ, IsTrue, ◌-◌, length, take, drop, length-drop, refl, sym, ◌∙◌, ap, arith}
 use Rattle.std.proofs.lemmas.List.{take_all, nil_from_length}
 use Rattle.std.proofs.lemmas.Bool.Decides.{nat_tests}
 use Rattle.dir_calls.specs.Calls.{appends, after}
+use Rattle.dir_calls.specs.Lasting.{HasAmong}
 use Rattle.dir_calls.specs.Replacing.{KeepsWhatLasts}
-use Rattle.dir_calls.proofs.Lasting.{appends_keeps}
+use Rattle.dir_calls.proofs.Lasting.{appends_keeps, image_has}
+use Rattle.dir_calls.proofs.Moments.{started}
 use Rattle.dir_calls.proofs.Replacing.{stays_on, append_none, append_rest}
 use Rattle.dir_calls.proofs.replace.append_all.Given.{Over}
 use Rattle.dir_calls.proofs.replace.append_all.Goals as goal
@@ -21,6 +23,15 @@ stays g c honest name olds lasts =
 
 pub returns-in_err-count-clause-stays : goal.returns-in_err-count-clause-stays
 returns-in_err-count-clause-stays g c = stays g (goal.at.returns-in_err-count-clause-stays g c).After-append
+
+pub loop-rest-init : goal.loop-rest-init
+loop-rest-init g c = record {
+  appended = λ honest. refl;
+  stays = λ honest name olds lasts.
+      let d = c.args.dir.now in
+      record { lasts = lasts; any_moment = started g.D.Dir.moment g.D.Dir.left_since d (HasAmong name olds) (λ image left. image_has (g.D.Dir.state d) image name olds lasts (g.met.D.Dir.only_now d image honest left)) };
+  counted = refl;
+}
 
 pub loop-rest-preserved : goal.loop-rest-preserved
 loop-rest-preserved g c = record {

@@ -48,7 +48,7 @@ returns-clause-done g c = λ honest.
     let mid = g.D.Dir.state c.write_scratch.new.dir in
     on_ok (λ d. LastsAmong d name (Some bytes ∷ [])) settles (g.D.Dir.state c.rename.new.self) (g.D.Dir.state c.settle.new.self) c.settle.result (c.settle.ensures.does honest)
     (subst (λ (d : Directory). LastsAmong (after settles d) name (Some bytes ∷ [])) (sym (c.in_ok-rename.ensures.does honest))
-    (replaced mid c.args.scratch.now name bytes c.requires.differ (c.in_ok-write_scratch.ensures.written honest)))
+    (replaced mid c.args.scratch.now name bytes (c.in_ok-write_scratch.ensures.written honest)))
 
 pub returns-in_err-write_scratch-clause-stays : goal.returns-in_err-write_scratch-clause-stays
 returns-in_err-write_scratch-clause-stays g c = λ honest olds lasts.

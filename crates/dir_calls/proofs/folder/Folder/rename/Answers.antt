@@ -1,16 +1,15 @@
 use Rattle.std.proofs.Common.{rules, ◌≡◌, List, [], ◌∷◌, ◌++◌, sym, ◌∙◌, ap, arith}
 use Rattle.std.proofs.lemmas.List.{length-map, map-append}
 use Rattle.std.specs.Prelude.{map}
-use Rattle.std.specs.Cmp.Lexicographic.{texts_ties}
 use Rattle.dir_calls.specs.NameTable.{NameChange, moves}
 use Rattle.dir_calls.specs.Calls.{with_names}
 use Rattle.dir_calls.specs.Entries.{names_in, change_of}
 use Rattle.dir_calls.specs.Folder.{directory_of, table_of}
-use Rattle.dir_calls.proofs.InMemory.{renamed_self, renamed_other, table_of-push}
+use Rattle.dir_calls.proofs.InMemory.{same_found, renamed_same, renamed_other, table_of-push}
 use Rattle.dir_calls.proofs.folder.Folder.rename.Goals as goal
 
 pub returns-then-eq-clause-ok : goal.returns-then-eq-clause-ok
-returns-then-eq-clause-ok c = renamed_self (directory_of c.args.self.now) c.args.from.now c.args.to.now c.args.number c.requires (sym (c.eq.ensures ∙ texts_ties c.args.from.now c.args.to.now) ∙ c.if-eq.true)
+returns-then-eq-clause-ok c = renamed_same (directory_of c.args.self.now) c.args.from.now c.args.to.now c.args.number c.requires (same_found c.number.result _ c.args.number c.number.ensures (sym c.eq.ensures ∙ c.if-eq.true))
 
 pub returns-clause-ok : goal.returns-clause-ok
 returns-clause-ok c =
@@ -22,4 +21,4 @@ returns-clause-ok c =
     ap (map change_of) c.in_ok-push.ensures.items ∙ map-append change_of f.edits.items _ ∙ (λ i. changes ++ moves (same_from i) (same_to i) c.args.number ∷ []) in
     ap (with_names (directory_of f)) (ap (table_of (names_in f.origin.items) f.settled) pushed
     ∙ table_of-push (names_in f.origin.items) f.settled changes (moves c.args.from.now c.args.to.now c.args.number) (omega (arith, f.settled_fits, length-map f.edits.items change_of)))
-    ∙ renamed_other (directory_of f) c.args.from.now c.args.to.now c.args.number c.requires (sym (c.eq.ensures ∙ texts_ties c.args.from.now c.args.to.now) ∙ c.if-eq.false)
+    ∙ renamed_other (directory_of f) c.args.from.now c.args.to.now c.args.number c.requires (same_found c.number.result _ c.args.number c.number.ensures (sym c.eq.ensures ∙ c.if-eq.false))

@@ -29,6 +29,6 @@ returns g c =
     }) in
     call_steps g.D.Dir.honest g.D.Dir.state g.D.Dir.moment g.D.Dir.left_since g.D.Dir.failed Named s (renames s.names.tmp s.names.cdb) c.args.dir.now c.rename-outcome.new.self c.rename-outcome.result
     one (installing c.note.new.self) c.note.result c.requires.is_open refl (λ is. absurd (cc)) c.requires.fits
-    (λ honest. rename_fits d s.names.tmp s.names.cdb (synced_file s.rules) c.tmp.ensures.other (synced_has s d c.requires.next (c.requires.fits honest c.requires.is_open)))
+    (λ honest. rename_fits d s.names.tmp s.names.cdb (synced_file s.rules) (synced_has s d c.requires.next (c.requires.fits honest c.requires.is_open)))
     (λ honest. rename_keeps d s.names.tmp s.names.cdb (whole_file s.rules) (synced_has s d c.requires.next (c.requires.fits honest c.requires.is_open)))
     c.note.ensures.answer c.note.ensures.noted

@@ -1,0 +1,26 @@
+//! Laws over the definitions alone.
+ghost use Rattle.std.specs.Prelude.{◌≡◌, ◌↔◌, ℕ, List, Option, Some, None};
+ghost use Rattle.dir_calls.specs.Calls.{renames, after};
+ghost use Rattle.dir_calls.specs.Directory.{Directory, number_of};
+ghost use Rattle.dir_calls.specs.NameTable.{NameTable};
+ghost use Rattle.dir_calls.specs.Torn.{HasImage, MayBeTorn, MayStand, StandFor, StoodThere};
+
+/// Under one name a stop leaves what stood there when names were last settled, or what any one change since then put there, and nothing else.
+pub fn one_name()
+    ensures { (table : NameTable) (name : List ℕ) (number : Option ℕ)
+        → StoodThere table name number ↔ MayStand table name number }
+{}
+
+/// A stop may tear a rename that is not settled yet: it may leave both names for the file, or under the old name nothing and under the new
+/// one what stood there before.
+pub fn torn()
+    ensures both { (d : Directory) (from to : List ℕ) (n : ℕ) → MayBeTorn d from to n
+        → HasImage (after (renames from to) d) (StandFor from (Some n) to (Some n)) }
+    ensures neither { (d : Directory) (from to : List ℕ) (n : ℕ) → MayBeTorn d from to n
+        → HasImage (after (renames from to) d) (StandFor from None to (number_of d to)) }
+{}
+
+/// A rename of two names of one file changes nothing.
+pub fn one_file()
+    ensures { (d : Directory) (from to : List ℕ) → number_of d from ≡ number_of d to → after (renames from to) d ≡ d }
+{}
