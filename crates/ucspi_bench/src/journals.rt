@@ -1,5 +1,6 @@
 //! How fast journals take events.
-use server_core::{Counts, Event, Full, Journal, Noted};
+use event_journals::{Counts, Full, Journal, Noted};
+use server_events::Event;
 use std::alloc::{AllocError, Global};
 use std::io;
 use std::rt::Clock;

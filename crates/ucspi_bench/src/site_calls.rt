@@ -2,8 +2,9 @@
 ghost use Rattle.std.specs.Prelude.{◌≡◌, ◌<◌, false};
 
 use dir_calls::MemDir;
+use event_journals::Counts;
 use rule_lookup::{DropCause, Peer};
-use server_core::{Counts, Premises, Yard};
+use server_yard::{Premises, Yard};
 use site_lock::{Caller, Callers, Site};
 use std::alloc::Global;
 use std::marker::Brand;

@@ -2,10 +2,12 @@
 ghost use Rattle.std.specs.Prelude.{◌≡◌, false};
 
 use crate::address;
+use child_jobs::Running;
 use dir_calls::MemDir;
+use event_journals::Counts;
 use rule_lines::Verdict;
 use rule_lookup::{Missing, Peer, Status};
-use server_core::{Counts, Premises, Running, Yard};
+use server_yard::{Premises, Yard};
 use std::alloc::Global;
 use std::io;
 use std::rt::Clock;

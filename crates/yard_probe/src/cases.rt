@@ -1,7 +1,7 @@
 //! Connections of which each meets the same, over yards whose directories are made for it.
 use crate::served::{Case, Setting, serve_case, setting_of};
+use event_journals::{Counts, Full};
 use probe_answers::Answer;
-use server_core::{Counts, Full};
 use std::alloc::Global;
 use std::marker::Brand;
 use std::sync::ledger::Blank;

@@ -1,8 +1,9 @@
 //! Lists of events, which stand on standard input as in a script of `rulesim`: what they come to, and what journals tell of them.
 use crate::shown::{add_event, add_report};
+use event_journals::{Counts, Full, Journal};
 use probe_answers::Answer;
 use script_words::{Command, read_command};
-use server_core::{Counts, Event, Full, Journal, replay};
+use server_events::{Event, replay};
 use std::alloc::Global;
 use std::io::Read;
 

@@ -3,12 +3,13 @@ ghost use Rattle.std.specs.Prelude.{◌≡◌, false};
 
 use crate::shown::{Lists, add_answer, add_decided_after};
 use dir_calls::{Choice, Dir, FuseDir, MemDir};
+use event_journals::Full;
 use probe_answers::Answer;
 use rule_lines::Limits;
 use rule_lookup::Missing;
 use rules_install::whole::prepare;
 use rules_install::{Install, InstallFault, Phase};
-use server_core::{Full, Premises, Yard};
+use server_yard::{Premises, Yard};
 use std::alloc::Global;
 use std::io;
 use std::sync::ledger::Blank;

@@ -2,10 +2,10 @@
 ghost use Rattle.std.specs.Prelude.{◌≡◌, false, ⊤};
 
 use crate::shown::peer_of;
+use child_jobs::{Job, Launcher, NoEnds, Program, Running, WaitFault, finish, start};
 use child_table::{Place, Table};
 use probe_answers::Answer;
 use rule_lookup::{StartFault, Status};
-use server_core::{Job, Launcher, NoEnds, Program, Running, WaitFault, finish, start};
 use std::alloc::Global;
 use std::snapshot::Snapshot;
 use std::sync::ledger::{Blank, Ledger};

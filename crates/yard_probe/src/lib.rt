@@ -16,13 +16,13 @@ mod unread;
 
 use cases::{case_of, run_case};
 use connections::run_connections;
+use event_journals::{Counts, Full};
 use events::run_events;
 use installations::run_installation;
 use jobs::run_job;
 use limits::run_limit;
 use probe_answers::Answer;
 use rule_lookup::StartFault;
-use server_core::{Counts, Full};
 use std::alloc::Global;
 use std::env::Args;
 use std::io;

@@ -3,9 +3,10 @@ ghost use Rattle.std.specs.Prelude.{◌≡◌, false};
 
 use crate::shown::peer_of;
 use dir_calls::MemDir;
+use event_journals::Counts;
 use probe_answers::Answer;
 use rule_lookup::Peer;
-use server_core::{Counts, Premises, Yard};
+use server_yard::{Premises, Yard};
 use std::alloc::Global;
 use std::sync::ledger::Blank;
 

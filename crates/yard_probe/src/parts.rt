@@ -1,7 +1,7 @@
 //! What the cases are made of: a launcher that counts, a writer that takes only so much, and damaged rules.
+use child_jobs::{Launcher, Program};
 use dir_calls::{Dir, DirFault, MemDir, Name, RulesFile};
 use rule_lookup::StartFault;
-use server_core::{Launcher, Program};
 use std::alloc::Global;
 use std::io;
 use std::io::Write;

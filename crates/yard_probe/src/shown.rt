@@ -1,11 +1,12 @@
 //! What is told of answers, events and decisions.
 use cdb_read::CdbFile;
 use dir_calls::{Choice, Dir, MemDir, MemFile};
+use event_journals::{Counts, Full, Journal};
 use probe_answers::Answer;
 use rule_lines::Verdict;
 use rule_lookup::{Missing, Peer, Status, decide};
 use rules_install::{InstallFault, Phase};
-use server_core::{Counts, Event, Full, Journal, Report};
+use server_events::{Event, Report};
 use std::alloc::Global;
 use yard_steps::rules_name;
 

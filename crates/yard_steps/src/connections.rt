@@ -1,11 +1,14 @@
 //! Connections of a yard, step by step. Each step is made where it may be, as the yard itself tells.
 use crate::jobs::{EndedJob, EndedJobs};
 use crate::rules::stuck;
+use child_jobs::{Program, Running, finish, start};
 use child_table::Place;
 use dir_calls::{Dir, DirFault};
+use event_journals::Journal;
 use rule_lines::Verdict;
 use rule_lookup::{DropCause, Peer, decide};
-use server_core::{Journal, Pass, Premises, Program, Running, Stage, Yard, finish, start};
+use server_events::Stage;
+use server_yard::{Pass, Premises, Yard};
 use std::alloc::Global;
 use std::io;
 use ucspi_env::Environment;

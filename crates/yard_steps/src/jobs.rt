@@ -1,8 +1,8 @@
 //! Jobs that run no program, and end as they are told to.
 ghost use Rattle.std.specs.Prelude.{false, ⊤};
 
+use child_jobs::{Job, Launcher, NoEnds, Program, WaitFault};
 use rule_lookup::{StartFault, Status};
-use server_core::{Job, Launcher, NoEnds, Program, WaitFault};
 use std::alloc::Global;
 use std::io;
 use std::io::{Read, Write};

@@ -4,8 +4,9 @@ ghost use Rattle.server_yard.specs.Kept.{HasNoEvents};
 
 use crate::rules::{rules_name, stuck};
 use dir_calls::Dir;
+use event_journals::Journal;
 use rule_lookup::Missing;
-use server_core::{Journal, Premises, Yard};
+use server_yard::{Premises, Yard};
 use std::alloc::Global;
 use std::io;
 use std::sync::ledger::Blank;
