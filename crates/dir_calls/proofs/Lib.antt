@@ -7,6 +7,7 @@ pub mod Lasting
 pub mod Moments
 pub mod NameRules
 pub mod NameTables
+pub mod Nameless
 pub mod NamesOf
 pub mod OneName
 pub mod Pairs

@@ -1,9 +1,8 @@
 -- What a stop may leave under one name.
 use Rattle.std.proofs.Common.{◌≡◌, ◌≢◌, ◌⊎◌, inl, inr, ⊎_elim, Bool, true, false, ℕ, zero, suc, List, [], ◌∷◌, take, refl, sym, ◌∙◌, ap, subst}
-use Rattle.std.specs.Prelude.{cond, Option, None, Some}
-use Rattle.std.specs.FinMap.{get, insert, remove, get-insert, get-remove}
-use Rattle.std.specs.Cmp.Lexicographic.{nat_list_cmp_total}
-use Rattle.dir_calls.specs.NameTable.{CanBeLeft, NameChange, Names, NameTable, takes, puts, moves, after_change, after_changes, same_name}
+use Rattle.std.specs.Prelude.{Option}
+use Rattle.std.specs.FinMap.{get, insert, remove}
+use Rattle.dir_calls.specs.NameTable.{NameChange, Names, NameTable, takes, puts, moves, after_change, after_changes, same_name}
 use Rattle.dir_calls.specs.Lasting.{IsAmong}
 use Rattle.dir_calls.specs.Torn.{MayStand, PutsThere, StoodThere}
 use Rattle.dir_calls.proofs.NamesOf.{get-insert_other, get-insert_same, get-remove_other, get-remove_same, same_name-self}

@@ -1,13 +1,13 @@
 -- How a file is put in the place of another.
-use Rattle.std.proofs.Common.{◌≡◌, ◌≢◌, inl, inr, ⊎_elim, Bool, true, false, ℕ, zero, suc, List, [], ◌∷◌, ◌++◌, length, take, drop, refl, sym, ◌∙◌, ap, subst, arith}
+use Rattle.std.proofs.Common.{◌≡◌, inl, inr, ⊎_elim, Bool, true, false, ℕ, zero, suc, List, [], ◌∷◌, ◌++◌, length, take, drop, refl, sym, ◌∙◌, ap, subst, arith}
 use Rattle.std.proofs.lemmas.List.{append-nil, append_assoc, take-append-drop}
-use Rattle.std.specs.Prelude.{slice_get, Option, None, Some, Result, Ok, Err, OnOk, option_and_then, if◌then◌else◌}
-use Rattle.std.specs.FinMap.{get, remove}
+use Rattle.std.specs.Prelude.{slice_get, Option, None, Some, Result, Ok, Err, OnOk, option_and_then}
+use Rattle.std.specs.FinMap.{get}
 use Rattle.dir_calls.specs.declared.fault.DirFault.{DirFault}
-use Rattle.dir_calls.specs.NameTable.{Names, NameTable, puts, moves, current, push}
-use Rattle.dir_calls.specs.Directory.{Directory, FileState, names_of, number_of, content}
+use Rattle.dir_calls.specs.NameTable.{Names, NameTable, puts, current}
+use Rattle.dir_calls.specs.Directory.{Directory, FileState, number_of, content}
 use Rattle.dir_calls.specs.Images.{IsImage}
-use Rattle.dir_calls.specs.Calls.{Call, makes, appends, syncs, renames, settles, after, longer, lasting, with_file, with_names, without, moved}
+use Rattle.dir_calls.specs.Calls.{Call, makes, appends, syncs, renames, settles, after, longer, lasting, with_file, without}
 use Rattle.dir_calls.specs.Outcomes.{Does, LeftBy}
 use Rattle.dir_calls.specs.Lasting.{IsAmong, StandsFor, LastsAmong, HasAmong}
 use Rattle.dir_calls.specs.Moments.{Elapses}

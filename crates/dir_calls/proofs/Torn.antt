@@ -1,5 +1,5 @@
 -- Changes of names that a stop tears.
-use Rattle.std.proofs.Common.{◌≡◌, ◌≢◌, ◌⊎◌, inl, inr, ⊎_elim, Bool, true, false, ℕ, suc, ◌≤◌, List, [], ◌∷◌, ◌++◌, length, take, refl, sym, ◌∙◌, ap, arith}
+use Rattle.std.proofs.Common.{◌≡◌, ◌≢◌, ◌⊎◌, inl, inr, ⊎_elim, Bool, true, false, ℕ, suc, List, [], ◌∷◌, length, take, refl, sym, ◌∙◌, ap}
 use Rattle.std.proofs.lemmas.Bool.{eq-eqb}
 use Rattle.std.proofs.lemmas.List.{length-map}
 use Rattle.std.proofs.lemmas.Option.{slice_get-map}
@@ -8,8 +8,8 @@ use Rattle.std.specs.Option.{option_map}
 use Rattle.std.specs.FinMap.{get, insert, remove, get-insert, get-remove}
 use Rattle.std.specs.Cmp.Lexicographic.{nat_list_cmp_total}
 use Rattle.dir_calls.specs.declared.choice.Choice.TheVariants.{Junk}
-use Rattle.dir_calls.specs.NameTable.{Names, NameTable, NameChange, takes, puts, moves, CanBeLeft, same_name, after_change, after_changes, current, push}
-use Rattle.dir_calls.specs.Directory.{Directory, FileState, names_of, number_of}
+use Rattle.dir_calls.specs.NameTable.{Names, NameTable, NameChange, takes, puts, moves, CanBeLeft, same_name, after_change, after_changes, push}
+use Rattle.dir_calls.specs.Directory.{Directory, names_of, number_of}
 use Rattle.dir_calls.specs.Images.{IsImage, LeftByName}
 use Rattle.dir_calls.specs.Calls.{renames, after, is_number, moved, with_names}
 use Rattle.dir_calls.specs.Stop.{puts_of, stopped_file, torn}
@@ -31,8 +31,11 @@ put_first name other n change changes now was base is last (inl put) = by (same_
   where
     by : (same : Bool) → same ≡ same_name name other → (last ≡ get was name) ⊎ ((count : ℕ) × (last ≡ get (after_changes now (take count (change ∷ changes))) name))
     by false apart = inl (put ∙ get-insert nat_list_cmp_total was other n name ∙ ap (λ r. cond r (Some n) (get was name)) (sym apart))
-    by true same = inr (1, put ∙ get-insert nat_list_cmp_total was other n name ∙ ap (λ r. cond r (Some n) (get was name)) (sym same)
-        ∙ sym (ap (λ (m : Names). get m name) is ∙ get-insert nat_list_cmp_total base other n name ∙ ap (λ r. cond r (Some n) (get base name)) (sym same)))
+    by true same = inr (
+      1,
+      put ∙ get-insert nat_list_cmp_total was other n name ∙ ap (λ r. cond r (Some n) (get was name)) (sym same)
+          ∙ sym (ap (λ (m : Names). get m name) is ∙ get-insert nat_list_cmp_total base other n name ∙ ap (λ r. cond r (Some n) (get base name)) (sym same)),
+    )
 
 -- what stands under a name after the puts alone stood there before, or stands there after some of the changes
 put_or : (name : List ℕ) (changes : List NameChange) (now was : Names)
@@ -45,9 +48,11 @@ put_or name (moves from to n ∷ changes) now was =
     put_first name to n (moves from to n) changes now was (remove now from) refl _ (put_or name changes (insert (remove now from) to n) (insert was to n))
 
 torn_left : (table : NameTable) → LeftByName table (after_changes table.settled (puts_of table.pending))
-torn_left table = record { each = λ name. ⊎_elim (λ same. (table.settled, record { count = 0; are = refl }, same))
-    (λ there. (after_changes table.settled (take there.0 table.pending), record { count = there.0; are = refl }, there.1))
-    (put_or name table.pending table.settled table.settled) }
+torn_left table = record {
+  each = λ name. ⊎_elim (λ same. (table.settled, record { count = 0; are = refl }, same))
+      (λ there. (after_changes table.settled (take there.0 table.pending), record { count = there.0; are = refl }, there.1))
+      (put_or name table.pending table.settled table.settled);
+}
 
 pub torn_is : (d : Directory) → IsImage d (torn d)
 torn_is d = record {
@@ -99,14 +104,20 @@ module _ (d : Directory) (from to : List ℕ) (n : ℕ) (may : MayBeTorn d from 
   both_names = record { each = λ name. by name (same_name name to) refl }
     where
       by : (name : List ℕ) (same : Bool) → same ≡ same_name name to → (was : Names) × CanBeLeft new.names was × (get (insert (names_of d) to n) name ≡ get was name)
-      by name true same = (insert (remove (names_of d) from) to n, after_left,
-          get-insert nat_list_cmp_total (names_of d) to n name ∙ ap (λ r. cond r (Some n) (get (names_of d) name)) (sym same)
-          ∙ sym (get-insert nat_list_cmp_total (remove (names_of d) from) to n name ∙ ap (λ r. cond r (Some n) (get (remove (names_of d) from) name)) (sym same)))
+      by name true same = (
+        insert (remove (names_of d) from) to n,
+        after_left,
+        get-insert nat_list_cmp_total (names_of d) to n name ∙ ap (λ r. cond r (Some n) (get (names_of d) name)) (sym same)
+            ∙ sym (get-insert nat_list_cmp_total (remove (names_of d) from) to n name ∙ ap (λ r. cond r (Some n) (get (remove (names_of d) from) name)) (sym same)),
+      )
       by name false other = (names_of d, before_left, get-insert nat_list_cmp_total (names_of d) to n name ∙ ap (λ r. cond r (Some n) (get (names_of d) name)) (sym other))
 
   pub torn_both : HasImage (after (renames from to) d) (StandFor from (Some n) to (Some n))
-  torn_both = rw moved_is (image_with new (insert (names_of d) to n), image_with_is new (insert (names_of d) to n) both_names,
-      (get-insert_other (names_of d) from to n apart ∙ may.stands, get-insert_same (names_of d) to n))
+  torn_both = rw moved_is (
+    image_with new (insert (names_of d) to n),
+    image_with_is new (insert (names_of d) to n) both_names,
+    (get-insert_other (names_of d) from to n apart ∙ may.stands, get-insert_same (names_of d) to n),
+  )
 
   -- neither
   neither_names : LeftByName new.names (remove (names_of d) from)
@@ -117,9 +128,14 @@ module _ (d : Directory) (from to : List ℕ) (n : ℕ) (may : MayBeTorn d from 
       by name false other = (names_of d, before_left, get-remove nat_list_cmp_total (names_of d) from name ∙ ap (λ r. cond r None (get (names_of d) name)) (sym other))
 
   pub torn_neither : HasImage (after (renames from to) d) (StandFor from None to (number_of d to))
-  torn_neither = rw moved_is (image_with new (remove (names_of d) from), image_with_is new (remove (names_of d) from) neither_names,
-      (get-remove_same (names_of d) from,
-      get-remove_other (names_of d) to from (λ is. apart (sym is))))
+  torn_neither = rw moved_is (
+    image_with new (remove (names_of d) from),
+    image_with_is new (remove (names_of d) from) neither_names,
+    (
+      get-remove_same (names_of d) from,
+      get-remove_other (names_of d) to from (λ is. apart (sym is)),
+    ),
+  )
 
 -- ---- two names of one file
 

@@ -1,9 +1,9 @@
 -- What a stop may leave under one name, whatever it leaves under others; and a rename that it tears into its two names.
-use Rattle.std.specs.Prelude.{◌≡◌, ◌≢◌, ◌⊎◌, ℕ, List, Option, Some, None}
+use Rattle.std.specs.Prelude.{◌≡◌, ◌≢◌, ◌⊎◌, ℕ, true, List, slice_get, Option, Some, None}
 use Rattle.std.specs.FinMap.{get}
 use Rattle.dir_calls.specs.NameTable.{CanBeLeft, NameChange, Names, NameTable, takes, puts, moves}
-use Rattle.dir_calls.specs.Directory.{Directory, number_of}
-use Rattle.dir_calls.specs.Images.{IsImage}
+use Rattle.dir_calls.specs.Directory.{Directory, FileState, number_of}
+use Rattle.dir_calls.specs.Images.{IsImage, MayHaveName}
 use Rattle.dir_calls.specs.Lasting.{IsAmong}
 
 -- a change puts this under a name: a file, or nothing where it takes the name away
@@ -34,3 +34,12 @@ HasImage d P = (image : Directory) × IsImage d image × P image
 -- the names stand for these
 abbrev pub StandFor : List ℕ → Option ℕ → List ℕ → Option ℕ → Directory → Type 0
 StandFor from first to second d = (number_of d from ≡ first) × (number_of d to ≡ second)
+
+-- the file of this number, which no stop leaves a name
+pub record IsNameless (d : Directory) (number : ℕ) (file : FileState) : Type 0 where
+  pub there : slice_get d.files number ≡ Some file
+  pub never_named : MayHaveName d.names number → ⊥
+
+-- the file of this number has these bytes
+abbrev pub HasFile : ℕ → List ℕ → Directory → Type 0
+HasFile number bytes d = slice_get d.files number ≡ Some (record { bytes = bytes; synced = true })

@@ -61,7 +61,11 @@ fn taken(folder: &Folder, choice: Choice) -> usize
 }
 
 // A directory with these names, all of them settled, and no scratch file.
-fn settled_folder(alloc: Global, names: Vec<Entry>, files: Vec<Stored>) -> Result<Folder, AllocError>
+fn settled_folder(
+    alloc: Global,
+    names: Vec<Entry>,
+    files: Vec<Stored>,
+) -> Result<Folder, AllocError>
     ensures { IfOk result (λ left. directory_of left ≡ settled_directory (names_in names.items) (map file_of files.items)) }
 {
     Ok(Folder {

@@ -1,9 +1,9 @@
 //! Laws over the definitions alone.
 ghost use Rattle.std.specs.Prelude.{◌≡◌, ◌↔◌, ℕ, List, Option, Some, None};
 ghost use Rattle.dir_calls.specs.Calls.{renames, after};
-ghost use Rattle.dir_calls.specs.Directory.{Directory, number_of};
+ghost use Rattle.dir_calls.specs.Directory.{Directory, FileState, number_of};
 ghost use Rattle.dir_calls.specs.NameTable.{NameTable};
-ghost use Rattle.dir_calls.specs.Torn.{HasImage, MayBeTorn, MayStand, StandFor, StoodThere};
+ghost use Rattle.dir_calls.specs.Torn.{HasFile, HasImage, IsNameless, MayBeTorn, MayStand, StandFor, StoodThere};
 
 /// Under one name a stop leaves what stood there when names were last settled, or what any one change since then put there, and nothing else.
 pub fn one_name()
@@ -18,6 +18,12 @@ pub fn torn()
         → HasImage (after (renames from to) d) (StandFor from (Some n) to (Some n)) }
     ensures neither { (d : Directory) (from to : List ℕ) (n : ℕ) → MayBeTorn d from to n
         → HasImage (after (renames from to) d) (StandFor from None to (number_of d to)) }
+{}
+
+/// Of a file that no stop leaves a name, synced or not, nothing is known: a stop may leave any bytes of it.
+pub fn nameless()
+    ensures { (d : Directory) (number : ℕ) (file : FileState) (bytes : List ℕ) → IsNameless d number file
+        → HasImage d (HasFile number bytes) }
 {}
 
 /// A rename of two names of one file changes nothing.

@@ -1,25 +1,23 @@
 -- A step of an installation leads from each world in which it is under way to one in which it is so too.
-use Rattle.std.proofs.Common.{◌≡◌, ◌≢◌, inl, inr, ⊎_elim, Bool, true, false, List, [], ◌∷◌, ◌++◌, length, ℕ, refl, sym, ◌∙◌, ap, subst}
+use Rattle.std.proofs.Common.{◌≡◌, ◌≢◌, inl, Bool, true, false, [], ◌∷◌, ◌++◌, length, ℕ, refl, sym, ◌∙◌, ap, subst}
 use Rattle.std.specs.Prelude.{Option, None, Some, is_some, max, Result, Ok, Err}
-use Rattle.dir_calls.specs.Calls.{Call, makes, appends, patches, syncs, renames, settles, after}
+use Rattle.dir_calls.specs.Calls.{Call, makes, syncs, renames, settles, after}
 use Rattle.dir_calls.specs.Directory.{Directory, FileState, scratch_of}
 use Rattle.dir_calls.specs.Outcomes.{Fails}
-use Rattle.dir_calls.specs.declared.fault.DirFault.{DirFault}
 use Rattle.dir_calls.specs.declared.fault.DirFault.TheVariants.{NoScratch, NoName, Device, OutOfMemory as NoMemory}
-use Rattle.rule_lookup.specs.declared.decision.Missing.{Missing}
 use Rattle.rules_install.specs.Filled.{filled_file, whole_file}
 use Rattle.rules_install.specs.Installing.{Installing, FitsPhase, next_of, next_phase}
 use Rattle.rules_install.specs.NamePair.{NamePair}
-use Rattle.rules_install.specs.Steps.{Changes, Goes, IsCallOf, IsSame}
+use Rattle.rules_install.specs.Steps.{IsCallOf, IsSame}
 use Rattle.rules_install.specs.declared.Phase.{Phase}
 use Rattle.rules_install.specs.declared.Phase.TheVariants.{Fresh, Filling, Synced, Named, Done}
 use Rattle.rules_install.specs.declared.fault.InstallFault.{InstallFault}
 use Rattle.rules_install.specs.declared.fault.InstallFault.TheVariants.{Line, TooLarge, Disk, Over, OutOfMemory}
 use Rattle.rules_install.proofs.StepFits.{filled_has, synced_next}
 use Rattle.server_events.specs.ServerState.{after as after_event}
-use Rattle.server_events.specs.Steps.{Advances, IsCallTo, IsWhole, Step}
+use Rattle.server_events.specs.Steps.{IsCallTo, IsWhole, Step}
 use Rattle.server_events.specs.Table.{Follows, stepped, failed}
-use Rattle.server_events.specs.Worlds.{IsOf, RulesName, UnderWay, World}
+use Rattle.server_events.specs.Worlds.{RulesName, UnderWay, World}
 use Rattle.server_events.specs.declared.event.Event.TheVariants.{Stepped, StepFailed}
 use Rattle.install_steps.specs.UnderWay.{Arrives, HasReached, IsAsFar, IsUnderWay, MakesStep, MayStepFrom, as_under_way, rules_named}
 use Rattle.install_steps.proofs.Meeting.{calls, follows, scratch_name}

@@ -1,17 +1,17 @@
 -- The next step of an installation is one that its world may take.
-use Rattle.std.proofs.Common.{◌≡◌, ◌≢◌, inl, Bool, true, false, List, ℕ, refl, sym, ◌∙◌, ap, subst}
+use Rattle.std.proofs.Common.{◌≡◌, ◌≢◌, inl, Bool, true, false, refl, sym, ◌∙◌, subst}
 use Rattle.std.specs.Prelude.{Option, None, Some}
 use Rattle.dir_calls.specs.Calls.{Call}
 use Rattle.dir_calls.specs.Directory.{Directory}
 use Rattle.rule_lookup.specs.declared.decision.Missing.{Missing}
-use Rattle.rules_install.specs.Installing.{Installing, IsUnfilled, next_of, next_phase}
+use Rattle.rules_install.specs.Installing.{Installing, next_of, next_phase}
 use Rattle.rules_install.specs.Steps.{IsCallOf}
 use Rattle.rules_install.specs.declared.Phase.{Phase}
 use Rattle.rules_install.specs.declared.Phase.TheVariants.{Fresh, Filling, Synced, Named, Done}
 use Rattle.server_events.specs.Steps.{IsCallTo, IsScratchName}
 use Rattle.server_events.specs.Table.{Follows, fresh, filling, filling_on, synced, named, done}
 use Rattle.server_events.specs.Worlds.{RulesName, UnderWay, World}
-use Rattle.install_steps.specs.UnderWay.{HasReached, IsUnderWay, MayStepFrom, as_under_way, rules_named}
+use Rattle.install_steps.specs.UnderWay.{HasReached, IsUnderWay, MayStepFrom, rules_named}
 
 -- the phase may come next
 follows_at : (w : World) (s : Installing) (reached : Option Phase) (patched : Bool) → (reached ≡ Some Fresh → patched ≡ false) → reached ≢ Some Done → s.reached ≡ reached → HasReached w s reached → Follows w.server.phase (next_of reached patched)

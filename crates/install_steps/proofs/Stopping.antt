@@ -1,13 +1,12 @@
 -- What a stop since a step of an installation began leaves of a world in which it is under way.
-use Rattle.std.proofs.Common.{◌≡◌, ◌⊎◌, inl, inr, ⊎_elim, ◌≤◌, ℕ, refl, sym, subst, arith}
-use Rattle.std.specs.Prelude.{Option, Some}
+use Rattle.std.proofs.Common.{inl, inr, ⊎_elim, ℕ, sym, subst, arith}
 use Rattle.dir_calls.specs.Calls.{Call}
 use Rattle.dir_calls.specs.Directory.{Directory}
 use Rattle.dir_calls.specs.Images.{IsImage}
-use Rattle.dir_calls.specs.Outcomes.{LeftBy, Passes}
+use Rattle.dir_calls.specs.Outcomes.{Passes}
 use Rattle.rules_install.specs.Installing.{Installing, next_phase}
 use Rattle.rules_install.specs.Steps.{IsCallOf, StepStops}
-use Rattle.server_events.specs.Steps.{MayBeAt, MayLeave}
+use Rattle.server_events.specs.Steps.{MayBeAt}
 use Rattle.server_events.specs.Worlds.{World}
 use Rattle.install_steps.specs.UnderWay.{IsUnderWay, Leaves, MayStepFrom}
 use Rattle.install_steps.proofs.Meeting.{calls, follows}

@@ -1,12 +1,12 @@
 -- The directory as the call of each step leaves it.
-use Rattle.std.proofs.Common.{◌≡◌, ◌≢◌, ◌⊎◌, inl, inr, ⊎_elim, Bool, true, false, ℕ, zero, suc, List, [], ◌∷◌, ◌++◌, length, take, refl, sym, ◌∙◌, ap, subst}
-use Rattle.std.specs.Prelude.{slice_get, Option, None, Some, option_and_then, if◌then◌else◌}
-use Rattle.std.specs.FinMap.{get, remove}
-use Rattle.dir_calls.specs.NameTable.{Names, puts, moves, current, push, CanBeLeft}
-use Rattle.dir_calls.specs.Directory.{Directory, FileState, names_of, number_of, scratch_of, file_at}
-use Rattle.dir_calls.specs.Calls.{makes, syncs, renames, settles, after, lasting, with_file, with_scratch, with_names, closed, without, moved}
+use Rattle.std.proofs.Common.{◌≡◌, ◌⊎◌, inl, inr, ⊎_elim, Bool, true, false, ℕ, zero, suc, List, [], ◌∷◌, ◌++◌, length, take, refl, sym, ◌∙◌, ap, subst}
+use Rattle.std.specs.Prelude.{slice_get, Option, None, Some, option_and_then}
+use Rattle.std.specs.FinMap.{get}
+use Rattle.dir_calls.specs.NameTable.{Names, puts, current, CanBeLeft}
+use Rattle.dir_calls.specs.Directory.{Directory, FileState, number_of, scratch_of, file_at}
+use Rattle.dir_calls.specs.Calls.{makes, syncs, renames, settles, after, lasting, with_file, with_scratch, closed, without}
 use Rattle.dir_calls.specs.Lasting.{StandsFor, LastsAmong}
-use Rattle.dir_calls.proofs.NamesOf.{get-insert_same, same_name-other}
+use Rattle.dir_calls.proofs.NamesOf.{get-insert_same}
 use Rattle.dir_calls.proofs.NameTables.{current-push, left_settled}
 use Rattle.dir_calls.proofs.Renames.{moved_file}
 use Rattle.rule_lines.specs.Pairs.{Rule}

@@ -1,21 +1,17 @@
 -- Whole installations, as steps of a world that has a rules name.
-use Rattle.std.proofs.Common.{◌≡◌, ◌≢◌, inl, inr, true, false, ℕ, List, [], ◌∷◌, ◌++◌, length, refl, sym, ◌∙◌, ap, subst}
-use Rattle.std.specs.Prelude.{slice_get, Option, None, Some, max, Ok, option_and_then, if◌then◌else◌}
+use Rattle.std.proofs.Common.{◌≡◌, ◌≢◌, inl, inr, true, false, ℕ, List, [], ◌∷◌, ◌++◌, length, refl, ◌∙◌, ap}
+use Rattle.std.specs.Prelude.{slice_get, Option, None, Some, max, Ok, option_and_then}
 use Rattle.std.specs.Option.{option_map}
-use Rattle.std.specs.FinMap.{get, remove}
 use Rattle.cdb_read.specs.Compiled.{stored}
 use Rattle.cdb_read.specs.Reading.{reading}
 use Rattle.cdb_read.proofs.AnyKey.{reading_is}
 use Rattle.cdb_read.proofs.StoredRules.{first_value-stored}
-use Rattle.dir_calls.specs.NameTable.{Names, moves, push}
-use Rattle.dir_calls.specs.Directory.{Directory, FileState, content, names_of, number_of}
-use Rattle.dir_calls.specs.Calls.{makes, appends, syncs, renames, settles, after, moved, with_names}
+use Rattle.dir_calls.specs.Directory.{Directory, FileState, content, number_of}
+use Rattle.dir_calls.specs.Calls.{makes, appends, syncs, renames, settles, after}
 use Rattle.dir_calls.specs.Images.{IsImage}
 use Rattle.dir_calls.specs.Lasting.{StandsFor}
 use Rattle.dir_calls.specs.Replacing.{HasSynced}
 use Rattle.dir_calls.proofs.Lasting.{image_has, settled_lasts}
-use Rattle.dir_calls.proofs.NamesOf.{get-insert_same, same_name-other}
-use Rattle.dir_calls.proofs.NameTables.{current-push}
 use Rattle.dir_calls.proofs.Renames.{moved_file}
 use Rattle.dir_calls.proofs.Replacing.{written}
 use Rattle.dir_calls.proofs.Scratches.{appended_is}

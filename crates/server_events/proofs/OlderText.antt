@@ -11,7 +11,7 @@ use Rattle.cdb_write.specs.Image.{finished_length, image_of}
 use Rattle.cdb_write.proofs.Joined.{written}
 use Rattle.dir_calls.specs.declared.choice.Choice.TheVariants.{Empty}
 use Rattle.dir_calls.specs.NameTable.{Names, moves, push}
-use Rattle.dir_calls.specs.Directory.{Directory, FileState, KeepsSynced, content, file_at, number_of}
+use Rattle.dir_calls.specs.Directory.{Directory, FileState, KeepsSynced, content, number_of}
 use Rattle.dir_calls.specs.Calls.{Call, makes, appends, syncs, renames, settles, after, longer, lasting, moved, taken_from, with_names, with_scratch}
 use Rattle.dir_calls.specs.Outcomes.{Fails}
 use Rattle.dir_calls.specs.Stop.{stopped, stopped_file}

@@ -1,16 +1,16 @@
 -- In each world that is reached one whole accepted text stands under the rules name, whatever a stop leaves.
-use Rattle.std.proofs.Common.{◌≡◌, ◌≢◌, ◌≤◌, ◌<◌, ◌+◌, inl, inr, ⊎_elim, Bool, true, ℕ, zero, suc, List, [], ◌∷◌, ◌++◌, length, refl, sym, ◌∙◌, ap, subst, arith}
-use Rattle.std.specs.Prelude.{slice_get, Option, None, Some, is_some, max, option_and_then, if◌then◌else◌}
-use Rattle.std.specs.FinMap.{get, remove}
+use Rattle.std.proofs.Common.{◌≡◌, ◌≢◌, ◌≤◌, ◌<◌, ◌+◌, inl, inr, ⊎_elim, true, ℕ, zero, suc, List, [], ◌∷◌, ◌++◌, length, refl, sym, ◌∙◌, ap, subst, arith}
+use Rattle.std.specs.Prelude.{slice_get, Option, None, Some, is_some, max, option_and_then}
+use Rattle.std.specs.FinMap.{get}
 use Rattle.std.proofs.lemmas.List.{length_push}
 use Rattle.rule_lines.specs.Pairs.{Rule}
 use Rattle.rules_install.specs.declared.Phase.{Phase}
 use Rattle.rules_install.specs.declared.Phase.TheVariants.{Fresh, Filling, Synced, Named, Done}
-use Rattle.dir_calls.specs.NameTable.{Names, NameTable, puts, moves, current, push}
-use Rattle.dir_calls.specs.Directory.{Directory, FileState, content, names_of, number_of}
-use Rattle.dir_calls.specs.Calls.{Call, makes, syncs, renames, settles, after, longer, patched, lasting, with_file, with_scratch, with_names, without, cleared, moved}
+use Rattle.dir_calls.specs.NameTable.{Names, NameTable, puts, current}
+use Rattle.dir_calls.specs.Directory.{Directory, FileState, content, number_of}
+use Rattle.dir_calls.specs.Calls.{Call, makes, syncs, renames, settles, after, longer, patched, lasting, with_file, with_scratch, without, cleared}
 use Rattle.dir_calls.specs.Outcomes.{Fails}
-use Rattle.dir_calls.proofs.NamesOf.{get-insert_same, same_name-other}
+use Rattle.dir_calls.proofs.NamesOf.{get-insert_same}
 use Rattle.dir_calls.proofs.NameTables.{current-push}
 use Rattle.dir_calls.proofs.Passing.{passes_end}
 use Rattle.dir_calls.proofs.Renames.{moved_files, moved_number}

@@ -1,5 +1,5 @@
 -- A series of calls from a yard that was just made is a history of the headline.
-use Rattle.std.proofs.Common.{◌≡◌, List, [], ◌∷◌, Option, None, refl, sym, subst}
+use Rattle.std.proofs.Common.{◌≡◌, List, [], Option, None, refl, sym, subst}
 use Rattle.rules_install.specs.Installing.{Installing}
 use Rattle.server_events.specs.Steps.{Legal, none, more}
 use Rattle.server_events.specs.Worlds.{IsStart, KeptFile, World}

@@ -3,7 +3,6 @@ use Rattle.std.specs.Prelude.{◌≡◌, ◌++◌, ◌∷◌, ℕ, Bool, IsTrue,
 use Rattle.dir_calls.specs.Directory.{Directory, content}
 use Rattle.install_steps.specs.UnderWay.{IsAsFar}
 use Rattle.rules_install.specs.Installing.{Installing}
-use Rattle.rule_lines.specs.Pairs.{Rule}
 use Rattle.rule_lookup.specs.declared.decision.Decision.{Decision}
 use Rattle.server_events.specs.Headline.{Reaches}
 use Rattle.server_events.specs.ServerState.{ServerState, start}

@@ -1,4 +1,4 @@
-use Rattle.std.proofs.Common.{◌≡◌, ◌≢◌, List, ℕ, refl, subst, sym, ◌∙◌}
+use Rattle.std.proofs.Common.{◌≡◌, List, ℕ, refl, subst, sym, ◌∙◌}
 use Rattle.std.specs.Prelude.{None}
 use Rattle.dir_calls.specs.Calls.{settles}
 use Rattle.dir_calls.specs.Clearing.{IsClear}

@@ -1,4 +1,4 @@
-use Rattle.std.proofs.Common.{◌≡◌, sym, subst}
+use Rattle.std.proofs.Common.{sym, subst}
 use Rattle.std.specs.Prelude.{Option, IsSomeAnd}
 use Rattle.server_events.specs.Steps.{IsWhole}
 use Rattle.server_events.specs.Worlds.{UnderWay}
