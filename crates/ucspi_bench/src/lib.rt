@@ -59,7 +59,9 @@ fn write_all(alloc: Global, list: &mut RuleList) -> Result<usize, AllocError> {
     let mut rule = StoredRule::new(alloc);
     for place in 0..list.len() {
         list.write_rule(place, &mut rule)?;
-        total = total.saturating_add(rule.key.len()).saturating_add(rule.code.len());
+        total = total
+            .saturating_add(rule.key.len())
+            .saturating_add(rule.code.len());
     }
     Ok(total)
 }
@@ -72,7 +74,11 @@ fn time_rules<R: Print + Clock>(rt: &R, alloc: Global, lines: usize) -> io::Resu
     let began = Instant::now(rt)?;
     let bytes = write_all(alloc, &mut list)?;
     let taken = began.elapsed(rt)?;
-    println!(rt; "{} microseconds, {} rules, {bytes} bytes", taken.as_micros(), list.len())
+    println!(rt;
+        "{} microseconds, {} rules, {bytes} bytes",
+        taken.as_micros(),
+        list.len()
+    )
 }
 
 /// An event of a connection that is let in. There are 256 addresses.
