@@ -149,6 +149,7 @@ code_of-read is_text instructions instr clean is =
     let settings = IsCodeFrom-settings (length rest) is_text rest found.0 (IsOneLine-drop (word_length word.0) instructions clean) found.1 in
     let verdict = verdict_code-short word.0 in
     let code = flat_map setting_code found.0 in
-    subst (λ (i : Instr). IsOneLine (code_of i) × (length (code_of i) + 2 ≤ length instructions)) found.2
-    (IsOneLine-append (verdict_code word.0) code verdict.0 settings.one_line,
-    omega (arith, length-append (verdict_code word.0) code, settings.short, verdict.1, length-drop (word_length word.0) instructions, word_of instructions word.0 word.1))
+    subst (λ (i : Instr). IsOneLine (code_of i) × (length (code_of i) + 2 ≤ length instructions)) found.2 (
+      IsOneLine-append (verdict_code word.0) code verdict.0 settings.one_line,
+      omega (arith, length-append (verdict_code word.0) code, settings.short, verdict.1, length-drop (word_length word.0) instructions, word_of instructions word.0 word.1),
+    )

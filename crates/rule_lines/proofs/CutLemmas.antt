@@ -1,5 +1,5 @@
 -- Bytes cut at the first place of a mark.
-use Rattle.std.proofs.Common.{◌≡◌, ℕ, zero, suc, ◌+◌, ◌-◌, ◌<◌, ◌≤◌, true, false, eqb, List, [], ◌∷◌, ◌++◌, length, take, drop, get_or, Some, None, refl, sym, ap, ◌∙◌, subst, arith, eq-eqb, zero-add, ⊎_elim}
+use Rattle.std.proofs.Common.{◌≡◌, ℕ, zero, suc, ◌+◌, ◌-◌, ◌<◌, ◌≤◌, true, false, eqb, List, [], ◌∷◌, ◌++◌, length, take, drop, get_or, Bor, MatchOption, Option, Some, None, refl, sym, ap, ◌∙◌, subst, arith, eq-eqb, zero-add, ⊎_elim}
 use Rattle.std.specs.Prelude.{nat_eq, option_map}
 use Rattle.std.specs.List.{starts_with}
 use Rattle.std.proofs.lemmas.Bool.{false_from_ne_true, cases_Bool, or_parts, or_from, eqb-false, ne_eqb}
@@ -106,6 +106,20 @@ cut_at-no_byte b (x ∷ xs) without =
     let parts = or_parts (eqb x b) (has_byte b xs) without in
     let other : eqb b x ≡ false = ne_eqb b x (λ same. eqb-false x b parts.0 (sym same)) in
     rw other (ap (option_map (onto_cut x)) (cut_at-no_byte b xs parts.1))
+
+-- a mark of one byte is that byte
+pub one_byte : (mark : List ℕ) (d : ℕ) → 0 < length mark → length mark < 2 → mark ≡ get_or mark 0 d ∷ []
+one_byte [] d some few = absurd (omega (arith, some))
+one_byte (b ∷ []) d some few = refl
+one_byte (b ∷ c ∷ bs) d some few = absurd (omega (arith, few))
+
+-- the cut at a mark of one byte, by what a search for the byte finds
+pub cut_at-found : (mark : List ℕ) (b : ℕ) (bytes : List ℕ) (r : Option (Bor (List ℕ) × Bor (List ℕ))) → mark ≡ b ∷ []
+    → MatchOption r (has_byte b bytes ≡ false) (λ parts. (has_byte b parts.0.now ≡ false) × (bytes ≡ parts.0.now ++ b ∷ parts.1.now))
+    → MatchOption r (cut_at mark bytes ≡ None) (λ parts. cut_at mark bytes ≡ Some (record { before = parts.0.now; after = parts.1.now }))
+cut_at-found mark b bytes None is without = ap (λ m. cut_at m bytes) is ∙ cut_at-no_byte b bytes without
+cut_at-found mark b bytes (Some parts) is found =
+    ap (λ m. cut_at m bytes) is ∙ ap (cut_at (b ∷ [])) found.1 ∙ cut_at-byte b parts.0.now parts.1.now found.0
 
 -- what stands before the first place of a byte has none
 pub cut_at-before : (b : ℕ) (bytes : List ℕ) (cut : Cut) → cut_at (b ∷ []) bytes ≡ Some cut → has_byte b cut.before ≡ false

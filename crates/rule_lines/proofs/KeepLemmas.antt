@@ -206,7 +206,7 @@ module _ (limit : ℕ) (old text line after : List ℕ) (start end number count 
           behind = room-kept;
           inside = omega (arith, next_is, up.same);
           faults = ap (λ xs. first_faulty limit (number + 1 + 1) (lines_of xs)) (sym after_old)
-          ∙ sym (ap (λ f. or_later (number + 1) f (first_faulty limit (number + 1 + 1) (lines_of after))) faultless)
-          ∙ ap (first_faulty limit (number + 1)) (sym first_old) ∙ up.faults;
+              ∙ sym (ap (λ f. or_later (number + 1) f (first_faulty limit (number + 1 + 1) (lines_of after))) faultless)
+              ∙ ap (first_faulty limit (number + 1)) (sym first_old) ∙ up.faults;
           room = omega (arith, long, length-drop start text, up.room);
         }

@@ -121,10 +121,10 @@ module _ (kept : List ℕ) (here next : LinePlace) (is : IsLineAt kept here) (li
     start_in = omega (arith, start);
     before_in = omega (arith, before, count-le);
     rest = ap rules_in (sym after_is)
-    ∙ sym (drop_at (rules_under line) (rules_in after) (length (rules_under line)) refl)
-    ∙ ap (drop (length (rules_under line))) whole
-    ∙ drop-drop (length (rules_under line)) here.before (rules_in kept)
-    ∙ ap (λ n. drop n (rules_in kept)) (let at : here.before + length (rules_under line) ≡ next.before = omega (arith, before, length-rules_under line) in at);
+        ∙ sym (drop_at (rules_under line) (rules_in after) (length (rules_under line)) refl)
+        ∙ ap (drop (length (rules_under line))) whole
+        ∙ drop-drop (length (rules_under line)) here.before (rules_in kept)
+        ∙ ap (λ n. drop n (rules_in kept)) (let at : here.before + length (rules_under line) ≡ next.before = omega (arith, before, length-rules_under line) in at);
     lines = subst AreKept after_is are;
   }
 
@@ -139,10 +139,10 @@ module _ (kept : List ℕ) (here next : LinePlace) (is : IsLineAt kept here) (li
         let rule = rule_of_line line place in
         let at : here.before + place ≡ i = omega arith in (
           slice_get-get_or (rules_in kept) i rule (omega (arith, before, count-le))
-          ∙ ap Some (ap (λ n. get_or (rules_in kept) n rule) (sym at)
-          ∙ sym (get_or-drop here.before (rules_in kept) place rule)
-          ∙ ap (λ rs. get_or rs place rule) (sym whole)
-          ∙ get_or_append_left (rules_under line) (rules_in after) rule place (omega (arith, length-rules_under line, place-in))
-          ∙ get_or-map (rule_of (the_instr line.code.now)) (addresses_read line.addresses) place [] rule place-in),
+              ∙ ap Some (ap (λ n. get_or (rules_in kept) n rule) (sym at)
+              ∙ sym (get_or-drop here.before (rules_in kept) place rule)
+              ∙ ap (λ rs. get_or rs place rule) (sym whole)
+              ∙ get_or_append_left (rules_under line) (rules_in after) rule place (omega (arith, length-rules_under line, place-in))
+              ∙ get_or-map (rule_of (the_instr line.code.now)) (addresses_read line.addresses) place [] rule place-in),
           place-in,
         )

@@ -32,6 +32,10 @@ fn split_at_mark<'a>(mark: &[u8], bytes: &'a [u8]) -> Option<(&'a [u8], &'a [u8]
         (cut_at mark.now bytes.now ≡ None)
         (λ parts. cut_at mark.now bytes.now ≡ Some (record { before = parts.0.now; after = parts.1.now })) }
 {
+    // nearly each quote is one byte
+    if let [byte] = mark {
+        return split_at_byte(*byte, bytes);
+    }
     let place = memmem::find(bytes, mark)?;
     Some((&bytes[..place], &bytes[place + mark.len()..]))
 }

@@ -38,6 +38,10 @@ pub fn read_address(address: &[u8]) -> Option<ReadAddress<'_>>
         (is_bad_range address.now ≡ true)
         (λ s. (is_bad_range address.now ≡ false) × (addresses_read s ≡ spread address.now)) }
 {
+    // a host is none, whatever its name, and often the longest of the addresses
+    if address.starts_with(b"=") {
+        return Some(ReadAddress::One(address));
+    }
     match memchr(b'-', address) {
         Some(dash) if memchr2(b'=', b'@', address).is_none() => read_range(address, dash),
         _ => Some(ReadAddress::One(address)),

@@ -113,12 +113,7 @@ fn keep_line(line: &[u8], limit: u64, kept: &mut Vec<u8>) -> Result<usize, RuleF
 }
 
 /// The same for a line that is a rule, whose first colon stands at `colon`.
-fn keep_rule(
-    line: &[u8],
-    colon: usize,
-    limit: u64,
-    kept: &mut Vec<u8>,
-) -> Result<usize, RuleFault>
+fn keep_rule(line: &[u8], colon: usize, limit: u64, kept: &mut Vec<u8>) -> Result<usize, RuleFault>
     requires one_line { has_byte 10 line.now ≡ false }
     requires rule { is_ignored line.now ≡ false }
     requires inside { colon < length line.now }

@@ -11,8 +11,7 @@ returns-in-Some c =
     let address = c.args.address.now in
     let numbers = c.args.numbers in
     let number = c.in-Some.number in
-    let is = c.in-Some.ensures in
-    (
+    let is = c.in-Some.ensures in (
       λ yes. let among = c.is_among.ensures.0 yes in Contains-from_number front back address numbers number among.0 among.1 is,
       λ contained.
           let found = number_from_Contains front back address numbers contained in
@@ -24,8 +23,7 @@ returns-in-Some c =
 
 pub returns-in-None : goal.returns-in-None
 returns-in-None c =
-    let numbers = c.args.numbers in
-    (
+    let numbers = c.args.numbers in (
       λ no. absurd (false≢true no),
       λ contained.
           let found = number_from_Contains c.args.front.now c.args.back.now c.args.address.now numbers contained in
