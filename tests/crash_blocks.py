@@ -4,8 +4,9 @@ and started again by others, while another process reads. Then moments of a cras
 the compiled file of one whole text, byte for byte, no older than the last one whose installation had ended well, and `tcprulescheck` answers by it.
 
 Usage: tests/crash_blocks.py [PROGRAM]. CRASH_SYSTEMS=ext4,xfs names the file systems, and CRASH_SYSTEMS=all stands for each that is known here;
-CRASH_MOMENTS=N says how many moments of each, and CRASH_SEED=N is the number from which all that is random comes. Without a sync of the file, or of the
-folder, crashes must be found that do harm: two controls. Needs root, /dev/fuse, loop devices, strace, and the programs that make the file systems.
+CRASH_MOMENTS=N says how many moments of each, CRASH_SEED=N is the number from which all that is random comes, and CRASH_KEEP=FOLDER gets an image of
+each moment that is bad. Without a sync of the file, or of the folder, crashes must be found that do harm: two controls. Needs root, /dev/fuse, loop
+devices, strace, and the programs that make the file systems.
 """
 import errno
 import os
@@ -19,6 +20,7 @@ import threading
 import time
 from typing import NamedTuple
 
+import hostile_calls
 import loop_devices
 import plain_rules
 import rule_files
@@ -51,7 +53,8 @@ LEFT = 8 * MEBIBYTE
 
 class System(NamedTuple):
     """A file system: how it is made and mounted, and for one without a journal how it is repaired at a start. It is so small, or so full, that blocks
-    are soon used again."""
+    are soon used again. Where it may give the blocks of a file that was replaced to any other one, nobody else writes there; and `loses` says why
+    a crash may take the rules as a whole."""
 
     kind: str
     make: tuple
@@ -59,6 +62,8 @@ class System(NamedTuple):
     size: int = 8 * MEBIBYTE
     repair: tuple = ()
     is_filled: bool = False
+    is_shared: bool = True
+    loses: str = ""
 
 
 class Call(NamedTuple):
@@ -70,15 +75,15 @@ class Call(NamedTuple):
 
 
 EXT4 = ("mkfs.ext4", "-q", "-F", "-b", "4096", "-E", "lazy_itable_init=0,lazy_journal_init=0")
-REPAIR = ("e2fsck", "-f", "-y")
+UNJOURNALED = {"size": 4 * MEBIBYTE, "repair": ("e2fsck", "-f", "-y"), "is_shared": False, "loses": "as they may be without a journal"}
 SYSTEMS = {
     "ext4": System("ext4", EXT4),
     "ext4_journal": System("ext4", EXT4, "data=journal"),
-    "ext4_writeback": System("ext4", EXT4, "data=writeback"),
-    "ext4_writeback_noauto": System("ext4", EXT4, "data=writeback,noauto_da_alloc"),
-    "ext4_fast_commit": System("ext4", (*EXT4, "-O", "fast_commit")),
-    "ext4_no_journal": System("ext4", (*EXT4, "-O", "^has_journal"), size=4 * MEBIBYTE, repair=REPAIR),
-    "ext2": System("ext2", ("mkfs.ext2", "-q", "-F", "-b", "4096"), size=4 * MEBIBYTE, repair=REPAIR),
+    "ext4_writeback": System("ext4", EXT4, "data=writeback", is_shared=False),
+    "ext4_writeback_noauto": System("ext4", EXT4, "data=writeback,noauto_da_alloc", is_shared=False),
+    "ext4_fast_commit": System("ext4", (*EXT4, "-O", "fast_commit"), loses="with the file system, where fast commits can't be replayed"),
+    "ext4_no_journal": System("ext4", (*EXT4, "-O", "^has_journal"), **UNJOURNALED),
+    "ext2": System("ext2", ("mkfs.ext2", "-q", "-F", "-b", "4096"), **UNJOURNALED),
     "xfs": System("xfs", ("mkfs.xfs", "-q", "-f"), size=320 * MEBIBYTE, is_filled=True),
     "btrfs": System("btrfs", ("mkfs.btrfs", "-q", "-f"), size=128 * MEBIBYTE),
 }
@@ -227,9 +232,9 @@ def calls_of(program, folder, size):
     return [Call(names[place], names[:place + 1].count(names[place]), renamed < place <= settled) for place in range(first, len(names))]
 
 
-def in_turn(site, calls, series):
+def in_turn(site, calls, series, is_shared):
     """Kills at each call in turn, each followed by another installation, which may be killed as well. Then, after one that was killed between its rename
-    and its sync, at each call that changes something. Now and then something else on that file system is synced."""
+    and its sync, at each call that changes something. On a file system that is shared something else is synced now and then."""
     all_calls = [(call, size) for size in calls for call in calls[size]]
     changes = [(call, size) for call, size in all_calls if call.name in CHANGES]
     unsettled = [call for call in calls[min(calls)] if call.is_unsettled]
@@ -237,7 +242,7 @@ def in_turn(site, calls, series):
         site.kill(call, size)
         if series.randrange(3) == 0:
             site.kill(*series.choice(changes))
-        if series.randrange(4) == 0:
+        if is_shared and series.randrange(4) == 0:
             sync_beside(os.path.join(os.path.dirname(site.folder), "beside"))
         site.install()
     for call, size in changes * TIMES:
@@ -268,7 +273,7 @@ class Bad(Exception):
 
 
 class Lost(Exception):
-    """How the rules were lost after a crash, as they may be where there is no journal: a file whose name was replaced may be gone before the name."""
+    """How the rules were lost as a whole after a crash, where they may be."""
 
 
 class Trial:
@@ -332,6 +337,8 @@ class Trial:
             except Bad as bad:
                 self.bad += 1
                 self.faults.append("a crash after %s, with %s of %d pieces: %s" % ("; ".join(reversed(said[:4])), moment.how, moment.pieces, bad))
+                if os.environ.get("CRASH_KEEP"):
+                    shutil.copy(images.make(moment), os.path.join(os.environ["CRASH_KEEP"], "%s-%d" % (self.name, self.moments)))
 
     def look(self, image, numbers):
         """Looks at an image as it is. Where there is no journal the rules may be lost, and it is looked at once more after its repair, which may damage
@@ -365,7 +372,7 @@ class Trial:
                     if site.faults or self.texts.which(rule_files.content(site.rules), [site.begun]) is None:
                         raise Bad("no text can be installed: %r" % site.faults)
         except OSError as fault:
-            raise (Lost if self.system.repair else Bad)("it can't be read: %s" % fault) from fault
+            raise (Lost if self.system.loses else Bad)("it can't be read: %s" % fault) from fault
 
 
 def number_of(name, default):
@@ -383,9 +390,9 @@ def try_system(trial, calls, count, seed):
     began, series = time.monotonic(), random.Random("%s %d" % (trial.name, seed))
     while trial.moments < count:
         wanted = min(count - trial.moments, MOMENTS_OF_A_RECORD)
-        record = trial.recorded("%s %d" % (trial.name, series.randrange(1 << 30)), lambda site: in_turn(site, calls, series))
+        record = trial.recorded("%s %d" % (trial.name, series.randrange(1 << 30)), lambda site: in_turn(site, calls, series, trial.system.is_shared))
         trial.look_at(record, wanted, series)
-    lost = ", %d lost, as they may be without a journal" % trial.lost if trial.system.repair else ""
+    lost = ", %d lost, %s" % (trial.lost, trial.system.loses) if trial.lost else ""
     print("crash_blocks: %s: %d moments, %d bad%s; %d installations, %d killed, %d reads beside them; %.0f seconds" % (
         trial.name, trial.moments, trial.bad, lost, trial.installations, trial.killed, trial.reads, time.monotonic() - began), flush=True)
 
@@ -456,7 +463,7 @@ def tell_skipped(what, reason):
 
 def missing():
     """Why none of this can be done here, or nothing."""
-    return loop_devices.missing() or ("there is no strace" if not shutil.which("strace") else None)
+    return loop_devices.missing() or (None if hostile_calls.can_trace() else "there is no strace that may be used")
 
 
 def check(program, failures):
@@ -465,12 +472,13 @@ def check(program, failures):
     if unknown:
         failures.append("crash_blocks: no file system %s; there are %s" % (unknown[0], " ".join(SYSTEMS)))
         return 1
-    if missing():
-        tell_skipped("real file systems", missing())
+    reason = missing()
+    if reason:
+        tell_skipped("real file systems", reason)
         return 0
     tests = 0
     with tempfile.TemporaryDirectory() as folder:
-        words = [sys.executable, os.path.abspath(__file__), "--apart", program, folder]
+        words = [sys.executable, os.path.abspath(__file__), "--apart", program, os.path.realpath(folder)]
         with subprocess.Popen(words, stdin=subprocess.DEVNULL, stdout=subprocess.PIPE, text=True, preexec_fn=loop_devices.end_with_parent) as process:
             for line in process.stdout:
                 if line.startswith("FAILED "):
