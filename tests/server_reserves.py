@@ -16,34 +16,35 @@ import failed_calls
 import server_runs
 from server_runs import read_all
 
-# how many clients wait with the system at most, so that none is lost there
-AT_ONCE = 100
 # a user of its own, whose processes are counted by themselves
 USER = 54321
 
 
 class Clients:
-    """Clients of a program that sends back what it gets, each of which has its answer for a while before it ends: what they got."""
+    """Clients of a program that sends back what it gets, which connect all at once, and each of which has its answer for a while before it ends:
+    what they got."""
 
     def __init__(self, server, count, hold):
         self.server = server
         self.hold = hold
-        self.doors = threading.Semaphore(AT_ONCE)
+        self.all_there = threading.Barrier(count)
         self.got = queue.SimpleQueue()
         self.threads = [threading.Thread(target=self.run, daemon=True) for _ in range(count)]
 
     def run(self):
         try:
-            with self.doors:
-                client = self.server.connect()
-                client.sendall(b"hi\n")
-                answer = client.recv(3)
-            with client:
-                time.sleep(self.hold)
-                client.shutdown(socket.SHUT_WR)
-                self.got.put(answer + read_all(client))
+            self.all_there.wait(server_runs.WAIT)
+            with self.server.connect() as client:
+                self.got.put(self.talk(client))
         except OSError as fault:
             self.got.put(repr(fault).encode())
+
+    def talk(self, client):
+        client.sendall(b"hi\n")
+        answer = client.recv(3)
+        time.sleep(self.hold)
+        client.shutdown(socket.SHUT_WR)
+        return answer + read_all(client)
 
     def all(self):
         for thread in self.threads:
@@ -52,6 +53,16 @@ class Clients:
             thread.join(server_runs.CHECK_TIME)
         got = [self.got.get() for _ in self.threads]
         return {answer: got.count(answer) for answer in got}
+
+
+class ShortClients(Clients):
+    """Clients that send three bytes some time after they connected, and their end right behind them."""
+
+    def talk(self, client):
+        time.sleep(self.hold)
+        client.sendall(b"hi\n")
+        client.shutdown(socket.SHUT_WR)
+        return read_all(client)
 
 
 def limited(suite, limits):
@@ -65,6 +76,7 @@ def all_served(suite, name, limits, connections, clients, hold, **how):
     with suite.start(["-v", "-c", str(connections)] + server_runs.QUIET, [how.pop("program", shutil.which("cat"))], command=command, **how) as server:
         for _ in range(2):
             suite.expect("clients under " + name, Clients(server, clients, hold).all(), {b"hi\n": clients})
+        suite.expect("short clients under " + name, ShortClients(server, clients, hold).all(), {b"hi\n": clients})
         server.idle()
         faults = [line for line in server.lines() if line.startswith(("drop", "start", "out of", "retired"))]
         suite.expect("lines of faults under " + name, faults, [])

@@ -139,6 +139,10 @@ where
     }
 }
 
+/// So many clients may wait with the system until they are accepted, or as many as it allows at all. Where fewer may, a burst of clients makes it
+/// send SYN cookies, and with them it may lose the first bytes that a client sends.
+const WAITING: i32 = 4096;
+
 /// A socket that listens at an address and port.
 ///
 /// # Errors
@@ -147,7 +151,11 @@ pub fn listen<R: Net>(net: &R, ip: [u8; 4], port: u16) -> Result<R::Listener, Se
     let [a, b, c, d] = ip;
     let end = SocketAddr::V4(SocketAddrV4::new(Ipv4Addr::new(a, b, c, d), port));
     match TcpListener::bind(net, end) {
-        Ok(listener) => Ok(listener),
+        Ok(listener) => {
+            // it listens; where that fails fewer clients may wait
+            let _ = libc::net::listen(listener.as_raw_fd(), WAITING);
+            Ok(listener)
+        }
         Err(error) => Err(ServerFailure::by(ServerFault::CannotListen, &error)),
     }
 }
