@@ -3,7 +3,8 @@ ghost use Rattle.std.specs.Prelude.{◌≡◌, ◌⊎◌, ◌<◌, ◌^◌, ◌-
 ghost use Rattle.dir_calls.specs.Names.{name_fault};
 ghost use Rattle.dir_calls.specs.Replacing.{KeepsWhatLasts};
 ghost use Rattle.dir_calls.specs.Clearing.{IsClear};
-ghost use Rattle.dir_disk.specs.OsParts.{os_left_since, os_moment, os_state};
+ghost use Rattle.dir_calls.specs.Moments.{CountsFault};
+ghost use Rattle.dir_disk.specs.OsParts.{os_failed, os_left_since, os_moment, os_state};
 ghost use Rattle.rules_install.specs.Installs.{installing};
 ghost use Rattle.rules_install.specs.ParseFaults.{of_parse};
 ghost use Rattle.rules_tools.specs.Paths.{PlacesOf};
@@ -259,6 +260,7 @@ pub fn clear_folder<D: Disk + Drop>(dir: &mut DiskDir<D>, names: &Names) -> Resu
     ensures stays { IsTrue D.honest → KeepsWhatLasts (os_state D.state) (os_moment D.moment)
         (os_left_since D.left_since) names.now.cdb dir.old dir.new }
     ensures faults { IfErr result (λ fault. fault ≡ DirFault.Device) }
+    ensures counted { CountsFault (os_failed dir.old) (os_failed dir.new) result }
 {
     dir.remove(names.tmp())?;
     dir.settle()
