@@ -1,5 +1,5 @@
 -- The code of instructions has no line feed where they have none, and fewer bytes than they.
-use Rattle.std.proofs.Common.{◌≡◌, ℕ, zero, suc, ◌+◌, ◌-◌, ◌<◌, ◌≤◌, Bool, true, false, eqb, List, [], ◌∷◌, ◌++◌, length, take, drop, Option, Some, None, refl, sym, ap, ◌∙◌, subst, arith, codes, flat_map, length-append, length-drop, ⊎_elim}
+use Rattle.std.proofs.Common.{◌≡◌, ℕ, zero, suc, ◌+◌, ◌<◌, ◌≤◌, Bool, true, false, eqb, List, [], ◌∷◌, ◌++◌, length, take, drop, Some, refl, sym, ap, ◌∙◌, subst, arith, codes, flat_map, length-append, length-drop, ⊎_elim}
 use Rattle.std.specs.Prelude.{◌==◌, nat_eq, option_map, option_and_then}
 use Rattle.std.specs.List.{starts_with}
 use Rattle.std.proofs.lemmas.Bool.{cases_Bool, or_from, or_parts}
@@ -14,7 +14,7 @@ use Rattle.rule_lines.specs.declared.instr.Verdict.TheVariants.{Allow, Deny}
 use Rattle.rule_lines.specs.Codes.{code_of, setting_code, verdict_code}
 use Rattle.rule_lines.specs.Lines.{has_byte}
 use Rattle.rule_lines.specs.Pairs.{instr_of, settings_after, verdict_of, word_length}
-use Rattle.rule_lines.specs.Settings.{Assignment, Cut, Front, cut_at, first_character, value_at, setting_at, settings_within}
+use Rattle.rule_lines.specs.Settings.{Assignment, Front, first_character, value_at, setting_at, settings_within}
 use Rattle.rule_lines.proofs.CodeLemmas.{if_found, option_map_found, option_and_then_found}
 use Rattle.rule_lines.proofs.CutLemmas.{cut_at-parts}
 use Rattle.rule_lines.proofs.ReadLemmas.{value_at-cut, setting_at-cut}

@@ -1,5 +1,5 @@
 -- The least kind for which a line is faulty, and its pairs.
-use Rattle.std.proofs.Common.{◌≡◌, ℕ, ◌<◌, Bool, true, false, cond, not, nat_lt, is_ok, is_some, is_none, Option, None, Some, option_map, option_and_then, unwrap_or, Result, Ok, Err, MatchResult, List, [], ◌∷◌, ◌++◌, length, take, drop, get_or, ◌+◌, ◌-◌, ◌==◌, refl, sym, ap, subst, ◌∙◌, arith}
+use Rattle.std.proofs.Common.{◌≡◌, ℕ, ◌<◌, Bool, true, false, cond, not, nat_lt, is_ok, is_none, Option, None, Some, option_map, option_and_then, Result, Ok, Err, MatchResult, List, [], ◌∷◌, ◌++◌, length, take, drop, get_or, ◌+◌, ◌-◌, ◌==◌, refl, sym, ap, subst, ◌∙◌, arith}
 use Rattle.std.proofs.lemmas.Bool.{cond-false, eqb-true, false_from_ne_true, or_right}
 use Rattle.std.proofs.lemmas.Option.{none-some}
 use Rattle.std.proofs.lemmas.Str.{IsUtf8-from_is_utf8, is_utf8-from_IsUtf8}
@@ -18,7 +18,7 @@ use Rattle.rule_lines.specs.declared.spread.ReadAddress.{ReadAddress}
 use Rattle.rule_lines.specs.Codes.{code_of}
 use Rattle.rule_lines.specs.Faults.{fault_beside, fault_under}
 use Rattle.rule_lines.specs.Lines.{has_byte}
-use Rattle.rule_lines.specs.Pairs.{Rule, address_in, instr_of, instructions_in, is_ignored, pairs_under, pairs_with, settings_after, verdict_of}
+use Rattle.rule_lines.specs.Pairs.{Rule, address_in, instr_of, instructions_in, is_ignored, pairs_under, settings_after, verdict_of}
 use Rattle.rule_lines.specs.RuleFaults.{Names, fault_behind, fault_within}
 use Rattle.rule_lines.specs.Settings.{Assignment}
 use Rattle.rule_lines.specs.Spread.{is_bad_range, spread}

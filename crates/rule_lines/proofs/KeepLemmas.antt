@@ -1,19 +1,18 @@
 -- What is kept of a line, and of a text line by line.
-use Rattle.std.proofs.Common.{◌≡◌, ℕ, zero, suc, ◌+◌, ◌-◌, ◌<◌, ◌≤◌, ◌==◌, ◌&&◌, Bool, true, false, cond, not, eqb, is_some, None, Some, Option, List, [], ◌∷◌, ◌++◌, length, take, drop, unwrap_or, flat_map, inl, inr, refl, sym, ap, subst, ◌∙◌, arith, append_assoc, length-append, length-drop, drop-drop}
+use Rattle.std.proofs.Common.{◌≡◌, ℕ, suc, ◌+◌, ◌-◌, ◌<◌, ◌≤◌, ◌==◌, ◌&&◌, Bool, true, false, cond, not, eqb, is_some, None, Some, List, [], ◌∷◌, ◌++◌, length, take, drop, unwrap_or, flat_map, inl, inr, refl, sym, ap, subst, ◌∙◌, arith, append_assoc, length-append, length-drop, drop-drop}
 use Rattle.std.specs.List.{AllByRecursion, position_or_len, before_first}
 use Rattle.std.specs.Str.{is_utf8}
 use Rattle.std.proofs.lemmas.Bool.{cases_Bool, cond-false, or_from, or_right}
 use Rattle.std.proofs.lemmas.List.{append-nil, drop_all, take_rest}
 use Rattle.std.proofs.lemmas.List.Folds.{list_any-append}
 use Rattle.rule_lines.specs.declared.fault.LineKind.{LineKind}
-use Rattle.rule_lines.specs.declared.instr.Instr.{Instr}
 use Rattle.rule_lines.specs.declared.instr.Verdict.TheVariants.{Allow}
 use Rattle.rule_lines.specs.declared.spread.ReadAddress.{ReadAddress}
 use Rattle.rule_lines.specs.Codes.{code_of, decoded}
 use Rattle.rule_lines.specs.Faults.{fault_beside, fault_in, first_faulty, or_later}
 use Rattle.rule_lines.specs.Kept.{AreKept, IsKept, IsKeptLine, IsKeptOf, rules_at, rules_in, the_instr}
 use Rattle.rule_lines.specs.Lines.{IsFirstLine, Line, has_byte, is_blank, lines_of, trimmed}
-use Rattle.rule_lines.specs.Pairs.{Rule, address_in, instr_of, instructions_in, is_ignored, pairs_in, pairs_of, pairs_under, pairs_with, rule_pairs}
+use Rattle.rule_lines.specs.Pairs.{address_in, instr_of, instructions_in, is_ignored, pairs_in, pairs_of, pairs_under, pairs_with, rule_pairs}
 use Rattle.rule_lines.specs.ReadAddresses.{addresses_read}
 use Rattle.rule_lines.specs.Spread.{is_bad_range, spread}
 use Rattle.rule_lines.proofs.CodeBytes.{IsOneLine, IsOneLine-append, IsOneLine-drop, IsOneLine-take, code_of-read}

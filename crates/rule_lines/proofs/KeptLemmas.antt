@@ -1,5 +1,5 @@
 -- Kept lines, read line by line.
-use Rattle.std.proofs.Common.{◌≡◌, ℕ, ◌+◌, ◌-◌, ◌<◌, ◌≤◌, Bool, true, false, cond, eqb, List, [], ◌∷◌, ◌++◌, length, drop, get_or, slice_get, Some, flat_map, inl, inr, refl, sym, ap, subst, ◌∙◌, arith, length-append, length-drop, drop-drop}
+use Rattle.std.proofs.Common.{◌≡◌, ℕ, ◌+◌, ◌-◌, ◌<◌, ◌≤◌, true, cond, eqb, List, [], ◌∷◌, ◌++◌, length, drop, get_or, slice_get, Some, flat_map, inl, inr, refl, sym, ap, subst, ◌∙◌, arith, length-append, length-drop, drop-drop}
 use Rattle.std.specs.List.{AllByRecursion}
 use Rattle.std.proofs.lemmas.Bool.{cases_Bool}
 use Rattle.std.proofs.lemmas.List.{drop_at, get_or_append_left, get_or-drop, get_or-map, length-map}
@@ -8,8 +8,7 @@ use Rattle.std.proofs.lemmas.Option.{slice_get-get_or}
 use Rattle.rule_lines.specs.declared.kept.KeptLine.{KeptLine}
 use Rattle.rule_lines.specs.declared.kept.LinePlace.{LinePlace}
 use Rattle.rule_lines.specs.Kept.{AreKept, IsKeptLine, IsLineAt, rule_of_line, rules_at, rules_in, rules_under, the_instr}
-use Rattle.rule_lines.specs.Lines.{IsFirstLine, Line, empty_line, lines_of, onto_line, pieces_of}
-use Rattle.rule_lines.specs.Pairs.{Rule}
+use Rattle.rule_lines.specs.Lines.{IsFirstLine, Line, empty_line, lines_of, onto_line}
 use Rattle.rule_lines.specs.ReadAddresses.{addresses_read}
 use Rattle.rule_lines.proofs.RowLemmas.{rule_of}
 

@@ -1,5 +1,5 @@
 -- The addresses that a line was read with: how many they are, which stands at a place, and what a look-up finds among rules that have them.
-use Rattle.std.proofs.Common.{◌≡◌, ℕ, zero, suc, ◌+◌, ◌<◌, Bool, true, cond, is_some, List, [], ◌∷◌, ◌++◌, length, map, get_or, Option, None, Some, unwrap_or, Bor, decimal, bytes_eq, inl, inr, refl, ap, ◌∙◌, arith}
+use Rattle.std.proofs.Common.{◌≡◌, ℕ, zero, suc, ◌+◌, ◌<◌, Bool, true, cond, is_some, List, [], ◌∷◌, ◌++◌, length, get_or, Option, None, Some, unwrap_or, Bor, decimal, bytes_eq, inl, inr, refl, ap, ◌∙◌, arith}
 use Rattle.std.specs.Option.{SomeIff}
 use Rattle.std.specs.List.{find, Contains}
 use Rattle.std.proofs.lemmas.Bool.{cases_Bool}

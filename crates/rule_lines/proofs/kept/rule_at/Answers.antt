@@ -3,9 +3,9 @@ use Rattle.std.proofs.Common.{◌≡◌, ◌+◌, ◌-◌, ◌<◌, ◌≤◌, �
 use Rattle.std.proofs.lemmas.List.{drop_all, take_rest}
 use Rattle.std.proofs.lemmas.Option.{slice_get_past}
 use Rattle.rule_lines.specs.declared.kept.LinePlace.{LinePlace}
-use Rattle.rule_lines.specs.Kept.{AreKept, IsLineAt, rule_of_line, rules_in, rules_under}
+use Rattle.rule_lines.specs.Kept.{AreKept, IsLineAt, rules_in, rules_under}
 use Rattle.rule_lines.specs.ReadAddresses.{addresses_read}
-use Rattle.rule_lines.proofs.KeptLemmas.{IsLineAt-next, count-le, slice_get-line}
+use Rattle.rule_lines.proofs.KeptLemmas.{IsLineAt-next, slice_get-line}
 use Rattle.rule_lines.proofs.kept.rule_at.Goals as goal
 use Rattle.rule_lines.proofs.kept.rule_at.Goals.{After-count_in, then-is_last, else-is_last}
 

@@ -1,5 +1,5 @@
 -- Bytes are the address in lower case from its `=` on, where they begin as it does and go on so.
-use Rattle.std.proofs.Common.{◌≡◌, ◌∙◌, ◌==◌, Bool, true, false, length, map, ap, sym, take, drop}
+use Rattle.std.proofs.Common.{◌≡◌, ◌∙◌, ◌==◌, map, ap, sym, take}
 use Rattle.std.specs.Char.{to_ascii_lowercase}
 use Rattle.std.specs.List.{position_or_len}
 use Rattle.std.proofs.lemmas.Bool.{eqb-true, false≢true}

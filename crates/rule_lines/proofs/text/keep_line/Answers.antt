@@ -1,5 +1,5 @@
 -- A line with a colon that does not begin with `#` is a rule, and every other line is ignored.
-use Rattle.std.proofs.Common.{◌==◌, sym, ap, ◌∙◌}
+use Rattle.std.proofs.Common.{◌==◌, sym}
 use Rattle.std.proofs.lemmas.Bool.{cond-true}
 use Rattle.rule_lines.specs.Pairs.{is_ignored}
 use Rattle.rule_lines.proofs.FoundLemmas.{position_or_len-found}

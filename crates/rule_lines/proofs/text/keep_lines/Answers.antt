@@ -3,7 +3,7 @@ use Rattle.std.proofs.Common.{◌≡◌, ◌+◌, ◌-◌, ◌++◌, ◌∙◌, 
 use Rattle.rule_lines.specs.Kept.{IsKeptOf}
 use Rattle.rule_lines.specs.Lines.{has_byte, trimmed}
 use Rattle.rule_lines.specs.Faults.{fault_in}
-use Rattle.rule_lines.proofs.KeepLemmas.{IsKeptUpTo, IsKeptUpTo-more, IsKeptUpTo-none, IsKept-all, fault-here, room-kept, trimmed-part}
+use Rattle.rule_lines.proofs.KeepLemmas.{IsKeptUpTo, IsKeptUpTo-more, room-kept, trimmed-part}
 use Rattle.rule_lines.proofs.RowLemmas.{SomeIff-Some}
 use Rattle.rule_lines.proofs.text.keep_lines.Goals as goal
 use Rattle.rule_lines.proofs.text.keep_lines.Goals.{After-trim_blanks, After-deref-in-loop-start}

@@ -1,5 +1,5 @@
 -- What is kept is the address with its colon, the code of the instructions, and a line feed.
-use Rattle.std.proofs.Common.{◌≡◌, ◌+◌, ◌-◌, ◌<◌, ◌++◌, ◌∷◌, [], length, take, drop, sym, ap, subst, ◌∙◌}
+use Rattle.std.proofs.Common.{◌≡◌, ◌+◌, ◌-◌, ◌++◌, ◌∷◌, [], length, take, drop, sym, ap, ◌∙◌}
 use Rattle.std.proofs.lemmas.Result.{err_from_is_err_and}
 use Rattle.rule_lines.specs.Pairs.{address_in}
 use Rattle.rule_lines.specs.Spread.{is_bad_range, spread}

@@ -51,10 +51,10 @@ loop-rule-preserved c =
     let held = subst (λ (h : ℕ). HoldsByTable c.push.new.self (entries ++ (h, c.loop-rule.end) ∷ [])) hashed (c.in_ok-push.ensures.added entries c.loop-rule.invariant.1.by_table) in (
       c.in_ok-write_rule.ensures.same ∙ c.loop-rule.invariant.0,
       Placed-more c.args.list.now c.loop-rule.place rule c.loop-rule.tables c.push.new.self c.loop-rule.end _ c.loop-rule.finished c.saturating_add-finished.result c.file_limit-limit.result
-      found.at c.loop-rule.invariant.1 held
-      (omega (arith, c.file_limit-limit.ensures, c.if-finished-limit.false, c.saturating_add-finished.ensures, c.saturating_add-length.ensures, found.key_length, found.code_length))
-      (omega (arith, c.file_limit-limit.ensures, c.if-finished-limit.false, c.saturating_add-finished.ensures, c.saturating_add-length.ensures, found.key_length, found.code_length))
-      c.if-finished-limit.false,
+          found.at c.loop-rule.invariant.1 held
+          (omega (arith, c.file_limit-limit.ensures, c.if-finished-limit.false, c.saturating_add-finished.ensures, c.saturating_add-length.ensures, found.key_length, found.code_length))
+          (omega (arith, c.file_limit-limit.ensures, c.if-finished-limit.false, c.saturating_add-finished.ensures, c.saturating_add-length.ensures, found.key_length, found.code_length))
+          c.if-finished-limit.false,
     )
 
 pub returns-clause-prepared : goal.returns-clause-prepared

@@ -1,5 +1,5 @@
 -- A line with the address has the answer, and one without it leaves it to those after it.
-use Rattle.std.proofs.Common.{◌≡◌, ◌∙◌, sym, ap, subst}
+use Rattle.std.proofs.Common.{◌∙◌, sym, ap}
 use Rattle.std.proofs.lemmas.Bool.{iff_false}
 use Rattle.rule_lines.specs.Kept.{rules_in, the_instr}
 use Rattle.rule_lines.specs.Lookups.{found_among, Has}

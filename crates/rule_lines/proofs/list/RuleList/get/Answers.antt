@@ -1,5 +1,5 @@
 -- The list has as many rules as it counts.
-use Rattle.std.proofs.Common.{◌≡◌, ap, length, arith, ◌∙◌}
+use Rattle.std.proofs.Common.{ap, length, arith}
 use Rattle.rule_lines.specs.Kept.{rules_in}
 use Rattle.rule_lines.proofs.list.RuleList.get.Goals as goal
 
