@@ -211,7 +211,7 @@ def nothing_left(suite):
         rounds(server, 5 * ROUND)
         after = server.descriptors(), server.threads(), server.memory()
         suite.holds("descriptors after 5,000 connections", after[0] <= before[0] + 40, (before, after))
-        suite.holds("threads after 5,000 connections", after[1] <= before[1] + 21, (before, after))
+        suite.holds("threads after 5,000 connections", after[1] <= before[1] + 29, (before, after))
         suite.holds("memory after 5,000 connections", after[2] <= before[2] + 3072, (before, after))
         suite.expect("processes after 5,000 connections", server_runs.children_of(server.process.pid), 0)
         used = server.processor_time()

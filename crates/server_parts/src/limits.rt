@@ -2,7 +2,6 @@
 use libc::net::POLLNVAL;
 use libc::types::{pollfd, rlimit};
 use server_words::Mode;
-use std::alloc::{AllocError, Global};
 use tcp_connections::{Memory, Supply};
 
 /// What `getrlimit` is asked: for the memory that is used, for descriptors, and for the addresses that are reserved.
@@ -17,6 +16,9 @@ const UNLIMITED: u64 = u64::MAX;
 
 /// So many descriptors count as taken where the system does not tell which are.
 const TAKEN: u64 = 64;
+
+/// So many numbers of descriptors are looked at by one call.
+const LOOKED: u64 = 256;
 
 // The limit of this process on something; where the system doesn't tell it there is none.
 fn limit_on(something: i32) -> u64 {
@@ -61,17 +63,9 @@ const GOING_ON: usize = 32 * 1024;
 const BUFFERS: usize = 256 * 1024;
 
 /// What the system gives the connections of a server in this mode, of which so many may be alive, and whose programs inherit so many variables.
-///
-/// # Errors
-/// There was no memory.
-pub fn supply_for(
-    alloc: Global,
-    mode: Mode,
-    connections: u64,
-    variables: usize,
-) -> Result<Supply, AllocError> {
+pub fn supply_for(mode: Mode, connections: u64, variables: usize) -> Supply {
     let most = connections.saturating_mul(PUMPED).saturating_add(BESIDE);
-    let descriptors = free_descriptors(alloc, most)?.saturating_sub(OWN);
+    let descriptors = free_descriptors(most).saturating_sub(OWN);
     let (to_begin, to_go_on, buffers) = match mode {
         Mode::HandedOver => (HANDED, 0, 0),
         Mode::Pumped => (PUMPED, PUMPED_ON, BUFFERS),
@@ -83,12 +77,12 @@ pub fn supply_for(
         to_begin: start.saturating_mul(AT_ONCE),
         to_go_on: buffers.saturating_add(GOING_ON),
     };
-    Ok(Supply {
+    Supply {
         descriptors,
         to_begin,
         to_go_on,
         memory: has_limited_memory().then_some(memory),
-    })
+    }
 }
 
 /// Whether the process may use or reserve so much memory and no more.
@@ -97,24 +91,35 @@ pub fn has_limited_memory() -> bool {
 }
 
 /// How many descriptors this process may open beside those that it has. Numbers from `most` on are not looked at: they count as taken.
-///
-/// # Errors
-/// There was no memory.
-pub fn free_descriptors(alloc: Global, most: u64) -> Result<u64, AllocError> {
+pub fn free_descriptors(most: u64) -> u64 {
     let count = limit_on(DESCRIPTORS).min(most);
+    let mut free = 0u64;
+    for block in 0..count.div_ceil(LOOKED) {
+        let first = block.saturating_mul(LOOKED);
+        match free_from(first, count.saturating_sub(first).min(LOOKED)) {
+            Some(found) => free = free.saturating_add(found),
+            None => return count.saturating_sub(TAKEN),
+        }
+    }
+    free
+}
+
+// How many of so many descriptors, at most `LOOKED`, are free; `None` where the system doesn't tell.
+fn free_from(first: u64, count: u64) -> Option<u64> {
     let unlooked = pollfd {
-        fd: 0,
+        fd: -1,
         events: 0,
         revents: 0,
     };
-    let mut looked = vec![in alloc; unlooked; count as usize]?;
-    for (number, one) in looked.iter_mut().enumerate() {
+    let mut looked = [unlooked; LOOKED as usize];
+    let looked = looked.get_mut(..count as usize)?;
+    for (place, one) in looked.iter_mut().enumerate() {
         // a number that is none is not looked at, and counts as taken
-        one.fd = i32::try_from(number).unwrap_or(-1);
+        one.fd = i32::try_from(first.saturating_add(place as u64)).unwrap_or(-1);
     }
-    if libc::net::poll(&mut looked, 0) < 0 {
-        return Ok(count.saturating_sub(TAKEN));
+    if libc::net::poll(looked, 0) < 0 {
+        return None;
     }
     let free = looked.iter().filter(|one| one.revents & POLLNVAL != 0);
-    Ok(free.count() as u64)
+    Some(free.count() as u64)
 }

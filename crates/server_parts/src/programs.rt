@@ -16,7 +16,7 @@ use std::sync::{Arc, Mutex, Wait};
 use std::time::{Clock, Duration};
 use std::{io, thread};
 use stream_tools::{NotStarted, OsJob, OsLauncher, SearchPath};
-use tcp_connections::Starter;
+use tcp_connections::{Reserve, Starter};
 use ucspi_env::Environment;
 
 /// After so many milliseconds a write that waits looks whether its program is over.
@@ -36,20 +36,23 @@ const WAITS: u32 = 66;
 /// After so many of them each is the longest.
 const LONGER: u32 = 8;
 
-/// Starts programs as `OsLauncher` does; where the system has no process for one, it waits for some time for the end of another. What is written to one's input waits for it as long as it runs, and no longer: a process that it
-/// left behind, which holds its input and reads nothing, holds up nobody.
+/// Starts programs as `OsLauncher` does; where the system has no process for one, the one in reserve is given back, and it waits for some time for
+/// the end of another. What is written to a program's input waits for it as long as it runs, and no longer: a process that it left behind, which
+/// holds its input and reads nothing, holds up nobody.
 #[derive(Drop)]
 pub struct ServiceLauncher<'a, R> {
     rt: &'a R,
     launcher: OsLauncher<'a, R>,
+    reserve: &'a Reserve,
 }
 
 impl<'a, R: Processes> ServiceLauncher<'a, R> {
     /// A launcher over the system's processes, which looks for programs in these folders.
-    pub fn new(rt: &'a R, search: &'a SearchPath) -> ServiceLauncher<'a, R> {
+    pub fn new(rt: &'a R, search: &'a SearchPath, reserve: &'a Reserve) -> ServiceLauncher<'a, R> {
         ServiceLauncher {
             rt,
             launcher: OsLauncher::new(rt, search),
+            reserve,
         }
     }
 }
@@ -60,19 +63,21 @@ impl<'a, R: Processes> ServiceLauncher<'a, R> {
 pub struct HandingLauncher<'a, R> {
     rt: &'a R,
     launcher: OsLauncher<'a, R>,
+    reserve: &'a Reserve,
 }
 
 impl<'a, R: Processes> HandingLauncher<'a, R> {
     /// A launcher over the system's processes, which looks for programs in these folders.
-    pub fn new(rt: &'a R, search: &'a SearchPath) -> HandingLauncher<'a, R> {
+    pub fn new(rt: &'a R, search: &'a SearchPath, reserve: &'a Reserve) -> HandingLauncher<'a, R> {
         HandingLauncher {
             rt,
             launcher: OsLauncher::new(rt, search),
+            reserve,
         }
     }
 }
 
-impl<'a, R: Processes + Clock, H: Wait> Starter<Handle<'a, H>> for HandingLauncher<'a, R> {
+impl<'a, R: Processes + Wait + Clock, H: Wait> Starter<Handle<'a, H>> for HandingLauncher<'a, R> {
     type Job = OsJob;
 
     /// As of the trait; a connection that was given before is `Other`.
@@ -86,7 +91,9 @@ impl<'a, R: Processes + Clock, H: Wait> Starter<Handle<'a, H>> for HandingLaunch
         let stream = connection.take().ok_or(StartFault::Other)?;
         for waits in 0..WAITS {
             match self.launcher.start_on(alloc, program, environment, &stream) {
-                Err(not_started) if wants_process(not_started) => wait_for_process(self.rt, waits),
+                Err(not_started) if wants_process(not_started) => {
+                    wait_for_process(self.rt, self.reserve, waits);
+                }
                 outcome => return outcome,
             }
         }
@@ -99,8 +106,9 @@ fn wants_process(not_started: NotStarted) -> bool {
     not_started.error == Some(libc::EAGAIN)
 }
 
-// Waits for a process, after so many such waits.
-fn wait_for_process<R: Clock>(rt: &R, waits: u32) {
+// Waits for a process, after so many such waits: the one in reserve, or that of another program that ends.
+fn wait_for_process<R: Wait + Clock>(rt: &R, reserve: &Reserve, waits: u32) {
+    reserve.give_back(rt);
     let longer = FIRST_WAIT << waits.min(LONGER);
     thread::sleep(rt, Duration::from_millis(longer.min(LONGEST_WAIT)));
 }
@@ -132,7 +140,9 @@ where
         let rt = self.rt;
         for waits in 0..WAITS {
             match self.launcher.start_between(alloc, program, environment) {
-                Err(not_started) if wants_process(not_started) => wait_for_process(rt, waits),
+                Err(not_started) if wants_process(not_started) => {
+                    wait_for_process(rt, self.reserve, waits);
+                }
                 Err(not_started) => return Err(not_started),
                 Ok(job) => return Ok(ServiceJob { rt, job, over }),
             }

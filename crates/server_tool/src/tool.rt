@@ -33,7 +33,7 @@ use std::thread::Threads;
 use std::time::{Clock, Duration};
 use stream_tools::SearchPath;
 use tcp_service::{
-    Acceptor, Chains, Follow, Log, Patience, Rules, ServeEnd, Service, Starter, Worker, Wrapping,
+    Acceptor, Chains, Follow, Log, Patience, Reserve, Rules, ServeEnd, Service, Starter, Wrapping,
     serve,
 };
 
@@ -42,6 +42,9 @@ const IDLE: u64 = 60;
 
 /// And for so many in all.
 const ALL: u64 = 600;
+
+/// So many callers of the site make the events of all connections.
+const CALLERS: u64 = 1;
 
 /// Runs `tcpserver` with these words, over the system's sockets, files and programs; `errors` takes the lines of its log. Without `-s` and
 /// `-S` connections are handed over or pumped as `by_name` says. It returns once as many connections were served as it was to serve, and
@@ -161,7 +164,7 @@ fn service_of<R: AllocGlobal + Files>(
 ) -> Result<Service, ServerFailure> {
     let names = names_of(rt.alloc(), rt, words)?;
     let (mode, connections) = (words.mode(), words.limits().connections);
-    let supply = supply_for(rt.alloc(), mode, connections, plan.inherited().len())?;
+    let supply = supply_for(mode, connections, plan.inherited().len());
     Ok(Service {
         count: words.limits().count,
         names,
@@ -171,7 +174,9 @@ fn service_of<R: AllocGlobal + Files>(
             all: Duration::from_secs(ALL),
         },
         recording: words.wrapping().records(),
+        connections: usize::try_from(connections).unwrap_or(usize::MAX),
         supply,
+        reserve: Reserve::new(),
     })
 }
 
@@ -188,9 +193,6 @@ where
     <R::Started as OpenProcess>::Stderr: Send,
 {
     let limits = words.limits();
-    let Some(callers) = limits.connections.checked_add(1) else {
-        return Err(ServerFailure::from(ServerFault::OutOfMemory));
-    };
     let alloc = rt.alloc();
     let (dir, rules) = open_rules(alloc, rt, words)?;
     let name = match &rules {
@@ -202,7 +204,7 @@ where
     if words.hosts().is_none() && words.level() == Level::All && at.name_someone(alloc) {
         let _ = house.log.lock(rt).no_names();
     }
-    let (places, parts) = (Blank::new(limits.connections), Blank::new(callers));
+    let (places, parts) = (Blank::new(limits.connections), Blank::new(CALLERS));
     let served = run_site::<Brand, Brand, _, _, _, _>(
         rt,
         house,
@@ -211,7 +213,7 @@ where
         at,
         words,
         places,
-        callers,
+        CALLERS,
         parts,
     );
     served
@@ -244,18 +246,6 @@ impl Wrapping for Wrappers<'_> {
             output: chain_of(alloc, self.names.output())?,
         })
     }
-}
-
-// A worker for each caller.
-fn workers_of<N: Callers>(
-    alloc: Global,
-    callers: Vec<Caller<N>>,
-) -> Result<Vec<Worker<N>>, AllocError> {
-    let mut workers = Vec::with_capacity(alloc, callers.len())?;
-    for caller in callers {
-        workers.push(Worker::new(caller))?;
-    }
-    Ok(workers)
 }
 
 // The server over a yard and a site of its own.
@@ -362,8 +352,11 @@ where
     T: OpenListener<Stream = TcpStream> + Drop,
     E: Write + Send,
 {
-    let workers = workers_of(rt.alloc(), callers)?;
-    let workers = workers.as_slice();
+    let mut callers = callers;
+    let Some(caller) = callers.pop() else {
+        return Err(ServerFailure::from(ServerFault::OutOfMemory));
+    };
+    let caller = &Mutex::new(caller);
     let wrappers = Wrappers {
         names: words.wrapping(),
     };
@@ -371,28 +364,28 @@ where
     match words.mode() {
         Mode::HandedOver => {
             let mut acceptor = HandedAcceptor::new(rt, rt.alloc(), listener, at_once);
-            let starter = HandingLauncher::new(rt, &house.search);
+            let starter = HandingLauncher::new(rt, &house.search, &house.service.reserve);
             serve_site(
                 rt,
                 house,
                 &mut acceptor,
                 site,
                 rules,
-                workers,
+                caller,
                 &wrappers,
                 &starter,
             )
         }
         Mode::Pumped => {
             let mut acceptor = PumpedAcceptor::new(rt, rt.alloc(), listener, at_once);
-            let starter = ServiceLauncher::new(rt, &house.search);
+            let starter = ServiceLauncher::new(rt, &house.search, &house.service.reserve);
             serve_site(
                 rt,
                 house,
                 &mut acceptor,
                 site,
                 rules,
-                workers,
+                caller,
                 &wrappers,
                 &starter,
             )
@@ -400,14 +393,14 @@ where
     }
 }
 
-// Serves at a site by these workers.
+// Serves at a site by this caller of it.
 fn serve_site<L, N, D, U, R, E, A, S>(
     rt: &R,
     house: &House<E>,
     acceptor: &mut A,
     site: &Site<L, N, D, Counts>,
     rules: &U,
-    workers: &[Worker<N>],
+    caller: &Mutex<Caller<N>>,
     wrappers: &Wrappers<'_>,
     starter: &S,
 ) -> Result<(), ServerFailure>
@@ -433,7 +426,7 @@ where
         acceptor,
         site,
         rules,
-        workers,
+        caller,
         wrappers,
         starter,
         &house.plan,

@@ -18,7 +18,7 @@ use std::sync::{Mutex, Wait};
 use std::thread::Threads;
 use std::time::{Clock, Duration};
 use tcp_service::{
-    Chains, Log, Mode, Names, Patience, Rules, RulesHandle, ServeEnd, Service, Supply, Worker,
+    Chains, Log, Mode, Names, Patience, Reserve, Rules, RulesHandle, ServeEnd, Service, Supply,
     Wrapping, serve,
 };
 use ucspi_env::{Environment, Local};
@@ -81,7 +81,7 @@ where
         tally: &tally,
     };
     let mut lines = Vec::new(alloc);
-    let (places, parts) = (Blank::new(asked.limit), Blank::new(asked.limit + 1));
+    let (places, parts) = (Blank::new(asked.limit), Blank::new(1));
     let (end, live) = serve_by::<R, Brand, Brand>(
         rt, alloc, asked, &launcher, &mut lines, places, parts,
     )?;
@@ -105,8 +105,8 @@ where
     requires limit { (0 < asked.limit) × (asked.limit < 10001) }
     requires places { (places.name ≡ L.name) × (places.parts ≡ L.parts) × (places.parts ≡ asked.limit) }
     requires met { L.met ≡ false }
-    requires parts { (parts.name ≡ N.name) × (parts.parts ≡ N.parts) × (parts.parts ≡ asked.limit + 1) }
-    requires callers { (N.all ≡ asked.limit + 1) × (N.before ≡ 0) }
+    requires parts { (parts.name ≡ N.name) × (parts.parts ≡ N.parts) × (parts.parts ≡ 1) }
+    requires callers { (N.all ≡ 1) × (N.before ≡ 0) }
 {
     let (site, callers) = site_of::<L, N>(alloc, asked.limit, places, parts)?;
     let end = serve_at(rt, alloc, asked, launcher, lines, &site, callers)?;
@@ -123,15 +123,15 @@ fn site_of<L: Premises, N: Callers>(
     requires limit { (0 < limit) × (limit < 10001) }
     requires places { (places.name ≡ L.name) × (places.parts ≡ L.parts) × (places.parts ≡ limit) }
     requires met { L.met ≡ false }
-    requires parts { (parts.name ≡ N.name) × (parts.parts ≡ N.parts) × (parts.parts ≡ limit + 1) }
-    requires callers { (N.all ≡ limit + 1) × (N.before ≡ 0) }
+    requires parts { (parts.name ≡ N.name) × (parts.parts ≡ N.parts) × (parts.parts ≡ 1) }
+    requires callers { (N.all ≡ 1) × (N.before ≡ 0) }
 {
     let dir = MemDir::new(alloc);
     let Ok(yard) = Yard::<L, MemDir, Counts>::new(alloc, places, dir, None, limit, Counts::new())
     else {
         return Err(io::Error::from(io::ErrorKind::OutOfMemory));
     };
-    match Site::<L, N, MemDir, Counts>::new(alloc, parts, yard, limit + 1) {
+    match Site::<L, N, MemDir, Counts>::new(alloc, parts, yard, 1) {
         Ok(made) => Ok(made),
         Err(_) => Err(io::Error::from(io::ErrorKind::OutOfMemory)),
     }
@@ -150,7 +150,10 @@ fn serve_at<R, L: Premises + Send + Sync, N: Callers + Send + Sync>(
 where
     R: Threads + Wait + Clock + Sync,
 {
-    let workers = workers_of(alloc, callers)?;
+    let mut callers = callers;
+    let Some(caller) = callers.pop() else {
+        return Err(io::Error::from(io::ErrorKind::OutOfMemory));
+    };
     let log = Mutex::new(Log::new(alloc, lines, Level::All, asked.limit));
     let mut acceptor = Clients {
         lost: asked.lost,
@@ -162,11 +165,11 @@ where
         &mut acceptor,
         site,
         &NoRules,
-        workers.as_slice(),
+        &Mutex::new(caller),
         &Unwrapped,
         launcher,
         &plan(alloc),
-        &service(asked.count),
+        &service(asked),
         &log,
     ))
 }
@@ -186,18 +189,6 @@ impl Wrapping for Unwrapped {
     }
 }
 
-/// A worker for each caller.
-fn workers_of<N: Callers>(
-    alloc: Global,
-    callers: Vec<Caller<N>>,
-) -> Result<Vec<Worker<N>>, AllocError> {
-    let mut workers = Vec::new(alloc);
-    for caller in callers {
-        workers.push(Worker::new(caller))?;
-    }
-    Ok(workers)
-}
-
 fn plan(alloc: Global) -> Plan {
     Plan::new(
         Program::new(String::new(alloc), Vec::new(alloc)),
@@ -207,9 +198,9 @@ fn plan(alloc: Global) -> Plan {
     )
 }
 
-fn service(count: Option<u32>) -> Service {
+fn service(asked: Asked) -> Service {
     Service {
-        count,
+        count: asked.count,
         names: Names {
             hosts: None,
             local: None,
@@ -222,6 +213,8 @@ fn service(count: Option<u32>) -> Service {
             all: Duration::from_secs(600),
         },
         recording: false,
+        connections: asked.limit as usize,
         supply: Supply::unlimited(),
+        reserve: Reserve::new(),
     }
 }

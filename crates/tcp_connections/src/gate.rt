@@ -1,12 +1,13 @@
-//! Where connections are let in, one after another, and each is given to a worker, whose threads are kept.
+//! Where connections are let in, one after another, and each is begun and kept by workers, whose threads are kept.
 ghost use Rattle.std.specs.Thread.{IsSend, IsSync};
 
 use crate::accepting::AcceptFault;
-use crate::hall::{Hall, Seat};
-use crate::supply::{Store, Supply};
+use crate::hall::Hall;
+use crate::supply::{Reserve, Store, Supply};
 use crate::threads::connection_thread;
 use std::alloc::Global;
 use std::sync::Wait;
+use std::sync::atomic::Ordering;
 use std::thread;
 use std::thread::{JoinHandle, Scope, Threads};
 use std::time::{Clock, Duration};
@@ -23,9 +24,18 @@ const LONGEST_PAUSE: u64 = 1_000;
 /// So often a server tries to make its first threads, over some two and a half seconds.
 const TRIES: u32 = 8;
 
+/// So many beginners do where beginning takes no longer than starting a program. One more is made where none of them is free for so many
+/// milliseconds, as where the rules can't be opened at once.
+const ENOUGH: usize = 8;
+
+const WHILE: u64 = 5;
+
 /// For so many programs at most it is looked whether there are processes, before a worker is made: where there are fewer than programs, the last
 /// ones wait for those before them.
-const MOST_PROCESSES: u64 = 4;
+const PROCESSES: u64 = 4;
+
+/// By so many bytes, two pages, a look for memory asks for more than the last one.
+const MORE: usize = 8 * 1024;
 
 /// How a server ended.
 #[derive(Clone, Copy, PartialEq, Eq, Debug)]
@@ -68,7 +78,7 @@ pub trait Door {
     fn close(&mut self);
 }
 
-/// What serves the connections that were let in: so many workers, each of them one connection at a time.
+/// What serves the connections that were let in.
 pub trait Serving<T> {
     /// What a client sends, on its way.
     type Upward: Send + Drop;
@@ -76,32 +86,33 @@ pub trait Serving<T> {
     /// A connection whose child runs, and what its client is sent, on its way.
     type Talk: Send + Drop;
 
-    /// Whether what clients send is passed on, for which each worker has a second thread.
+    /// Whether what clients send is passed on, for which each keeper has a second thread.
     fn passes_up(&self) -> bool;
 
-    /// Begins to serve a connection by this worker, up to the start of its child. `None` where it is over then; what its client sends is there
-    /// where it is passed on.
-    fn begin(&self, worker: usize, work: T) -> Option<(Option<Self::Upward>, Self::Talk)>;
+    /// Begins to serve a connection, up to the start of its child. `None` where it is over then; what its client sends is there where it is
+    /// passed on.
+    fn begin(&self, work: T) -> Option<(Option<Self::Upward>, Self::Talk)>;
 
     /// Passes on what the client sends, to its end.
     fn pass_up(&self, upward: Self::Upward);
 
     /// Passes on what the client is sent, to the end of the connection.
-    fn pass_down(&self, worker: usize, talk: Self::Talk);
+    fn pass_down(&self, talk: Self::Talk);
 }
 
-/// Lets connections in through a door, each served by one of so many workers, until `count` were let in or the door gives no more; then closes
-/// the door, and waits until all that were let in are over. The first worker serves none: it lets connections in. Each of the others has a thread,
-/// and a second one that passes on what clients send, where that is done. They are made when a connection may come for which no worker is free
-/// that has them, and kept for those that follow; a connection is not taken before they are there.
+/// Lets connections in through a door, at most so many at once, until `count` were let in or the door gives no more; then closes the door, and
+/// waits until all that were let in are over. This thread lets them in; a beginner serves each up to the start of its child, and a keeper from then
+/// on. A keeper has a second thread that passes on what the client sends, where that is done. Both are made when a connection may come for which
+/// none is free, and kept for those that follow; a connection is not taken before they are there.
 pub fn serve_through<R, V, Q>(
     rt: &R,
     alloc: Global,
     door: &mut Q,
     server: &V,
-    workers: usize,
+    most: usize,
     count: Option<u32>,
     supply: Supply,
+    reserve: &Reserve,
 ) -> ServeEnd
 where
     R: Threads + Wait + Clock + Sync,
@@ -113,17 +124,14 @@ where
     if supply.descriptors < supply.to_begin || supply.at_once() == 0 {
         return ServeEnd::AcceptFaults;
     }
-    let most = workers.saturating_sub(1);
-    let Ok(hall) = Hall::new(alloc, most, supply) else {
-        return ServeEnd::OutOfMemory;
-    };
+    let hall = Hall::new(alloc, most, supply);
     let gate = Gate {
         rt,
         alloc,
         server,
         hall: &hall,
-        most,
         count,
+        reserve,
     };
     gate.open(door)
 }
@@ -166,26 +174,25 @@ impl Pause {
     }
 }
 
-// The place where one connection after another is let in and given to a worker.
+// The place where one connection after another is let in and given to its workers.
 #[derive(Drop)]
-struct Gate<'a, R, V, T, U> {
+struct Gate<'a, R, V, T, U, K> {
     rt: &'a R,
     alloc: Global,
     server: &'a V,
-    hall: &'a Hall<T, U>,
-    // how many workers there may be
-    most: usize,
+    hall: &'a Hall<T, U, K>,
     // how many connections are let in before the server ends
     count: Option<u32>,
+    reserve: &'a Reserve,
 }
 
-impl<'a, R, V, T, U> Gate<'a, R, V, T, U>
+impl<'a, R, V, T, U, K> Gate<'a, R, V, T, U, K>
 where
     R: Threads + Wait + Clock + Sync,
-    V: Serving<T, Upward = U> + Sync,
-    V::Talk: Send + Drop,
+    V: Serving<T, Upward = U, Talk = K> + Sync,
     T: Send + Drop,
     U: Send + Drop,
+    K: Send + Drop,
 {
     // Lets connections in until the server comes to an end, and then waits until all that were let in are over.
     fn open<Q: Door<Work = T>>(&self, door: &mut Q) -> ServeEnd {
@@ -193,12 +200,12 @@ where
             thread::scope_env(),
             self.rt,
             |scope| -> ServeEnd
-                requires { IsSync R.row × IsSync V.row × IsSend T.row × IsSend U.row × IsSend V.Talk.row }
+                requires { IsSync R.row × IsSync V.row × IsSend T.row × IsSend U.row × IsSend K.row }
             { self.run_and_close(scope, door) },
         )
     }
 
-    // Lets connections in until the server comes to an end, and then nobody any more: the threads of workers that are free end.
+    // Lets connections in until the server comes to an end, and then nobody any more: once all are over the threads end.
     fn run_and_close<'s, E, Q>(&self, scope: &Scope<'s, E>, door: &mut Q) -> ServeEnd
     where
         Q: Door<Work = T>,
@@ -207,6 +214,7 @@ where
         let end = self.run(scope, door);
         door.close();
         self.hall.close(self.rt);
+        self.reserve.give_back(self.rt);
         end
     }
 
@@ -254,49 +262,47 @@ where
             return;
         }
         let pause = faults.pause.next();
-        if !self.wait_for_one(pause) {
+        if !self.hall.keepers.wait_for_one(self.rt, pause) {
             thread::sleep(self.rt, pause);
             faults.count = faults.count.saturating_add(1);
         }
     }
 
-    // Waits until one more worker is free than now, but for no longer than a pause. Where all are free it waits for none, and says so.
-    fn wait_for_one(&self, pause: Duration) -> bool {
-        let made = self.hall.count(self.rt);
-        self.hall.roster.wait_for_one(self.rt, made, pause)
-    }
-
-    // Lets a connection in when there is what it takes: descriptors, and a worker that is free.
+    // Lets a connection in when there is what it takes: descriptors, and who begins and keeps it.
     fn next<'s, E, Q>(&self, scope: &Scope<'s, E>, door: &mut Q) -> Result<Entry<()>, AcceptFault>
     where
         Q: Door<Work = T>,
         'a: 's,
     {
         self.hall.reserve(self.rt);
-        let worker = self.free_worker(scope);
+        let keeper = self.free_keeper(scope);
+        let beginner = self.free_beginner(scope);
         let outcome = match door.next() {
             Ok(Entry::In(work)) => {
-                self.hall.hand(self.rt, worker, work);
+                self.hall.hand(self.rt, beginner, work, keeper);
                 return Ok(Entry::In(()));
             }
             Ok(Entry::Refused) => Ok(Entry::Refused),
             Ok(Entry::Spent) => Ok(Entry::Spent),
             Err(fault) => Err(fault),
         };
-        self.hall.roster.give(self.rt, worker);
+        self.hall.beginners.give(self.rt, beginner);
+        self.hall.keepers.give(self.rt, keeper);
         self.hall.release(self.rt);
         outcome
     }
 
-    // Makes the first worker, without which nobody is served. Whether it could be made, at last.
+    // Makes the first beginner and the first keeper, without whom nobody is served. Whether they could be made, at last.
     fn make_first<'s, E>(&self, scope: &Scope<'s, E>) -> bool
     where
         'a: 's,
     {
+        if !self.start_reserve(scope) {
+            self.reserve.give_back(self.rt);
+        }
         let mut pause = Pause::first();
         for _ in 0..TRIES {
-            if let Some(worker) = self.make_worker(scope) {
-                self.hall.roster.give(self.rt, worker);
+            if self.make_both(scope) {
                 return true;
             }
             thread::sleep(self.rt, pause.next());
@@ -304,57 +310,143 @@ where
         false
     }
 
-    // Waits for a worker that is free, and takes it. Where all that have their threads are at work and there may be more, one more is made; where
-    // there are no threads for it, that is tried again and again until one is free.
-    fn free_worker<'s, E>(&self, scope: &Scope<'s, E>) -> usize
+    // Makes the first beginner and the first keeper, as far as they are not there.
+    fn make_both<'s, E>(&self, scope: &Scope<'s, E>) -> bool
     where
         'a: 's,
     {
+        let (rt, hall) = (self.rt, self.hall);
+        if hall.keepers.count(rt) == 0 {
+            let Some(keeper) = self.make_keeper(scope) else {
+                return false;
+            };
+            hall.keepers.give(rt, keeper);
+        }
+        let Some(beginner) = self.make_beginner(scope) else {
+            return false;
+        };
+        hall.beginners.give(rt, beginner);
+        true
+    }
+
+    // Waits for a beginner who is free, and takes him. Where none is and there may be more, one more is made.
+    fn free_beginner<'s, E>(&self, scope: &Scope<'s, E>) -> usize
+    where
+        'a: 's,
+    {
+        let crew = &self.hall.beginners;
         let mut pause = Pause::first();
         for _ in self.rt.forever() {
-            if let Some(worker) = self.hall.roster.take(self.rt) {
-                return worker;
+            if let Some(beginner) = self.take_beginner() {
+                return beginner;
             }
-            if self.hall.count(self.rt) >= self.most {
-                self.hall.roster.wait(self.rt);
-            } else if let Some(worker) = self.make_worker(scope) {
-                return worker;
+            if crew.is_whole(self.rt) {
+                crew.wait(self.rt);
+            } else if let Some(beginner) = self.make_beginner(scope) {
+                return beginner;
             } else {
-                self.wait_for_one(pause.next());
+                crew.wait_for_one(self.rt, pause.next());
             }
         }
         unreachable!()
     }
 
-    // One more worker with its threads, which is at work. `None` where there are none to have, or not what its connection would take: then
-    // there is no such worker, and no thread of it.
-    fn make_worker<'s, E>(&self, scope: &Scope<'s, E>) -> Option<usize>
+    // A beginner who is free, where there is one; where there are enough of them, it is waited a little.
+    fn take_beginner(&self) -> Option<usize> {
+        let crew = &self.hall.beginners;
+        let free = crew.take(self.rt);
+        if free.is_some() || crew.count(self.rt) < ENOUGH {
+            return free;
+        }
+        crew.wait_for_one(self.rt, Duration::from_millis(WHILE));
+        crew.take(self.rt)
+    }
+
+    // Waits for a keeper who is free, and takes him. Where none is and there may be more, one more is made; where there are no threads for
+    // him, that is tried again and again until one is free.
+    fn free_keeper<'s, E>(&self, scope: &Scope<'s, E>) -> usize
+    where
+        'a: 's,
+    {
+        let crew = &self.hall.keepers;
+        let mut pause = Pause::first();
+        for _ in self.rt.forever() {
+            if let Some(keeper) = crew.take(self.rt) {
+                return keeper;
+            }
+            if crew.is_whole(self.rt) {
+                crew.wait(self.rt);
+            } else if let Some(keeper) = self.make_keeper(scope) {
+                return keeper;
+            } else {
+                crew.wait_for_one(self.rt, pause.next());
+            }
+        }
+        unreachable!()
+    }
+
+    // One more beginner, who is not free. `None` where there is no thread to have, or not what his connection would take: then there is no such
+    // beginner, and no thread of him.
+    fn make_beginner<'s, E>(&self, scope: &Scope<'s, E>) -> Option<usize>
     where
         'a: 's,
     {
         self.hall.hold_up(self.rt);
-        let made = self.try_worker(scope);
+        let made = self.try_beginner(scope);
         self.hall.let_go_on(self.rt);
         made
     }
 
     // The same, while no connection begins where memory is limited: what is looked for here it would not find.
-    fn try_worker<'s, E>(&self, scope: &Scope<'s, E>) -> Option<usize>
+    fn try_beginner<'s, E>(&self, scope: &Scope<'s, E>) -> Option<usize>
     where
         'a: 's,
     {
-        let worker = self.hall.add(self.rt).ok()?;
-        let first = self.start(scope, worker);
+        let beginner = self.hall.add_beginner(self.rt).ok()?;
+        let thread = self.start_beginner(scope, beginner);
+        if thread.is_some() {
+            self.wait_for_beginner(beginner);
+            if self.has_supplies() {
+                return Some(beginner);
+            }
+        }
+        self.hall.remove_beginner(self.rt);
+        if let Some(thread) = thread {
+            thread.join(self.rt);
+        }
+        None
+    }
+
+    // One more keeper, who is not free; `None` as of `make_beginner`.
+    fn make_keeper<'s, E>(&self, scope: &Scope<'s, E>) -> Option<usize>
+    where
+        'a: 's,
+    {
+        self.hall.hold_up(self.rt);
+        let made = self.try_keeper(scope);
+        self.hall.let_go_on(self.rt);
+        made
+    }
+
+    // The same, while no connection begins where memory is limited.
+    fn try_keeper<'s, E>(&self, scope: &Scope<'s, E>) -> Option<usize>
+    where
+        'a: 's,
+    {
+        let keeper = self.hall.add_keeper(self.rt).ok()?;
+        let first = self.start_keeper(scope, keeper);
         let second = if self.server.passes_up() {
-            self.start_second(scope, worker)
+            self.start_second(scope, keeper)
         } else {
             None
         };
-        let has_both = first.is_some() && second.is_some() == self.server.passes_up();
-        if has_both && self.has_supplies(worker) {
-            return Some(worker);
+        if first.is_some() && second.is_some() == self.server.passes_up() {
+            self.wait_for_keeper(keeper);
+            if self.has_supplies() {
+                return Some(keeper);
+            }
         }
-        self.hall.remove_last(self.rt);
+        self.hall.remove_keeper(self.rt);
         if let Some(first) = first {
             first.join(self.rt);
         }
@@ -364,27 +456,51 @@ where
         None
     }
 
-    // Whether there is what the connections of so many workers take beside descriptors, the last of them one that was just made.
-    fn has_supplies(&self, workers: usize) -> bool {
-        let beginning = self.hall.beginning().saturating_add(1);
-        self.has_memory(workers) && self.has_processes(beginning.min(MOST_PROCESSES))
+    // Waits, where memory is limited, until the threads of this keeper have taken what the C library reserves for each thread.
+    fn wait_for_keeper(&self, keeper: usize) {
+        let threads = if self.server.passes_up() { 2 } else { 1 };
+        if self.hall.supply.memory.is_some()
+            && let Some(post) = self.hall.keepers.post(self.rt, keeper)
+        {
+            post.up.take(self.rt, threads);
+        }
     }
 
-    // Whether there is memory for the connections of so many workers, where it is limited. The threads of the last one took first what the C
-    // library reserves for each thread.
-    fn has_memory(&self, workers: usize) -> bool {
+    // The same for the thread of this beginner.
+    fn wait_for_beginner(&self, beginner: usize) {
+        if self.hall.supply.memory.is_some()
+            && let Some(desk) = self.hall.beginners.post(self.rt, beginner)
+        {
+            desk.up.take(self.rt, 1);
+        }
+    }
+
+    // Whether there is what the connections of all keepers take beside descriptors: memory where it is limited, and processes where there were
+    // too few before.
+    fn has_supplies(&self) -> bool {
+        if !self.has_memory() {
+            return false;
+        }
+        let beginning = self.hall.beginners.count_busy(self.rt) as u64;
+        !self.reserve.is_gone(self.rt) || self.has_processes(beginning.clamp(1, PROCESSES))
+    }
+
+    // Whether there is memory for the connections of all keepers, where it is limited. Each look asks for more than the last that found it: what
+    // is no larger the C library takes from what it keeps for this thread, and the others have nothing of that.
+    fn has_memory(&self) -> bool {
         let Some(memory) = self.hall.supply.memory else {
             return true;
         };
-        if let Some(post) = self.hall.post(self.rt, workers) {
-            let threads = if self.server.passes_up() { 2 } else { 1 };
-            post.up.take(self.rt, threads);
-        }
         let all = memory
             .to_go_on
-            .saturating_mul(workers)
-            .saturating_add(memory.to_begin);
-        Vec::<u8>::with_capacity(self.alloc, all).is_ok()
+            .saturating_mul(self.hall.keepers.count(self.rt).max(1))
+            .saturating_add(memory.to_begin)
+            .max(self.hall.found.load(Ordering::SeqCst).saturating_add(MORE));
+        let is_there = Vec::<u8>::with_capacity(self.alloc, all).is_ok();
+        if is_there {
+            self.hall.found.store(all, Ordering::SeqCst);
+        }
+        is_there
     }
 
     // Whether so many processes could be made now: the system counts threads with them, so that many threads are made, and end at once.
@@ -410,8 +526,24 @@ where
         )
     }
 
-    // Starts the thread of a worker, where there is one to have.
-    fn start<'s, E>(&self, scope: &Scope<'s, E>, worker: usize) -> Option<JoinHandle<()>>
+    // Starts the thread that is a process in reserve. Whether there was one to have.
+    fn start_reserve<'s, E>(&self, scope: &Scope<'s, E>) -> bool
+    where
+        'a: 's,
+    {
+        let (rt, reserve) = (self.rt, self.reserve);
+        connection_thread()
+            .spawn_scoped(
+                scope,
+                move ||
+                    requires { IsSync R.row }
+                { reserve.wait(rt) },
+            )
+            .is_ok()
+    }
+
+    // Starts the thread of a beginner, where there is one to have.
+    fn start_beginner<'s, E>(&self, scope: &Scope<'s, E>, beginner: usize) -> Option<JoinHandle<()>>
     where
         'a: 's,
     {
@@ -420,14 +552,14 @@ where
             .spawn_scoped(
                 scope,
                 move ||
-                    requires { IsSync R.row × IsSync V.row × IsSend T.row × IsSend U.row × IsSend V.Talk.row }
-                { serve_in_turn(rt, server, hall, worker) },
+                    requires { IsSync R.row × IsSync V.row × IsSend T.row × IsSend U.row × IsSend K.row }
+                { begin_in_turn(rt, server, hall, beginner) },
             )
             .ok()
     }
 
-    // Starts the second thread of a worker, where there is one to have.
-    fn start_second<'s, E>(&self, scope: &Scope<'s, E>, worker: usize) -> Option<JoinHandle<()>>
+    // Starts the thread of a keeper, where there is one to have.
+    fn start_keeper<'s, E>(&self, scope: &Scope<'s, E>, keeper: usize) -> Option<JoinHandle<()>>
     where
         'a: 's,
     {
@@ -436,8 +568,24 @@ where
             .spawn_scoped(
                 scope,
                 move ||
-                    requires { IsSync R.row × IsSync V.row × IsSend T.row × IsSend U.row × IsSend V.Talk.row }
-                { pass_up_in_turn(rt, server, hall, worker) },
+                    requires { IsSync R.row × IsSync V.row × IsSend T.row × IsSend U.row × IsSend K.row }
+                { keep_in_turn(rt, server, hall, keeper) },
+            )
+            .ok()
+    }
+
+    // Starts the second thread of a keeper, where there is one to have.
+    fn start_second<'s, E>(&self, scope: &Scope<'s, E>, keeper: usize) -> Option<JoinHandle<()>>
+    where
+        'a: 's,
+    {
+        let (rt, server, hall) = (self.rt, self.server, self.hall);
+        connection_thread()
+            .spawn_scoped(
+                scope,
+                move ||
+                    requires { IsSync R.row × IsSync V.row × IsSend T.row × IsSend U.row × IsSend K.row }
+                { pass_up_in_turn(rt, server, hall, keeper) },
             )
             .ok()
     }
@@ -458,62 +606,52 @@ where
         .is_ok()
 }
 
-// Serves one connection after another by a worker, until none comes any more.
-fn serve_in_turn<R, V, T, U>(rt: &R, server: &V, hall: &Hall<T, U>, worker: usize)
+// Begins one connection after another, until none comes any more.
+fn begin_in_turn<R, V, T, U, K>(rt: &R, server: &V, hall: &Hall<T, U, K>, beginner: usize)
 where
     R: Wait,
-    V: Serving<T, Upward = U>,
+    V: Serving<T, Upward = U, Talk = K>,
     T: Drop,
     U: Drop,
+    K: Drop,
 {
-    let Some(post) = hall.post(rt, worker) else {
+    let Some(desk) = hall.beginners.post(rt, beginner) else {
         return;
     };
-    come_up(rt, hall, &post.up);
+    come_up(rt, hall, &desk.up);
     for _ in rt.forever() {
-        let Some(work) = post.seat.take(rt) else {
-            break;
+        let Some((work, keeper)) = desk.seat.take(rt) else {
+            return;
         };
-        serve_one(rt, server, hall, worker, work, &post.belt);
-        hall.roster.give(rt, worker);
+        begin_one(rt, server, hall, work, keeper);
+        hall.beginners.give(rt, beginner);
     }
-    post.belt.close(rt);
 }
 
-// Serves a connection by a worker, to its end: what the client sends is passed on by its second thread, the rest by this one.
-fn serve_one<R, V, T, U>(
-    rt: &R,
-    server: &V,
-    hall: &Hall<T, U>,
-    worker: usize,
-    work: T,
-    belt: &Seat<U>,
-)
+// Begins a connection, and hands it to its keeper where its child runs.
+fn begin_one<R, V, T, U, K>(rt: &R, server: &V, hall: &Hall<T, U, K>, work: T, keeper: usize)
 where
     R: Wait,
-    V: Serving<T, Upward = U>,
+    V: Serving<T, Upward = U, Talk = K>,
     T: Drop,
     U: Drop,
+    K: Drop,
 {
-    let begun = server.begin(worker, work);
+    let begun = server.begin(work);
     hall.began(rt, begun.is_none());
-    let Some((upward, talk)) = begun else {
-        return;
-    };
-    if let Some(upward) = upward {
-        belt.hand(rt, upward);
+    match begun {
+        Some((upward, talk)) => hall.hand_on(rt, keeper, upward, talk),
+        None => hall.keepers.give(rt, keeper),
     }
-    server.pass_down(worker, talk);
-    belt.wait_for_finish(rt);
-    hall.ended(rt);
 }
 
 // A thread of a worker is there. Where memory is limited it first asks for some, so that what the C library reserves for it is there too.
-fn come_up<R, T, U>(rt: &R, hall: &Hall<T, U>, up: &Store)
+fn come_up<R, T, U, K>(rt: &R, hall: &Hall<T, U, K>, up: &Store)
 where
     R: Wait,
     T: Drop,
     U: Drop,
+    K: Drop,
 {
     if hall.supply.memory.is_some() {
         hall.ask_for_memory();
@@ -521,21 +659,46 @@ where
     }
 }
 
-// Passes on what one client after another sends to a worker, until none comes any more.
-fn pass_up_in_turn<R, V, T, U>(rt: &R, server: &V, hall: &Hall<T, U>, worker: usize)
+// Keeps one connection after another, each to its end, until none comes any more: what clients send is passed on by the keeper's second thread.
+fn keep_in_turn<R, V, T, U, K>(rt: &R, server: &V, hall: &Hall<T, U, K>, keeper: usize)
 where
     R: Wait,
-    V: Serving<T, Upward = U>,
+    V: Serving<T, Upward = U, Talk = K>,
     T: Drop,
     U: Drop,
+    K: Drop,
 {
-    let Some(post) = hall.post(rt, worker) else {
+    let Some(post) = hall.keepers.post(rt, keeper) else {
+        return;
+    };
+    come_up(rt, hall, &post.up);
+    for _ in rt.forever() {
+        let Some(talk) = post.seat.take(rt) else {
+            return;
+        };
+        server.pass_down(talk);
+        post.belt.wait_for_finish(rt);
+        hall.ended(rt);
+        hall.keepers.give(rt, keeper);
+    }
+}
+
+// Passes on what one client after another sends to a keeper, until none comes any more.
+fn pass_up_in_turn<R, V, T, U, K>(rt: &R, server: &V, hall: &Hall<T, U, K>, keeper: usize)
+where
+    R: Wait,
+    V: Serving<T, Upward = U, Talk = K>,
+    T: Drop,
+    U: Drop,
+    K: Drop,
+{
+    let Some(post) = hall.keepers.post(rt, keeper) else {
         return;
     };
     come_up(rt, hall, &post.up);
     for _ in rt.forever() {
         let Some(upward) = post.belt.take(rt) else {
-            break;
+            return;
         };
         server.pass_up(upward);
         post.belt.finish(rt);

@@ -1,81 +1,93 @@
 //! Who is at work, and on what.
 use crate::supply::{Store, Supply};
 use std::alloc::{AllocError, Global};
-use std::sync::atomic::{AtomicU64, Ordering};
+use std::sync::atomic::AtomicUsize;
 use std::sync::{Arc, Condvar, CondvarTimeouts, Mutex, Wait};
 use std::time::{Clock, Duration};
 
-/// What the gate and the threads of workers share: which workers are free, where each of those that have their threads waits, and what the system
-/// has for their connections.
+/// What the gate and its threads share: who is free to begin a connection, who to keep one whose child runs, and what the system has for
+/// connections. A thread that begins connections needs more memory than one that keeps them, and there are few of it.
 #[derive(Drop)]
-pub(crate) struct Hall<T, U> {
-    pub roster: Roster,
+pub(crate) struct Hall<T, U, K> {
     pub supply: Supply,
+    /// Who begins connections, up to the start of their children.
+    pub beginners: Crew<Desk<T>>,
+    /// Who keeps connections, to their ends.
+    pub keepers: Crew<Post<U, K>>,
+    /// How many bytes of memory a look for it found last, where it is limited.
+    pub found: AtomicUsize,
     alloc: Global,
     descriptors: Store,
-    // how many more connections may come whose child does not run yet, and how many there are
+    // how many more connections may come whose child does not run yet
     entries: Store,
-    beginning: AtomicU64,
-    posts: Mutex<Vec<Arc<Post<T, U>, Global>>>,
 }
 
-/// Where the two threads of a worker wait.
+/// Where the thread of a beginner waits.
 #[derive(Drop)]
-pub(crate) struct Post<T, U> {
+pub(crate) struct Desk<T> {
+    /// For its next connection, and the number of who is to keep it.
+    pub seat: Seat<(T, usize)>,
+    /// How many of its threads are there.
+    pub up: Store,
+}
+
+/// Where the two threads of a keeper wait.
+#[derive(Drop)]
+pub(crate) struct Post<U, K> {
     /// For its next connection.
-    pub seat: Seat<T>,
+    pub seat: Seat<K>,
     /// For what the client of its connection sends.
     pub belt: Seat<U>,
     /// How many of its threads are there.
     pub up: Store,
 }
 
-impl<T: Drop, U: Drop> Hall<T, U> {
-    /// For so many workers, none of which is there yet.
-    pub fn new(alloc: Global, most: usize, supply: Supply) -> Result<Hall<T, U>, AllocError> {
-        Ok(Hall {
-            roster: Roster::new(alloc, most)?,
+impl<T: Drop, U: Drop, K: Drop> Hall<T, U, K> {
+    /// For so many connections at once. Nobody is there yet.
+    pub fn new(alloc: Global, most: usize, supply: Supply) -> Hall<T, U, K> {
+        Hall {
             supply,
+            beginners: Crew::new(alloc, most),
+            keepers: Crew::new(alloc, most),
+            found: AtomicUsize::new(0),
             alloc,
             descriptors: Store::new(supply.descriptors),
             entries: Store::new(supply.at_once()),
-            beginning: AtomicU64::new(0),
-            posts: Mutex::new(Vec::new(alloc)),
-        })
-    }
-
-    /// How many workers there are.
-    pub fn count<R: Wait>(&self, rt: &R) -> usize {
-        self.posts.lock(rt).len()
-    }
-
-    /// One more worker, which is not free: its number.
-    pub fn add<R: Wait>(&self, rt: &R) -> Result<usize, AllocError> {
-        let post = Arc::new(
-            self.alloc,
-            Post {
-                seat: Seat::new(),
-                belt: Seat::new(),
-                up: Store::new(0),
-            },
-        )?;
-        let mut posts = self.posts.lock(rt);
-        posts.push(post)?;
-        Ok(posts.len())
-    }
-
-    /// Takes the last worker away: its threads end.
-    pub fn remove_last<R: Wait>(&self, rt: &R) {
-        if let Some(post) = self.posts.lock(rt).pop() {
-            post.seat.close(rt);
-            post.belt.close(rt);
         }
     }
 
-    /// Where the threads of a worker wait.
-    pub fn post<R: Wait>(&self, rt: &R, worker: usize) -> Option<Arc<Post<T, U>, Global>> {
-        let posts = self.posts.lock(rt);
-        Arc::try_clone(posts.get(worker.checked_sub(1)?)?).ok()
+    /// One more beginner, who is not free: his number.
+    pub fn add_beginner<R: Wait>(&self, rt: &R) -> Result<usize, AllocError> {
+        let desk = Desk {
+            seat: Seat::new(),
+            up: Store::new(0),
+        };
+        self.beginners.add(rt, Arc::new(self.alloc, desk)?)
+    }
+
+    /// One more keeper, who is not free: his number.
+    pub fn add_keeper<R: Wait>(&self, rt: &R) -> Result<usize, AllocError> {
+        let post = Post {
+            seat: Seat::new(),
+            belt: Seat::new(),
+            up: Store::new(0),
+        };
+        self.keepers.add(rt, Arc::new(self.alloc, post)?)
+    }
+
+    /// Takes the last beginner away: his thread ends.
+    pub fn remove_beginner<R: Wait>(&self, rt: &R) {
+        if let Some(desk) = self.beginners.remove_last(rt) {
+            desk.seat.close(rt);
+        }
+    }
+
+    /// Takes the last keeper away: his threads end.
+    pub fn remove_keeper<R: Wait>(&self, rt: &R) {
+        if let Some(post) = self.keepers.remove_last(rt) {
+            post.seat.close(rt);
+            post.belt.close(rt);
+        }
     }
 
     /// Waits until there is what one more connection takes, and takes it.
@@ -100,17 +112,25 @@ impl<T: Drop, U: Drop> Hall<T, U> {
         self.entries.give(rt, self.supply.others());
     }
 
-    /// Hands a connection to a worker.
-    pub fn hand<R: Wait>(&self, rt: &R, worker: usize, work: T) {
-        self.beginning.fetch_add(1, Ordering::SeqCst);
-        if let Some(post) = self.posts.lock(rt).get(worker.saturating_sub(1)) {
-            post.seat.hand(rt, work);
+    /// Hands a connection to a beginner, and tells who is to keep it.
+    pub fn hand<R: Wait>(&self, rt: &R, beginner: usize, work: T, keeper: usize) {
+        if let Some(desk) = self.beginners.post(rt, beginner) {
+            desk.seat.hand(rt, (work, keeper));
+        }
+    }
+
+    /// Hands a connection whose child runs to a keeper, with what its client sends where that is passed on.
+    pub fn hand_on<R: Wait>(&self, rt: &R, keeper: usize, upward: Option<U>, talk: K) {
+        if let Some(post) = self.keepers.post(rt, keeper) {
+            if let Some(upward) = upward {
+                post.belt.hand(rt, upward);
+            }
+            post.seat.hand(rt, talk);
         }
     }
 
     /// The child of a connection runs, or the connection is over before it did.
     pub fn began<R: Wait>(&self, rt: &R, is_over: bool) {
-        self.beginning.fetch_sub(1, Ordering::SeqCst);
         self.entries.give(rt, 1);
         let kept = if is_over { 0 } else { self.supply.to_go_on };
         self.descriptors
@@ -127,17 +147,135 @@ impl<T: Drop, U: Drop> Hall<T, U> {
         drop(Vec::<u8>::with_capacity(self.alloc, 64));
     }
 
-    /// How many connections have no child yet, though they were handed over.
-    pub fn beginning(&self) -> u64 {
-        self.beginning.load(Ordering::SeqCst)
-    }
-
-    /// No connection comes any more: the threads of all workers end, once their connections are over.
+    /// No connection comes any more: waits until all are over, and then all threads end.
     pub fn close<R: Wait>(&self, rt: &R) {
-        for post in self.posts.lock(rt).iter() {
-            post.seat.close(rt);
+        self.beginners.wait_for_all(rt);
+        self.keepers.wait_for_all(rt);
+        for member in self.beginners.members.lock(rt).iter() {
+            member.post.seat.close(rt);
+        }
+        for member in self.keepers.members.lock(rt).iter() {
+            member.post.seat.close(rt);
+            member.post.belt.close(rt);
         }
     }
+}
+
+/// Workers of one kind, numbered from 1: which of them are free, and where each of them waits.
+#[derive(Drop)]
+pub(crate) struct Crew<P> {
+    most: usize,
+    members: Mutex<Vec<Member<P>>>,
+    changed: Condvar,
+}
+
+// One of them.
+#[derive(Drop)]
+struct Member<P> {
+    is_free: bool,
+    post: Arc<P, Global>,
+}
+
+impl<P: Drop> Crew<P> {
+    /// Of at most so many, none of whom is there yet.
+    fn new(alloc: Global, most: usize) -> Crew<P> {
+        Crew {
+            most,
+            members: Mutex::new(Vec::new(alloc)),
+            changed: Condvar::new(),
+        }
+    }
+
+    /// How many there are.
+    pub fn count<R: Wait>(&self, rt: &R) -> usize {
+        self.members.lock(rt).len()
+    }
+
+    /// Whether there are as many as there may be.
+    pub fn is_whole<R: Wait>(&self, rt: &R) -> bool {
+        self.count(rt) >= self.most
+    }
+
+    /// How many are at work.
+    pub fn count_busy<R: Wait>(&self, rt: &R) -> usize {
+        let members = self.members.lock(rt);
+        members.len().saturating_sub(count_free(&members))
+    }
+
+    // One more, who waits here and is not free: his number.
+    fn add<R: Wait>(&self, rt: &R, post: Arc<P, Global>) -> Result<usize, AllocError> {
+        let mut members = self.members.lock(rt);
+        members.push(Member {
+            is_free: false,
+            post,
+        })?;
+        Ok(members.len())
+    }
+
+    // Takes the last one away.
+    fn remove_last<R: Wait>(&self, rt: &R) -> Option<Arc<P, Global>> {
+        Some(self.members.lock(rt).pop()?.post)
+    }
+
+    /// Where one of them waits.
+    pub fn post<R: Wait>(&self, rt: &R, number: usize) -> Option<Arc<P, Global>> {
+        let members = self.members.lock(rt);
+        Arc::try_clone(&members.get(number.checked_sub(1)?)?.post).ok()
+    }
+
+    /// Takes the first one who is free: he is free no more.
+    pub fn take<R: Wait>(&self, rt: &R) -> Option<usize> {
+        let mut members = self.members.lock(rt);
+        let found = members.iter().position(|member| member.is_free)?;
+        members[found].is_free = false;
+        found.checked_add(1)
+    }
+
+    /// Waits until one is free.
+    pub fn wait<R: Wait>(&self, rt: &R) {
+        drop(
+            self.changed
+                .wait_while(rt, self.members.lock(rt), |members| {
+                    count_free(members) == 0
+                }),
+        );
+    }
+
+    // Waits until all are free.
+    fn wait_for_all<R: Wait>(&self, rt: &R) {
+        drop(
+            self.changed
+                .wait_while(rt, self.members.lock(rt), |members| {
+                    count_free(members) < members.len()
+                }),
+        );
+    }
+
+    /// Waits until one more is free than now, but for no longer than `most`. Where all are free it waits for none, and says so.
+    pub fn wait_for_one<R: Wait + Clock>(&self, rt: &R, most: Duration) -> bool {
+        let members = self.members.lock(rt);
+        let before = count_free(&members);
+        if before >= members.len() {
+            return false;
+        }
+        let _ = self
+            .changed
+            .wait_timeout_while(rt, members, most, |members| count_free(members) <= before);
+        true
+    }
+
+    /// This one is free.
+    pub fn give<R: Wait>(&self, rt: &R, number: usize) {
+        if let Some(member) = self.members.lock(rt).get_mut(number.saturating_sub(1)) {
+            member.is_free = true;
+        }
+        self.changed.notify_one();
+    }
+}
+
+// How many are free.
+fn count_free<P>(members: &[Member<P>]) -> usize {
+    members.iter().filter(|member| member.is_free).count()
 }
 
 /// Where one thread hands something to another one, which is kept for it: one thing at a time.
@@ -179,7 +317,7 @@ impl<T: Drop> Seat<T> {
         self.changed.notify_one();
     }
 
-    /// Waits for the next that is handed over, and takes it. `None` once the seat is closed.
+    /// Waits for the next that is handed over, and takes it. `None` once the seat is closed, and what was handed over before is taken.
     pub fn take<R: Wait>(&self, rt: &R) -> Option<T> {
         let mut sat = self.changed.wait_while(
             rt,
@@ -208,66 +346,4 @@ impl<T: Drop> Seat<T> {
         self.state.lock(rt).is_closed = true;
         self.changed.notify_all();
     }
-}
-
-/// Which workers are free, of those that have their threads. They are numbered from 1.
-#[derive(Drop)]
-pub(crate) struct Roster {
-    workers: Mutex<Vec<bool>>,
-    changed: Condvar,
-}
-
-impl Roster {
-    /// For so many workers, of which none is free yet.
-    pub fn new(alloc: Global, most: usize) -> Result<Roster, AllocError> {
-        Ok(Roster {
-            workers: Mutex::new(vec![in alloc; false; most]?),
-            changed: Condvar::new(),
-        })
-    }
-
-    /// Takes the first worker that is free: it is free no more.
-    pub fn take<R: Wait>(&self, rt: &R) -> Option<usize> {
-        let mut workers = self.workers.lock(rt);
-        let found = workers.iter().position(|free| *free)?;
-        workers[found] = false;
-        found.checked_add(1)
-    }
-
-    /// Waits until a worker is free.
-    pub fn wait<R: Wait>(&self, rt: &R) {
-        drop(
-            self.changed
-                .wait_while(rt, self.workers.lock(rt), |workers| {
-                    !workers.contains(&true)
-                }),
-        );
-    }
-
-    /// Waits until one more worker is free than now, but for no longer than `most`. Where all are free of as many as `made` it waits for none,
-    /// and says so.
-    pub fn wait_for_one<R: Wait + Clock>(&self, rt: &R, made: usize, most: Duration) -> bool {
-        let workers = self.workers.lock(rt);
-        let before = count_free(&workers);
-        if before >= made {
-            return false;
-        }
-        let _ = self
-            .changed
-            .wait_timeout_while(rt, workers, most, |workers| count_free(workers) <= before);
-        true
-    }
-
-    /// A worker is free.
-    pub fn give<R: Wait>(&self, rt: &R, worker: usize) {
-        if let Some(free) = self.workers.lock(rt).get_mut(worker.saturating_sub(1)) {
-            *free = true;
-        }
-        self.changed.notify_one();
-    }
-}
-
-// How many are free.
-fn count_free(workers: &[bool]) -> usize {
-    workers.iter().filter(|free| **free).count()
 }

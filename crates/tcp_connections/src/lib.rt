@@ -20,4 +20,4 @@ pub use rounds::wait_in_rounds;
 pub use server_log::Log;
 pub use starting::{ConnectionLauncher, Starter};
 pub use stream_tools::NotStarted;
-pub use supply::{Memory, Supply};
+pub use supply::{Memory, Reserve, Supply};

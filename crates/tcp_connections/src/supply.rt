@@ -53,6 +53,43 @@ impl Supply {
     }
 }
 
+/// A process that is kept in reserve, as a thread that waits: the system counts threads with processes. Where there is no process for a program
+/// it is given back, for good; from then on the server looks whether there are processes before it makes a thread.
+#[derive(Drop)]
+pub struct Reserve {
+    is_gone: Mutex<bool>,
+    changed: Condvar,
+}
+
+impl Reserve {
+    /// One that is not given back.
+    pub fn new() -> Reserve {
+        Reserve {
+            is_gone: Mutex::new(false),
+            changed: Condvar::new(),
+        }
+    }
+
+    /// Gives it back: its thread ends.
+    pub fn give_back<R: Wait>(&self, rt: &R) {
+        *self.is_gone.lock(rt) = true;
+        self.changed.notify_all();
+    }
+
+    /// Whether it was given back.
+    pub fn is_gone<R: Wait>(&self, rt: &R) -> bool {
+        *self.is_gone.lock(rt)
+    }
+
+    // Waits until it is given back.
+    pub(crate) fn wait<R: Wait>(&self, rt: &R) {
+        drop(
+            self.changed
+                .wait_while(rt, self.is_gone.lock(rt), |is_gone| !*is_gone),
+        );
+    }
+}
+
 /// So many of something, which is taken and given back.
 #[derive(Drop)]
 pub(crate) struct Store {

@@ -1,7 +1,7 @@
 //! The thread of one connection.
 use crate::logged_desk::LoggedDesk;
 use crate::opening::Rules;
-use crate::service::{Worker, Wrapping};
+use crate::service::Wrapping;
 use crate::site_desk::SiteDesk;
 use child_jobs::{Job, Plan, Running};
 use child_table::Place;
@@ -51,7 +51,7 @@ pub(crate) struct Work<L: Ledger, I, O, X> {
 pub(crate) struct Server<'a, L: Premises, N: Callers, D: Dir + Drop, J: Journal, U, S, M, R, W> {
     pub site: &'a Site<L, N, D, J>,
     pub rules: &'a U,
-    pub workers: &'a [Worker<N>],
+    pub caller: &'a Mutex<Caller<N>>,
     pub wrapping: &'a M,
     pub starter: &'a S,
     pub plan: &'a Plan,
@@ -108,10 +108,9 @@ where
     R: Wait,
     W: Write,
 {
-    // Begins to serve a connection by this worker.
-    fn begin_by<I: Drop, O, X>(
+    // Begins to serve a connection.
+    fn begin_with<I: Drop, O, X>(
         &self,
-        worker: &Worker<N>,
         mut work: Work<L, I, O, X>,
     ) -> Option<Started<L, I, S::Job, O, X, G>>
     where
@@ -129,11 +128,10 @@ where
             local,
             line,
         } = work;
-        let mut caller = worker.caller.lock(self.attendant.rt);
         match self.means_for(local) {
-            Ok(means) => self.decide(&mut caller, place, &peer, means, line),
+            Ok(means) => self.decide(place, &peer, means, line),
             Err(AllocError) => {
-                self.give_up(&mut caller, place, &peer, line);
+                self.give_up(place, &peer, line);
                 None
             }
         }
@@ -155,7 +153,6 @@ where
     // Decides a connection, and starts its child where it is allowed.
     fn decide<I: Drop, O, X>(
         &self,
-        caller: &mut Caller<N>,
         place: Place<L>,
         peer: &Peer,
         means: Means<G>,
@@ -174,7 +171,7 @@ where
         let mut desk = LoggedDesk {
             rt: self.attendant.rt,
             alloc: self.attendant.alloc,
-            desk: SiteDesk::new(self.attendant.rt, self.site, caller, self.rules),
+            desk: SiteDesk::new(self.attendant.rt, self.site, self.caller, self.rules),
             log: self.attendant.log,
             serial: line.serial,
             plan: &plan,
@@ -237,9 +234,8 @@ where
     }
 
     // Sees a connection to its end: passes on what its child says, or only waits for that.
-    fn end_by<F: Read + Drop, O: Write + Drop, X: Shut + Drop>(
+    fn see_to_end<F: Read + Drop, O: Write + Drop, X: Shut + Drop>(
         &self,
-        worker: &Worker<N>,
         begun: Begun<L, S::Job, F, O, X, G>,
     )
     where
@@ -248,12 +244,11 @@ where
     {
         let Begun { serial, way } = begun;
         let rt = self.attendant.rt;
-        let mut caller = worker.caller.lock(rt);
         let refusal = Mutex::new(None);
         let mut desk = LoggedDesk {
             rt,
             alloc: self.attendant.alloc,
-            desk: SiteDesk::new(rt, self.site, &mut caller, self.rules),
+            desk: SiteDesk::new(rt, self.site, self.caller, self.rules),
             log: self.attendant.log,
             serial,
             plan: self.plan,
@@ -269,7 +264,6 @@ where
     // Gives up a connection for which there is no memory.
     fn give_up<I: Drop, O: Drop, X: Shut + Drop>(
         &self,
-        caller: &mut Caller<N>,
         place: Place<L>,
         peer: &Peer,
         line: Line<I, O, X>,
@@ -279,7 +273,7 @@ where
         let mut desk = LoggedDesk {
             rt,
             alloc: self.attendant.alloc,
-            desk: SiteDesk::new(rt, self.site, caller, self.rules),
+            desk: SiteDesk::new(rt, self.site, self.caller, self.rules),
             log: self.attendant.log,
             serial: line.serial,
             plan: self.plan,
@@ -319,21 +313,15 @@ where
         self.mode == Mode::Pumped
     }
 
-    fn begin(
-        &self,
-        worker: usize,
-        work: Work<L, I, O, X>,
-    ) -> Option<Started<L, I, S::Job, O, X, G>> {
-        self.begin_by(self.workers.get(worker)?, work)
+    fn begin(&self, work: Work<L, I, O, X>) -> Option<Started<L, I, S::Job, O, X, G>> {
+        self.begin_with(work)
     }
 
     fn pass_up(&self, upward: Upward<I, <S::Job as Job>::Input, G>) {
         self.attendant.pass_up(upward);
     }
 
-    fn pass_down(&self, worker: usize, begun: Begun<L, S::Job, <S::Job as Job>::Output, O, X, G>) {
-        if let Some(worker) = self.workers.get(worker) {
-            self.end_by(worker, begun);
-        }
+    fn pass_down(&self, begun: Begun<L, S::Job, <S::Job as Job>::Output, O, X, G>) {
+        self.see_to_end(begun);
     }
 }

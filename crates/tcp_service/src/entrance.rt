@@ -114,8 +114,8 @@ where
 
     // Counts a connection: its serial, and its place. The log is locked meanwhile, so that its lines stand in the order of events.
     fn admit(&self, peer: &Peer) -> Entry<(u64, Place<L>)> {
-        let mut caller = self.caller.lock(self.rt);
         let mut log = self.log.lock(self.rt);
+        let mut caller = self.caller.lock(self.rt);
         match self.site.admit(self.rt, &mut caller, peer) {
             Ok((serial, place, _)) => {
                 let _ = log.admitted(serial, peer.ip(), self.site.live(self.rt));

@@ -14,10 +14,10 @@ pub use logged_desk::{Living, LoggedDesk};
 pub use opening::{Rules, RulesHandle};
 pub use server_log::Log;
 pub use server_words::{Level, Mode};
-pub use service::{Service, Worker, Wrapping};
+pub use service::{Service, Wrapping};
 pub use serving::serve;
 pub use site_desk::SiteDesk;
 pub use tcp_connections::{
-    AcceptFault, Accepted, Acceptor, Chains, Follow, Names, NotStarted, Patience, ServeEnd, Shut,
-    Starter, Supply,
+    AcceptFault, Accepted, Acceptor, Chains, Follow, Names, NotStarted, Patience, Reserve,
+    ServeEnd, Shut, Starter, Supply,
 };

@@ -1,9 +1,7 @@
 //! What a server does for all of its connections.
 use server_words::Mode;
-use site_lock::{Caller, Callers};
 use std::alloc::{AllocError, Global};
-use std::sync::Mutex;
-use tcp_connections::{Chains, Names, Patience, Supply};
+use tcp_connections::{Chains, Names, Patience, Reserve, Supply};
 use wrapper_chain::LineStage;
 
 /// What a server does for all of its connections.
@@ -19,8 +17,12 @@ pub struct Service {
     pub patience: Patience,
     /// Whether what goes both ways is recorded (`-w recordio`).
     pub recording: bool,
+    /// How many connections there may be at once.
+    pub connections: usize,
     /// What the system gives it for its connections.
     pub supply: Supply,
+    /// The process that is kept in reserve for their programs.
+    pub reserve: Reserve,
 }
 
 /// What makes the line wrappers of connections that are pumped.
@@ -33,19 +35,4 @@ pub trait Wrapping {
     /// # Errors
     /// There was no memory.
     fn chains(&self, alloc: Global) -> Result<Chains<Self::Stage>, AllocError>;
-}
-
-/// What serves one connection at a time: a caller of the site, which makes the events of its connections.
-#[derive(Drop)]
-pub struct Worker<N: Callers> {
-    pub(crate) caller: Mutex<Caller<N>>,
-}
-
-impl<N: Callers> Worker<N> {
-    /// One with this caller.
-    pub fn new(caller: Caller<N>) -> Worker<N> {
-        Worker {
-            caller: Mutex::new(caller),
-        }
-    }
 }

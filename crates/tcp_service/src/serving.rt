@@ -1,14 +1,14 @@
-//! The server: it lets connections in, each served by a worker and its threads, until it comes to an end.
+//! The server: it lets connections in, each served by threads that are kept, until it comes to an end.
 use crate::connection::Server;
 use crate::entrance::Entrance;
 use crate::opening::Rules;
-use crate::service::{Service, Worker, Wrapping};
+use crate::service::{Service, Wrapping};
 use child_jobs::{Job, Plan};
 use dir_calls::Dir;
 use event_journals::Journal;
 use server_log::Log;
 use server_yard::Premises;
-use site_lock::{Callers, Site};
+use site_lock::{Caller, Callers, Site};
 use std::alloc::Global;
 use std::io::Write;
 use std::sync::{Mutex, Wait};
@@ -18,17 +18,16 @@ use tcp_connections::{Acceptor, Attendant, Follow, ServeEnd, Starter, serve_thro
 
 /// Serves connections until it comes to an end, and then waits until all that were let in are over.
 ///
-/// `workers` are as many as the limit of connections says, and one more: the first lets connections in. `plan` is what each connection is
-/// served by, with the server's end of that connection in place of the plan's own. `wrapping` makes the line wrappers of those that are pumped.
-/// `starter` starts programs that have what the service's mode says as their standard input and output. Each connection opens `rules` for itself.
-/// Once no more connections are let in, the acceptor is closed.
+/// `caller` makes the events of all connections. `plan` is what each connection is served by, with the server's end of that connection in place
+/// of the plan's own. `wrapping` makes the line wrappers of those that are pumped. `starter` starts programs that have what the service's mode
+/// says as their standard input and output. Each connection opens `rules` for itself. Once no more connections are let in, the acceptor is closed.
 pub fn serve<A, L, N, D, J, U, S, M, R, W>(
     rt: &R,
     alloc: Global,
     acceptor: &mut A,
     site: &Site<L, N, D, J>,
     rules: &U,
-    workers: &[Worker<N>],
+    caller: &Mutex<Caller<N>>,
     wrapping: &M,
     starter: &S,
     plan: &Plan,
@@ -54,14 +53,11 @@ where
     R: Threads + Wait + Clock + Sync,
     W: Write + Send,
 {
-    let Some(first) = workers.first() else {
-        return ServeEnd::NoPlaces;
-    };
     let _ = log.lock(rt).status(site.live(rt));
     let server = Server {
         site,
         rules,
-        workers,
+        caller,
         wrapping,
         starter,
         plan,
@@ -79,7 +75,7 @@ where
         alloc,
         acceptor,
         site,
-        caller: &first.caller,
+        caller,
         names: &service.names,
         log,
     };
@@ -88,8 +84,9 @@ where
         alloc,
         &mut entrance,
         &server,
-        workers.len(),
+        service.connections,
         service.count,
         service.supply,
+        &service.reserve,
     )
 }

@@ -10,10 +10,10 @@ use rule_lookup::{DecideFault, Decision, DropCause, Peer, StartFault, Status};
 use server_yard::{Pass, Premises};
 use site_lock::{Caller, Callers, Site};
 use std::alloc::Global;
-use std::sync::Wait;
+use std::sync::{Mutex, Wait};
 use tcp_connections::Endings;
 
-/// A caller of a site, as the desk of one connection at a time: each call is the site's of its name, made by this caller.
+/// A caller of a site, as the desk of one connection: each call is the site's of its name, made by this caller, which desks share.
 ///
 /// Others use the site too, so nothing is known here of where a connection stands: what `serve_one` says over it holds of the file that was
 /// opened, whichever it was. That each call is made in its turn the site itself sees to. The rules are opened by a handle of the connection's
@@ -30,7 +30,7 @@ pub struct SiteDesk<
 > {
     rt: &'a R,
     site: &'a Site<L, N, D, J>,
-    caller: &'a mut Caller<N>,
+    caller: &'a Mutex<Caller<N>>,
     rules: &'a O,
     // what the connection opened the rules by
     handle: Option<O::Handle>,
@@ -49,7 +49,7 @@ where
     pub fn new(
         rt: &'a R,
         site: &'a Site<L, N, D, J>,
-        caller: &'a mut Caller<N>,
+        caller: &'a Mutex<Caller<N>>,
         rules: &'a O,
     ) -> SiteDesk<'a, L, N, D, J, R, O> {
         SiteDesk {
@@ -99,11 +99,13 @@ where
     type Child = Running<L, C>;
 
     fn ended(&mut self, place: Place<L>, _serial: u64, status: Status) {
-        self.site.ended(self.rt, self.caller, place, status);
+        let mut caller = self.caller.lock(self.rt);
+        self.site.ended(self.rt, &mut caller, place, status);
     }
 
     fn retired(&mut self, running: Running<L, C>, _serial: u64) {
-        self.site.retired(self.rt, self.caller, running);
+        let mut caller = self.caller.lock(self.rt);
+        self.site.retired(self.rt, &mut caller, running);
     }
 }
 
@@ -159,10 +161,13 @@ where
         let found = handle.open(alloc);
         self.handle = Some(handle);
         match found {
-            Ok(finding) => match self.site.opened(self.rt, self.caller, serial, finding) {
-                Some((pass, _)) => Ok(pass),
-                None => Err(OpenFault::OutOfTurn),
-            },
+            Ok(finding) => {
+                let mut caller = self.caller.lock(self.rt);
+                match self.site.opened(self.rt, &mut caller, serial, finding) {
+                    Some((pass, _)) => Ok(pass),
+                    None => Err(OpenFault::OutOfTurn),
+                }
+            }
             Err(fault) => Err(OpenFault::from(fault)),
         }
     }
@@ -189,9 +194,10 @@ where
         ensures at_once { OnErr result (IsTrue true) }
         ensures failures { 2 ^ 64 - 1 ≡ 2 ^ 64 - 1 }
     {
+        let mut caller = self.caller.lock(self.rt);
         match self
             .site
-            .decided(self.rt, self.caller, alloc, pass, peer, decision)
+            .decided(self.rt, &mut caller, alloc, pass, peer, decision)
         {
             Ok(_) => Ok(()),
             Err(back) => Err(back),
@@ -199,14 +205,17 @@ where
     }
 
     fn started<C: Job>(&mut self, running: &Running<L, C>, _serial: u64, _peer: &Peer) {
-        self.site.started(self.rt, self.caller, running);
+        let mut caller = self.caller.lock(self.rt);
+        self.site.started(self.rt, &mut caller, running);
     }
 
     fn start_failed(&mut self, place: Place<L>, _serial: u64, _peer: &Peer, fault: StartFault) {
-        self.site.start_failed(self.rt, self.caller, place, fault);
+        let mut caller = self.caller.lock(self.rt);
+        self.site.start_failed(self.rt, &mut caller, place, fault);
     }
 
     fn dropped(&mut self, place: Place<L>, _serial: u64, _peer: &Peer, cause: DropCause) {
-        self.site.dropped(self.rt, self.caller, place, cause);
+        let mut caller = self.caller.lock(self.rt);
+        self.site.dropped(self.rt, &mut caller, place, cause);
     }
 }
