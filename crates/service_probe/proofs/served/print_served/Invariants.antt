@@ -1,4 +1,4 @@
-use Rattle.std.specs.Prelude.{◌+◌, false}
+use Rattle.std.specs.Prelude.{false}
 use Rattle.service_probe.proofs.served.print_served.Given as goal
 
 abbrev pub ghosts-serve_by-L-Ledger : goal.ghosts-serve_by-L-Ledger
@@ -11,4 +11,4 @@ abbrev pub ghosts-serve_by-N-Ledger : goal.ghosts-serve_by-N-Ledger
 ghosts-serve_by-N-Ledger g a = record { name = a.parts.name; parts = a.parts.parts }
 
 abbrev pub ghosts-serve_by-N-Callers : goal.ghosts-serve_by-N-Callers
-ghosts-serve_by-N-Callers g a = record { all = a.asked.limit + 1; before = 0 }
+ghosts-serve_by-N-Callers g a = record { all = 1; before = 0 }
