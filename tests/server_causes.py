@@ -120,11 +120,9 @@ def accepting(suite):
     for level in ("-v", "-q"):
         with suite.start([level, "-c", "1"], ["true"], env=dict(os.environ, **run.environment), may_end=True) as server:
             wanted = ["accept fault"] + ["cause: 127.0.0.1:0: Protocol error"] * (level == "-v")
-            client = server.connect() if server.port else None
-            suite.expect("the end of one that accepts nobody, under " + level, server.end(), 111)
+            with server.try_to_connect():
+                suite.expect("the end of one that accepts nobody, under " + level, server.end(), 111)
             suite.expect("its lines under " + level, [line for line in server.all_lines() if "status" not in line], wanted)
-            if client:
-                client.close()
 
 
 NAMES = "rules by name, and no names"

@@ -260,14 +260,6 @@ def sessions(suite):
                 suite.audit("a server after signal %d" % number, after)
 
 
-def visitor(server):
-    """A client's connection, or a socket of nobody where the server takes no more."""
-    try:
-        return server.connect()
-    except ConnectionRefusedError:
-        return socket.socket()
-
-
 def ends_by_itself(suite):
     """Sessions go on when the server is to end for faults of accepting; it has given its port back then."""
     run = failed_calls.Library(suite.folder).run_while("accept4", "EIO")
@@ -275,7 +267,7 @@ def ends_by_itself(suite):
         suite.expect("before faults of accepting", first.recv(3), b"hi\n")
         run.turn(True)
         # the server may wait in `accept` already, which then succeeds; the third is never taken, and comes too late where the server was quick
-        with visitor(server) as second, visitor(server):
+        with server.try_to_connect() as second, server.try_to_connect():
             server_runs.wait_until("the port after faults of accepting", lambda: refuses(server.port))
             talk(suite, "a session after faults of accepting", first, b"one")
             if len(server.lines()) > 5:

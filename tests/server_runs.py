@@ -126,6 +126,15 @@ class Server:
         connection.connect((host or self.host, self.port))
         return connection
 
+    def try_to_connect(self):
+        """A client's connection, or a socket that is none where the server has ended or listens no more."""
+        if self.port:
+            try:
+                return self.connect()
+            except ConnectionRefusedError:
+                pass
+        return socket.socket()
+
     def ask(self, text=b"", source=None, host=None, hold=0):
         """Sends a text and, after some seconds, the end of it: what comes back."""
         with self.connect(source, host) as connection:
