@@ -16,8 +16,8 @@ import failed_calls
 import server_runs
 from server_runs import read_all
 
-# a user of its own, whose processes are counted by themselves
-USER = 54321
+# the users from here on are nobody's
+USERS = 50000
 
 
 class Clients:
@@ -103,6 +103,8 @@ def memory(suite):
 
 def as_user(suite, limit):
     """How a program is started as another user, with this limit of processes: its folder, and what makes it that user."""
+    # of its own for each process of the tests: the system counts the processes of a user, and groups run side by side
+    user = USERS + os.getpid() % 10000
     os.chmod(suite.folder, 0o755)
     program = shutil.copy(suite.program, suite.path("for_user"))
     os.chmod(program, 0o755)
@@ -110,8 +112,8 @@ def as_user(suite, limit):
     def change():
         resource.setrlimit(resource.RLIMIT_NPROC, (limit, limit))
         os.setgroups([])
-        os.setgid(USER)
-        os.setuid(USER)
+        os.setgid(user)
+        os.setuid(user)
 
     return [program] + suite.command[1:], change
 
