@@ -7,6 +7,7 @@ ghost use Rattle.rule_lookup.specs.Peers.{Client};
 ghost use Rattle.rule_lookup.specs.declared.decision.Decision.{Decision};
 ghost use Rattle.rules_install.specs.declared.Phase.{Phase};
 ghost use Rattle.rules_install.specs.declared.Phase.TheVariants.{Fresh, Synced, Named, Done};
+ghost use Rattle.server_events.specs.Again.{BeginsAgain};
 ghost use Rattle.server_events.specs.Headline.{DecidesByWhatStood, Finishes, HaveTheirOpenings, IsKeptBy, LeavesWholeText, Reaches, SurelyHas};
 ghost use Rattle.server_events.specs.Live.{KeepsAddressLimit, KeepsLimit, live_of, lives_of, retired_of, serials_of};
 ghost use Rattle.server_events.specs.Reports.{first_illegal, IsFirstIllegal};
@@ -132,4 +133,11 @@ pub fn witness()
 /// it fails; a connection is decided by the new text, and after a stop another one by the text from the start.
 pub fn older()
     ensures { LeadsTo an_older_text texts_of_that 0 }
+{}
+
+/// What a stop leaves is a start: a text that was accepted before it stands there, no older than the last acknowledged, and a new server over it
+/// begins as all histories do. So the headline speaks of each of a machine's boots, and what was acknowledged in one holds in the next.
+pub fn again()
+    ensures { (history : List Event) (w v : World) (limit per_address : ℕ) → Reaches history w → Step w Stop v
+        → BeginsAgain v limit per_address }
 {}
