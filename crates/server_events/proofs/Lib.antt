@@ -22,3 +22,4 @@ pub mod StartedAgain
 pub mod TableLemmas
 pub mod TwoTexts
 pub mod WholeText
+pub mod WovenSteps

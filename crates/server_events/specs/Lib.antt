@@ -5,6 +5,7 @@ pub mod Addresses
 pub mod Kept
 pub mod Table
 pub mod Live
+pub mod Processes
 pub mod Reports
 pub mod Worlds
 pub mod Steps
