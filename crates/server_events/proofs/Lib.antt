@@ -18,6 +18,8 @@ pub mod Openings
 pub mod Peers
 pub mod Serials
 pub mod StandingTexts
+pub mod StartedAgain
 pub mod TableLemmas
 pub mod TwoTexts
 pub mod WholeText
+pub mod WovenSteps

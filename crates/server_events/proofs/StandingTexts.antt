@@ -133,7 +133,7 @@ image_lasts accepted least name d image lasts is =
 
 -- ---- what a reader finds
 
-content_stands : (files : List FileState) (text : Option (List Rule)) (number : Option ℕ) → StandsAt files text number → StandsFor text (option_map (λ (file : FileState). file.bytes) (option_and_then (λ n. slice_get files n) number))
+pub content_stands : (files : List FileState) (text : Option (List Rule)) (number : Option ℕ) → StandsAt files text number → StandsFor text (option_map (λ (file : FileState). file.bytes) (option_and_then (λ n. slice_get files n) number))
 content_stands files None number stands = ap (λ (o : Option ℕ). option_map (λ (file : FileState). file.bytes) (option_and_then (λ n. slice_get files n) o)) stands
 content_stands files (Some rules) number stands = (
   stands.2.file,

@@ -319,7 +319,7 @@ good_failure phase w v steps follows is good =
 good_aside : (w : World) (server : ServerState) → server.phase ≡ w.server.phase → Good w → HoldsBy w.rules w.accepted w.acknowledged w.directory server.phase w.under_way
 good_aside w server is good = same_parts w.rules w.accepted w.acknowledged w.directory w.server.phase server.phase w.under_way w.under_way is refl good
 
-good_moves : (event : Event) (w v : World) → Step w event v → Moves event w v → Good w → Good v
+pub good_moves : (event : Event) (w v : World) → Step w event v → Moves event w v → Good w → Good v
 good_moves (Admitted n peer) w v step what good = subst (λ (x : World). Good x) (sym what) (good_aside w v.server (ap (λ s. s.phase) (step_is step.table).1) good)
 good_moves (Opened n there) w v step what good = subst (λ (x : World). Good x) (sym what.1) (good_aside w v.server (ap (λ s. s.phase) (step_is step.table).1) good)
 good_moves (Decided n decision) w v step what good = subst (λ (x : World). Good x) (sym what.5) (good_aside w v.server (ap (λ s. s.phase) (step_is step.table).1) good)

@@ -1,9 +1,11 @@
 -- The state that events lead to and what its fields keep, the table of events that may happen, who is alive, reports, and worlds.
+pub mod Again
 pub mod ServerState
 pub mod Addresses
 pub mod Kept
 pub mod Table
 pub mod Live
+pub mod Processes
 pub mod Reports
 pub mod Worlds
 pub mod Steps

@@ -7,15 +7,17 @@ ghost use Rattle.rule_lookup.specs.Peers.{Client};
 ghost use Rattle.rule_lookup.specs.declared.decision.Decision.{Decision};
 ghost use Rattle.rules_install.specs.declared.Phase.{Phase};
 ghost use Rattle.rules_install.specs.declared.Phase.TheVariants.{Fresh, Synced, Named, Done};
+ghost use Rattle.server_events.specs.Again.{BeginsAgain};
 ghost use Rattle.server_events.specs.Headline.{DecidesByWhatStood, Finishes, HaveTheirOpenings, IsKeptBy, LeavesWholeText, Reaches, SurelyHas};
 ghost use Rattle.server_events.specs.Live.{KeepsAddressLimit, KeepsLimit, live_of, lives_of, retired_of, serials_of};
+ghost use Rattle.server_events.specs.Processes.{Woven};
 ghost use Rattle.server_events.specs.Reports.{first_illegal, IsFirstIllegal};
 ghost use Rattle.server_events.specs.ServerState.{AllowedHistory, IsLegalTo, ServerState, may_happen, after, connections_after, is_legal, state_after};
 ghost use Rattle.server_events.specs.Steps.{IsWhole, Legal, Step};
 ghost use Rattle.server_events.specs.Table.{Happens, HasStage, IsFull, IsFullFor, Runs};
 ghost use Rattle.server_events.specs.Taken.{AddsText, CanStep, CanStepTo, CannotStep, HappensAfterStop, HaveOtherNames, HasShortScratch, IsDue, IsLeftWithin, LeadsTo, MayFail, is_there};
 ghost use Rattle.server_events.specs.Witness.{an_older_text, texts_of_it, texts_of_that, two_texts};
-ghost use Rattle.server_events.specs.Worlds.{RulesName, UnderWay, World};
+ghost use Rattle.server_events.specs.Worlds.{IsStart, RulesName, UnderWay, World};
 ghost use Rattle.server_events.specs.declared.event.Event.{Event};
 ghost use Rattle.server_events.specs.declared.event.Event.TheVariants.{Admitted, Decided, Opened, Stepped, StepFailed, Stop};
 ghost use Rattle.server_events.specs.declared.event.Stage.TheVariants as Stage;
@@ -132,4 +134,20 @@ pub fn witness()
 /// it fails; a connection is decided by the new text, and after a stop another one by the text from the start.
 pub fn older()
     ensures { LeadsTo an_older_text texts_of_that 0 }
+{}
+
+/// What a stop leaves is a start: a text that was accepted before it stands there, no older than the last acknowledged, and a new server over it
+/// begins as all histories do. So the headline speaks of each of a machine's boots, and what was acknowledged in one holds in the next.
+pub fn again()
+    ensures { (history : List Event) (w v : World) (limit per_address : ℕ) → Reaches history w → Step w Stop v
+        → BeginsAgain v limit per_address }
+{}
+
+/// A server that installs nothing, and installers that are other processes, one after another, over the same directory: their steps, each made
+/// by itself in what the others left and woven in any order, are one history of the world that they share, and each history of that world is such
+/// steps. So the headline speaks of them.
+pub fn two_processes()
+    ensures one { (w v : World) (history : List Event) → Woven w history v → Legal w history v }
+    ensures parts { (w v : World) (history : List Event) → Legal w history v → Woven w history v }
+    ensures headline { (w v : World) (history : List Event) → IsStart w → Woven w history v → IsKeptBy history v }
 {}
