@@ -66,28 +66,20 @@ static int mode_of(int flags, va_list rest)
     return flags & (O_CREAT | O_TMPFILE) ? va_arg(rest, int) : 0;
 }
 
-int open(const char *opened, int flags, ...)
-{
-    static int (*next)(const char *, int, ...);
-    va_list rest;
-    va_start(rest, flags);
-    int mode = mode_of(flags, rest);
-    va_end(rest);
-    hold(opened);
-    if (!next)
-        next = (int (*)(const char *, int, ...))dlsym(RTLD_NEXT, "open");
-    return next(opened, flags, mode);
-}
+/* a call of the C library's that opens a file, held up first */
+#define HELD(name) \
+    int name(const char *opened, int flags, ...) \
+    { \
+        static int (*next)(const char *, int, ...); \
+        va_list rest; \
+        va_start(rest, flags); \
+        int mode = mode_of(flags, rest); \
+        va_end(rest); \
+        hold(opened); \
+        if (!next) \
+            next = (int (*)(const char *, int, ...))dlsym(RTLD_NEXT, #name); \
+        return next(opened, flags, mode); \
+    }
 
-int open64(const char *opened, int flags, ...)
-{
-    static int (*next)(const char *, int, ...);
-    va_list rest;
-    va_start(rest, flags);
-    int mode = mode_of(flags, rest);
-    va_end(rest);
-    hold(opened);
-    if (!next)
-        next = (int (*)(const char *, int, ...))dlsym(RTLD_NEXT, "open64");
-    return next(opened, flags, mode);
-}
+HELD(open)
+HELD(open64)
