@@ -20,6 +20,8 @@ COMES = ["status: 0/1", "status: 1/1", "pid 1 from {ip}"]
 OK = COMES + ["ok 1 :127.0.0.1:{port} :{ip}::{peer}"]
 DENY = COMES + ["deny 1 :127.0.0.1:{port} :{ip}::{peer}"]
 FREE = ["status: 0/1"]
+# how long none has come, in seconds, where no more of a burst will come
+NONE_COMES = 20
 
 
 def one_rule():
@@ -243,9 +245,9 @@ def bursts(suite):
 
 
 def all_have_come(port, number):
-    """Waits until so many connections wait at a port, or none has come for two seconds, as where the system's queue takes no more."""
+    """Waits until so many connections wait at a port, or none has come for long, as where the system's queue takes no more."""
     came, last = time.monotonic(), 0
-    while last < number and time.monotonic() < came + 2:
+    while last < number and time.monotonic() < came + NONE_COMES:
         time.sleep(0.005)
         if waiting_at(port) != last:
             came, last = time.monotonic(), waiting_at(port)
