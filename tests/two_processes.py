@@ -6,10 +6,12 @@ be that of a text which stood under the rules name at some moment of its opening
 Usage: tests/two_processes.py [PROGRAM]. What is legal is defined here once more, in a few lines, and not by the program. Each text denies another address
 than the seven before and behind it, and names itself to all others: so a verdict, with what the client got, says which text decided.
 """
+import itertools
 import math
 import os
 import random
 import re
+import signal
 import subprocess
 import sys
 import threading
@@ -20,6 +22,7 @@ import hostile_calls
 import log_events
 import rule_files
 import server_runs
+from server_differences import only_child
 
 INSTALLATIONS = 24
 CLIENTS = 4
@@ -83,6 +86,29 @@ def is_history(renames, openings):
         if moment > min([rename.ends] + [opening.ends for opening in openings if places[opening.text] >= place]):
             return False
     return True
+
+
+def by_trying(renames, openings):
+    """The same, where all bounds are whole numbers from 0 to 9: every choice of moments is tried. The first text has always been there."""
+    for moments in itertools.combinations_with_replacement(range(10), len(renames) - 1):
+        if all(rename.begins <= moment <= rename.ends for rename, moment in zip(renames[1:], moments)):
+            stands = dict(zip([rename.text for rename in renames], zip((0, *moments), (*moments, 9))))
+            if all(max(opening.begins, stands[opening.text][0]) <= min(opening.ends, stands[opening.text][1]) for opening in openings):
+                return True
+    return False
+
+
+def small_histories(suite):
+    """A thousand small ones, of which the definition says what trying says."""
+    series, found = random.Random(1), []
+    for _ in range(1000):
+        bounds = [sorted((series.randrange(10), series.randrange(10))) for _ in range(2)]
+        bounds.sort()
+        renames = [Rename(0, 0, 0)] + [Rename(text, *pair) for text, pair in enumerate(bounds, 1)]
+        openings = [Opening(serial, series.randrange(3), *sorted((series.randrange(10), series.randrange(10)))) for serial in range(1, 4)]
+        found.append(is_history(renames, openings))
+        suite.expect("the definition, of %r and %r" % (renames, openings), found[-1], by_trying(renames, openings))
+    suite.holds("there are histories and others", 100 < sum(found) < 900, sum(found))
 
 
 def definition(suite):
@@ -199,18 +225,12 @@ class Folder:
             process.stdin.close()
             if inject == WAYS["killed within its rename"]:
                 server_runs.wait_until("a rename", lambda: self.content() != before)
-                self.kill(process.pid)
+                os.kill(only_child(process.pid), signal.SIGKILL)
             process.wait(server_runs.WAIT)
         return trace, time.time()
 
     def content(self):
         return rule_files.content(self.path, "rules.cdb")
-
-    def kill(self, parent):
-        """Kills the one process that this one has started."""
-        with open("/proc/%d/task/%d/children" % (parent, parent), encoding="ascii") as file:
-            (child,) = map(int, file.read().split())
-        os.kill(child, 9)
 
     def install(self, text, how):
         """Installs a text, or is killed while it does so; the file that stands there then is one of two."""
@@ -309,6 +329,8 @@ def woven(suite, way):
             client.over = True
             client.join(server_runs.WAIT)
         server.idle()
+        os.kill(only_child(server.process.pid), signal.SIGTERM)
+        server.end()
     openings = found_of(suite, server, trace, folder, clients)
     renames = folder.renames
     suite.holds("there were decisions by most of the texts", len({opening.text for opening in openings}) > len(renames) // 2, openings)
@@ -332,7 +354,7 @@ def handed_over(suite):
     woven(suite, "-s")
 
 
-CHECKS = [definition, pumped, handed_over]
+CHECKS = [definition, small_histories, pumped, handed_over]
 COMMON = []
 
 if __name__ == "__main__":
