@@ -6,6 +6,7 @@ be that of a text which stood under the rules name at some moment of its opening
 Usage: tests/two_processes.py [PROGRAM]. What is legal is defined here once more, in a few lines, and not by the program. Each text denies another address
 than the seven before and behind it, and names itself to all others: so a verdict, with what the client got, says which text decided.
 """
+import contextlib
 import itertools
 import math
 import os
@@ -26,17 +27,17 @@ from server_differences import only_child
 
 INSTALLATIONS = 24
 CLIENTS = 4
-# how long a call is held up, in seconds
-HELD_UP = 0.05
+# how long a call is held up, and one within which a process is killed, which strace waits for all the same; in seconds
+HELD_UP, KILLED_IN = 0.05, 0.5
 # the calls of an installation: the sync of the folder, that of the file, the rename, and another sync of the folder; and what happens in it
-WHOLE = "whole"
+WHOLE, WITHIN = "whole", "killed within its rename"
 WAYS = {
     WHOLE: None,
     "renamed late": "rename:delay_enter=%d" % (HELD_UP * 1e6),
     "killed before the sync of its file": "fsync:signal=KILL:when=2",
     "killed before its rename": "rename:signal=KILL",
     "renamed early": "rename:delay_exit=%d" % (HELD_UP * 1e6),
-    "killed within its rename": "rename:delay_exit=%d" % (server_runs.WAIT * 1e6),
+    WITHIN: "rename:delay_exit=%d" % (KILLED_IN * 1e6),
     "killed before the second sync of the folder": "fsync:signal=KILL:when=3",
     "whole once more": None,
 }
@@ -142,8 +143,8 @@ def traced(path):
 
 
 def end_of(records, place, last=math.inf):
-    """A moment by which the call that was begun by this record had ended: that of the thread's next record."""
-    return records[place + 1][0] if place + 1 < len(records) else last
+    """A moment by which the call that was begun by this record had done what it does: that of the thread's next record, or the last one."""
+    return min(records[place + 1][0], last) if place + 1 < len(records) else last
 
 
 def openings_in(path):
@@ -163,7 +164,7 @@ def openings_in(path):
 class Installation:
     """One `tcprules`: its text, what happened in it, its rename, and the phases that it came to, each with a moment."""
 
-    def __init__(self, text, how, path, ended):
+    def __init__(self, text, how, path, last):
         self.text, self.how = text, how
         self.rename, self.phases = None, []
         (records,) = traced(path).values()
@@ -172,7 +173,7 @@ class Installation:
             name, _, result = call.partition("(")[0], *call.rpartition("= ")[1:]
             done = re.match(r"\d+", result)
             if name == "rename":
-                self.rename = Rename(text, begins, end_of(records, place, ended))
+                self.rename = Rename(text, begins, end_of(records, place, last))
             if not done or "KILL" in end_text(records, place):
                 continue
             if name == "openat" and "O_CREAT" in call and "rules.tmp" in call:
@@ -214,20 +215,23 @@ class Folder:
         self.run(0, None)
 
     def run(self, text, inject):
-        """Installs a text under strace, and kills it within its rename where that is held up for good: the time by which it has ended."""
+        """Installs a text under strace, and kills it within its rename where that is held up for long: the time by which the file had come, if it did."""
         trace = os.path.join(self.path, "trace %d" % text)
         words = ["strace", "-q", "-f", "-ttt", "-o", trace, "-e", "trace=openat,pwrite64,fsync,statx,rename"] + (["-e", "inject=" + inject] if inject else [])
         given = ('%s:deny\n127.:allow,TEXT="%d"\n:deny\n' % (denied_by(text), text)).encode()
         words += [self.suite.program, "tcprules", "rules.cdb", "rules.tmp"]
         with subprocess.Popen(words, cwd=self.path, stdin=subprocess.PIPE, stdout=subprocess.DEVNULL, stderr=subprocess.DEVNULL) as process:
-            before = self.content()
+            before, seen = self.content(), None
             process.stdin.write(given)
             process.stdin.close()
-            if inject == WAYS["killed within its rename"]:
+            if inject == WAYS[WITHIN]:
                 server_runs.wait_until("a rename", lambda: self.content() != before)
-                os.kill(only_child(process.pid), signal.SIGKILL)
+                seen = time.time()
+                # (it has gone on where this is late)
+                with contextlib.suppress(OSError, ValueError):
+                    os.kill(only_child(process.pid), signal.SIGKILL)
             process.wait(server_runs.WAIT)
-        return trace, time.time()
+        return trace, seen or time.time()
 
     def content(self):
         return rule_files.content(self.path, "rules.cdb")
@@ -235,8 +239,7 @@ class Folder:
     def install(self, text, how):
         """Installs a text, or is killed while it does so; the file that stands there then is one of two."""
         before = self.content()
-        trace, ended = self.run(text, WAYS[how])
-        installation = Installation(text, how, trace, ended)
+        installation = Installation(text, how, *self.run(text, WAYS[how]))
         self.installations.append(installation)
         is_new = self.content() != before
         self.suite.expect("text %d, %s: the new file stands there" % (text, how), is_new, how not in LEFT_OLD)
@@ -333,6 +336,9 @@ def woven(suite, way):
         server.end()
     openings = found_of(suite, server, trace, folder, clients)
     renames = folder.renames
+    # (one that is held up no longer goes on, where this was late)
+    within = [phases[-1] for phases in (one.phases for one in folder.installations if one.how == WITHIN)]
+    suite.holds("installations that were killed within their rename", "phase synced" in [name for _, name in within], within)
     suite.holds("there were decisions by most of the texts", len({opening.text for opening in openings}) > len(renames) // 2, openings)
     suite.holds("all of it, woven, is a history", is_history(renames, openings), (renames, openings))
     # the same with one decision by the text before the one that decided, where that had surely gone
