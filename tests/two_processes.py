@@ -261,17 +261,17 @@ class Client(threading.Thread):
             try:
                 with self.server.connect(source) as connection:
                     port = connection.getsockname()[1]
-                    self.answers.append((source, port, server_runs.read_all(connection).decode()))
+                    self.answers.append((time.time(), source, port, server_runs.read_all(connection).decode()))
             except OSError as fault:
-                self.answers.append((source, 0, repr(fault)))
+                self.answers.append((time.time(), source, 0, repr(fault)))
 
 
 def found_of(suite, server, trace, folder, clients):
     """The openings, each with the text that decided; what a denied client met is told by its address."""
     moments, answers, openings, unsure = openings_in(trace), {}, [], 0
-    for client in clients:
-        for source, port, answer in client.answers:
-            answers.setdefault((source, port), []).append(answer)
+    # (a port may come again)
+    for _, source, port, answer in sorted(answer for client in clients for answer in client.answers):
+        answers.setdefault((source, port), []).append(answer)
     for line in server.lines():
         found = CLIENT.match(line)
         if not found:

@@ -36,7 +36,8 @@ SETTINGS = {"SETTING_%d" % number: "set %d" % number for number in range(MANY)}
 
 
 def check_locks(checks, program, folder):
-    """A folder without locks, of which each `flock` in turn fails, and then each of them: exit code 111, and nothing is touched."""
+    """A folder without locks, of which each `flock` in turn fails, and then each of them: exit code 111, and the rules and the scratch file are not
+    touched. The empty lock file stays there, and holds up nobody."""
     library = failed_calls.Library(folder)
     place = os.path.join(folder, "locked")
     os.mkdir(place)
@@ -55,8 +56,10 @@ def check_locks(checks, program, folder):
             ended = install(NEW, **run.environment)
             checks.expect(name + "how it ends", ended, (111, b"", FRESH + "tcprules: cause: .: %s\n" % why))
             checks.holds(name + "a call failed", run.end())
-            checks.expect(name + "what stands there", (os.listdir(place), rule_files.content(place, "rules")), (["rules"], old))
+            checks.expect(name + "what stands there", sorted(os.listdir(place)), [".tcprules.lock", "rules"])
+            checks.holds(name + "the rules are the old ones", rule_files.content(place, "rules") == old)
     checks.expect("with locks", install(NEW), (0, b"", ""))
+    checks.expect("with locks: what stands there", os.listdir(place), ["rules"])
     checks.holds("the new rules stand", rule_files.content(place, "rules") not in (None, old))
 
 
