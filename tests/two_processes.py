@@ -277,7 +277,7 @@ def found_of(suite, server, trace, folder, clients):
         if not found:
             continue
         verdict, serial, source, port = found.group(1), int(found.group(2)), found.group(3), int(found.group(4))
-        answer, moment = answers.get((source, port), ["nobody"]).pop(0), moments.get(serial)
+        answer, moment = (answers.get((source, port)) or ["nobody"]).pop(0), moments.get(serial)
         suite.holds("connection %d has an opening" % serial, moment, line)
         if not moment:
             continue
