@@ -22,8 +22,11 @@ records_length-stored : (rules : List Rule) → records_length (stored rules) �
 records_length-stored [] = refl
 records_length-stored (rule ∷ rules) =
     omega (
-      arith, length-append (record_of (pair_of rule)) (records_of (stored rules)), length-record_bytes rule.address (code_of rule.instr),
-      sum_by-cons rule_length rule rules, records_length-stored rules,
+      arith,
+      length-append (record_of (pair_of rule)) (records_of (stored rules)),
+      length-record_bytes rule.address (code_of rule.instr),
+      sum_by-cons rule_length rule rules,
+      records_length-stored rules,
     )
 
 pub finished_length-stored : (rules : List Rule) → finished_length (stored rules) ≡ 2048 + 24 * length rules + stored_length rules

@@ -1,5 +1,5 @@
 -- Numbers that reach the end of their room are over any limit.
-use Rattle.std.proofs.Common.{◌≡◌, ◌+◌, ◌*◌, length, sym, ap, arith}
+use Rattle.std.proofs.Common.{arith}
 use Rattle.std.proofs.lemmas.Bool.{le-leb, leb-true}
 use Rattle.rules_install.proofs.PlaceLemmas.{finished_length-stored}
 use Rattle.rules_install.proofs.pieces.keeps_to.Goals as goal

@@ -1,5 +1,5 @@
 -- Rule after rule gets the next place.
-use Rattle.std.proofs.Common.{◌≡◌, ◌∙◌, ◌+◌, ◌<◌, ◌^◌, List, Some, length, slice_get, sym, ap, subst, arith}
+use Rattle.std.proofs.Common.{◌∙◌, List, length, slice_get, sym, ap, subst, arith}
 use Rattle.std.proofs.lemmas.Option.{slice_get_within}
 use Rattle.rule_lines.specs.Pairs.{Rule}
 use Rattle.cdb_write.specs.Format.{hash_of}

@@ -1,4 +1,4 @@
-use Rattle.std.proofs.Common.{List, ℕ, ◌≡◌, ◌^◌, ◌<◌, ◌≤◌, true, length, sym, subst}
+use Rattle.std.proofs.Common.{List, ◌≡◌, ◌^◌, ◌<◌, ◌≤◌, true, length, sym, subst}
 use Rattle.rule_lines.specs.Pairs.{Rule}
 use Rattle.cdb_write.specs.Image.{finished_length}
 use Rattle.cdb_read.specs.Compiled.{stored}
