@@ -11,6 +11,7 @@ use Rattle.rule_lines.specs.Lines.{Line, has_byte, lines_of}
 use Rattle.rule_lines.specs.Pairs.{Rule, address_in, instructions_in, pairs_in, pairs_of, pairs_with}
 use Rattle.rule_lines.specs.ReadAddresses.{addresses_read}
 use Rattle.rule_lines.specs.Spread.{is_bad_range, spread}
+use Rattle.rule_lines.specs.Texts.{AreOfText}
 
 -- the instruction of a code
 abbrev pub the_instr : List ℕ → Instr
@@ -70,11 +71,12 @@ pub record IsFound (kept : List ℕ) (i : ℕ) (found : FoundRule) : Type 0 wher
   pub resume : IsLineAt kept found.resume
   pub resume_by : found.resume.before ≤ i + 1
 
--- kept lines, the number of their rules, and one of the lines
+-- kept lines, the number of their rules, which are those of an accepted text, and one of the lines
 pub record Keeps (kept : List ℕ) (len : ℕ) (near : LinePlace) : Type 0 where
   pub counted : len ≡ length (rules_in kept)
   pub lines : AreKept kept
   pub near_is : IsLineAt kept near
+  pub of_text : AreOfText (rules_in kept)
 
 -- a rule as it is stored, or none
 abbrev pub IsStored : Option Rule → Bool → List ℕ → List ℕ → Type 0

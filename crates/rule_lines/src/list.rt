@@ -8,6 +8,7 @@ ghost use Rattle.rule_lines.specs.Kept.{AreKept, IsStored, rules_in};
 ghost use Rattle.rule_lines.specs.Lookups.{found_among, code_found};
 ghost use Rattle.rule_lines.specs.Rows.{AreRules, addresses_under};
 ghost use Rattle.rule_lines.specs.Spread.{folded};
+ghost use Rattle.rule_lines.specs.Texts.{AreOfText};
 ghost use Rattle.rule_lines.specs.ReadAddresses.{addresses_read};
 
 use crate::code::{DecodeFault, decode_instr};
@@ -152,6 +153,7 @@ impl RuleList {
     pub(crate) fn new(kept: Vec<u8>, len: usize) -> RuleList
         requires kept { AreKept kept.items }
         requires counted { len ≡ length (rules_in kept.items) }
+        requires of_text { AreOfText (rules_in kept.items) }
         ensures { result ≡ rules_in kept.items }
     {
         RuleList {
@@ -167,6 +169,14 @@ impl RuleList {
         ensures known { AreRules self.now }
     {
         self.len
+    }
+
+    /// A law: they are the rules of an accepted text.
+    pub fn of_text(&self)
+        ensures { AreOfText self.now }
+    {
+        // this tells the proof what each list keeps
+        let _ = &self.kept;
     }
 
     /// Whether there is none.
