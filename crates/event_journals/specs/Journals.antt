@@ -1,5 +1,5 @@
 -- What a journal tells: the report and the number of the events that were noted, and what it stores of them.
-use Rattle.std.specs.Prelude.{◌≡◌, ◌<◌, ◌+◌, ◌-◌, ◌^◌, ℕ, List, [], ◌∷◌, ◌++◌, length, take, max, min, true, Option, ⊤}
+use Rattle.std.specs.Prelude.{◌≡◌, ◌<◌, ◌+◌, ◌-◌, ◌^◌, ℕ, List, [], ◌∷◌, ◌++◌, length, take, max, min, Bool, true, Option, ⊤}
 use Rattle.server_events.specs.declared.event.Event.{Event}
 use Rattle.server_events.specs.declared.event.Event.TheVariants.{Admitted, Opened, Decided, Started, StartFailed, Ended, Retired, Dropped, Stepped, StepFailed, Stop}
 use Rattle.server_events.specs.declared.report.Report.{Report}
@@ -49,6 +49,14 @@ abbrev pub GoesOn : (told : Report) (count : ℕ) → Event → (told' : Report)
 GoesOn told count event told' count' =
     (limit per_address : ℕ) (history : List Event) → limit < 2 ^ 64 → FitsSerial event → TellsOf told count history
     → is_legal (start limit per_address) (history ++ event ∷ []) ≡ true → TellsOf told' count' (history ++ event ∷ [])
+
+-- there is room for as many events as before
+abbrev pub HasSameRoom : {J : Type 0} → (J → ℕ → Bool) → (old new : J) → Type 0
+HasSameRoom has_room old new = (events : ℕ) → has_room new events ≡ has_room old events
+
+-- there is room for one event more
+abbrev pub HasOneMore : {J : Type 0} → (J → ℕ → Bool) → (old new : J) → Type 0
+HasOneMore has_room old new = (events : ℕ) → has_room new (events + 1) ≡ has_room old events
 
 -- a list but for its last
 abbrev pub without_last : {X : Type 0} → List X → List X

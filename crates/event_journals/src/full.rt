@@ -1,5 +1,5 @@
 //! A journal that stores each event.
-ghost use Rattle.std.specs.Prelude.{◌≡◌, ◌≤◌, ◌+◌, ◌-◌, ◌==◌, [], None, Some, nat_le, slice_get, option_copied, if◌then◌else◌, vec_len, vec_capacity};
+ghost use Rattle.std.specs.Prelude.{◌≡◌, ◌≤◌, ◌+◌, ◌-◌, ◌==◌, [], None, Some, length, nat_le, slice_get, option_copied, if◌then◌else◌, vec_len, vec_capacity};
 ghost use Rattle.event_journals.specs.Journals.{TellsOf};
 
 use crate::counts::Counts;
@@ -44,6 +44,13 @@ impl Full {
             return None;
         }
         self.notes.get((at - 1) as usize)
+    }
+
+    /// How many events it stores.
+    pub fn stored(&self) -> u64
+        ensures { result ≡ length (full_notes self.now) }
+    {
+        self.notes.len() as u64
     }
 
     /// The rules of an installation that is stored, counted from 1.

@@ -2,7 +2,7 @@
 ghost use Rattle.std.specs.Prelude.{◌≡◌, ◌≤◌, ℕ, ◌+◌, List, [], ◌∷◌, ◌++◌, Bool, true, Option, option_map, OnOk, OnErr};
 ghost use Rattle.rule_lines.specs.Pairs.{Rule};
 ghost use Rattle.server_events.specs.declared.report.Report.{Report};
-ghost use Rattle.event_journals.specs.Journals.{GoesOn, IsSameTold, next_report, one_more, without_last};
+ghost use Rattle.event_journals.specs.Journals.{GoesOn, HasSameRoom, IsSameTold, next_report, one_more, without_last};
 ghost use Rattle.event_journals.specs.declared.journal.Noted.{Noted};
 
 use rule_lines::RuleList;
@@ -18,7 +18,8 @@ pub struct Noted {
     pub caller: u64,
 }
 
-/// What is kept of the events of a server. Noting an event takes no memory: its room is taken before, by `reserve`.
+/// What is kept of the events of a server. Noting an event takes no memory: its room is taken before, by `reserve`. No call takes or gives
+/// other room than it says.
 pub trait Journal: Drop {
     /// The report of the events that were noted.
     ghost told: { Self → Report };
@@ -48,14 +49,14 @@ pub trait Journal: Drop {
     /// # Errors
     /// There was no memory. All is as before.
     fn reserve(&mut self, events: usize) -> Result<(), AllocError>
-        ensures room { OnOk result ((n : ℕ) → has_room self.old n ≡ true → has_room self.new (n + events) ≡ true) }
-        ensures err { OnErr result ((n : ℕ) → has_room self.old n ≡ true → has_room self.new n ≡ true) }
+        ensures room { OnOk result ((n : ℕ) → has_room self.new (n + events) ≡ has_room self.old n) }
+        ensures err { OnErr result (HasSameRoom has_room self.old self.new) }
         ensures same { IsSameTold told count stored lists self.old self.new };
 
     /// Gives room back that is not needed.
     fn release(&mut self, events: usize)
         requires { has_room self.old events ≡ true }
-        ensures room { (n : ℕ) → has_room self.old (n + events) ≡ true → has_room self.new n ≡ true }
+        ensures room { (n : ℕ) → has_room self.new n ≡ has_room self.old (n + events) }
         ensures same { IsSameTold told count stored lists self.old self.new };
 
     /// Notes an event and who called it, into room that was taken.
@@ -66,7 +67,7 @@ pub trait Journal: Drop {
         ensures stored { stored self.new
             ≡ option_map (λ notes. notes ++ record { event = event; caller = caller } ∷ []) (stored self.old) }
         ensures lists { lists self.new ≡ lists self.old }
-        ensures room { (n : ℕ) → has_room self.old (n + 1) ≡ true → has_room self.new n ≡ true }
+        ensures room { (n : ℕ) → has_room self.new n ≡ has_room self.old (n + 1) }
 
         // so the report and the number stay those of the history, as far as the table allows it
         ensures goes_on { GoesOn (told self.old) (count self.old) event (told self.new) (count self.new) };
@@ -78,7 +79,7 @@ pub trait Journal: Drop {
     fn keep_list(&mut self, list: &RuleList) -> Result<(), AllocError>
         ensures kept { OnOk result (lists self.new ≡ option_map (λ all. all ++ list.now ∷ []) (lists self.old)) }
         ensures err { OnErr result (lists self.new ≡ lists self.old) }
-        ensures room { (n : ℕ) → has_room self.old n ≡ true → has_room self.new n ≡ true }
+        ensures room { HasSameRoom has_room self.old self.new }
         ensures told { told self.new ≡ told self.old }
         ensures count { count self.new ≡ count self.old }
         ensures stored { stored self.new ≡ stored self.old };
@@ -86,7 +87,7 @@ pub trait Journal: Drop {
     /// Takes the last list of rules back, where an installation's first step was not made. It takes no memory.
     fn forget_list(&mut self)
         ensures forgotten { lists self.new ≡ option_map without_last (lists self.old) }
-        ensures room { (n : ℕ) → has_room self.old n ≡ true → has_room self.new n ≡ true }
+        ensures room { HasSameRoom has_room self.old self.new }
         ensures told { told self.new ≡ told self.old }
         ensures count { count self.new ≡ count self.old }
         ensures stored { stored self.new ≡ stored self.old };

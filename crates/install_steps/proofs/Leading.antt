@@ -105,7 +105,7 @@ module _ (w : World) (s t : Installing) (d e : Directory) (at : IsUnderWay w s d
       } in
       let step : Step w (Stepped Fresh) v = record {
         table = stepped (follows_to Fresh next);
-        moves = (s.rules, s.names.tmp, makes s.names.tmp, may.consistent.known, scratch_name s w.rules at.missing at.rules may.consistent.names, inl refl, refl);
+        moves = (s.rules, s.names.tmp, makes s.names.tmp, may.consistent.of_text, scratch_name s w.rules at.missing at.rules may.consistent.names, inl refl, refl);
       } in
       (v, step, goes_on w s t d e at same v (length w.accepted) (moved call (makes s.names.tmp) is does) refl refl (sym reached))
 
@@ -124,7 +124,7 @@ module _ (w : World) (s t : Installing) (d e : Directory) (at : IsUnderWay w s d
       let file : FileState = record { bytes = whole_file s.rules; synced = false } in (
         file,
         ap scratch_of at.directory ∙ has.1 ∙ ap (λ (p : Bool). let f : FileState = record { bytes = filled_file s.rules s.filled p; synced = false } in Some f) patched,
-        record { are = may.consistent.known; compiled = may.consistent.written.cdb },
+        record { of_text = may.consistent.of_text; compiled = may.consistent.written.cdb },
       )
 
   to_synced : next_phase s ≡ Synced → FitsPhase s d s.reached → t.reached ≡ Some Synced → (call : Call) → IsCallOf s Synced call → e ≡ after call d → Arrives w t e (Ok Synced)

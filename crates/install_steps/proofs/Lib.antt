@@ -1,3 +1,4 @@
 pub mod Meeting
 pub mod Leading
 pub mod Stopping
+pub mod Along

@@ -1,2 +1,3 @@
 -- Installations in worlds.
 pub mod UnderWay
+pub mod Series

@@ -1,8 +1,9 @@
 //! The next step of an installation.
-ghost use Rattle.std.specs.Prelude.{IsTrue};
+ghost use Rattle.std.specs.Prelude.{◌≡◌, ◌≢◌, ◌≤◌, IsTrue, Ok};
 ghost use Rattle.install_steps.specs.UnderWay.{LeadsOn, Leaves};
-ghost use Rattle.rules_install.specs.Installing.{Fits};
-ghost use Rattle.rules_install.specs.Steps.{IsOfDevice, IsSame};
+ghost use Rattle.rules_install.specs.Installing.{Fits, FillsMore};
+ghost use Rattle.rules_install.specs.Steps.{BlamesDevice, HasFilled, IsOfDevice, IsSame};
+ghost use Rattle.rules_install.specs.declared.Phase.TheVariants.{Filling};
 ghost use Rattle.rules_install.specs.Installs.{installing, IsOpen, IsUndone, StepChanges, StepGoes};
 
 use crate::laws::leads_on;
@@ -34,8 +35,13 @@ pub fn make_step<D: Dir>(
     // what it answers, and how far the installation is then
     ensures goes { StepGoes install.old install.new result }
     ensures same { IsSame (installing install.old) (installing install.new) }
+    ensures more { result ≡ Ok Filling → FillsMore (installing install.old) (installing install.new) }
+    ensures kept { result ≢ Ok Filling → HasFilled (installing install.old) (installing install.new) }
     ensures changes { IsTrue D.honest → StepChanges install.old (D.state dir.old) (D.state dir.new) result }
+    // and the device is blamed only where it failed, and that was counted
     ensures device { IsTrue D.honest → IsOfDevice result }
+    ensures failures { D.failed dir.old ≤ D.failed dir.new }
+    ensures blames { BlamesDevice (D.failed dir.old) (D.failed dir.new) result }
 {
     leads_on();
     install.consistent();

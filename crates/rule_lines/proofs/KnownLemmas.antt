@@ -1,7 +1,10 @@
 -- The rules of a text without a fault, and those of a list: each instruction sets what may be set.
-use Rattle.std.proofs.Common.{◌≡◌, ℕ, ◌+◌, Bool, true, false, cond, is_none, is_some, nat_lt, Option, None, Some, List, [], ◌∷◌, ◌++◌, length, unwrap_or, refl, sym, ap, ◌∙◌}
-use Rattle.std.proofs.lemmas.Bool.{not-false, or_parts}
-use Rattle.std.specs.List.{AllByRecursion, flat_map}
+use Rattle.std.proofs.Common.{◌≡◌, ◌≤◌, ℕ, suc, ◌+◌, Bool, true, false, cond, is_none, is_some, nat_lt, Option, None, Some, List, [], ◌∷◌, ◌++◌, length, unwrap_or, refl, sym, ap, subst, ◌∙◌, arith}
+use Rattle.std.proofs.lemmas.Bool.{lt-leb, not-false, or_parts}
+use Rattle.std.proofs.Props.{props}
+use mathlib.Core.Logic.{∥∥₁_elim}
+use Rattle.std.specs.List.{AllByRecursion, AllByRecursion-prop, flat_map}
+use Rattle.std.specs.Prelude.{IsTrue}
 use Rattle.std.specs.Str.{is_utf8}
 use Rattle.rule_lines.specs.declared.fault.LineKind.{LineKind}
 use Rattle.rule_lines.specs.declared.fault.LineKind.TheVariants.{BadSetting, LongText}
@@ -16,7 +19,9 @@ use Rattle.rule_lines.specs.Kept.{AreKept, IsKeptLine, rules_at, rules_in, the_i
 use Rattle.rule_lines.specs.Lines.{Line, has_byte, lines_of, trimmed}
 use Rattle.rule_lines.specs.Pairs.{Rule, address_in, instr_of, instructions_in, is_ignored, pairs_in, pairs_of, pairs_under, pairs_with, settings_after, verdict_of}
 use Rattle.rule_lines.specs.Rows.{AreRules}
+use Rattle.rule_lines.specs.Settings.{is_setting}
 use Rattle.rule_lines.specs.Spread.{spread}
+use Rattle.rule_lines.specs.Texts.{AcceptedText, AreOfText}
 use Rattle.rule_lines.proofs.CodeLemmas.{IsInstr-decoded}
 use Rattle.rule_lines.proofs.FaultLemmas.{fault_beside-none}
 use Rattle.rule_lines.proofs.SettingLemmas.{IsInstr-instr_of}
@@ -77,6 +82,21 @@ AreRules-accepted limits text accepted =
     within : (long : Bool) → ◌≡◌ {A = Option LineFault} (cond long (Some (record { line = 0; kind = LongText })) (first_faulty limits.line 1 (lines_of text))) None → first_faulty limits.line 1 (lines_of text) ≡ None
     within true none = absurd cc
     within false none = none
+
+-- a text within the limit without a faulty line is accepted
+pub accepted_from : (limits : Limits) (text : List ℕ) → length text ≤ limits.text → first_faulty limits.line 1 (lines_of text) ≡ None → IsAccepted limits text
+accepted_from limits text short none =
+    ap (λ (long : Bool). cond long (Some (record { line = 0; kind = LongText })) (first_faulty limits.line 1 (lines_of text))) (lt-leb (suc limits.text) (length text) (omega (arith, short))) ∙ none
+
+-- rules are rules in one way
+AreRules-prop : (rules : List Rule) → IsProp (AreRules rules)
+AreRules-prop rules =
+    AllByRecursion-prop (λ (rule : Rule). IsInstr rule.instr) (λ rule. AllByRecursion-prop (λ setting. IsTrue (is_setting setting)) (λ setting. hlevel props) rule.instr.settings) rules
+
+-- the rules of some accepted text
+pub AreRules-of_text : (rules : List Rule) → AreOfText rules → AreRules rules
+AreRules-of_text rules of_text =
+    ∥∥₁_elim of_text (AreRules-prop rules) (λ (t : AcceptedText rules). subst AreRules t.says (AreRules-accepted t.limits t.text t.accepted))
 
 -- the instruction of a code
 IsInstr-unwrap_or : (bytes : List ℕ) (instr : Option Instr) (other : Instr) → decoded bytes ≡ instr → is_some instr ≡ true → IsInstr (unwrap_or instr other)

@@ -14,6 +14,7 @@ use Rattle.rule_lines.specs.Pairs.{Rule, address_in, instructions_in, pairs_in, 
 use Rattle.rule_lines.specs.ReadAddresses.{addresses_read}
 use Rattle.rule_lines.specs.Rows.{stored_length}
 use Rattle.rule_lines.specs.Spread.{is_bad_range, spread}
+use Rattle.rule_lines.specs.Texts.{AreOfText}
 
 -- the instruction of a code
 abbrev pub the_instr : List ℕ → Instr
@@ -90,12 +91,13 @@ pub record IsOpenAmong (kept : List ℕ) (range : OpenRange) : Type 0 where
   pub rules : (place : ℕ) → place < range.numbers.count → slice_get (rules_in kept) (range.before + place) ≡ Some (rule_of_range range place)
   pub decodes : 0 < range.numbers.count → is_some (decoded range.code.items) ≡ true
 
--- kept lines, the tally of their rules, one of the lines, and an open range
+-- kept lines, the tally of their rules, which are those of an accepted text, one of the lines, and an open range
 pub record Keeps (kept : List ℕ) (tally : Tally) (near : LinePlace) (range : OpenRange) : Type 0 where
   pub tallied : Tallies (rules_in kept) tally
   pub lines : AreKept kept
   pub near_is : IsLineAt kept near
   pub range_is : IsOpenAmong kept range
+  pub of_text : AreOfText (rules_in kept)
 
 -- a rule as it is stored, or none
 abbrev pub IsStored : Option Rule → Bool → List ℕ → List ℕ → Type 0

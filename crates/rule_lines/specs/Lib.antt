@@ -12,3 +12,4 @@ pub mod Rows
 pub mod RuleFaults
 pub mod Settings
 pub mod Spread
+pub mod Texts

@@ -8,6 +8,7 @@ ghost use Rattle.rule_lines.specs.Kept.{AreKept, IsStored, Tallies, rules_in};
 ghost use Rattle.rule_lines.specs.Lookups.{found_among, code_found};
 ghost use Rattle.rule_lines.specs.Rows.{AreRules, addresses_under, stored_length};
 ghost use Rattle.rule_lines.specs.Spread.{folded};
+ghost use Rattle.rule_lines.specs.Texts.{AreOfText};
 ghost use Rattle.rule_lines.specs.ReadAddresses.{addresses_read};
 
 use crate::code::{DecodeFault, decode_instr};
@@ -144,6 +145,7 @@ impl RuleList {
     pub(crate) fn new(kept: Vec<u8>, tally: Tally) -> RuleList
         requires kept { AreKept kept.items }
         requires tallied { Tallies (rules_in kept.items) tally }
+        requires of_text { AreOfText (rules_in kept.items) }
         ensures { result ≡ rules_in kept.items }
     {
         let range = OpenRange::closed(*kept.allocator());
@@ -168,6 +170,14 @@ impl RuleList {
         ensures { result ≡ stored_length self.now }
     {
         self.tally.bytes
+    }
+
+    /// A law: they are the rules of an accepted text.
+    pub fn of_text(&self)
+        ensures { AreOfText self.now }
+    {
+        // this tells the proof what each list keeps
+        let _ = &self.kept;
     }
 
     /// Whether there is none.

@@ -5,7 +5,7 @@ use Rattle.dir_calls.specs.NameTable.{Names, CanBeLeft}
 use Rattle.dir_calls.specs.Directory.{Directory, FileState, number_of, scratch_of, file_at}
 use Rattle.dir_calls.specs.Lasting.{LastsAmong}
 use Rattle.rule_lines.specs.Pairs.{Rule}
-use Rattle.rule_lines.specs.Rows.{AreRules}
+use Rattle.rule_lines.specs.Texts.{AreOfText}
 use Rattle.rules_install.specs.NamePair.{NamePair}
 use Rattle.rules_install.specs.Filled.{IsWritten, whole_file, filled_file, fillings_left}
 use Rattle.rules_install.specs.declared.Phase.{Phase}
@@ -70,10 +70,10 @@ Fits s d = s.over ≡ false → FitsPhase s d s.reached
 abbrev pub IsUnfilled : Installing → Type 0
 IsUnfilled s = (s.filled ≡ 0) × (s.patched ≡ false)
 
--- what is true of each installation, however far it has come: its rules are rules, its names are two, its file is compiled of its rules,
--- and where the scratch file was just made, nothing was put into it
+-- what is true of each installation, however far it has come: its rules are those of an accepted text, its names are two, its file is
+-- compiled of its rules, and where the scratch file was just made, nothing was put into it
 pub record IsConsistent (s : Installing) : Type 0 where
-  pub known : AreRules s.rules
+  pub of_text : AreOfText s.rules
   pub names : s.names.cdb ≢ s.names.tmp
   pub written : IsWritten s.rules
   pub unfilled : s.reached ≡ Some Fresh → IsUnfilled s

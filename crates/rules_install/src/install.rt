@@ -101,8 +101,7 @@ impl Install {
     {
         self.pieces.written();
         let _ = self.cdb();
-        // this tells the proof that the rules are rules
-        let _ = self.list().len();
+        self.list().of_text();
     }
 
     // Takes note of what a call of the directory answered.

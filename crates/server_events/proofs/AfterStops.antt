@@ -1,5 +1,5 @@
 -- After a stop nothing happens to a connection from before.
-use Rattle.std.proofs.Common.{◌≡◌, ℕ, ◌<◌, List, [], ◌∷◌, true, false, ◌==◌, Some, refl, sym, subst, arith}
+use Rattle.std.proofs.Common.{◌≡◌, ℕ, ◌<◌, List, [], ◌∷◌, true, false, ◌==◌, Some, refl, sym, ap, subst, arith}
 use Rattle.std.specs.Prelude.{if◌then◌else◌}
 use Rattle.std.proofs.lemmas.Bool.Decides.{nat_tests}
 use Rattle.rule_lines.specs.declared.instr.Verdict.TheVariants.{Allow}
@@ -10,7 +10,7 @@ use Rattle.server_events.specs.declared.event.Event.TheVariants.{Admitted, Opene
 use Rattle.server_events.specs.declared.state.Connection.{Connection}
 use Rattle.server_events.specs.Live.{concerns}
 use Rattle.server_events.specs.ServerState.{ServerState, after, may_happen, newcomer, stage_of}
-use Rattle.server_events.specs.Steps.{Legal, Step, none, more}
+use Rattle.server_events.specs.Steps.{Legal, Step, none, more, beside}
 use Rattle.server_events.specs.Worlds.{World}
 use Rattle.server_events.proofs.History.{room_for}
 use Rattle.server_events.proofs.LiveLemmas.{is_admitted-true, is_allowed-true, is_opened-true, is_started-true}
@@ -51,6 +51,8 @@ rise_step low w v event step rise =
 rise_run : (low : ℕ) {v w : World} {history : List Event} → Legal v history w → Rise low v.server.connections v.server.last → Rise low w.server.connections w.server.last
 rise_run low none rise = rise
 rise_run low (more {u} {v} {w} {event} {events} step rest) rise = rise_run low rest (rise_step low u v event step rise)
+rise_run low (beside {u} {v} out rest) rise =
+    rise_run low rest (subst (λ (s : ServerState). Rise low s.connections s.last) (sym (ap (λ (x : World). x.server) out.moves)) rise)
 
 -- after a stop all serials are above those before it
 rise_stopped : (w v : World) → Step w Stop v → Rise w.server.last v.server.connections v.server.last

@@ -16,6 +16,7 @@ use Rattle.dir_calls.proofs.Renames.{moved_file}
 use Rattle.dir_calls.proofs.Replacing.{written}
 use Rattle.dir_calls.proofs.Scratches.{appended_is}
 use Rattle.rule_lines.specs.Pairs.{Rule}
+use Rattle.rule_lines.proofs.KnownLemmas.{AreRules-of_text}
 use Rattle.rule_lookup.specs.Decisions.{decision_by, decision_in}
 use Rattle.rule_lookup.specs.Peers.{Client}
 use Rattle.rule_lookup.proofs.ListedLemmas.{decision_by-listed}
@@ -24,7 +25,7 @@ use Rattle.rules_install.specs.declared.Phase.TheVariants.{Fresh, Filling, Synce
 use Rattle.server_events.specs.declared.event.Event.{Event}
 use Rattle.server_events.specs.declared.event.Event.TheVariants.{Stepped}
 use Rattle.server_events.specs.ServerState.{ServerState, phase_after}
-use Rattle.server_events.specs.Steps.{Legal, Step, none, more}
+use Rattle.server_events.specs.Steps.{Legal, Step, none, more, beside}
 use Rattle.server_events.specs.Worlds.{Accepted, IsOf, KeptFile, RulesName, UnderWay, World}
 use Rattle.server_events.proofs.TableLemmas.{is_step}
 
@@ -32,6 +33,7 @@ use Rattle.server_events.proofs.TableLemmas.{is_step}
 pub legal_then : {u v w : World} {first second : List Event} → Legal u first v → Legal v second w → Legal u (first ++ second) w
 legal_then none rest = rest
 legal_then (more step steps) rest = more step (legal_then steps rest)
+legal_then (beside out steps) rest = beside out (legal_then steps rest)
 
 -- a world with a rules name
 abbrev pub world_at : RulesName → Directory → ServerState → Accepted → ℕ → Option UnderWay → List KeptFile → World
@@ -70,7 +72,7 @@ module _ (r : RulesName) (tmp : List ℕ) (other : tmp ≢ r.name) where
       let with_synced : World = world_at r (synced_dir tmp file d) (in_phase server Synced) texts least (Some u) kept in
       let with_name : World = world_at r (named_dir tmp r.name file d) (in_phase server Named) texts least (Some u) kept in
       let whole : FileState = record { bytes = file; synced = false } in
-      let makes_it : Step before (Stepped Fresh) with_file = record { table = is_step server (Stepped Fresh) refl; moves = (rules, tmp, makes tmp, is.are, other, inl refl, refl) } in
+      let makes_it : Step before (Stepped Fresh) with_file = record { table = is_step server (Stepped Fresh) refl; moves = (rules, tmp, makes tmp, is.of_text, other, inl refl, refl) } in
       let fills_it : Step with_file (Stepped Filling) with_bytes = record { table = is_step (in_phase server Fresh) (Stepped Filling) refl; moves = (appends file, inl (file, refl), refl) } in
       let syncs_it : Step with_bytes (Stepped Synced) with_synced = record { table = is_step (in_phase server Filling) (Stepped Synced) refl; moves = (u, refl, refl, (whole, appended_is d tmp file, is), refl) } in
       let names_it : Step with_synced (Stepped Named) with_name = record { table = is_step (in_phase server Synced) (Stepped Named) refl; moves = (u, r, refl, refl, refl) } in
@@ -118,4 +120,4 @@ content_left name bytes d image has is =
 pub decided_by_file : (rules : List Rule) (file : List ℕ) (peer : Client) → IsOf rules file → decision_by (reading file) peer ≡ Ok (decision_in rules peer)
 decided_by_file rules file peer is =
     ap (λ finds. decision_by finds peer) (λ i address. (reading_is file (stored rules) is.compiled address ∙ first_value-stored rules address) i)
-    ∙ decision_by-listed rules peer is.are
+    ∙ decision_by-listed rules peer (AreRules-of_text rules is.of_text)

@@ -4,6 +4,7 @@ pub mod Allowed
 pub mod Counts
 pub mod Done
 pub mod Entries
+pub mod Everybody
 pub mod History
 pub mod Illegal
 pub mod InstalledRuns
@@ -14,6 +15,7 @@ pub mod ListLemmas
 pub mod LiveLemmas
 pub mod Marks
 pub mod OlderText
+pub mod Others
 pub mod Openings
 pub mod Peers
 pub mod Serials

@@ -5,10 +5,7 @@ use Rattle.std.specs.Prelude.{slice_get, Option, None, Some, Ok, is_some, option
 use Rattle.std.specs.Option.{option_map}
 use Rattle.std.specs.FinMap.{empty, get, insert}
 use Rattle.std.specs.Fmt.{digits}
-use Rattle.cdb_read.specs.Compiled.{stored}
 use Rattle.cdb_read.specs.Reading.{reading}
-use Rattle.cdb_write.specs.Image.{finished_length, image_of}
-use Rattle.cdb_write.proofs.Joined.{written}
 use Rattle.dir_calls.specs.declared.choice.Choice.TheVariants.{Empty}
 use Rattle.dir_calls.specs.NameTable.{Names, moves, push}
 use Rattle.dir_calls.specs.Directory.{Directory, FileState, KeepsSynced, content, number_of}
@@ -19,7 +16,6 @@ use Rattle.dir_calls.proofs.Lasting.{after_keeps}
 use Rattle.dir_calls.proofs.NamesOf.{get-insert_same}
 use Rattle.dir_calls.proofs.Stops.{stopped_is}
 use Rattle.rule_lines.specs.Pairs.{Rule}
-use Rattle.rule_lines.specs.Rows.{AreRules}
 use Rattle.rule_lines.specs.declared.instr.Verdict.{Verdict}
 use Rattle.rule_lines.specs.declared.instr.Verdict.TheVariants.{Allow, Deny}
 use Rattle.rule_lookup.specs.Decisions.{by_rule, decision_from, decision_in}
@@ -33,6 +29,7 @@ use Rattle.server_events.specs.ServerState.{ServerState, start, after as after_e
 use Rattle.server_events.specs.Steps.{Legal, Step, none, more}
 use Rattle.server_events.specs.Witness.{an_older_text, for_everybody, somebody, texts_of_that}
 use Rattle.server_events.specs.Worlds.{Accepted, IsOf, IsStart, KeptFile, RulesName, UnderWay, World}
+use Rattle.server_events.proofs.Everybody.{for_allow, for_deny}
 use Rattle.server_events.proofs.InstalledRuns.{content_synced, decided_by_file, filled_dir, in_phase, installs, legal_then, named_dir, named_synced, next_text, world_at}
 use Rattle.server_events.proofs.StandingTexts.{begins_alone}
 use Rattle.server_events.proofs.TableLemmas.{is_step}
@@ -96,18 +93,6 @@ content_older : (d : Directory) (name bytes : List ℕ) (n : ℕ) → get d.name
 content_older d name bytes n number there =
     ap (λ (o : Option ℕ). option_map (λ (file : FileState). file.bytes) (option_and_then (λ (k : ℕ). slice_get (stopped Empty d).files k) o)) number
     ∙ ap (option_map (λ (file : FileState). file.bytes)) (slice_get-map (stopped_file Empty) d.files n ∙ ap (option_map (stopped_file Empty)) there)
-
--- ---- compiled files
-
--- Each list of rules that is not too long has a compiled file.
-compiled : (rules : List Rule) → AreRules rules → finished_length (stored rules) < 2 ^ 32 → (file : List ℕ) × IsOf rules file
-compiled rules are fits = (image_of (stored rules), record { are = are; compiled = (written (stored rules) 256 refl fits).cdb })
-
-for_deny : (file : List ℕ) × IsOf (for_everybody Deny) file
-for_deny = compiled (for_everybody Deny) (tt, tt) (omega arith)
-
-for_allow : (file : List ℕ) × IsOf (for_everybody Allow) file
-for_allow = compiled (for_everybody Allow) (tt, tt) (omega arith)
 
 -- ---- the names, the decisions, and the states of the server
 
@@ -178,7 +163,7 @@ begins_one file is d =
     let before : World = world d at_start texts_0 None [] in
     let with_file : World = world (after (makes the_scratch) d) (in_phase at_start Fresh) texts_1 (Some u) [] in
     let with_bytes : World = world (filled_dir the_scratch file d) (in_phase at_start Filling) texts_1 (Some u) [] in
-    let makes_it : Step before (Stepped Fresh) with_file = record { table = is_step at_start (Stepped Fresh) refl; moves = (for_everybody Deny, the_scratch, makes the_scratch, is.are, other_name, inl refl, refl) } in
+    let makes_it : Step before (Stepped Fresh) with_file = record { table = is_step at_start (Stepped Fresh) refl; moves = (for_everybody Deny, the_scratch, makes the_scratch, is.of_text, other_name, inl refl, refl) } in
     let fills_it : Step with_file (Stepped Filling) with_bytes = record { table = is_step (in_phase at_start Fresh) (Stepped Filling) refl; moves = (appends file, inl (file, refl), refl) } in
     more makes_it (more fills_it none)
 

@@ -1,5 +1,5 @@
 -- Each decision is by what stood when its connection opened the rules.
-use Rattle.std.proofs.Common.{◌≡◌, ℕ, ◌+◌, ◌<◌, ◌≤◌, Bool, List, [], ◌∷◌, ◌++◌, true, false, ◌==◌, Option, Some, None, Ok, inl, inr, refl, sym, ap, ◌∙◌, subst, arith, append_assoc, eq-eqb}
+use Rattle.std.proofs.Common.{◌≡◌, ℕ, ◌+◌, ◌<◌, ◌≤◌, Bool, List, [], ◌∷◌, ◌++◌, true, false, ◌==◌, Option, Some, None, Ok, inl, inr, refl, sym, ap, ◌∙◌, subst, arith, append-nil, append_assoc, eq-eqb}
 use Rattle.std.specs.Prelude.{◌⊎◌, if◌then◌else◌, option_map}
 use Rattle.std.proofs.lemmas.Bool.Decides.{nat_tests}
 use Rattle.cdb_read.specs.Reading.{reading}
@@ -17,7 +17,7 @@ use Rattle.server_events.specs.declared.event.Event.TheVariants.{Admitted, Opene
 use Rattle.server_events.specs.declared.state.Connection.{Connection}
 use Rattle.server_events.specs.Headline.{HasItsOpening, IsDecidedAt, OpensAndDecides, Reaches, decision_by}
 use Rattle.server_events.specs.ServerState.{ServerState, after, may_happen, newcomer, stage_of, with_stage, without}
-use Rattle.server_events.specs.Steps.{Advances, Legal, Moves, Step, none, more}
+use Rattle.server_events.specs.Steps.{Advances, Legal, Moves, Outside, Step, none, more, beside}
 use Rattle.server_events.specs.Worlds.{IsStart, KeptFile, RulesName, StandsFor, World, kept_by, missing_by, missing_in, peer_of, standing}
 use Rattle.server_events.proofs.History.{room_for}
 use Rattle.server_events.proofs.InstalledRuns.{decided_by_file, legal_then}
@@ -43,7 +43,7 @@ kept_by-push_other n (x ∷ ks) k other =
     ap (λ (o : Option (Option (List ℕ))). if x.serial == n then Some x.bytes else o) (kept_by-push_other n ks k other)
 
 -- who kept nothing before keeps what comes
-kept_by-push_own : (n : ℕ) (bytes : Option (List ℕ)) (ks : List KeptFile) → kept_by n ks ≡ None → kept_by n (ks ++ record { serial = n; bytes = bytes } ∷ []) ≡ Some bytes
+pub kept_by-push_own : (n : ℕ) (bytes : Option (List ℕ)) (ks : List KeptFile) → kept_by n ks ≡ None → kept_by n (ks ++ record { serial = n; bytes = bytes } ∷ []) ≡ Some bytes
 kept_by-push_own n bytes [] e = rw (eq-eqb n n refl)
 kept_by-push_own n bytes (x ∷ ks) e =
     elim (x.serial == n) as (λ b. (if b then Some x.bytes else kept_by n ks) ≡ None → (if b then Some x.bytes else kept_by n (ks ++ record { serial = n; bytes = bytes } ∷ [])) ≡ Some bytes) [
@@ -158,9 +158,16 @@ moved P w v event step h =
 orderly_step : (w v : World) (event : Event) → Step w event v → Orderly w.server w.kept → Orderly v.server v.kept
 orderly_step w v event step h = moved Orderly w v event step (orderly_after w event (step_is step.table).0 h)
 
+-- a step of others leaves what connections are and keep
+same_side : (P : ServerState → List KeptFile → Type 0) (w v : World) → Outside w v → P w.server w.kept → P v.server v.kept
+same_side P w v out h =
+    subst (λ (ks : List KeptFile). P v.server ks) (sym (ap (λ (x : World). x.kept) out.moves))
+    (subst (λ (s : ServerState). P s w.kept) (sym (ap (λ (x : World). x.server) out.moves)) h)
+
 orderly_run : {v w : World} {history : List Event} → Legal v history w → Orderly v.server v.kept → Orderly w.server w.kept
 orderly_run none h = h
 orderly_run (more {u} {v} {w} {event} {events} step rest) h = orderly_run rest (orderly_step u v event step h)
+orderly_run (beside {u} {v} out rest) h = orderly_run rest (same_side Orderly u v out h)
 
 orderly_start : (w : World) → IsStart w → Orderly w.server w.kept
 orderly_start w is =
@@ -169,6 +176,10 @@ orderly_start w is =
 
 orderly_reached : (history : List Event) (w : World) → Reaches history w → Orderly w.server w.kept
 orderly_reached history w reaches = orderly_run reaches.legal (orderly_start reaches.begin reaches.starts)
+
+-- who waits for its opening keeps nothing
+pub waiting_keeps : (history : List Event) (w : World) → Reaches history w → (n : ℕ) → stage_of n w.server.connections ≡ Some stage.Admitted → kept_by n w.kept ≡ None
+waiting_keeps history w reaches n here = (orderly_reached history w reaches).waiting n here
 
 -- ---- once a connection has opened the rules
 
@@ -229,6 +240,9 @@ carries_run n peer bytes (more {u} {v} {w} {event} {events} step rest) order h =
     let next = moved (λ (s : ServerState) (ks : List KeptFile). Carries n peer bytes s ks) u v event step (carries_after n peer bytes u event (step_is step.table).0 order.rise h) in
     let later = carries_run n peer bytes rest (orderly_step u v event step order) next in
     (later.0, later.1 ∙ (moves_same event u v step.moves).1)
+carries_run n peer bytes (beside {u} {v} out rest) order h =
+    let later = carries_run n peer bytes rest (same_side Orderly u v out order) (same_side (λ (s : ServerState) (ks : List KeptFile). Carries n peer bytes s ks) u v out h) in
+    (later.0, later.1 ∙ ap (λ (x : World). x.rules) out.moves)
 
 -- ---- the decision
 
@@ -318,6 +332,10 @@ record Opening (history : List Event) (n : ℕ) (x : World) : Type 0 where
 pub reaches_next : (before : List Event) (u v : World) (event : Event) → Reaches before u → Step u event v → Reaches (before ++ event ∷ []) v
 reaches_next before u v event reaches step = record { begin = reaches.begin; starts = reaches.starts; legal = legal_then reaches.legal (more step none) }
 
+reaches_beside : (before : List Event) (u v : World) → Reaches before u → Outside u v → Reaches before v
+reaches_beside before u v reaches out =
+    subst (λ (h : List Event). Reaches h v) (append-nil before) (record { begin = reaches.begin; starts = reaches.starts; legal = legal_then reaches.legal (beside out none) })
+
 -- Who is opened in a world was so in any world before it, or has its opening between.
 opening_between : (n : ℕ) (before : List Event) {u x : World} {events : List Event} → Reaches before u → Legal u events x → stage_of n x.server.connections ≡ Some stage.Opened → (stage_of n u.server.connections ≡ Some stage.Opened) ⊎ Opening (before ++ events) n x
 opening_between n before reaches none e = inl e
@@ -341,6 +359,11 @@ opening_between n before reaches (more {u} {v} {w} {event} {events} step rest) e
               is_history = ap (λ (a : Event). before ++ a ∷ events) now.1;
             })
           ]
+    ]
+opening_between n before reaches (beside {u} {v} {w} {events} out rest) e =
+    elim (opening_between n before (reaches_beside before u v reaches out) rest e) [
+      | inr between ↦ inr between
+      | inl after_it ↦ inl (ap (λ (x : World). stage_of n x.server.connections) (sym out.moves) ∙ after_it)
     ]
 
 opening_reached : (history : List Event) (x : World) (n : ℕ) → Reaches history x → stage_of n x.server.connections ≡ Some stage.Opened → Opening history n x

@@ -5,17 +5,13 @@ use Rattle.std.specs.Cmp.Lexicographic.{slice_cmp}
 use Rattle.std.specs.FinMap.{empty, get-empty}
 use Rattle.std.specs.Fmt.{digits}
 use Rattle.std.specs.Ordering.{nat_cmp}
-use Rattle.cdb_read.specs.Compiled.{stored}
 use Rattle.cdb_read.specs.Reading.{reading}
-use Rattle.cdb_write.specs.Image.{finished_length, image_of}
-use Rattle.cdb_write.proofs.Joined.{written}
 use Rattle.dir_calls.specs.declared.choice.Choice.TheVariants.{Kept as AllKept}
 use Rattle.dir_calls.specs.Directory.{Directory, content}
 use Rattle.dir_calls.specs.Calls.{settles, after}
 use Rattle.dir_calls.specs.Stop.{stopped}
 use Rattle.dir_calls.proofs.Stops.{stopped_is}
 use Rattle.rule_lines.specs.Pairs.{Rule}
-use Rattle.rule_lines.specs.Rows.{AreRules}
 use Rattle.rule_lines.specs.declared.instr.Verdict.{Verdict}
 use Rattle.rule_lines.specs.declared.instr.Verdict.TheVariants.{Allow, Deny}
 use Rattle.rule_lookup.specs.Decisions.{by_rule, decision_from, decision_in}
@@ -31,21 +27,10 @@ use Rattle.server_events.specs.Steps.{Legal, Step, none, more}
 use Rattle.server_events.specs.Table.{done}
 use Rattle.server_events.specs.Witness.{for_everybody, somebody, texts_of_it, two_texts}
 use Rattle.server_events.specs.Worlds.{Accepted, IsOf, IsStart, KeptFile, RulesName, UnderWay, World}
+use Rattle.server_events.proofs.Everybody.{for_allow, for_deny}
 use Rattle.server_events.proofs.InstalledRuns.{content_left, content_synced, decided_by_file, finishes, in_phase, installs, legal_then, named_dir, named_synced, next_text, world_at}
 use Rattle.server_events.proofs.StandingTexts.{begins_alone}
 use Rattle.server_events.proofs.TableLemmas.{is_step}
-
--- ---- compiled files
-
--- Each list of rules that is not too long has a compiled file.
-pub compiled_file : (rules : List Rule) → AreRules rules → finished_length (stored rules) < 2 ^ 32 → (file : List ℕ) × IsOf rules file
-compiled_file rules are fits = (image_of (stored rules), record { are = are; compiled = (written (stored rules) 256 refl fits).cdb })
-
-for_deny : (file : List ℕ) × IsOf (for_everybody Deny) file
-for_deny = compiled_file (for_everybody Deny) (tt, tt) (omega arith)
-
-for_allow : (file : List ℕ) × IsOf (for_everybody Allow) file
-for_allow = compiled_file (for_everybody Allow) (tt, tt) (omega arith)
 
 -- ---- the names, the decisions, and the states of the server
 

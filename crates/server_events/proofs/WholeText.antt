@@ -18,10 +18,11 @@ use Rattle.server_events.specs.declared.event.Event.{Event}
 use Rattle.server_events.specs.declared.event.Event.TheVariants.{Admitted, Opened, Decided, Started, StartFailed, Ended, Retired, Dropped, Stepped, StepFailed, Stop}
 use Rattle.server_events.specs.ServerState.{ServerState, phase_after}
 use Rattle.server_events.specs.Table.{Follows, fresh, filling, filling_on, synced, named, done}
-use Rattle.server_events.specs.Steps.{Advances, FailsTo, IsCallTo, IsScratchName, IsWhole, MakesScratch, Legal, MayBeAt, MayLeave, Moves, Step, none, more}
+use Rattle.server_events.specs.Steps.{Advances, FailsTo, IsCallTo, IsScratchName, IsWhole, LeavesAlone, LeavesRules, LeavesScratch, MakesScratch, Legal, MayBeAt, MayLeave, Moves, Outside, Step, none, more, beside}
 use Rattle.server_events.specs.Worlds.{Accepted, HoldsRules, IsAccepted, IsStart, RulesName, StartsWith, UnderWay, World, standing}
 use Rattle.server_events.specs.Headline.{HasWholeText, Reaches}
 use Rattle.server_events.proofs.LeftNames.{PutsOnly, left_now, names-with_scratch, scratch-with_scratch}
+use Rattle.server_events.proofs.Others.{file_on, lasts_on}
 use Rattle.server_events.proofs.StandingTexts.{IsText, Lasts, image_lasts, lasts_accepted, lasts_failed, lasts_missing, lasts_more, lasts_settled, lasts_within}
 use Rattle.server_events.proofs.TableLemmas.{may_come_follows, step_is}
 
@@ -338,9 +339,39 @@ good_moves Stop w v step what good =
     subst (λ (x : World). Good x) (sym what.1)
     (same_parts w.rules w.accepted w.acknowledged v.directory None v.server.phase None None (ap (λ s. s.phase) (step_is step.table).1) refl (stopped_holds w v.directory good what.0))
 
+-- ---- steps of others
+
+at_on : (d e : Directory) (name : List ℕ) (u : UnderWay) (phase : Phase) → LeavesAlone name d e → LeavesAlone u.tmp d e → e.scratch ≡ d.scratch → IsAt d name u phase → IsAt e name u phase
+at_on d e name u Fresh rules tmp scratch at = tmp.now ∙ at ∙ sym scratch
+at_on d e name u Filling rules tmp scratch at = tmp.now ∙ at ∙ sym scratch
+at_on d e name u Synced rules tmp scratch at = file_on u.tmp d e u.rules tmp at
+at_on d e name u Named rules tmp scratch at = file_on name d e u.rules rules at
+at_on d e name u Done rules tmp scratch at = at
+
+agree_on : (accepted : Accepted) (least : ℕ) (name : List ℕ) (d e : Directory) (phase : Option Phase) (under_way : Option UnderWay) → LeavesAlone name d e → LeavesScratch under_way d e → Agree accepted least name d phase under_way → Agree accepted least name e phase under_way
+agree_on accepted least name d e None None rules scratch agree = agree
+agree_on accepted least name d e None (Some u) rules scratch agree = agree
+agree_on accepted least name d e (Some phase) None rules scratch agree = agree
+agree_on accepted least name d e (Some phase) (Some u) rules scratch agree =
+    proceeds_to accepted least name d e u phase phase agree (at_on d e name u phase rules scratch.0 scratch.1 agree.at)
+
+outside_holds : (rules : Option RulesName) (accepted : Accepted) (least : ℕ) (d e : Directory) (phase : Option Phase) (under_way : Option UnderWay)
+    → LeavesRules rules d e → LeavesScratch under_way d e → HoldsBy rules accepted least d phase under_way → HoldsBy rules accepted least e phase under_way
+outside_holds None accepted least d e phase under_way alone scratch holds = holds
+outside_holds (Some r) accepted least d e phase under_way alone scratch holds = record {
+  lasts = lasts_on accepted least r.name d e alone holds.lasts;
+  agree = agree_on accepted least r.name d e phase under_way alone scratch holds.agree;
+}
+
+good_outside : (w v : World) → Outside w v → Good w → Good v
+good_outside w v out good =
+    subst (λ (x : World). Good x) (sym out.moves)
+    (outside_holds w.rules w.accepted w.acknowledged w.directory v.directory w.server.phase w.under_way out.rules_alone out.scratch_alone good)
+
 good_run : {w v : World} {history : List Event} → Legal w history v → Good w → Good v
 good_run none good = good
 good_run (more {u} {v} {w} {event} {events} step rest) good = good_run rest (good_moves event u v step step.moves good)
+good_run (beside {u} {v} out rest) good = good_run rest (good_outside u v out good)
 
 -- ---- the start
 

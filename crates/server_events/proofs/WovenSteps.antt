@@ -5,9 +5,9 @@ use Rattle.rules_install.specs.declared.Phase.{Phase}
 use Rattle.rules_install.specs.declared.Phase.TheVariants.{Fresh, Filling, Synced, Named, Done}
 use Rattle.server_events.specs.declared.event.Event.{Event}
 use Rattle.server_events.specs.declared.event.Event.TheVariants.{Admitted, Opened, Decided, Started, StartFailed, Ended, Retired, Dropped, Stepped, StepFailed, Stop}
-use Rattle.server_events.specs.Processes.{InstallerSteps, KeepsInstallers, KeepsServer, ServerSteps, Woven, is_connections, is_installations, none, serves, installs, stops, of_installers, of_server}
+use Rattle.server_events.specs.Processes.{InstallerSteps, KeepsInstallers, KeepsServer, ServerSteps, Woven, is_connections, is_installations, none, serves, installs, stops, outside, of_installers, of_server}
 use Rattle.server_events.specs.ServerState.{ServerState, after, may_happen, phase_after, start}
-use Rattle.server_events.specs.Steps.{Advances, FailsTo, Legal, Moves, Step, none as no_more, more}
+use Rattle.server_events.specs.Steps.{Advances, FailsTo, Legal, Moves, Step, none as no_more, more, beside}
 use Rattle.server_events.specs.Table.{Happens}
 use Rattle.server_events.specs.Worlds.{Accepted, KeptFile, RulesName, UnderWay, World}
 use Rattle.server_events.proofs.TableLemmas.{is_step, step_is}
@@ -245,6 +245,7 @@ one_history none = no_more
 one_history (serves {u} {v} {w} {event} {events} made rest) = more (server_step u v event made) (one_history rest)
 one_history (installs {u} {v} {w} {event} {events} made rest) = more (installer_step u v event made.its made.step made.others) (one_history rest)
 one_history (stops step rest) = more step (one_history rest)
+one_history (outside out rest) = beside out (one_history rest)
 
 by_event : {u v w : World} {events : List Event} (event : Event) → Step u event v → Woven v events w → Woven u (event ∷ events) w
 by_event {u} {v} (Stepped p) step rest = installs (steps_advance u v p step) rest
@@ -262,3 +263,4 @@ by_event {u} {v} (Dropped n cause) step rest = serves (steps_server u v (Dropped
 pub its_parts : {w v : World} {history : List Event} → Legal w history v → Woven w history v
 its_parts no_more = none
 its_parts (more {u} {v} {w} {event} {events} step rest) = by_event event step (its_parts rest)
+its_parts (beside out rest) = outside out (its_parts rest)

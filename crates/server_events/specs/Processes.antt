@@ -3,7 +3,7 @@ use Rattle.std.specs.Prelude.{◌≡◌, ℕ, Bool, true, false, List, [], ◌�
 use Rattle.server_events.specs.declared.event.Event.{Event}
 use Rattle.server_events.specs.declared.event.Event.TheVariants.{Stepped, StepFailed, Stop}
 use Rattle.server_events.specs.ServerState.{start}
-use Rattle.server_events.specs.Steps.{Step}
+use Rattle.server_events.specs.Steps.{Outside, Step}
 use Rattle.server_events.specs.Worlds.{World}
 
 -- an event of a connection
@@ -51,9 +51,10 @@ pub record InstallerSteps (w : World) (event : Event) (v : World) : Type 0 where
   pub step : Step (of_installers w) event (of_installers v)
   pub others : KeepsServer w v
 
--- the steps of both, woven in any order; a stop ends both
+-- the steps of both, and of others, woven in any order; a stop ends both
 pub data Woven : World → List Event → World → Type 0 where
   none : {w : World} → Woven w [] w
   serves : {u v w : World} {event : Event} {events : List Event} → ServerSteps u event v → Woven v events w → Woven u (event ∷ events) w
   installs : {u v w : World} {event : Event} {events : List Event} → InstallerSteps u event v → Woven v events w → Woven u (event ∷ events) w
   stops : {u v w : World} {events : List Event} → Step u Stop v → Woven v events w → Woven u (Stop ∷ events) w
+  outside : {u v w : World} {events : List Event} → Outside u v → Woven v events w → Woven u events w

@@ -1,12 +1,14 @@
 -- What each event does to the world.
-use Rattle.std.specs.Prelude.{◌≡◌, ◌≢◌, ◌⊎◌, ℕ, max, true, is_some, List, [], ◌∷◌, ◌++◌, length, Option, Some, None, option_map, Ok}
-use Rattle.dir_calls.specs.Directory.{Directory, FileState, scratch_of}
+use Rattle.std.specs.Prelude.{◌≡◌, ◌≢◌, ◌⊎◌, ⊤, ℕ, max, true, is_some, List, [], ◌∷◌, ◌++◌, length, slice_get, Option, Some, None, option_map, Ok}
+use Rattle.std.specs.FinMap.{get}
+use Rattle.dir_calls.specs.NameTable.{CanBeLeft, Names}
+use Rattle.dir_calls.specs.Directory.{Directory, FileState, number_of, scratch_of}
 use Rattle.dir_calls.specs.Calls.{Call, makes, renews, appends, patches, syncs, renames, settles, after}
 use Rattle.dir_calls.specs.Outcomes.{Passes, Fails}
 use Rattle.dir_calls.specs.Images.{IsImage}
 use Rattle.cdb_read.specs.Reading.{reading}
 use Rattle.rule_lines.specs.Pairs.{Rule}
-use Rattle.rule_lines.specs.Rows.{AreRules}
+use Rattle.rule_lines.specs.Texts.{AreOfText}
 use Rattle.rule_lookup.specs.Decisions.{decision_from}
 use Rattle.rule_lookup.specs.Peers.{Client}
 use Rattle.rules_install.specs.declared.Phase.{Phase}
@@ -39,12 +41,12 @@ IsCallTo phase under_way rules call = ⊥
 abbrev pub IsWhole : Directory → UnderWay → Type 0
 IsWhole d u = (file : FileState) × (scratch_of d ≡ Some file) × IsOf u.rules file.bytes
 
--- a step to `Fresh` begins an installation of rules, which are accepted with it; to `Filling` puts any bytes into the scratch
+-- a step to `Fresh` begins an installation of the rules of an accepted text, which count as accepted with it; to `Filling` puts any bytes into the scratch
 -- file; to `Synced` syncs it, only where it is whole; to `Named` moves it onto the rules name; to `Done` makes that lasting and
 -- acknowledges the text
 abbrev pub Advances : Phase → World → World → Type 0
 Advances Fresh w w' =
-    (rules : List Rule) × (tmp : List ℕ) × (call : Call) × AreRules rules × IsScratchName w.rules tmp × MakesScratch tmp call
+    (rules : List Rule) × (tmp : List ℕ) × (call : Call) × AreOfText rules × IsScratchName w.rules tmp × MakesScratch tmp call
     × (w' ≡ record w { directory = after call w.directory; server = w'.server; accepted = w.accepted ++ Some rules ∷ []; under_way = Some (record { rules = rules; number = length w.accepted; tmp = tmp }) })
 Advances Filling w w' =
     (call : Call) × IsCallTo Filling w.under_way w.rules call × (w' ≡ record w { directory = after call w.directory; server = w'.server })
@@ -84,12 +86,38 @@ Moves Stop w w' =
     MayLeave w w'.directory × (w' ≡ record w { directory = w'.directory; server = w'.server; under_way = None; kept = [] })
 Moves event w w' = w' ≡ record w { server = w'.server }
 
+-- others leave a name alone: what stands under it stands there, a stop leaves under it only what one might have left before, and each file that
+-- it may stand for stays as it is
+pub record LeavesAlone (name : List ℕ) (d e : Directory) : Type 0 where
+  pub now : number_of e name ≡ number_of d name
+  pub left : (names : Names) → CanBeLeft e.names names → (was : Names) × CanBeLeft d.names was × (get names name ≡ get was name)
+  pub files : (names : Names) (number : ℕ) → CanBeLeft d.names names → get names name ≡ Some number
+      → (file : FileState) → slice_get d.files number ≡ Some file → slice_get e.files number ≡ Some file
+
+-- the rules name, if there is one
+abbrev pub LeavesRules : Option RulesName → Directory → Directory → Type 0
+LeavesRules None d e = ⊤
+LeavesRules (Some r) d e = LeavesAlone r.name d e
+
+-- the scratch file of an installation under way, under its name
+abbrev pub LeavesScratch : Option UnderWay → Directory → Directory → Type 0
+LeavesScratch None d e = ⊤
+LeavesScratch (Some u) d e = LeavesAlone u.tmp d e × (e.scratch ≡ d.scratch)
+
+-- A step of others, which is no event: whatever they do to the directory, they leave alone the rules name, and the scratch file of an
+-- installation under way.
+pub record Outside (w w' : World) : Type 0 where
+  pub rules_alone : LeavesRules w.rules w.directory w'.directory
+  pub scratch_alone : LeavesScratch w.under_way w.directory w'.directory
+  pub moves : w' ≡ record w { directory = w'.directory }
+
 -- an event leads from one world to the next
 pub record Step (w : World) (event : Event) (w' : World) : Type 0 where
   pub table : Happens w.server event w'.server
   pub moves : Moves event w w'
 
--- a list of events leads from one world to another
+-- a list of events leads from one world to another, with steps of others anywhere between them
 pub data Legal : World → List Event → World → Type 0 where
   none : {w : World} → Legal w [] w
   more : {u v w : World} {event : Event} {events : List Event} → Step u event v → Legal v events w → Legal u (event ∷ events) w
+  beside : {u v w : World} {events : List Event} → Outside u v → Legal v events w → Legal u events w

@@ -1,11 +1,13 @@
 -- Steps that a world takes, and steps that no world takes.
 use Rattle.std.specs.Prelude.{◌≡◌, ◌≢◌, ◌<◌, ⊤, ℕ, Bool, true, List, [], ◌∷◌, ◌++◌, length, Option, Some, IfSome, is_some, Result, Ok, option_map}
-use Rattle.dir_calls.specs.Directory.{Directory, scratch_of}
+use Rattle.dir_calls.specs.Directory.{Directory, FileState, scratch_of}
+use Rattle.dir_calls.specs.NameTable.{push, puts}
 use Rattle.dir_calls.specs.Calls.{Call}
 use Rattle.dir_calls.specs.Images.{IsImage}
 use Rattle.dir_calls.specs.Outcomes.{Passes, Fails}
 use Rattle.cdb_read.specs.Reading.{reading}
 use Rattle.rule_lines.specs.Pairs.{Rule}
+use Rattle.rule_lines.specs.Texts.{AreOfText}
 use Rattle.rule_lookup.specs.Decisions.{decision_from}
 use Rattle.rule_lookup.specs.Peers.{Client}
 use Rattle.rule_lookup.specs.declared.decision.Decision.{Decision}
@@ -16,7 +18,7 @@ use Rattle.server_events.specs.declared.event.Event.TheVariants.{Stop}
 use Rattle.server_events.specs.declared.event.Stage.TheVariants as stage
 use Rattle.server_events.specs.Headline.{Reaches}
 use Rattle.server_events.specs.Live.{concerns}
-use Rattle.server_events.specs.Steps.{IsCallTo, Legal, Step}
+use Rattle.server_events.specs.Steps.{IsCallTo, Legal, Outside, Step}
 use Rattle.server_events.specs.Table.{Follows, HasStage}
 use Rattle.server_events.specs.Worlds.{Accepted, RulesName, UnderWay, World, kept_by, missing_in, peer_of, standing}
 
@@ -27,6 +29,19 @@ CanStep w event = (v : World) × Step w event v
 -- and leave this directory
 abbrev pub CanStepTo : World → Event → Directory → Type 0
 CanStepTo w event d = (v : World) × Step w event v × (v.directory ≡ d)
+
+-- others may leave this directory
+abbrev pub CanBeChanged : World → Directory → Type 0
+CanBeChanged w d = (v : World) × Outside w v × (v.directory ≡ d)
+
+-- neither the rules name nor that of the scratch file of an installation under way
+pub record IsOthers (w : World) (name : List ℕ) : Type 0 where
+  pub not_rules : (r : RulesName) → w.rules ≡ Some r → r.name ≢ name
+  pub not_scratch : (u : UnderWay) → w.under_way ≡ Some u → u.tmp ≢ name
+
+-- with a file of others under a name
+abbrev pub with_others : Directory → List ℕ → FileState → Directory
+with_others d name file = record { names = push d.names (puts name (length d.files)); files = d.files ++ file ∷ []; scratch = d.scratch }
 
 -- an event never happens in a world
 abbrev pub CannotStep : World → Event → Type 0
@@ -87,9 +102,9 @@ pub record HappensAfterStop (w : World) (n : ℕ) : Type 0 where
   pub step : Step later event then
   pub concerned : concerns n event ≡ true
 
--- a step that adds one text to those accepted
+-- a step that adds the rules of one accepted text to those accepted
 abbrev pub AddsText : World → World → Type 0
-AddsText w v = (rules : List Rule) × (v.accepted ≡ w.accepted ++ Some rules ∷ [])
+AddsText w v = (rules : List Rule) × AreOfText rules × (v.accepted ≡ w.accepted ++ Some rules ∷ [])
 
 -- a history leads from a start to a world that accepted these texts and acknowledged this one
 abbrev pub LeadsTo : List Event → Accepted → ℕ → Type 0

@@ -6,7 +6,7 @@ use Rattle.dir_calls.specs.Directory.{Directory, FileState, content}
 use Rattle.cdb_read.specs.Compiled.{stored}
 use Rattle.cdb_write.specs.IsCdb.{IsCdb}
 use Rattle.rule_lines.specs.Pairs.{Rule}
-use Rattle.rule_lines.specs.Rows.{AreRules}
+use Rattle.rule_lines.specs.Texts.{AreOfText}
 use Rattle.rule_lookup.specs.Peers.{Client}
 use Rattle.rule_lookup.specs.declared.decision.Missing.{Missing}
 use Rattle.rule_lookup.specs.declared.decision.Missing.TheVariants.{Allow as AllowMissing}
@@ -68,9 +68,9 @@ abbrev pub peer_of : ℕ → List Connection → Option Client
 peer_of n [] = None
 peer_of n (c ∷ cs) = if c.serial == n then Some c.peer else peer_of n cs
 
--- a file is compiled of rules
+-- a file is compiled of the rules of an accepted text
 pub record IsOf (rules : List Rule) (file : List ℕ) : Type 0 where
-  pub are : AreRules rules
+  pub of_text : AreOfText rules
   pub compiled : IsCdb file (stored rules)
 
 -- what may stand where a text was accepted: a file that is compiled of it; and nothing where there was none

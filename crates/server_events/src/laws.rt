@@ -1,7 +1,9 @@
 //! Laws over the definitions alone.
 ghost use Rattle.std.specs.Prelude.{◌≡◌, ◌≢◌, ◌↔◌, ℕ, ◌+◌, ◌≤◌, ◌<◌, Bool, List, length, true, None, Some, IsSomeAnd};
 ghost use Rattle.std.specs.List.Sorted.{IsStrictlyIncreasing};
-ghost use Rattle.dir_calls.specs.Directory.{Directory};
+ghost use Rattle.dir_calls.specs.Directory.{Directory, FileState};
+ghost use Rattle.dir_calls.specs.Calls.{settles, without};
+ghost use Rattle.dir_calls.specs.Calls as call;
 ghost use Rattle.dir_calls.specs.Images.{IsImage};
 ghost use Rattle.rule_lookup.specs.Peers.{Client};
 ghost use Rattle.rule_lookup.specs.declared.decision.Decision.{Decision};
@@ -13,11 +15,11 @@ ghost use Rattle.server_events.specs.Live.{KeepsAddressLimit, KeepsLimit, live_o
 ghost use Rattle.server_events.specs.Processes.{Woven};
 ghost use Rattle.server_events.specs.Reports.{first_illegal, IsFirstIllegal};
 ghost use Rattle.server_events.specs.ServerState.{AllowedHistory, IsLegalTo, ServerState, may_happen, after, connections_after, is_legal, state_after};
-ghost use Rattle.server_events.specs.Steps.{IsWhole, Legal, Step};
+ghost use Rattle.server_events.specs.Steps.{IsWhole, Legal, Outside, Step};
 ghost use Rattle.server_events.specs.Table.{Happens, HasStage, IsFull, IsFullFor, Runs};
-ghost use Rattle.server_events.specs.Taken.{AddsText, CanStep, CanStepTo, CannotStep, HappensAfterStop, HaveOtherNames, HasShortScratch, IsDue, IsLeftWithin, LeadsTo, MayFail, is_there};
+ghost use Rattle.server_events.specs.Taken.{AddsText, CanBeChanged, CanStep, CanStepTo, CannotStep, HappensAfterStop, HaveOtherNames, HasShortScratch, IsDue, IsLeftWithin, IsOthers, LeadsTo, MayFail, is_there, with_others};
 ghost use Rattle.server_events.specs.Witness.{an_older_text, texts_of_it, texts_of_that, two_texts};
-ghost use Rattle.server_events.specs.Worlds.{IsStart, RulesName, UnderWay, World};
+ghost use Rattle.server_events.specs.Worlds.{IsStart, RulesName, UnderWay, World, standing};
 ghost use Rattle.server_events.specs.declared.event.Event.{Event};
 ghost use Rattle.server_events.specs.declared.event.Event.TheVariants.{Admitted, Decided, Opened, Stepped, StepFailed, Stop};
 ghost use Rattle.server_events.specs.declared.event.Stage.TheVariants as Stage;
@@ -93,13 +95,17 @@ pub fn keeps()
 
 /// Steps that a world does take, so that the laws speak of them: a stop may leave each image of the directory as it is, and of each
 /// moment within a call that may come next; a step may fail and leave whatever a failing device leaves; each rules file may be opened
-/// by who was let in, and decides as it says.
+/// by who was let in, and decides as it says. And others may make a file under a name of their own, take one away, and make all names lasting.
 pub fn taken()
     ensures stopped { (w : World) (image : Directory) → IsImage w.directory image → CanStepTo w Stop image }
     ensures stopped_within { (w : World) (image : Directory) → IsLeftWithin w image → CanStepTo w Stop image }
     ensures failed { (w : World) (p : Phase) (d : Directory) → MayFail w p d → CanStepTo w (StepFailed p) d }
     ensures opened { (w : World) (n : ℕ) → HasStage w.server n Stage.Admitted → CanStep w (Opened n (is_there w)) }
     ensures decided { (w : World) (n : ℕ) (d : Decision) → IsDue w n d → CanStep w (Decided n d) }
+    ensures made { (w : World) (name : List ℕ) (file : FileState) → IsOthers w name
+        → CanBeChanged w (with_others w.directory name file) }
+    ensures taken_away { (w : World) (name : List ℕ) → IsOthers w name → CanBeChanged w (without w.directory name) }
+    ensures settled { (w : World) → CanBeChanged w (call.after settles w.directory) }
 {}
 
 /// Some steps that no world takes: a file that is not whole is not synced, and none is named before it is synced; without a rules name, or
@@ -120,6 +126,7 @@ pub fn refusals()
     ensures full_address { (w : World) (n : ℕ) (p : Client) → IsFullFor w.server p.ip → CannotStep w (Admitted n p) }
     ensures serial { (w : World) (n : ℕ) (peer : Client) → n ≢ w.server.last + 1 → CannotStep w (Admitted n peer) }
     ensures after_a_stop { (w : World) (n : ℕ) → HappensAfterStop w n → w.server.last < n }
+    ensures others { (w v : World) (bytes : List ℕ) → Outside w v → standing w ≡ Some bytes → standing v ≡ Some bytes }
 {}
 
 /// A history in which all of this happens, so that the laws are not about nothing: a text that denies is installed, and a connection

@@ -20,7 +20,7 @@ use Rattle.server_yard.specs.Passes.{trust_in}
 use Rattle.server_yard.specs.Rolls.{Books, IsQuiet, Notes, Roll}
 use Rattle.server_yard.specs.Seating.{goes_on, is_installing, leaver}
 use Rattle.server_yard.specs.Standing.{YardState}
-use Rattle.server_yard.specs.Yards.{IsSameBeside, yard_roll, yard_state}
+use Rattle.server_yard.specs.Yards.{IsSameBeside, IsSameButDirectory, yard_over, yard_roll, yard_state}
 use Rattle.server_yard.specs.declared.yard.Yard.{Yard}
 use Rattle.server_yard.proofs.Histories.{OneMore, history_on, history_same}
 use Rattle.server_yard.proofs.Installs.{installed_same, installs-other, reached_by}
@@ -110,6 +110,12 @@ goes_to state told count stored lists e old new noted same = record {
   rules = same.rules;
   installing = same.installing;
 }
+
+-- a yard that is the same but for its directory is so over any directory
+pub same_over : {L D J F : Type 0} {p : _} {l : _} {d : _} {j : _} (lists : J → Option (List (List Rule))) (directory : Directory) (old new : Yard L D J F p l d j)
+    → yard_roll new ≡ yard_roll old → IsSameButDirectory lists old new → yard_over directory new ≡ yard_over directory old
+same_over lists directory old new roll same = λ i.
+    let y : YardState = record { directory = directory; rules = same.rules i; server = (roll i).server; installing = same.installing i } in y
 
 -- what stands under the rules name is compiled of rules, or nothing
 whole_of : (text : Option (List Rule)) (bytes : Option (List ℕ)) → StandsFor text bytes → IsWholeFile bytes

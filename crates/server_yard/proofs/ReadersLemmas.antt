@@ -11,7 +11,7 @@ use Rattle.rule_lines.specs.Pairs.{Rule}
 use Rattle.rules_install.specs.declared.Phase.{Phase}
 use Rattle.rules_install.specs.declared.Phase.TheVariants.{Fresh, Filling, Synced, Named, Done}
 use Rattle.server_events.specs.Headline.{Reaches}
-use Rattle.server_events.specs.Steps.{Advances, Legal, Moves, Step, none, more}
+use Rattle.server_events.specs.Steps.{Advances, Legal, Moves, Step, none, more, beside}
 use Rattle.server_events.specs.Table.{Follows, done}
 use Rattle.server_events.specs.Worlds.{Accepted, RulesName, StandsAt, UnderWay, World}
 use Rattle.server_events.specs.declared.event.Event.{Event}
@@ -77,6 +77,10 @@ counted_run m n (more {u} {v} {w} {event} {events} step rest) c =
     let first = begun-cons event events in
     let same : (n + one_of event) + begun_in events ≡ n + begun_in (event ∷ events) = omega (arith, first) in
     subst (λ (k : ℕ). Counted m w k) same (counted_run m (n + one_of event) rest (counted_moves m event u v n step.moves c))
+counted_run m n (beside {u} {v} out rest) c = counted_run m n rest (record {
+  texts = ap (λ (x : World). length x.accepted) out.moves ∙ c.texts;
+  idle = λ none. ap (λ (x : World). x.under_way) out.moves ∙ c.idle none;
+})
 
 counted_reached : (h : List Event) (w : World) → (reaches : Reaches h w) → Counted (length reaches.begin.accepted) w (begun_in h)
 counted_reached h w reaches =
@@ -116,6 +120,10 @@ rises_run (more {u} {v} {w} {event} {events} step rest) =
     let here = rises_moves event u v step.moves in
     let later = rises_run rest in
     omega (arith, here, later)
+rises_run (beside {u} {v} out rest) =
+    let same : v.acknowledged ≡ u.acknowledged = ap (λ (x : World). x.acknowledged) out.moves in
+    let later = rises_run rest in
+    omega (arith, same, later)
 
 -- ---- the number of one that was done
 
@@ -154,6 +162,9 @@ parts_of (more {u} {v} {w} {event} {events} step rest) (b ∷ bs) e later is =
       step = parts.step;
       rest = parts.rest;
     }
+parts_of (beside out rest) before e later is =
+    let parts = parts_of rest before e later is in
+    record { x = parts.x; y = parts.y; first = beside out parts.first; step = parts.step; rest = parts.rest }
 
 last_of : (accepted : Accepted) (least : ℕ) (name : List ℕ) (d : Directory) (phase : Option Phase) (u : UnderWay) → Follows phase Done → Agree accepted least name d phase (Some u) → u.number + 1 ≡ length accepted
 last_of accepted least name d phase u done goes = goes.last

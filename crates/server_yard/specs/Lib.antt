@@ -4,6 +4,7 @@ pub mod Rolls
 pub mod Seating
 pub mod Rosters
 pub mod Standing
+pub mod Serving
 pub mod Stepping
 pub mod Installed
 pub mod Readers

@@ -1,6 +1,7 @@
 -- What the events of a yard change: the state that they led to, the journal, and who speaks; and which place is whose.
-use Rattle.std.specs.Prelude.{◌≡◌, ◌++◌, ◌∷◌, ℕ, true, List, [], Option, Some, None, IfSome, map, option_map, option_and_then}
+use Rattle.std.specs.Prelude.{◌≡◌, ◌++◌, ◌∷◌, ◌-◌, ◌^◌, ℕ, true, List, [], Option, Some, None, IfSome, length, map, min, option_map, option_and_then}
 use Rattle.rule_lines.specs.Pairs.{Rule}
+use Rattle.server_events.specs.Live.{KeepsAddressLimit, KeepsLimit}
 use Rattle.server_events.specs.ServerState.{ServerState, after, is_legal, may_happen, stage_of, start, state_after}
 use Rattle.server_events.specs.declared.event.Event.{Event}
 use Rattle.server_events.specs.declared.event.Stage.{Stage}
@@ -53,6 +54,17 @@ pub record IsHistory (told : Report) (count : ℕ) (stored : Option (List Noted)
   pub legal : is_legal (start server.limit server.per_address) history ≡ true
   pub leads : server ≡ state_after (start server.limit server.per_address) history
   pub stores : IfSome stored (λ notes. map (λ (n : Noted). n.event) notes ≡ history)
+
+-- such a list of events, along which never more are alive than may be, in all and from one address
+pub record Lived (books : Books) (server : ServerState) : Type 0 where
+  pub history : List Event
+  pub is_history : IsHistory books.told books.count books.stored server history
+  pub limit : KeepsLimit server.limit history
+  pub per_address : KeepsAddressLimit server.per_address history
+
+-- as many events are stored as are counted, as far as a u64 counts
+abbrev pub CountsStored : Books → Type 0
+CountsStored books = IfSome books.stored (λ notes. books.count ≡ min (length notes) (2 ^ 64 - 1))
 
 -- there is such a list
 abbrev pub HasHistory : Report → ℕ → Option (List Noted) → ServerState → Type 0

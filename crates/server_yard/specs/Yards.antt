@@ -18,6 +18,10 @@ use Rattle.server_yard.specs.declared.yard.Yard.{Yard}
 abbrev pub yard_state : {L D J F : Type 0} {p : _} {l : _} {d : _} {j : _} → (D → Directory) → Yard L D J F p l d j → YardState
 yard_state state y = state_of y.roster (state y.dir) y.rules y.installation
 
+-- the same over a directory as others left it
+abbrev pub yard_over : {L D J F : Type 0} {p : _} {l : _} {d : _} {j : _} → Directory → Yard L D J F p l d j → YardState
+yard_over directory y = state_of y.roster directory y.rules y.installation
+
 -- what its events change
 abbrev pub yard_roll : {L D J F : Type 0} {p : _} {l : _} {d : _} {j : _} → Yard L D J F p l d j → Roll J
 yard_roll y = roll_of y.roster

@@ -1,16 +1,36 @@
 //! Laws over the definitions alone.
-ghost use Rattle.std.specs.Prelude.{◌≡◌, List, [], Some, length};
+ghost use Rattle.std.specs.Prelude.{◌≡◌, ◌++◌, ℕ, List, [], Some, length, true};
 ghost use Rattle.rule_lines.specs.Pairs.{Rule};
-ghost use Rattle.server_events.specs.Worlds.{KeptFile};
+ghost use Rattle.server_events.specs.Processes.{is_connections};
+ghost use Rattle.server_events.specs.Table.{HasStage};
+ghost use Rattle.server_events.specs.Worlds.{KeptFile, World};
 ghost use Rattle.server_events.specs.declared.event.Event.{Event};
+ghost use Rattle.server_events.specs.declared.event.Stage.TheVariants as Stage;
 ghost use Rattle.server_yard.specs.Readers.{IsAbsentOrCompiled, KeptYard, NamesStoredSinceDone, begun_in};
-ghost use Rattle.server_yard.specs.Standing.{IsNew, IsReachedBy, Series, YardState};
+ghost use Rattle.server_yard.specs.Serving.{IsReachedOn, IsServers, Serves, StepsByItself, over};
+ghost use Rattle.server_yard.specs.Standing.{IsNew, IsReachedBy, Leads, Series, YardState};
 
 /// From a yard that was just made, over a directory that began as it has to, each series of calls is a history of the headline: it leads
 /// from a start to a world that is the yard's. So all that the headline says of histories is true of the running yard.
 pub fn reached()
     ensures { (y z : YardState) (files : List KeptFile) (history : List Event) → IsNew y → Series y [] history z files
         → IsReachedBy history z files }
+{}
+
+/// A connection that is served after its admission: whatever a yard comes to, its history goes on by the events of the calls that serve it, and
+/// is one of the headline.
+pub fn served()
+    ensures { (n : ℕ) (history events : List Event) (y z : YardState) (files : List KeptFile)
+        → IsReachedBy history y files → HasStage y.server n Stage.Admitted → Serves n y events z
+        → IsReachedOn (history ++ events) z }
+{}
+
+/// A server beside installers that are other processes, and others: each call of its yard that leads on over the directory as they left it is a
+/// step of the server by itself, as `server_events::laws::two_processes` weaves them.
+pub fn beside()
+    ensures { (w : World) (y z : YardState) (files more : List KeptFile) (event : Event) → is_connections event ≡ true
+        → IsServers y files w → Leads event (over y w.directory) files (over z w.directory) more
+        → StepsByItself w event z more }
 {}
 
 /// What a reader finds, in each yard as its type keeps it where the premises were met when it was made. Whatever a stop leaves under it, the

@@ -6,12 +6,12 @@ ghost use Rattle.std.specs.Ordering.{nat_cmp};
 ghost use Rattle.child_jobs.specs.Runs.{place_of};
 ghost use Rattle.child_table.specs.Seats.{is_used, live_at, live_of, OneMoreAt, RefusesLimits, with_place};
 ghost use Rattle.child_table.specs.declared.table.TableFault.{TableFault};
-ghost use Rattle.event_journals.specs.Journals.{TellsOf, without_last};
+ghost use Rattle.event_journals.specs.Journals.{HasOneMore, HasSameRoom, TellsOf, without_last};
 ghost use Rattle.server_events.specs.ServerState.{after, count_from, is_retired, may_admit, may_happen, stage_of, start};
 ghost use Rattle.server_events.specs.declared.event.Event.TheVariants.{Admitted, Retired};
 ghost use Rattle.server_events.specs.declared.event.Stage.TheVariants as stage;
 ghost use Rattle.server_yard.specs.Rolls.{HasHistory, IsQuiet, Notes, StoresNothing, number_at, serial_at, stage_at};
-ghost use Rattle.server_yard.specs.Rooms.{events_left, room_needed, spare_events};
+ghost use Rattle.server_yard.specs.Rooms.{KeepsRoom, events_left, room_needed, spare_events};
 ghost use Rattle.server_yard.specs.Seating.{GivesSeat, HasSeats, HasSpareRoom, IsAddressFull, IsSpent, KeepsSeats, KeepsSerials, LosesOne, goes_on, is_installing, leaver};
 ghost use Rattle.server_yard.specs.declared.roster.AdmitFault.TheVariants.{Full, FullForAddress, OutOfMemory, Spent};
 
@@ -178,6 +178,7 @@ impl<L: Ledger, J: Journal> Roster<L, J> {
         ensures serial { IfOk result (λ r. r.0 < 2 ^ 64) }
         ensures seat { IfOk result (λ r. GivesSeat r.1 r.0 (seat_of self.old) (seat_of self.new)) }
         ensures refused { OnErr result (IsQuiet J.told J.count J.stored (roll_of self.old) (roll_of self.new)) }
+        ensures room { KeepsRoom J.has_room (roll_of self.old) (roll_of self.new) }
         ensures lists { J.lists (roll_of self.new).journal ≡ J.lists (roll_of self.old).journal }
         ensures same_seats { OnErr result (KeepsSerials (roll_of self.old).server (seat_of self.old) (seat_of self.new)) }
     {
@@ -219,6 +220,7 @@ impl<L: Ledger, J: Journal> Roster<L, J> {
             (Admitted serial peer.now) (roll_of self.old) (roll_of self.new)) }
         ensures seat { IfOk result (λ place. GivesSeat place serial (seat_of self.old) (seat_of self.new)) }
         ensures refused { OnErr result (IsQuiet J.told J.count J.stored (roll_of self.old) (roll_of self.new)) }
+        ensures room { KeepsRoom J.has_room (roll_of self.old) (roll_of self.new) }
         ensures lists { J.lists (roll_of self.new).journal ≡ J.lists (roll_of self.old).journal }
         ensures same_seats { OnErr result (KeepsSerials (roll_of self.old).server (seat_of self.old) (seat_of self.new)) }
     {
@@ -251,6 +253,7 @@ impl<L: Ledger, J: Journal> Roster<L, J> {
         requires kind { goes_on event ≡ true }
         requires may { may_happen (roll_of self.old).server event ≡ true }
         ensures noted { Notes J.told J.count J.stored event (roll_of self.old) (roll_of self.new) }
+        ensures room { KeepsRoom J.has_room (roll_of self.old) (roll_of self.new) }
         ensures lists { J.lists (roll_of self.new).journal ≡ J.lists (roll_of self.old).journal }
         ensures seats { KeepsSeats (seat_of self.old) (seat_of self.new) }
     {
@@ -276,6 +279,7 @@ impl<L: Ledger, J: Journal> Roster<L, J> {
         requires seat { seat_of self.old place ≡ Some serial }
         requires may { may_happen (roll_of self.old).server event ≡ true }
         ensures noted { Notes J.told J.count J.stored event (roll_of self.old) (roll_of self.new) }
+        ensures room { KeepsRoom J.has_room (roll_of self.old) (roll_of self.new) }
         ensures lists { J.lists (roll_of self.new).journal ≡ J.lists (roll_of self.old).journal }
         ensures seats { KeepsSeats (seat_of self.old) (seat_of self.new) }
         ensures gone { stage_of serial (roll_of self.new).server.connections ≡ None }
@@ -294,6 +298,7 @@ impl<L: Ledger, J: Journal> Roster<L, J> {
         requires started { stage_at (seat_of self.old (place_of running)) (roll_of self.old).server ≡ Some stage.Started }
         ensures noted { Notes J.told J.count J.stored
             (Retired (number_at (seat_of self.old (place_of running)))) (roll_of self.old) (roll_of self.new) }
+        ensures room { KeepsRoom J.has_room (roll_of self.old) (roll_of self.new) }
         ensures lists { J.lists (roll_of self.new).journal ≡ J.lists (roll_of self.old).journal }
         ensures seats { KeepsSeats (seat_of self.old) (seat_of self.new) }
     {
@@ -309,6 +314,8 @@ impl<L: Ledger, J: Journal> Roster<L, J> {
     /// Takes the room for an event of an installation.
     pub(crate) fn reserve(&mut self) -> Result<(), AllocError>
         ensures room { OnOk result (HasSpareRoom J.has_room (roll_of self.new)) }
+        ensures one_more { OnOk result (HasOneMore J.has_room (roll_of self.old).journal (roll_of self.new).journal) }
+        ensures none { OnErr result (HasSameRoom J.has_room (roll_of self.old).journal (roll_of self.new).journal) }
         ensures quiet { IsQuiet J.told J.count J.stored (roll_of self.old) (roll_of self.new) }
         ensures lists { J.lists (roll_of self.new).journal ≡ J.lists (roll_of self.old).journal }
         ensures seats { KeepsSeats (seat_of self.old) (seat_of self.new) }
@@ -319,6 +326,7 @@ impl<L: Ledger, J: Journal> Roster<L, J> {
     /// Gives that room back.
     pub(crate) fn release(&mut self)
         requires room { HasSpareRoom J.has_room (roll_of self.old) }
+        ensures one_less { HasOneMore J.has_room (roll_of self.new).journal (roll_of self.old).journal }
         ensures quiet { IsQuiet J.told J.count J.stored (roll_of self.old) (roll_of self.new) }
         ensures lists { J.lists (roll_of self.new).journal ≡ J.lists (roll_of self.old).journal }
         ensures seats { KeepsSeats (seat_of self.old) (seat_of self.new) }
@@ -332,6 +340,7 @@ impl<L: Ledger, J: Journal> Roster<L, J> {
         requires may { may_happen (roll_of self.old).server event ≡ true }
         requires room { HasSpareRoom J.has_room (roll_of self.old) }
         ensures noted { Notes J.told J.count J.stored event (roll_of self.old) (roll_of self.new) }
+        ensures one_less { HasOneMore J.has_room (roll_of self.new).journal (roll_of self.old).journal }
         ensures lists { J.lists (roll_of self.new).journal ≡ J.lists (roll_of self.old).journal }
         ensures seats { KeepsSeats (seat_of self.old) (seat_of self.new) }
     {
@@ -346,6 +355,7 @@ impl<L: Ledger, J: Journal> Roster<L, J> {
         ensures kept { OnOk result (J.lists (roll_of self.new).journal
             ≡ option_map (λ all. all ++ list.now ∷ []) (J.lists (roll_of self.old).journal)) }
         ensures err { OnErr result (J.lists (roll_of self.new).journal ≡ J.lists (roll_of self.old).journal) }
+        ensures room { HasSameRoom J.has_room (roll_of self.old).journal (roll_of self.new).journal }
         ensures quiet { IsQuiet J.told J.count J.stored (roll_of self.old) (roll_of self.new) }
         ensures seats { KeepsSeats (seat_of self.old) (seat_of self.new) }
     {
@@ -356,6 +366,7 @@ impl<L: Ledger, J: Journal> Roster<L, J> {
     pub(crate) fn forget_list(&mut self)
         ensures forgotten { J.lists (roll_of self.new).journal
             ≡ option_map without_last (J.lists (roll_of self.old).journal) }
+        ensures room { HasSameRoom J.has_room (roll_of self.old).journal (roll_of self.new).journal }
         ensures quiet { IsQuiet J.told J.count J.stored (roll_of self.old) (roll_of self.new) }
         ensures seats { KeepsSeats (seat_of self.old) (seat_of self.new) }
     {

@@ -1,9 +1,10 @@
 //! Steps of installations, each noted as what it was.
 ghost use Rattle.std.specs.Prelude.{◌≡◌, ◌≢◌, ◌++◌, ◌∷◌, [], None, IsTrue, OnOk, OnErr, option_map};
+ghost use Rattle.event_journals.specs.Journals.{HasOneMore, HasSameRoom};
 ghost use Rattle.install_steps.specs.UnderWay.{LeadsOn, Leaves};
 ghost use Rattle.rules_install.specs.Installing.{Fits};
 ghost use Rattle.rules_install.specs.Installs.{installing, IsOpen, IsUndone, StepGoes};
-ghost use Rattle.rules_install.specs.Steps.{IsOfDevice, IsSame};
+ghost use Rattle.rules_install.specs.Steps.{BlamesDevice, IsOfDevice, IsSame};
 ghost use Rattle.server_yard.specs.Rolls.{NotesSome};
 ghost use Rattle.server_yard.specs.Rosters.{roll_of, seat_of};
 ghost use Rattle.server_yard.specs.Seating.{HasSpareRoom, KeepsSeats};
@@ -33,6 +34,7 @@ pub(crate) fn step_noted<L: Ledger, D: Dir, J: Journal>(
     ensures noted { NotesSome J.told J.count J.stored (step_event result) (roll_of roster.old) (roll_of roster.new) }
     ensures lists { J.lists (roll_of roster.new).journal ≡ J.lists (roll_of roster.old).journal }
     ensures seats { KeepsSeats (seat_of roster.old) (seat_of roster.new) }
+    ensures room { HasSameRoom J.has_room (roll_of roster.old).journal (roll_of roster.new).journal }
     ensures goes { StepGoes install.old install.new result }
     ensures same { IsSame (installing install.old) (installing install.new) }
     ensures leads { IsTrue D.honest
@@ -42,6 +44,7 @@ pub(crate) fn step_noted<L: Ledger, D: Dir, J: Journal>(
     ensures fits { IsTrue D.honest → Fits (installing install.new) (D.state dir.new) }
     ensures still { IsTrue D.honest → step_event result ≡ None → D.state dir.new ≡ D.state dir.old }
     ensures device { IsTrue D.honest → IsOfDevice result }
+    ensures blames { BlamesDevice (D.failed dir.old) (D.failed dir.new) result }
 {
     roster.reserve()?;
     install.consistent();
@@ -62,6 +65,7 @@ fn note_fault<L: Ledger, J: Journal>(roster: &mut Roster<L, J>, fault: InstallFa
     requires may { MayFail (roll_of roster.old).server fault }
     requires room { HasSpareRoom J.has_room (roll_of roster.old) }
     ensures noted { NotesSome J.told J.count J.stored (fault_event fault) (roll_of roster.old) (roll_of roster.new) }
+    ensures one_less { HasOneMore J.has_room (roll_of roster.new).journal (roll_of roster.old).journal }
     ensures lists { J.lists (roll_of roster.new).journal ≡ J.lists (roll_of roster.old).journal }
     ensures seats { KeepsSeats (seat_of roster.old) (seat_of roster.new) }
 {
@@ -85,6 +89,7 @@ pub(crate) fn begin_noted<L: Ledger, D: Dir, J: Journal>(
         ≡ option_map (λ all. all ++ (installing install.old).rules ∷ []) (J.lists (roll_of roster.old).journal)) }
     ensures err { OnErr result (J.lists (roll_of roster.new).journal ≡ J.lists (roll_of roster.old).journal) }
     ensures seats { KeepsSeats (seat_of roster.old) (seat_of roster.new) }
+    ensures room { HasSameRoom J.has_room (roll_of roster.old).journal (roll_of roster.new).journal }
     ensures goes { StepGoes install.old install.new result }
     ensures same { IsSame (installing install.old) (installing install.new) }
     ensures leads { IsTrue D.honest
@@ -94,6 +99,7 @@ pub(crate) fn begin_noted<L: Ledger, D: Dir, J: Journal>(
     ensures fits { IsTrue D.honest → Fits (installing install.new) (D.state dir.new) }
     ensures still { IsTrue D.honest → step_event result ≡ None → D.state dir.new ≡ D.state dir.old }
     ensures device { IsTrue D.honest → IsOfDevice result }
+    ensures blames { BlamesDevice (D.failed dir.old) (D.failed dir.new) result }
 {
     roster.keep_list(install.list())?;
     match step_noted(alloc, roster, dir, install) {

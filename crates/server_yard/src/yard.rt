@@ -1,20 +1,24 @@
 //! The yard.
-ghost use Rattle.std.specs.Prelude.{◌≡◌, ◌≢◌, ◌+◌, ◌<◌, ◌∷◌, ◌↔◌, [], true, false, Err, Ok, Some, None, IsTrue, IfOk, IfErr, IfNone, IfSome, OnErr, Contains, is_some, length, option_map};
+ghost use Rattle.std.specs.Prelude.{◌≡◌, ◌≢◌, ◌+◌, ◌<◌, ◌≤◌, ◌∷◌, ◌↔◌, ℕ, List, [], true, false, Err, Ok, Some, None, IsTrue, IfOk, IfErr, IfNone, IfSome, OnErr, Contains, is_some, length, option_map};
 ghost use Rattle.child_jobs.specs.Runs.{place_of};
 ghost use Rattle.child_table.specs.Seats.{RefusesLimits};
+ghost use Rattle.dir_calls.specs.Directory.{Directory};
 ghost use Rattle.dir_calls.specs.Moments.{CountsFault};
+ghost use Rattle.event_journals.specs.Journals.{HasSameRoom};
 ghost use Rattle.rules_install.specs.Installs.{installing};
+ghost use Rattle.rules_install.specs.Steps.{BlamesDevice, BlamesFault, IsOfDevice};
 ghost use Rattle.rules_install.specs.Installing.{Installing};
 ghost use Rattle.rules_install.specs.declared.Phase.TheVariants.{Done};
 ghost use Rattle.rules_install.specs.declared.fault.InstallFault.TheVariants.{Over};
-ghost use Rattle.server_events.specs.ServerState.{is_allowed, is_unstarted, may_happen, stage_of};
+ghost use Rattle.server_events.specs.ServerState.{count_from, is_allowed, is_unstarted, may_happen, stage_of};
 ghost use Rattle.server_events.specs.Worlds.{missing_by, peer_of};
 ghost use Rattle.server_events.specs.declared.event.Event.TheVariants.{Admitted, Opened, Decided, Started, StartFailed, Ended, Retired, Dropped};
 ghost use Rattle.server_events.specs.declared.event.Stage.TheVariants as stage;
 ghost use Rattle.server_yard.specs.Installed.{IsKeptBy, IsWholeFile};
 ghost use Rattle.server_yard.specs.Passes.{IsDecidedBy, finding_file, pass_bytes, pass_file, pass_missing, pass_serial};
 ghost use Rattle.server_yard.specs.Readers.{ReadersFind};
-ghost use Rattle.server_yard.specs.Rolls.{IsQuiet, Notes, NotesSome};
+ghost use Rattle.server_yard.specs.Rolls.{CountsStored, IsQuiet, Lived, Notes, NotesSome};
+ghost use Rattle.server_yard.specs.Rooms.{KeepsRoom};
 ghost use Rattle.server_yard.specs.Rosters.{books_of, roll_of};
 ghost use Rattle.server_yard.specs.Seating.{GivesSeat, IsAddressFull, IsSpent, KeepsSeats, KeepsSerials, goes_on, leaver};
 ghost use Rattle.server_yard.specs.Standing.{BeginsWell, LeadsDecided, LeadsOn, LeadsOpened, LeadsSome, standing_of};
@@ -74,7 +78,7 @@ pub struct Yard<L: Premises, D: Dir + Drop, J: Journal> {
 }
 
 impl<L: Premises, D: Dir + Drop, J: Journal> Yard<L, D, J> {
-    ghost use Rattle.server_yard.specs.Yards.{IsMade, IsSameBeside, IsSameButDirectory, LeavesNothingElse, MayBegin, kept_number, kept_under, last_begun, name_of, number_of, serial_of, stage_of_place, yard_books, yard_directory, yard_installing, yard_roll, yard_rules, yard_seat, yard_server, yard_state};
+    ghost use Rattle.server_yard.specs.Yards.{IsMade, IsSameBeside, IsSameButDirectory, LeavesNothingElse, MayBegin, kept_number, kept_under, last_begun, name_of, number_of, serial_of, stage_of_place, yard_books, yard_directory, yard_installing, yard_over, yard_roll, yard_rules, yard_seat, yard_server, yard_state};
 
     /// A yard over a directory, with the name of its rules file and what is decided where no file stands there; without a name every connection is
     /// allowed. No connection is there, and no installation under way. At most `limit` connections are alive at once. `blank` has as many
@@ -180,6 +184,17 @@ impl<L: Premises, D: Dir + Drop, J: Journal> Yard<L, D, J> {
             ∥ ReadersFind (yard_books self.now) (yard_state D.state self.now) rules ∥₁) }
     {}
 
+    /// A law: the history of each yard. There is one that the table of events allows, with these limits and with the report, the number and the
+    /// notes of the journal; never more are alive along it than may be, in all and from one address. As many events are stored as are counted,
+    /// where the journal stores them.
+    pub fn history(&self)
+        ensures lived { ∥ Lived (yard_books self.now) (yard_server self.now) ∥₁ }
+        ensures limit { length (yard_server self.now).connections ≤ (yard_server self.now).limit }
+        ensures per_address { (ip : List ℕ)
+            → count_from ip (yard_server self.now).connections ≤ (yard_server self.now).per_address }
+        ensures stored { CountsStored (yard_books self.now) }
+    {}
+
     /// Who calls the events that follow: a number from 1, or 0 for nobody, as at first. Nothing else changes.
     pub fn speaker(&mut self, speaker: u64)
         ensures speaks { yard_roll self.new ≡ record (yard_roll self.old) { speaker = speaker } }
@@ -237,7 +252,11 @@ impl<L: Premises, D: Dir + Drop, J: Journal> Yard<L, D, J> {
             (Admitted r.0 peer.now) (yard_roll self.old) (yard_roll self.new)) }
         ensures step { IsTrue D.honest → IfOk result (λ r. LeadsOn
             (Admitted r.0 peer.now) (yard_state D.state self.old) (yard_state D.state self.new)) }
+        // and so over whatever directory others left
+        ensures beside { (d : Directory) → IfOk result (λ r. LeadsOn
+            (Admitted r.0 peer.now) (yard_over d self.old) (yard_over d self.new)) }
         ensures seat { IfOk result (λ r. GivesSeat r.1 r.0 (yard_seat self.old) (yard_seat self.new)) }
+        ensures room { KeepsRoom J.has_room (yard_roll self.old) (yard_roll self.new) }
         ensures same { IsSameBeside J.lists self.old self.new }
         ensures refused { OnErr result (IsQuiet J.told J.count J.stored (yard_roll self.old) (yard_roll self.new)) }
         ensures same_seats { OnErr result (KeepsSerials (yard_server self.old) (yard_seat self.old) (yard_seat self.new)) }
@@ -250,6 +269,7 @@ impl<L: Premises, D: Dir + Drop, J: Journal> Yard<L, D, J> {
         requires kind { goes_on event ≡ true }
         requires may { may_happen (yard_server self.old) event ≡ true }
         ensures noted { Notes J.told J.count J.stored event (yard_roll self.old) (yard_roll self.new) }
+        ensures room { KeepsRoom J.has_room (yard_roll self.old) (yard_roll self.new) }
         ensures same { IsSameBeside J.lists self.old self.new }
         ensures seats { KeepsSeats (yard_seat self.old) (yard_seat self.new) }
     {
@@ -264,6 +284,8 @@ impl<L: Premises, D: Dir + Drop, J: Journal> Yard<L, D, J> {
         ensures noted { Notes J.told J.count J.stored event (yard_roll self.old) (yard_roll self.new) }
         ensures step { IsTrue D.honest
             → LeadsOn event (yard_state D.state self.old) (yard_state D.state self.new) }
+        ensures beside { (d : Directory) → LeadsOn event (yard_over d self.old) (yard_over d self.new) }
+        ensures room { KeepsRoom J.has_room (yard_roll self.old) (yard_roll self.new) }
         ensures same { IsSameBeside J.lists self.old self.new }
         ensures seats { KeepsSeats (yard_seat self.old) (yard_seat self.new) }
         ensures gone { stage_of serial (yard_server self.new).connections ≡ None }
@@ -279,6 +301,8 @@ impl<L: Premises, D: Dir + Drop, J: Journal> Yard<L, D, J> {
         ensures whole { IsTrue L.met → IfOk result (λ r. ∥ IsWholeFile (option_map D.File.bytes r.0) ∥₁) }
         ensures roll { yard_roll self.new ≡ yard_roll self.old }
         ensures state { IsTrue D.honest → yard_state D.state self.new ≡ yard_state D.state self.old }
+        ensures stops { IsTrue D.honest
+            → LeavesNothingElse D.state D.moment D.left_since self.old self.new }
         ensures faults { IfErr result (Contains (DirFault.Device ∷ DirFault.OutOfMemory ∷ [])) }
         ensures counted { CountsFault (D.failed (yard_directory self.old)) (D.failed (yard_directory self.new)) result }
         ensures without { yard_rules self.old ≡ None → yard_directory self.new ≡ yard_directory self.old }
@@ -310,12 +334,20 @@ impl<L: Premises, D: Dir + Drop, J: Journal> Yard<L, D, J> {
             (Opened serial (is_some (pass_file pass))) (yard_roll self.old) (yard_roll self.new)) }
         ensures step { IsTrue D.honest → IfOk result (λ pass. LeadsOpened serial
             (pass_bytes D.File.bytes pass) (yard_state D.state self.old) (yard_state D.state self.new)) }
+        // and so over whatever directory others left
+        ensures beside { (d : Directory) → IfOk result (λ pass.
+            pass_bytes D.File.bytes pass ≡ standing_of (yard_over d self.old)
+            → LeadsOpened serial (pass_bytes D.File.bytes pass) (yard_over d self.old) (yard_over d self.new)) }
         ensures refused { OnErr result (IsQuiet J.told J.count J.stored (yard_roll self.old) (yard_roll self.new)) }
         ensures err_state { IsTrue D.honest
             → OnErr result (yard_state D.state self.new ≡ yard_state D.state self.old) }
+        // a stop since then left what the headline's world may leave: an opening changes nothing
+        ensures stops { IsTrue D.honest
+            → LeavesNothingElse D.state D.moment D.left_since self.old self.new }
         ensures faults { IfErr result (Contains (DirFault.Device ∷ DirFault.OutOfMemory ∷ [])) }
         ensures counted { CountsFault (D.failed (yard_directory self.old)) (D.failed (yard_directory self.new)) result }
         ensures without { yard_rules self.old ≡ None → yard_directory self.new ≡ yard_directory self.old }
+        ensures room { KeepsRoom J.has_room (yard_roll self.old) (yard_roll self.new) }
         ensures same { IsSameButDirectory J.lists self.old self.new }
         ensures seats { KeepsSeats (yard_seat self.old) (yard_seat self.new) }
     {
@@ -344,6 +376,10 @@ impl<L: Premises, D: Dir + Drop, J: Journal> Yard<L, D, J> {
             (Opened serial (is_some (pass_file result))) (yard_roll self.old) (yard_roll self.new) }
         ensures step { IsTrue D.honest → pass_bytes D.File.bytes result ≡ standing_of (yard_state D.state self.old)
             → LeadsOpened serial (pass_bytes D.File.bytes result) (yard_state D.state self.old) (yard_state D.state self.new) }
+        // and so over whatever directory others left
+        ensures beside { (d : Directory) → pass_bytes D.File.bytes result ≡ standing_of (yard_over d self.old)
+            → LeadsOpened serial (pass_bytes D.File.bytes result) (yard_over d self.old) (yard_over d self.new) }
+        ensures room { KeepsRoom J.has_room (yard_roll self.old) (yard_roll self.new) }
         ensures same { IsSameBeside J.lists self.old self.new }
         ensures seats { KeepsSeats (yard_seat self.old) (yard_seat self.new) }
     {
@@ -371,6 +407,10 @@ impl<L: Premises, D: Dir + Drop, J: Journal> Yard<L, D, J> {
             (Decided (pass_serial pass) decision) (yard_roll self.old) (yard_roll self.new) }
         ensures step { IsTrue D.honest → LeadsDecided (pass_serial pass) (pass_bytes D.File.bytes pass) decision
             (yard_state D.state self.old) (yard_state D.state self.new) }
+        // and so over whatever directory others left
+        ensures beside { (d : Directory) → IsTrue D.File.honest → LeadsDecided (pass_serial pass)
+            (pass_bytes D.File.bytes pass) decision (yard_over d self.old) (yard_over d self.new) }
+        ensures room { KeepsRoom J.has_room (yard_roll self.old) (yard_roll self.new) }
         ensures same { IsSameBeside J.lists self.old self.new }
         ensures seats { KeepsSeats (yard_seat self.old) (yard_seat self.new) }
     {
@@ -387,6 +427,10 @@ impl<L: Premises, D: Dir + Drop, J: Journal> Yard<L, D, J> {
             (Started (number_of self.old (place_of running.now))) (yard_roll self.old) (yard_roll self.new) }
         ensures step { IsTrue D.honest → LeadsOn (Started (number_of self.old (place_of running.now)))
             (yard_state D.state self.old) (yard_state D.state self.new) }
+        // and so over whatever directory others left
+        ensures beside { (d : Directory) → LeadsOn (Started (number_of self.old (place_of running.now)))
+            (yard_over d self.old) (yard_over d self.new) }
+        ensures room { KeepsRoom J.has_room (yard_roll self.old) (yard_roll self.new) }
         ensures same { IsSameBeside J.lists self.old self.new }
         ensures seats { KeepsSeats (yard_seat self.old) (yard_seat self.new) }
     {
@@ -401,6 +445,10 @@ impl<L: Premises, D: Dir + Drop, J: Journal> Yard<L, D, J> {
             (StartFailed (number_of self.old place) fault) (yard_roll self.old) (yard_roll self.new) }
         ensures step { IsTrue D.honest → LeadsOn (StartFailed (number_of self.old place) fault)
             (yard_state D.state self.old) (yard_state D.state self.new) }
+        // and so over whatever directory others left
+        ensures beside { (d : Directory) → LeadsOn (StartFailed (number_of self.old place) fault)
+            (yard_over d self.old) (yard_over d self.new) }
+        ensures room { KeepsRoom J.has_room (yard_roll self.old) (yard_roll self.new) }
         ensures same { IsSameBeside J.lists self.old self.new }
         ensures seats { KeepsSeats (yard_seat self.old) (yard_seat self.new) }
         ensures gone { stage_of (number_of self.old place) (yard_server self.new).connections ≡ None }
@@ -416,6 +464,10 @@ impl<L: Premises, D: Dir + Drop, J: Journal> Yard<L, D, J> {
             (Ended (number_of self.old place) status) (yard_roll self.old) (yard_roll self.new) }
         ensures step { IsTrue D.honest → LeadsOn (Ended (number_of self.old place) status)
             (yard_state D.state self.old) (yard_state D.state self.new) }
+        // and so over whatever directory others left
+        ensures beside { (d : Directory) → LeadsOn (Ended (number_of self.old place) status)
+            (yard_over d self.old) (yard_over d self.new) }
+        ensures room { KeepsRoom J.has_room (yard_roll self.old) (yard_roll self.new) }
         ensures same { IsSameBeside J.lists self.old self.new }
         ensures seats { KeepsSeats (yard_seat self.old) (yard_seat self.new) }
         ensures gone { stage_of (number_of self.old place) (yard_server self.new).connections ≡ None }
@@ -431,6 +483,10 @@ impl<L: Premises, D: Dir + Drop, J: Journal> Yard<L, D, J> {
             (Retired (number_of self.old (place_of running))) (yard_roll self.old) (yard_roll self.new) }
         ensures step { IsTrue D.honest → LeadsOn (Retired (number_of self.old (place_of running)))
             (yard_state D.state self.old) (yard_state D.state self.new) }
+        // and so over whatever directory others left
+        ensures beside { (d : Directory) → LeadsOn (Retired (number_of self.old (place_of running)))
+            (yard_over d self.old) (yard_over d self.new) }
+        ensures room { KeepsRoom J.has_room (yard_roll self.old) (yard_roll self.new) }
         ensures same { IsSameBeside J.lists self.old self.new }
         ensures seats { KeepsSeats (yard_seat self.old) (yard_seat self.new) }
     {
@@ -444,6 +500,10 @@ impl<L: Premises, D: Dir + Drop, J: Journal> Yard<L, D, J> {
             (Dropped (number_of self.old place) cause) (yard_roll self.old) (yard_roll self.new) }
         ensures step { IsTrue D.honest → LeadsOn (Dropped (number_of self.old place) cause)
             (yard_state D.state self.old) (yard_state D.state self.new) }
+        // and so over whatever directory others left
+        ensures beside { (d : Directory) → LeadsOn (Dropped (number_of self.old place) cause)
+            (yard_over d self.old) (yard_over d self.new) }
+        ensures room { KeepsRoom J.has_room (yard_roll self.old) (yard_roll self.new) }
         ensures same { IsSameBeside J.lists self.old self.new }
         ensures seats { KeepsSeats (yard_seat self.old) (yard_seat self.new) }
         ensures gone { stage_of (number_of self.old place) (yard_server self.new).connections ≡ None }
@@ -514,6 +574,12 @@ impl<L: Premises, D: Dir + Drop, J: Journal> Yard<L, D, J> {
         ensures lists { J.lists (yard_roll self.new).journal
             ≡ lists_after_begin result (installing install).rules (J.lists (yard_roll self.old).journal) }
         ensures back { IfErr result (λ r. HandsBack (installing install) (installing r.0) r.1) }
+        // the device is blamed only where it failed, and that was counted
+        ensures device { IsTrue D.honest → IfErr result (λ r. IsOfDevice (Err r.1)) }
+        ensures blames { IfErr result (λ r.
+            BlamesFault (D.failed (yard_directory self.old)) (D.failed (yard_directory self.new)) r.1) }
+        ensures untouched { IsRefusedAs Over result → yard_directory self.new ≡ yard_directory self.old }
+        ensures room { HasSameRoom J.has_room (yard_roll self.old).journal (yard_roll self.new).journal }
         ensures seats { KeepsSeats (yard_seat self.old) (yard_seat self.new) }
     {
         let Some(number) = self.next_number(&install) else {
@@ -557,6 +623,11 @@ impl<L: Premises, D: Dir + Drop, J: Journal> Yard<L, D, J> {
         ensures begun { last_begun self.new ≡ last_begun self.old }
         ensures rules { yard_rules self.new ≡ yard_rules self.old }
         ensures lists { J.lists (yard_roll self.new).journal ≡ J.lists (yard_roll self.old).journal }
+        // the device is blamed only where it failed, and that was counted; where none is under way the directory is not called
+        ensures device { IsTrue D.honest → IsOfDevice result }
+        ensures blames { BlamesDevice (D.failed (yard_directory self.old)) (D.failed (yard_directory self.new)) result }
+        ensures untouched { kept_under self.old number ≡ None → yard_directory self.new ≡ yard_directory self.old }
+        ensures room { HasSameRoom J.has_room (yard_roll self.old).journal (yard_roll self.new).journal }
         ensures seats { KeepsSeats (yard_seat self.old) (yard_seat self.new) }
     {
         if number != self.begun {

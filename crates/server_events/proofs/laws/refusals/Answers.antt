@@ -3,6 +3,7 @@ use Rattle.std.specs.Prelude.{Option, IsSomeAnd}
 use Rattle.server_events.specs.Steps.{IsWhole}
 use Rattle.server_events.specs.Worlds.{UnderWay}
 use Rattle.server_events.proofs.AfterStops.{after_stop}
+use Rattle.server_events.proofs.Others.{standing_on}
 use Rattle.server_events.proofs.laws.refusals.Goals as goal
 
 pub returns-clause-whole : goal.returns-clause-whole
@@ -12,3 +13,6 @@ returns-clause-whole c w v step =
 
 pub returns-clause-after_a_stop : goal.returns-clause-after_a_stop
 returns-clause-after_a_stop c w n it = after_stop w it.stopped it.later it.then it.events it.event n it.stops it.goes_on it.step it.concerned
+
+pub returns-clause-others : goal.returns-clause-others
+returns-clause-others c w v bytes out there = standing_on w v bytes out there

@@ -6,6 +6,7 @@ use Rattle.server_events.specs.Table.{decided, failed, opened, stop}
 use Rattle.server_events.specs.Taken.{is_there}
 use Rattle.server_events.specs.Worlds.{World, standing}
 use Rattle.server_events.specs.declared.event.Event.TheVariants.{Decided, Opened, StepFailed, Stop}
+use Rattle.server_events.proofs.Others.{made_others, settled_others, taken_others}
 use Rattle.server_events.proofs.laws.taken.Goals as goal
 
 pub returns-clause-stopped : goal.returns-clause-stopped
@@ -37,3 +38,12 @@ returns-clause-decided c w n decision due =
     let v : World = record w { server = after w.server (Decided n decision) } in
     let step : Step w (Decided n decision) v = record { table = decided due.opened; moves = (due.bytes, due.peer, due.kept, due.is_its, due.decides, refl) } in
     (v, step)
+
+pub returns-clause-made : goal.returns-clause-made
+returns-clause-made c w name file others = made_others w name file others
+
+pub returns-clause-taken_away : goal.returns-clause-taken_away
+returns-clause-taken_away c w name others = taken_others w name others
+
+pub returns-clause-settled : goal.returns-clause-settled
+returns-clause-settled c w = settled_others w

@@ -141,3 +141,17 @@ returns-in-Ok-clause-device g c = c.in-Ok.ensures.device
 
 pub returns-in-Err-clause-kept : goal.returns-in-Err-clause-kept
 returns-in-Err-clause-kept g c = tt
+
+pub returns-in-Ok-clause-room : goal.returns-in-Ok-clause-room
+returns-in-Ok-clause-room g c = λ n. c.in-Ok.ensures.room n ∙ c.in_ok-keep_list.ensures.room n
+
+pub returns-in-Err-clause-room : goal.returns-in-Err-clause-room
+returns-in-Err-clause-room g c = λ n. c.forget_list.ensures.room n ∙ c.in-Err.ensures.room n ∙ c.in_ok-keep_list.ensures.room n
+
+pub returns-in_err-keep_list-clause-room : goal.returns-in_err-keep_list-clause-room
+returns-in_err-keep_list-clause-room g c = c.in_err-keep_list.ensures.room
+
+pub returns-in_err-keep_list-clause-blames : goal.returns-in_err-keep_list-clause-blames
+returns-in_err-keep_list-clause-blames g c =
+    let p = err_from_is_err_and c.from_residual.result c.from_residual.ensures.1 in
+    rw (p.1, p.2) tt

@@ -146,3 +146,17 @@ returns-in-Ok-clause-still g c = λ honest none. absurd (none-some (event.Steppe
 
 pub returns-in-Ok-clause-device : goal.returns-in-Ok-clause-device
 returns-in-Ok-clause-device g c = c.in-Ok.ensures.device
+
+pub returns-in-Ok-clause-room : goal.returns-in-Ok-clause-room
+returns-in-Ok-clause-room g c = λ n. sym (c.note_step.ensures.one_less n) ∙ c.in_ok-reserve.ensures.one_more n
+
+pub returns-in-Err-clause-room : goal.returns-in-Err-clause-room
+returns-in-Err-clause-room g c = λ n. sym (c.note_fault.ensures.one_less n) ∙ c.in_ok-reserve.ensures.one_more n
+
+pub returns-in_err-reserve-clause-room : goal.returns-in_err-reserve-clause-room
+returns-in_err-reserve-clause-room g c = c.in_err-reserve.ensures.none
+
+pub returns-in_err-reserve-clause-blames : goal.returns-in_err-reserve-clause-blames
+returns-in_err-reserve-clause-blames g c =
+    let p = err_from_is_err_and c.from_residual.result c.from_residual.ensures.1 in
+    rw (p.1, p.2) tt

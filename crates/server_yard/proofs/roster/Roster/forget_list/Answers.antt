@@ -1,4 +1,4 @@
-use Rattle.std.proofs.Common.{refl}
+use Rattle.std.proofs.Common.{refl, ◌∙◌}
 use Rattle.server_yard.specs.Rooms.{room_needed}
 use Rattle.server_yard.proofs.Histories.{has_history_same}
 use Rattle.server_yard.proofs.roster.Roster.forget_list.Goals as goal
@@ -15,5 +15,5 @@ invariant_of-self g c =
       limit = old.limit;
       per_address = old.per_address;
       seated = old.seated;
-      room = c.forget_list.ensures.room (room_needed old.state.connections) old.room;
+      room = c.forget_list.ensures.room (room_needed old.state.connections) ∙ old.room;
     }

@@ -36,7 +36,7 @@ release-requires g c =
     let sums = room-without c.args.serial off.at old.state.connections off.has_stage in
     let spare = c.spare-spare.ensures ∙ spare_is old.state c.args.serial off.at off.has_stage in
     c.note.ensures.room c.spare-spare.result
-    (g.met.J.Journal.less_room old.journal (c.spare-spare.result + 1) (room_needed old.state.connections) (omega (arith, sums, spare, off.some_left)) old.room)
+    ∙ g.met.J.Journal.less_room old.journal (c.spare-spare.result + 1) (room_needed old.state.connections) (omega (arith, sums, spare, off.some_left)) old.room
 
 pub invariant_of-self : goal.invariant_of-self
 invariant_of-self g c =
@@ -69,7 +69,7 @@ invariant_of-self g c =
       limit = ap (λ (t : Seats). t.limit) table ∙ old.limit ∙ sym (ap (λ (u : ServerState). u.limit) now);
       per_address = ap (λ (t : Seats). t.per_address) table ∙ old.per_address ∙ sym (ap (λ (u : ServerState). u.per_address) now);
       seated = subst (λ (t : Seats). HasSeats (get nat_cmp old.seats) t c.apply.new.self) (sym table) (subst (λ (u : ServerState). HasSeats (get nat_cmp old.seats) (without_place place old.table) u) (sym now) (seats_go (get nat_cmp old.seats) old.table old.state n place apart c.requires.seat old.seated));
-      room = c.release.ensures.room (room_needed c.apply.new.self.connections) (c.note.ensures.room (room_needed c.apply.new.self.connections + c.spare-spare.result) (subst (λ (k : ℕ). g.J.Journal.has_room old.journal k ≡ true) (omega (arith, sums, spare, less, off.some_left)) old.room));
+      room = c.release.ensures.room (room_needed c.apply.new.self.connections) ∙ c.note.ensures.room (room_needed c.apply.new.self.connections + c.spare-spare.result) ∙ subst (λ (k : ℕ). g.J.Journal.has_room old.journal k ≡ true) (omega (arith, sums, spare, less, off.some_left)) old.room;
     }
 
 pub returns-clause-gone : goal.returns-clause-gone
@@ -79,3 +79,15 @@ returns-clause-gone g c =
     let off = goes_off old.state c.args.event n c.requires.kind c.requires.may in
     let apart = distinct _ _ _ old.state old.history in
     ap (λ (u : ServerState). stage_of n u.connections) (c.in-Ok.ensures.applied ∙ off.is_without) ∙ nothing (stage_of n (without n old.state.connections)) (apart.gone_stage n)
+
+pub returns-clause-room : goal.returns-clause-room
+returns-clause-room g c = λ m.
+    let old = c.args.self.now in
+    let n = c.args.serial in
+    let s = c.apply.new.self in
+    let off = goes_off old.state c.args.event n c.requires.kind c.requires.may in
+    let sums = room-without n off.at old.state.connections off.has_stage in
+    let spare = c.spare-spare.ensures ∙ spare_is old.state n off.at off.has_stage in
+    let less = ap (λ (u : ServerState). room_needed u.connections) (c.in-Ok.ensures.applied ∙ off.is_without) in
+    let all : m + room_needed s.connections + c.spare-spare.result + 1 ≡ m + room_needed old.state.connections = omega (arith, sums, spare, less, off.some_left) in
+    c.release.ensures.room (m + room_needed s.connections) ∙ c.note.ensures.room (m + room_needed s.connections + c.spare-spare.result) ∙ ap (λ (k : ℕ). g.J.Journal.has_room old.journal k) all

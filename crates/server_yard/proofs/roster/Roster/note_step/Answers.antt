@@ -31,5 +31,8 @@ invariant_of-self g c =
       limit = old.limit ∙ sym stays.limit;
       per_address = old.per_address ∙ sym stays.per_address;
       seated = seats_stay (get nat_cmp old.seats) old.table old.state s stays old.seated;
-      room = c.note.ensures.room (room_needed s.connections) (subst (λ (n : ℕ). g.J.Journal.has_room old.journal (n + 1) ≡ true) (sym (ap room_needed same)) c.requires.room);
+      room = c.note.ensures.room (room_needed s.connections) ∙ subst (λ (n : ℕ). g.J.Journal.has_room old.journal (n + 1) ≡ true) (sym (ap room_needed same)) c.requires.room;
     }
+
+pub returns-clause-one_less : goal.returns-clause-one_less
+returns-clause-one_less g c = λ n. sym (c.note.ensures.room n)

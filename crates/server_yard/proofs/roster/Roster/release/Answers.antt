@@ -1,4 +1,4 @@
-use Rattle.std.proofs.Common.{refl}
+use Rattle.std.proofs.Common.{refl, sym, ◌∙◌}
 use Rattle.server_yard.specs.Rooms.{room_needed}
 use Rattle.server_yard.proofs.Histories.{has_history_same}
 use Rattle.server_yard.proofs.roster.Roster.release.Goals as goal
@@ -16,5 +16,8 @@ invariant_of-self g c =
       limit = old.limit;
       per_address = old.per_address;
       seated = old.seated;
-      room = c.release.ensures.room (room_needed old.state.connections) c.requires.room;
+      room = c.release.ensures.room (room_needed old.state.connections) ∙ c.requires.room;
     }
+
+pub returns-clause-one_less : goal.returns-clause-one_less
+returns-clause-one_less g c = λ n. sym (c.release.ensures.room n)

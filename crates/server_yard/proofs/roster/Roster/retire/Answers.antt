@@ -55,5 +55,18 @@ invariant_of-self g c =
       limit = ap (λ (t : Seats). t.limit) table ∙ old.limit ∙ sym stays.limit;
       per_address = ap (λ (t : Seats). t.per_address) table ∙ old.per_address ∙ sym stays.per_address;
       seated = seats_same (get nat_cmp old.seats) (get nat_cmp old.seats) old.table c.retire.new.table s (λ i. refl) (ap (λ (t : Seats). t.places) table) (seats_stay (get nat_cmp old.seats) old.table old.state s stays old.seated);
-      room = c.note.ensures.room (room_needed s.connections) (subst (λ (k : ℕ). g.J.Journal.has_room old.journal k ≡ true) (sym less) old.room);
+      room = c.note.ensures.room (room_needed s.connections) ∙ subst (λ (k : ℕ). g.J.Journal.has_room old.journal k ≡ true) (sym less) old.room;
     }
+
+pub returns-clause-room : goal.returns-clause-room
+returns-clause-room g c = λ m.
+    let old = c.args.self.now in
+    let n = c.number-serial.result in
+    let s = c.apply.new.self in
+    let at = seat_at (get nat_cmp old.seats (place_of c.args.running)) old.state _ c.requires.started in
+    let place = c.index.ensures ∙ c.place.ensures in
+    let serial = c.number-serial.ensures ∙ ap (λ (i : ℕ). number_at (get nat_cmp old.seats i)) place ∙ at.3 in
+    let staged = ap (λ (k : ℕ). stage_of k old.state.connections) serial ∙ at.2 in
+    let less = ap (λ (u : ServerState). room_needed u.connections + 1) c.in-Ok.ensures.applied ∙ room_retired old.state n staged in
+    let all : m + room_needed s.connections + 1 ≡ m + room_needed old.state.connections = omega (arith, less) in
+    c.note.ensures.room (m + room_needed s.connections) ∙ ap (λ (k : ℕ). g.J.Journal.has_room old.journal k) all

@@ -1,4 +1,4 @@
-use Rattle.std.proofs.Common.{◌≡◌, ◌<◌, ◌^◌, ◌++◌, ◌∷◌, [], ℕ, length, true, refl, sym, ap, subst, ◌∙◌, arith}
+use Rattle.std.proofs.Common.{◌≡◌, ◌<◌, ◌+◌, ◌^◌, ◌++◌, ◌∷◌, [], ℕ, length, true, refl, sym, ap, subst, ◌∙◌, arith}
 use Rattle.std.specs.BTreeMap.{get}
 use Rattle.std.specs.Ordering.{nat_cmp}
 use Rattle.child_table.specs.Seats.{Seats, live_at, live_of, with_place}
@@ -30,7 +30,7 @@ invariant_of-self g c =
       limit = old.limit;
       per_address = old.per_address;
       seated = old.seated;
-      room = c.in_err-reserve.ensures.err (room_needed old.state.connections) old.room;
+      room = c.in_err-reserve.ensures.err (room_needed old.state.connections) ∙ old.room;
     }
 
 pub give_place-requires-clause-open : goal.give_place-requires-clause-open
@@ -65,7 +65,7 @@ invariant_of-self-in-Ok g c =
     let live = ap (λ (u : ServerState). length u.connections) goes ∙ (moves old.state e may).live in
     let marks = ap (λ (u : ServerState). retired_in u.connections) goes ∙ (moves old.state e may).retired in
     let needed = ap (λ (u : ServerState). room_needed u.connections) now ∙ room-push old.state.connections (newcomer n peer) in
-    let taken = c.in_ok-reserve.ensures.room (room_needed old.state.connections) old.room in
+    let taken = c.in_ok-reserve.ensures.room (room_needed old.state.connections) ∙ old.room in
     let same = c.in_ok-reserve.ensures.same in
     let apart = distinct _ _ _ old.state old.history in
     record {
@@ -77,7 +77,7 @@ invariant_of-self-in-Ok g c =
       limit = ap (λ (t : Seats). t.limit) table ∙ old.limit ∙ sym (ap (λ (u : ServerState). u.limit) now);
       per_address = ap (λ (t : Seats). t.per_address) table ∙ old.per_address ∙ sym (ap (λ (u : ServerState). u.per_address) now);
       seated = subst (λ (t : Seats). HasSeats (get nat_cmp c.give_place.new.seats) t s) (sym table) (subst (λ (u : ServerState). HasSeats (get nat_cmp c.give_place.new.seats) (with_place c.in-Ok.place peer.ip old.table) u) (sym now) (seats_come (get nat_cmp old.seats) (get nat_cmp c.give_place.new.seats) old.table old.state n c.in-Ok.place peer room.next apart c.in-Ok.ensures.seated old.seated));
-      room = c.note.ensures.room (room_needed s.connections) (subst (λ (k : ℕ). g.J.Journal.has_room c.reserve.new.self k ≡ true) (omega (arith, needed)) taken);
+      room = c.note.ensures.room (room_needed s.connections) ∙ subst (λ (k : ℕ). g.J.Journal.has_room c.reserve.new.self k ≡ true) (omega (arith, needed)) taken;
     }
 
 pub invariant_of-self-in-Err : goal.invariant_of-self-in-Err
@@ -87,7 +87,7 @@ invariant_of-self-in-Err g c =
     let err = c.in-Err.ensures.err in
     let reserved = c.in_ok-reserve.ensures.same in
     let released = c.release.ensures.same in
-    let taken = c.in_ok-reserve.ensures.room (room_needed old.state.connections) old.room in
+    let taken = c.in_ok-reserve.ensures.room (room_needed old.state.connections) ∙ old.room in
     record {
       history = has_history_same (released.same_report ∙ reserved.same_report) (released.same_count ∙ reserved.same_count) (released.same_notes ∙ reserved.same_notes) err.1 old.history;
       small = subst (λ (k : ℕ). k < 2 ^ 64) (sym (ap (λ (u : ServerState). u.limit) err.1)) old.small;
@@ -97,7 +97,7 @@ invariant_of-self-in-Err g c =
       limit = ap (λ (t : Seats). t.limit) err.0 ∙ old.limit ∙ sym (ap (λ (u : ServerState). u.limit) err.1);
       per_address = ap (λ (t : Seats). t.per_address) err.0 ∙ old.per_address ∙ sym (ap (λ (u : ServerState). u.per_address) err.1);
       seated = subst (λ (t : Seats). HasSeats (get nat_cmp c.give_place.new.seats) t s) (sym err.0) (subst (λ (u : ServerState). HasSeats (get nat_cmp c.give_place.new.seats) old.table u) (sym err.1) (seats_lost (get nat_cmp old.seats) (get nat_cmp c.give_place.new.seats) old.table old.state c.in-Err.ensures.err_seats old.seated));
-      room = subst (λ (u : ServerState). g.J.Journal.has_room c.release.new.self (room_needed u.connections) ≡ true) (sym err.1) (c.release.ensures.room (room_needed old.state.connections) taken);
+      room = subst (λ (u : ServerState). g.J.Journal.has_room c.release.new.self (room_needed u.connections) ≡ true) (sym err.1) (c.release.ensures.room (room_needed old.state.connections) ∙ taken);
     }
 
 pub returns-in-Err-clause-same_seats : goal.returns-in-Err-clause-same_seats
@@ -133,3 +133,24 @@ returns-in-Err-clause-refused g c =
     let reserved = c.in_ok-reserve.ensures.same in
     let released = c.release.ensures.same in
     record { stays = err.1; speaks = refl; tells = released.same_report ∙ reserved.same_report; counts = released.same_count ∙ reserved.same_count; stores = released.same_notes ∙ reserved.same_notes }
+
+pub returns-in_err-copy-clause-room : goal.returns-in_err-copy-clause-room
+returns-in_err-copy-clause-room g c = λ n. refl
+
+pub returns-in_err-reserve-clause-room : goal.returns-in_err-reserve-clause-room
+returns-in_err-reserve-clause-room g c = λ n. c.in_err-reserve.ensures.err (n + room_needed c.args.self.now.state.connections)
+
+pub returns-in-Ok-clause-room : goal.returns-in-Ok-clause-room
+returns-in-Ok-clause-room g c = λ n.
+    let old = c.args.self.now in
+    let copy = c.in_ok-copy.field-0 in
+    let s = c.give_place.new.state in
+    let needed : room_needed s.connections ≡ room_needed old.state.connections + 4 = ap (λ (u : ServerState). room_needed u.connections) c.in-Ok.ensures.admitted ∙ room-push old.state.connections (newcomer c.args.serial c.args.peer.now) in
+    let all : n + room_needed s.connections + 1 ≡ n + room_needed old.state.connections + 5 = omega (arith, needed) in
+    c.note.ensures.room (n + room_needed s.connections) ∙ ap (λ (k : ℕ). g.J.Journal.has_room c.reserve.new.self k) all ∙ c.in_ok-reserve.ensures.room (n + room_needed old.state.connections)
+
+pub returns-in-Err-clause-room : goal.returns-in-Err-clause-room
+returns-in-Err-clause-room g c = λ n.
+    let needed = room_needed c.args.self.now.state.connections in
+    ap (λ (u : ServerState). g.J.Journal.has_room c.release.new.self (n + room_needed u.connections)) c.in-Err.ensures.err.1
+    ∙ c.release.ensures.room (n + needed) ∙ c.in_ok-reserve.ensures.room (n + needed)

@@ -26,3 +26,8 @@ pub returns-clause-step : goal.returns-clause-step
 returns-clause-step g c = λ honest.
     if_ok c.admit.result c.admit.ensures.noted (λ r noted. plain_leads _ _ (event.Admitted r.0 c.args.peer.now) refl refl
     (record { may = noted.may; happens = noted.happens; directory = refl; rules = refl; installing = refl }))
+
+pub returns-clause-beside : goal.returns-clause-beside
+returns-clause-beside g c = λ d.
+    if_ok c.admit.result c.admit.ensures.noted (λ r noted. plain_leads _ _ (event.Admitted r.0 c.args.peer.now) refl refl
+    (record { may = noted.may; happens = noted.happens; directory = refl; rules = refl; installing = refl }))

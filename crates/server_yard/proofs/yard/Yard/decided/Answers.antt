@@ -20,3 +20,16 @@ returns-clause-step g c = λ honest.
     decided_leads _ _ pass.serial bytes c.args.decision c.args.peer.now
     (goes_to g.D.Dir.state j.told j.count j.stored j.lists e old c.advance.new.self c.advance.ensures.noted c.advance.ensures.same)
     c.requires.peer (ap (λ m. decision_from (option_map reading bytes) m c.args.peer.now) (sym c.requires.missing) ∙ decides)
+
+pub returns-clause-beside : goal.returns-clause-beside
+returns-clause-beside g c = λ d honest.
+    let old = c.args.self.now in
+    let j = g.J.Journal in
+    let pass = c.args.pass in
+    let f = g.D.File.RulesFile in
+    let bytes = pass_bytes f.bytes pass in
+    let e = event.Decided pass.serial c.args.decision in
+    let decides = known_of f.honest f.sound _ bytes honest c.requires.decides in
+    decided_leads _ _ pass.serial bytes c.args.decision c.args.peer.now
+    (goes_to (λ x. d) j.told j.count j.stored j.lists e old c.advance.new.self c.advance.ensures.noted c.advance.ensures.same)
+    c.requires.peer (ap (λ m. decision_from (option_map reading bytes) m c.args.peer.now) (sym c.requires.missing) ∙ decides)

@@ -1,4 +1,4 @@
-use Rattle.std.proofs.Common.{ℕ, List, Option, Some, refl, sym, ap, subst, ◌∙◌}
+use Rattle.std.proofs.Common.{ℕ, List, Option, Some, inr, refl, sym, ap, subst, ◌∙◌}
 use Rattle.std.specs.Prelude.{option_and_then, option_map}
 use Rattle.std.proofs.lemmas.Result.{err_from_is_err_and}
 use Rattle.server_events.specs.Worlds.{RulesName, missing_by}
@@ -8,6 +8,7 @@ use Rattle.server_yard.specs.Installed.{IsWholeFile}
 use Rattle.server_yard.specs.Kept.{installing_of, rules_of}
 use Rattle.server_yard.specs.Standing.{YardState}
 use Rattle.server_yard.proofs.Keeping.{none_not_some, stands_whole}
+use Rattle.server_yard.proofs.Opened.{left_by_opening}
 use Rattle.server_yard.proofs.yard.Yard.find.Goals as goal
 
 pub returns-in-Some-2-clause-whole : goal.returns-in-Some-2-clause-whole
@@ -134,3 +135,24 @@ returns-in-Some-2-clause-counted g c = c.in_ok-file.ensures.counted
 
 pub returns-in-None-clause-counted : goal.returns-in-None-clause-counted
 returns-in-None-clause-counted g c = c.in_ok-file.ensures.counted
+
+pub returns-in_default-clause-stops : goal.returns-in_default-clause-stops
+returns-in_default-clause-stops g c = λ honest files w image at left. inr (g.met.D.Dir.only_now c.args.self.now.dir image honest left)
+
+pub returns-in_err-file-clause-stops : goal.returns-in_err-file-clause-stops
+returns-in_err-file-clause-stops g c = λ honest files w image at left.
+    let old = c.args.self.now in
+    let d = g.D.Dir in
+    inr (left_by_opening d.state d.moment d.left_since old.dir c.open.new.self (λ i l. g.met.D.Dir.only_now old.dir i honest l) (c.open.ensures.time honest) (c.open.ensures.same honest) image left)
+
+pub returns-in-Some-2-clause-stops : goal.returns-in-Some-2-clause-stops
+returns-in-Some-2-clause-stops g c = λ honest files w image at left.
+    let old = c.args.self.now in
+    let d = g.D.Dir in
+    inr (left_by_opening d.state d.moment d.left_since old.dir c.open.new.self (λ i l. g.met.D.Dir.only_now old.dir i honest l) (c.open.ensures.time honest) (c.open.ensures.same honest) image left)
+
+pub returns-in-None-clause-stops : goal.returns-in-None-clause-stops
+returns-in-None-clause-stops g c = λ honest files w image at left.
+    let old = c.args.self.now in
+    let d = g.D.Dir in
+    inr (left_by_opening d.state d.moment d.left_since old.dir c.open.new.self (λ i l. g.met.D.Dir.only_now old.dir i honest l) (c.open.ensures.time honest) (c.open.ensures.same honest) image left)

@@ -306,3 +306,43 @@ returns-in-Ok-clause-lists g c = c.in-Ok.ensures.kept
 
 pub returns-in-Ok-clause-seats : goal.returns-in-Ok-clause-seats
 returns-in-Ok-clause-seats g c = c.begin_noted.ensures.seats
+
+pub returns-in_default-clause-untouched : goal.returns-in_default-clause-untouched
+returns-in_default-clause-untouched g c = λ is. refl
+
+pub returns-in_default-clause-room : goal.returns-in_default-clause-room
+returns-in_default-clause-room g c = λ n. refl
+
+pub returns-in-Ok-clause-untouched : goal.returns-in-Ok-clause-untouched
+returns-in-Ok-clause-untouched g c = λ is. absurd is
+
+pub returns-in-Ok-clause-room : goal.returns-in-Ok-clause-room
+returns-in-Ok-clause-room g c = c.in-Ok.ensures.room
+
+pub returns-then-is_of_disk-clause-untouched : goal.returns-then-is_of_disk-clause-untouched
+returns-then-is_of_disk-clause-untouched g c = λ is.
+    let disk = sym c.is_of_disk.ensures ∙ c.if-is_of_disk.true in
+    absurd (not_disk_over c.in-Err.fault disk is)
+
+pub returns-then-is_of_disk-clause-device : goal.returns-then-is_of_disk-clause-device
+returns-then-is_of_disk-clause-device g c = c.in-Err.ensures.device
+
+pub returns-then-is_of_disk-clause-blames : goal.returns-then-is_of_disk-clause-blames
+returns-then-is_of_disk-clause-blames g c = c.in-Err.ensures.blames
+
+pub returns-then-is_of_disk-clause-room : goal.returns-then-is_of_disk-clause-room
+returns-then-is_of_disk-clause-room g c = c.in-Err.ensures.room
+
+pub returns-else-is_of_disk-clause-untouched : goal.returns-else-is_of_disk-clause-untouched
+returns-else-is_of_disk-clause-untouched g c = λ is.
+    let s = installing c.args.install in
+    absurd (not_over s (installing c.begin_noted.new.install) (next_phase s) (Err c.in-Err.fault) c.in-Err.ensures.goes (ap (λ (f : InstallFault). Err f) is))
+
+pub returns-else-is_of_disk-clause-device : goal.returns-else-is_of_disk-clause-device
+returns-else-is_of_disk-clause-device g c = c.in-Err.ensures.device
+
+pub returns-else-is_of_disk-clause-blames : goal.returns-else-is_of_disk-clause-blames
+returns-else-is_of_disk-clause-blames g c = c.in-Err.ensures.blames
+
+pub returns-else-is_of_disk-clause-room : goal.returns-else-is_of_disk-clause-room
+returns-else-is_of_disk-clause-room g c = c.in-Err.ensures.room

@@ -328,3 +328,39 @@ returns-in-UnderWay-clause-lists g c = c.step_noted-result.ensures.lists
 
 pub returns-in-UnderWay-clause-seats : goal.returns-in-UnderWay-clause-seats
 returns-in-UnderWay-clause-seats g c = c.step_noted-result.ensures.seats
+
+pub returns-then-number-self-clause-untouched : goal.returns-then-number-self-clause-untouched
+returns-then-number-self-clause-untouched g c = λ none. refl
+
+pub returns-then-number-self-clause-room : goal.returns-then-number-self-clause-room
+returns-then-number-self-clause-room g c = λ n. refl
+
+pub returns-in-Idle-clause-untouched : goal.returns-in-Idle-clause-untouched
+returns-in-Idle-clause-untouched g c = λ none. refl
+
+pub returns-in-Idle-clause-room : goal.returns-in-Idle-clause-room
+returns-in-Idle-clause-room g c = λ n. refl
+
+pub returns-in-AtDone-clause-untouched : goal.returns-in-AtDone-clause-untouched
+returns-in-AtDone-clause-untouched g c = λ none. refl
+
+pub returns-in-AtDone-clause-room : goal.returns-in-AtDone-clause-room
+returns-in-AtDone-clause-room g c = λ n. refl
+
+pub returns-in-UnderWay-clause-untouched : goal.returns-in-UnderWay-clause-untouched
+returns-in-UnderWay-clause-untouched g c = λ none.
+    let old = c.args.self.now in
+    let here = c.if-number-self.false in
+    let is : old.begun ≡ c.args.number = grind (arith, here) in
+    let number = eq-eqb old.begun c.args.number is in
+    let under = ap (λ (b : Bool). if b then installing_of old.installation else None) number ∙ ap installing_of (sym c.in-UnderWay.ensures.value) in
+    absurd (none_not_some _ (sym none ∙ under))
+
+pub returns-in-UnderWay-clause-room : goal.returns-in-UnderWay-clause-room
+returns-in-UnderWay-clause-room g c = c.step_noted-result.ensures.room
+
+pub returns-in-UnderWay-clause-device : goal.returns-in-UnderWay-clause-device
+returns-in-UnderWay-clause-device g c = c.step_noted-result.ensures.device
+
+pub returns-in-UnderWay-clause-blames : goal.returns-in-UnderWay-clause-blames
+returns-in-UnderWay-clause-blames g c = c.step_noted-result.ensures.blames

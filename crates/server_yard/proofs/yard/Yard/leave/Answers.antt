@@ -29,3 +29,9 @@ returns-clause-step g c = λ honest.
     let noted = c.leave.ensures.noted in
     plain_leads _ _ c.args.event (leaver_plain c.args.event c.args.serial c.requires.kind) (leaver_own c.args.event c.args.serial c.requires.kind)
     (record { may = noted.may; happens = noted.happens; directory = refl; rules = refl; installing = refl })
+
+pub returns-clause-beside : goal.returns-clause-beside
+returns-clause-beside g c = λ d.
+    let noted = c.leave.ensures.noted in
+    plain_leads _ _ c.args.event (leaver_plain c.args.event c.args.serial c.requires.kind) (leaver_own c.args.event c.args.serial c.requires.kind)
+    (record { may = noted.may; happens = noted.happens; directory = refl; rules = refl; installing = refl })

@@ -31,3 +31,9 @@ returns-clause-step g c = λ honest.
     let noted = c.retire.ensures.noted in
     plain_leads _ _ (event.Retired (number_at (yard_seat old (place_of c.args.running)))) refl refl
     (record { may = noted.may; happens = noted.happens; directory = refl; rules = refl; installing = refl })
+
+pub returns-clause-beside : goal.returns-clause-beside
+returns-clause-beside g c = λ d.
+    let noted = c.retire.ensures.noted in
+    plain_leads _ _ (event.Retired (number_at (yard_seat c.args.self.now (place_of c.args.running)))) refl refl
+    (record { may = noted.may; happens = noted.happens; directory = refl; rules = refl; installing = refl })
