@@ -9,7 +9,8 @@ import sys
 import tempfile
 import time
 
-KILLS = 500
+# in each part of the group
+KILLS = 250
 RULES = 100000
 
 # reads the rules file until it is told to end, and prints how often, and how many files it saw; or what it saw that was neither file
@@ -69,9 +70,9 @@ class Installations:
         return process.wait() != 0
 
 
-def check(program, failures):
+def check(program, failures, part=0):
     """Counts the kills and what is looked at beside them, and adds a line to the failures for each that found something else."""
-    chance = random.Random(7)
+    chance = random.Random(7 + part)
     with tempfile.TemporaryDirectory() as folder:
         runs = Installations(program, folder)
         reader = subprocess.Popen(

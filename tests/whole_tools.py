@@ -6,6 +6,7 @@ Usage: tests/whole_tools.py [PROGRAM].
 """
 import concurrent.futures
 import os
+import select
 import shutil
 import socket
 import subprocess
@@ -142,11 +143,18 @@ def play(send, receive, size):
 
 
 def reads_of_a_tool(program, words, size, folder):
-    """A tool between two pipes: how many pieces it passed on, how it ended, and how many lines it recorded."""
+    """A tool between two pipes: how many pieces it passed on, how it ended, and how many lines it recorded. One that passes nothing on for long is
+    ended."""
     path = os.path.join(folder, "record of " + words[0])
     with open(path, "wb") as record:
         process = subprocess.Popen([program] + words, bufsize=0, stdin=subprocess.PIPE, stdout=subprocess.PIPE, stderr=record)
-    count = play(process.stdin.write, process.stdout.read, size)
+
+    def receive(most):
+        return process.stdout.read(most) if select.select([process.stdout], [], [], LIMIT)[0] else b""
+
+    count = play(process.stdin.write, receive, size)
+    if count < READS:
+        process.kill()
     process.stdin.close()
     rest = process.stdout.read()
     code = process.wait(LIMIT)
