@@ -388,6 +388,26 @@ def check_long_text(program, checks):
             checks.holds("its memory", looked_over[2] <= 2 * compiled[2], "%d KiB, and compiling took %d" % (looked_over[2], compiled[2]))
 
 
+def short_line(number):
+    """A line of 20 bytes with an address of its own."""
+    return b"%d.%d.%d.%d:allow\n" % (10 + number // 2106000, 100 + number // 14040 % 150, 100 + number // 90 % 156, 10 + number % 90)
+
+
+def check_short_lines(program, checks):
+    """A text of 64 MiB of lines of 20 bytes, each of which has an address more to be seen: at most twice the memory of compiling it."""
+    size = SHORT_TEXT if os.sep + "try" + os.sep in program else LONG_TEXT
+    count = size // len(short_line(0))
+    with tempfile.TemporaryDirectory() as folder:
+        path = os.path.join(folder, "text")
+        with open(path, "wb") as file:
+            file.write(b"".join(map(short_line, range(count))))
+        compiled = measured([program, "tcprules", "rules.cdb", "rules.tmp"], path, folder)
+        checks.expect("short lines are compiled", compiled[:2], (b"", 0))
+        looked_over = measured([program, "tcprules", "-n"], path, folder)
+        checks.expect("-n of %d short lines" % count, looked_over[:2], (b"tcprules: line %d: %s\n" % (count, OTHERS), 0))
+        checks.holds("their memory", looked_over[2] <= 2 * compiled[2], "%d KiB, and compiling took %d" % (looked_over[2], compiled[2]))
+
+
 def check_wide_ranges(program, checks):
     """A text of ranges of 256 addresses each: its warnings, and at most twice the memory of compiling it."""
     count = 100 if os.sep + "try" + os.sep in program else 5000
@@ -409,7 +429,7 @@ def check_wide_ranges(program, checks):
 
 def check(program, failures):
     checks = Checks("rule warnings", failures)
-    for part in (check_rows, check_words, check_refused, check_streams, check_memory, check_forms, check_random, check_long_text, check_wide_ranges):
+    for part in (check_rows, check_words, check_refused, check_streams, check_memory, check_forms, check_random, check_long_text, check_short_lines, check_wide_ranges):
         part(program, checks)
     return checks.tests
 

@@ -22,4 +22,4 @@ pub use instr::{Instr, Setting, Settings, Verdict};
 pub use limits::Limits;
 pub use list::{Pair, RuleList, StoredRule};
 pub use source::{FindFault, ListPairs, PairSource};
-pub use text::{parse, parse_owned};
+pub use text::{accept, parse, parse_owned};

@@ -55,6 +55,44 @@ pub fn parse_owned(text: Vec<u8>, limits: &Limits) -> Result<RuleList, ParseFaul
     Ok(RuleList::new(kept, tally))
 }
 
+/// Whether a text is accepted, as `parse` says: of its lines none is kept, so it takes the memory of one.
+///
+/// # Errors
+/// As of `parse`.
+pub fn accept(alloc: Global, text: &[u8], limits: &Limits) -> Result<(), ParseFault>
+    ensures accepted { OnOk result (IsAccepted limits.now text.now) }
+    ensures refused { IfErr result (Refuses limits.now text.now) }
+{
+    if text.len() as u64 > limits.text {
+        return Err(LONG_TEXT);
+    }
+    accept_lines(alloc, text, is_plain(text), limits.line)
+}
+
+/// The same of the lines of a text, however long that is. In a text that is `plain` no line is looked at for that.
+fn accept_lines(alloc: Global, text: &[u8], plain: bool, limit: u64) -> Result<(), ParseFault>
+    requires { plain ≡ true → IsPlain text.now }
+    ensures faultless { OnOk result (first_faulty limit 1 (lines_of text.now) ≡ None) }
+    ensures refused { IfErr result (RefusesLines limit text.now) }
+{
+    let mut kept = Vec::new(alloc);
+    let mut rest = text;
+    let mut number = 0;
+    while !rest.is_empty() {
+        let (line, after) = first_line(rest);
+        number += 1;
+        match keep_line(trim_blanks(line), plain, limit, &mut kept) {
+            Ok(_) => {}
+            Err(RuleFault::Kind(kind)) => {
+                return Err(ParseFault::Line(LineFault { line: number, kind }));
+            }
+            Err(RuleFault::OutOfMemory) => return Err(ParseFault::OutOfMemory),
+        }
+        rest = after;
+    }
+    Ok(())
+}
+
 /// Puts the kept lines of a text in its place, and tells the tally of their rules. In a text that is `plain` no line is looked at for that.
 fn keep_lines(text: &mut Vec<u8>, plain: bool, limit: u64) -> Result<Tally, ParseFault>
     requires { plain ≡ true → IsPlain text.old.items }

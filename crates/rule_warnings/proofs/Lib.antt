@@ -2,6 +2,7 @@ pub mod CaseLemmas
 mod Cases
 pub mod ExactLemmas
 pub mod FrontLemmas
+pub mod LentLemmas
 pub mod LineLemmas
 pub mod ReadLemmas
 pub mod ReportLemmas

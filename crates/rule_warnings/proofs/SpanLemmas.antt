@@ -22,7 +22,8 @@ use Rattle.rule_lines.proofs.CodeLemmas.{after_first-stop, before_first-stop, op
 use Rattle.rule_warnings.specs.declared.seen.Seen.{Seen}
 use Rattle.rule_warnings.specs.declared.spans.Span.{Span}
 use Rattle.rule_warnings.specs.Spans.{CutParts, around, cut_at, cut_in, has_number, is_back, is_cut, is_front, line_among, line_from, line_in, line_spanned, octet_in, soonest, sooner, with_part}
-use Rattle.rule_warnings.specs.Tables.{IsUpTo, either_line, line_alone, line_under, noted_all, spans_under}
+use Rattle.rule_warnings.specs.LentLines.{either_line, line_lent}
+use Rattle.rule_warnings.specs.Tables.{IsUpTo, line_alone, line_under, noted_all, spans_under}
 use Rattle.rule_warnings.proofs.TableLemmas.{IsPushed, alone-none, spans-none}
 
 -- ---- the first of some lines
@@ -317,6 +318,6 @@ spanned-none spans none address = at_none (places address) where
   at_none (start ∷ starts) = ap (λ o. sooner o (soonest (line_from spans address) starts)) (from_none (cut_at address start)) ∙ sooner-none _ ∙ at_none starts
 
 -- no addresses
-pub under-none : (seen : Seen) → seen.lent.entries ≡ [] → seen.made.entries ≡ [] → seen.spans.entries ≡ [] → (address : List ℕ) → line_under seen address ≡ None
+pub under-none : (seen : Seen) → ((address : List ℕ) → line_lent seen.lent address ≡ None) → seen.made.entries ≡ [] → seen.spans.entries ≡ [] → (address : List ℕ) → line_under seen address ≡ None
 under-none seen lent made spans address =
     alone-none seen lent made address (line_spanned (spans_under seen) address) ∙ spanned-none (spans_under seen) (spans-none seen spans) address

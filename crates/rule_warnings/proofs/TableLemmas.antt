@@ -9,41 +9,23 @@ use Rattle.std.specs.declared.alloc.Global.{Global}
 use Rattle.std.specs.declared.vec.Vec.{Vec}
 use Rattle.std.proofs.lemmas.Bool.{cases_Bool, cond-true, cond-false}
 use Rattle.std.proofs.lemmas.Slice.Eq.{bytes_eq-Decides}
+use Rattle.rule_warnings.specs.declared.lent.Lent.{Lent}
 use Rattle.rule_warnings.specs.declared.seen.Seen.{Seen}
 use Rattle.rule_warnings.specs.declared.spans.Span.{Span}
 use Rattle.rule_warnings.specs.Spans.{line_spanned}
-use Rattle.rule_warnings.specs.Tables.{either_line, items_of, line_alone, line_under, noted, spans_under}
-
-others : {K X : Type 0} (eq : K → K → Bool) (test : K → Bool) (old new : List (K × X)) → KeepsOthers eq test old new → (other : K → Bool) → IsKeyTest eq other → AreApart test other → lookup other new ≡ lookup other old
-unfolding KeepsOthers
-others eq test old new h = h
-
-apart : (bs cs ks : List ℕ) → pointwise nat_eq bs cs ≡ false → pointwise nat_eq bs ks ≡ true → pointwise nat_eq cs ks ≡ false
-apart bs cs ks other same = nat_list_eq_equiv.symm cs ks ∙ sym (nat_list_eq_equiv.congr bs ks cs same) ∙ other
+use Rattle.rule_warnings.specs.LentLines.{either_line, line_lent}
+use Rattle.rule_warnings.specs.Tables.{items_of, line_alone, line_under, noted, spans_under}
+use Rattle.rule_warnings.proofs.LentLemmas.{apart, others, updates}
 
 abbrev by_made : {X S : Type 0} → HashMap (Vec ℕ Global) X S → List ℕ → Option X
 by_made table address = get_by (λ (key : Vec ℕ Global). pointwise nat_eq address key.items) table
-
-abbrev by_lent : {S : Type 0} → HashMap (Bor (List ℕ)) ℕ S → List ℕ → Option ℕ
-by_lent table address = get_by (λ (key : Bor (List ℕ)). pointwise nat_eq address key.now) table
-
--- a new key, and the others
-updates : {X : Type 0} (f g : List ℕ → Option X) (key : List ℕ) (w : Option X) → g key ≡ w → ((other : List ℕ) → bytes_eq key other ≡ false → g other ≡ f other) → (other : List ℕ) → g other ≡ cond (bytes_eq key other) w (f other)
-updates f g key w here apart other = elim (cases_Bool (bytes_eq key other)) [
-  | inl same ↦ subst (λ (l : List ℕ). g l ≡ w) ((bytes_eq-Decides key other).0 same) here ∙ sym (cond-true (bytes_eq key other) w (f other) same)
-  | inr differs ↦ apart other differs ∙ sym (cond-false (bytes_eq key other) w (f other) differs)
-]
 
 made-updates : {X S : Type 0} (key : List ℕ) (m n : HashMap (Vec ℕ Global) X S) (w : Option X) → UpdatesBy (λ (x y : Vec ℕ Global). pointwise nat_eq x.items y.items) (λ (k : Vec ℕ Global). pointwise nat_eq key k.items) m n w → (other : List ℕ) → by_made n other ≡ cond (bytes_eq key other) w (by_made m other)
 made-updates key m n w h =
     updates (by_made m) (by_made n) key w h.1 (λ other differs. others _ _ _ _ h.3 _ (λ x y. nat_list_eq_equiv.congr other x.items y.items) (λ k. apart key other k.items differs))
 
-lent-updates : {S : Type 0} (key : Bor (List ℕ)) (m n : HashMap (Bor (List ℕ)) ℕ S) (line : ℕ) → UpdatesBy (λ (x y : Bor (List ℕ)). pointwise nat_eq x.now y.now) (λ (k : Bor (List ℕ)). pointwise nat_eq key.now k.now) m n (Some line) → (other : List ℕ) → by_lent n other ≡ cond (bytes_eq key.now other) (Some line) (by_lent m other)
-lent-updates key m n line h =
-    updates (by_lent m) (by_lent n) key.now (Some line) h.1 (λ other differs. others _ _ _ _ h.3 _ (λ x y. nat_list_eq_equiv.congr other x.now y.now) (λ k. apart key.now other k.now differs))
-
 -- an address that no table had is new in each
-none_first : (a b s : Option ℕ) → is_none (either_line (either_line a b) s) ≡ true → a ≡ None
+pub none_first : (a b s : Option ℕ) → is_none (either_line (either_line a b) s) ≡ true → a ≡ None
 none_first None b s none = refl
 none_first (Some x) b s none = absurd (cc)
 
@@ -58,19 +40,19 @@ put_lent false a b s line = refl
 -- so an address that no line had before is noted
 pub noted-made : (old new : Seen) (key : Vec ℕ Global) (address : List ℕ) (line : ℕ) → key.items ≡ address → is_none (line_under old address) ≡ true → new.lent ≡ old.lent → new.spans ≡ old.spans → UpdatesBy (λ (x y : Vec ℕ Global). pointwise nat_eq x.items y.items) (λ (k : Vec ℕ Global). pointwise nat_eq key.items k.items) old.made new.made (Some line) → (other : List ℕ) → line_under new other ≡ noted (line_under old) address line other
 noted-made old new key address line is none lent spans h other =
-    ap (λ (table : HashMap (Bor (List ℕ)) ℕ _). line_under (record new { lent = table }) other) lent
+    ap (λ (table : Lent). line_under (record new { lent = table }) other) lent
     ∙ ap (λ (table : HashMap (Vec ℕ Global) (Vec Span Global) _). line_under (record new { lent = old.lent; spans = table }) other) spans
-    ∙ ap (λ o. either_line (either_line (by_lent old.lent other) o) (line_spanned (spans_under old) other)) (made-updates key.items old.made new.made (Some line) h other ∙ ap (λ (l : List ℕ). cond (bytes_eq l other) (Some line) (by_made old.made other)) is)
-    ∙ put_made (bytes_eq address other) (by_lent old.lent other) (by_made old.made other) (line_spanned (spans_under old) other) line
-    (λ same. subst (λ (l : List ℕ). by_lent old.lent l ≡ None) ((bytes_eq-Decides address other).0 same) (none_first (by_lent old.lent address) (by_made old.made address) (line_spanned (spans_under old) address) none))
+    ∙ ap (λ o. either_line (either_line (line_lent old.lent other) o) (line_spanned (spans_under old) other)) (made-updates key.items old.made new.made (Some line) h other ∙ ap (λ (l : List ℕ). cond (bytes_eq l other) (Some line) (by_made old.made other)) is)
+    ∙ put_made (bytes_eq address other) (line_lent old.lent other) (by_made old.made other) (line_spanned (spans_under old) other) line
+    (λ same. subst (λ (l : List ℕ). line_lent old.lent l ≡ None) ((bytes_eq-Decides address other).0 same) (none_first (line_lent old.lent address) (by_made old.made address) (line_spanned (spans_under old) address) none))
     ∙ ap (λ b. cond (b && bytes_eq address other) (Some line) (line_under old other)) (sym none)
 
-pub noted-lent : (old new : Seen) (key : Bor (List ℕ)) (line : ℕ) → is_none (line_under old key.now) ≡ true → new.made ≡ old.made → new.spans ≡ old.spans → UpdatesBy (λ (x y : Bor (List ℕ)). pointwise nat_eq x.now y.now) (λ (k : Bor (List ℕ)). pointwise nat_eq key.now k.now) old.lent new.lent (Some line) → (other : List ℕ) → line_under new other ≡ noted (line_under old) key.now line other
+pub noted-lent : (old new : Seen) (key : Bor (List ℕ)) (line : ℕ) → is_none (line_under old key.now) ≡ true → new.made ≡ old.made → new.spans ≡ old.spans → ((other : List ℕ) → line_lent new.lent other ≡ cond (bytes_eq key.now other) (Some line) (line_lent old.lent other)) → (other : List ℕ) → line_under new other ≡ noted (line_under old) key.now line other
 noted-lent old new key line none made spans h other =
     ap (λ (table : HashMap (Vec ℕ Global) ℕ _). line_under (record new { made = table }) other) made
     ∙ ap (λ (table : HashMap (Vec ℕ Global) (Vec Span Global) _). line_under (record new { made = old.made; spans = table }) other) spans
-    ∙ ap (λ o. either_line (either_line o (by_made old.made other)) (line_spanned (spans_under old) other)) (lent-updates key old.lent new.lent line h other)
-    ∙ put_lent (bytes_eq key.now other) (by_lent old.lent other) (by_made old.made other) (line_spanned (spans_under old) other) line
+    ∙ ap (λ o. either_line (either_line o (by_made old.made other)) (line_spanned (spans_under old) other)) (h other)
+    ∙ put_lent (bytes_eq key.now other) (line_lent old.lent other) (by_made old.made other) (line_spanned (spans_under old) other) line
     ∙ ap (λ b. cond (b && bytes_eq key.now other) (Some line) (line_under old other)) (sym none)
 
 -- the spans around some numbers have one more, and the others stay
@@ -90,8 +72,8 @@ pushed key old removed new value span taken put is = record {
 }
 
 -- empty tables
-pub alone-none : (seen : Seen) → seen.lent.entries ≡ [] → seen.made.entries ≡ [] → (address : List ℕ) (o : Option ℕ) → either_line (line_alone seen address) o ≡ o
-alone-none seen lent made address o = rw (lent, made) refl
+pub alone-none : (seen : Seen) → ((address : List ℕ) → line_lent seen.lent address ≡ None) → seen.made.entries ≡ [] → (address : List ℕ) (o : Option ℕ) → either_line (line_alone seen address) o ≡ o
+alone-none seen lent made address o = ap (λ l. either_line (either_line l (by_made seen.made address)) o) (lent address) ∙ rw made refl
 
 pub spans-none : (seen : Seen) → seen.spans.entries ≡ [] → (key : List ℕ) → spans_under seen key ≡ []
 spans-none seen none key = rw none refl

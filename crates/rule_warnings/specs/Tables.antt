@@ -8,17 +8,13 @@ use Rattle.std.specs.declared.alloc.Global.{Global}
 use Rattle.std.specs.declared.vec.Vec.{Vec}
 use Rattle.rule_warnings.specs.declared.seen.Seen.{Seen}
 use Rattle.rule_warnings.specs.declared.spans.Span.{Span}
+use Rattle.rule_warnings.specs.LentLines.{either_line, line_lent}
 use Rattle.rule_warnings.specs.Spans.{line_spanned}
-
--- the one of two lines that there is, the first where there are both
-abbrev pub either_line : Option ℕ → Option ℕ → Option ℕ
-either_line None other = other
-either_line (Some line) other = Some line
 
 -- the line of an address by itself: of those that stand in the text, and of those that were made
 abbrev pub line_alone : Seen → List ℕ → Option ℕ
 line_alone seen address =
-    either_line (get_by (λ key. pointwise nat_eq address key.now) seen.lent) (get_by (λ key. pointwise nat_eq address key.items) seen.made)
+    either_line (line_lent seen.lent address) (get_by (λ key. pointwise nat_eq address key.items) seen.made)
 
 -- the spans that there are, or none
 abbrev pub items_of : Option (Vec Span Global) → List Span

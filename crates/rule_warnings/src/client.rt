@@ -3,6 +3,7 @@ ghost use Rattle.std.specs.Prelude.{◌≡◌, ◌<◌, ◌≤◌, ◌+◌, ◌=
 ghost use Rattle.std.specs.Char.{is_ascii_uppercase};
 ghost use Rattle.std.specs.List.{list_any, position_or_len};
 ghost use Rattle.rule_lines.specs.Lines.{has_byte};
+ghost use Rattle.rule_lookup.specs.Addresses.{ipv4_in};
 ghost use Rattle.rule_warnings.specs.Clients.{is_form, is_plain, is_whole, is_front, is_host, is_place, is_users, asks_user};
 
 use arrayvec::ArrayVec;
@@ -65,12 +66,19 @@ pub fn has_capitals(bytes: &[u8]) -> bool
 fn is_whole(address: &[u8]) -> bool
     ensures { result ≡ is_whole address.now }
 {
+    octets_of(address).is_some()
+}
+
+/// The four numbers of a whole IPv4 address.
+pub fn octets_of(address: &[u8]) -> Option<[u8; 4]>
+    ensures { result ≡ ipv4_in address.now }
+{
     if address.len() > LONGEST {
-        return false;
+        return None;
     }
     match str::from_utf8(address) {
-        Ok(text) => parse_address(text).is_some(),
-        Err(_) => false,
+        Ok(text) => parse_address(text),
+        Err(_) => None,
     }
 }
 

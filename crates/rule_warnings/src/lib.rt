@@ -6,6 +6,7 @@ mod addresses;
 mod client;
 mod findings;
 pub mod laws;
+mod lent;
 pub mod report;
 mod seen;
 mod spans;

@@ -11,7 +11,7 @@ use crate::findings::{Findings, look_at};
 use crate::seen::Seen;
 use crate::warning::{Warning, WarningKind};
 use rule_lines::lines::{first_line, trim_blanks};
-use rule_lines::{Limits, LineFault, ParseFault, parse};
+use rule_lines::{Limits, LineFault, ParseFault};
 use std::alloc::{AllocError, Global};
 use std::io::Write;
 use thiserror::Error;
@@ -66,8 +66,8 @@ fn accept(alloc: Global, text: &[u8], limits: &Limits) -> Result<(), WarnFault>
     ensures accepted { OnOk result (IsAccepted limits.now text.now) }
     ensures refused { IfErr result (RefusedBy limits.now text.now) }
 {
-    match parse(alloc, text, limits) {
-        Ok(_rules) => Ok(()),
+    match rule_lines::accept(alloc, text, limits) {
+        Ok(()) => Ok(()),
         Err(ParseFault::Line(fault)) => Err(WarnFault::Line(fault)),
         Err(ParseFault::OutOfMemory) => Err(WarnFault::OutOfMemory),
     }

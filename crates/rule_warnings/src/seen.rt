@@ -4,6 +4,7 @@ ghost use Rattle.rule_lines.specs.Rows.{addresses_under};
 ghost use Rattle.rule_warnings.specs.Spans.{around, is_cut, line_among, line_from, line_spanned};
 ghost use Rattle.rule_warnings.specs.Tables.{IsUpTo, items_of, line_alone, line_under, noted, noted_all, spans_under};
 
+use crate::lent::Lent;
 use crate::spans::{Span, cut_at, line_among, sooner};
 use rule_lines::spread::Numbers;
 use std::alloc::{AllocError, Global};
@@ -13,7 +14,7 @@ use std::collections::HashMap;
 #[derive(Drop)]
 pub struct Seen<'a> {
     /// Those that stand in the text as they are.
-    lent: HashMap<&'a [u8], u64>,
+    lent: Lent<'a>,
     /// Those that were made: of capital letters.
     made: HashMap<Vec<u8>, u64>,
     /// Those of ranges, by what stands before and behind their numbers, with a `-` between.
@@ -26,7 +27,7 @@ impl<'a> Seen<'a> {
         ensures { (address : List ℕ) → line_under result address ≡ None }
     {
         Seen {
-            lent: HashMap::new(alloc),
+            lent: Lent::new(alloc),
             made: HashMap::new(alloc),
             spans: HashMap::new(alloc),
         }
@@ -46,8 +47,8 @@ impl<'a> Seen<'a> {
     fn line_alone(&self, address: &[u8]) -> Option<u64>
         ensures { result ≡ line_alone self.now address.now }
     {
-        match self.lent.get(address) {
-            Some(line) => Some(*line),
+        match self.lent.line_of(address) {
+            Some(line) => Some(line),
             None => self.made.get(address).copied(),
         }
     }
