@@ -17,6 +17,6 @@ pub use dir_calls::{
 pub use disk::{Disk, DiskFile, Look};
 pub use failure::{DiskFailure, FailedOn};
 pub use lock::LockTry;
-pub use os_dir::{DiskDir, FolderError, FolderFault, OsDir};
+pub use os_dir::{DiskDir, FolderError, FolderFault, OsDir, find_folder};
 pub use os_file::OsFile;
 pub use system_disk::{SystemDisk, SystemFile, SystemPath};

@@ -183,8 +183,11 @@ where
 /// The system's error for a path on which something is no folder.
 const NO_FOLDER: i32 = 20;
 
-// Sees that a folder stands at a path.
-fn find_folder<R: Files>(files: &R, folder: &str) -> Result<(), FolderError> {
+/// Sees that a folder stands at a path.
+///
+/// # Errors
+/// `NoFolder` where nothing stands there, or no folder; `Device` where the system does not say what stands there.
+pub fn find_folder<R: Files>(files: &R, folder: &str) -> Result<(), FolderError> {
     for _ in 0..TRIES {
         match files.metadata(folder) {
             Ok(found) if found.is_dir() => return Ok(()),
@@ -238,8 +241,10 @@ impl<R: Files<File = File> + Drop> DiskDir<SystemDisk<R>> {
         self.disk.unlock();
     }
 
-    /// Whether something stands under a name, or may stand there where the system doesn't say.
-    pub fn may_stand(&mut self, name: &Name) -> bool {
+    /// Whether something stands under a name, or may stand there where the system doesn't say. No failure is counted.
+    pub fn may_stand(&mut self, name: &Name) -> bool
+        ensures { os_failed self.new ≡ os_failed self.old }
+    {
         self.disk.put_path(&mut self.path, name);
         match is_file(&self.disk, &self.path) {
             Ok(_) => true,

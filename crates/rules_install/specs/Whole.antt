@@ -17,7 +17,7 @@ use Rattle.rule_lines.specs.declared.fault.ParseFault.TheVariants.{Line as LineO
 use Rattle.rules_install.specs.Filled.{whole_file}
 use Rattle.rules_install.specs.NamePair.{NamePair}
 use Rattle.rules_install.specs.Installing.{Installing, FitsPhase, begun, next_phase, synced_file}
-use Rattle.rules_install.specs.Steps.{Changes, IsSame}
+use Rattle.rules_install.specs.Steps.{Changes, IsOfDevice, IsSame}
 use Rattle.rules_install.specs.declared.Phase.{Phase}
 use Rattle.rules_install.specs.declared.Phase.TheVariants.{Named, Done}
 use Rattle.rules_install.specs.declared.fault.InstallFault.{InstallFault}
@@ -79,6 +79,10 @@ StandsAtDone start new fault = ⊤
 -- the installation of a text, begun
 abbrev pub begun_of : List ℕ → NamePair → Installing
 begun_of text names = begun (pairs_of text) names
+
+-- a fault of the directory is its device's
+abbrev pub IsDeviceFault : InstallFault → Type 0
+IsDeviceFault fault = IsOfDevice (Err fault)
 
 -- what stands under a name decides each peer as a text does
 abbrev pub DecidesAs : Option (List ℕ) → List ℕ → Type 0

@@ -7,7 +7,7 @@ ghost use Rattle.rules_install.specs.Filled.{IsWritten, whole_file};
 ghost use Rattle.rules_install.specs.Installing.{begun, Fits, HasForGood};
 ghost use Rattle.rules_install.specs.Installs.{installing};
 ghost use Rattle.rules_install.specs.Steps.{BlamesFault, IsSame};
-ghost use Rattle.rules_install.specs.Whole.{Begins, DecidesAs, Ends, EndsRun, IsRefused, RunKeeps, RunLasts, StandsAtDone, TellsWhere, begun_of};
+ghost use Rattle.rules_install.specs.Whole.{Begins, DecidesAs, Ends, EndsRun, IsDeviceFault, IsRefused, RunKeeps, RunLasts, StandsAtDone, TellsWhere, begun_of};
 
 use crate::laws::decides;
 use crate::{Install, InstallFault, Names, Phase};
@@ -55,6 +55,7 @@ pub fn finish<D: Dir>(alloc: Global, dir: &mut D, install: &mut Install) -> Resu
     ensures done { IsTrue D.honest → OnOk result (HasForGood (installing install.old) (D.state dir.new)) }
     // the new file is compiled of the rules
     ensures written { OnOk result (IsWritten (installing install.old).rules) }
+    ensures device { IsTrue D.honest → IfErr result IsDeviceFault }
     ensures blames { IfErr result (BlamesFault (D.failed dir.old) (D.failed dir.new)) }
 {
     while install.step(alloc, dir)? != Phase::Done {}

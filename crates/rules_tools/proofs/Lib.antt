@@ -1,1 +1,5 @@
+pub mod ClientLemmas
+pub mod InstalledLemmas
 pub mod ReadLemmas
+pub mod RunLemmas
+pub mod ToldLemmas

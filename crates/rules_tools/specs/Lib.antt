@@ -1,5 +1,11 @@
--- Paths, what `tcprules` tells of an installation that failed and of a text, and what `tcprulescheck` tells of a compiled file.
+-- Paths, turns in a folder, what a run of `tcprules` does, what is told of an installation that failed and of a text, and what `tcprulescheck` tells of a
+-- compiled file.
 pub mod Checks
+pub mod Clients
+pub mod FolderParts
+pub mod Installed
 pub mod Paths
 pub mod Reviews
 pub mod Rules
+pub mod Told
+pub mod Turns

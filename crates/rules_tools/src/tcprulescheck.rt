@@ -1,30 +1,30 @@
 //! `tcprulescheck`: which rule of a compiled file decides a peer.
-ghost use Rattle.std.specs.Prelude.{◌≡◌, IsTrue, IfOk, IfErr, OnOk};
+ghost use Rattle.std.specs.Prelude.{◌≡◌, ◌≢◌, ◌⊎◌, IsTrue, IfOk, IfErr, OnOk};
 ghost use Rattle.std.specs.Io.KnownBytes.{Appends};
+ghost use Rattle.answer_lines.specs.Answers.{answer_lines};
 ghost use Rattle.dir_calls.specs.Directory.{content};
 ghost use Rattle.rules_tools.specs.Checks.{Blames, DecidesBy, FailsBy};
+ghost use Rattle.rules_tools.specs.Told.{Checks, DecidesAt, DecidesThere, FailsAt, HasNone, NameFails};
 ghost use Rattle.rules_tools.specs.declared.tcprulescheck.CheckFault.TheVariants.{OutOfMemory};
 
 use crate::cause::{Cause, CauseOf};
+use crate::folders::{Folders, SystemFolders};
 use crate::path::{folder_path, split_path};
+use crate::variables::{SystemVariables, Variables, read_peer};
 use answer_lines::append_answer;
 use cdb_read::CdbFile;
 use dir_calls::{Dir, DirFault, Name, NameFault};
-use dir_disk::{FolderError, FolderFault, OsDir};
+use dir_disk::FolderFault;
 use fault_causes::Noted;
 use rule_lines::FindFault;
-use rule_lookup::{DecideFault, Decision, Found, Missing, Peer, PeerFault, decide, parse_address};
+use rule_lookup::{DecideFault, Decision, Found, Missing, Peer, decide};
 use std::alloc::{AllocError, Global};
-use std::env::{self, VarError};
 use std::error::Error;
 use std::fmt;
 use std::fs::Files;
 use std::io::Write;
 use std::os::unix::fs::FileExt;
 use std::rt::Env;
-
-/// The address of a peer of which none is known.
-const NO_ADDRESS: [u8; 4] = [0; 4];
 
 /// Why `tcprulescheck` tells no decision. Of several the first in this order is told.
 #[derive(Clone, Copy, PartialEq, Eq, Debug)]
@@ -97,30 +97,60 @@ impl From<CheckFault> for CheckFailure {
     }
 }
 
-/// Writes what the compiled file at a path decides for the peer of the variables `TCPREMOTEIP`, `TCPREMOTEHOST` and `TCPREMOTEINFO`. One
-/// that is unset, empty or not UTF-8 counts as unknown; an unknown address is `0.0.0.0`.
+/// Writes what the compiled file at a path decides for the peer of the variables of this process: `tell_decision` over the system's files.
 ///
 /// # Errors
-/// In the order of `CheckFault`. Before `WriteFault` nothing was written.
-pub fn run_tcprulescheck<E: Env + AllocGlobal, F: Files + Drop, W: Write>(
+/// As of `tell_decision`, with the cause of a fault of the disk or of the writer.
+pub fn run_tcprulescheck<E: Env + AllocGlobal, F: Files, W: Write>(
     env: &E,
-    files: F,
+    files: &F,
     writer: &mut W,
     cdb: &str,
 ) -> Result<(), CheckFailure>
 where
     F::File: FileExt,
 {
-    let peer = read_peer(env)?;
-    let decision = decide_in(env.alloc(), files, cdb, &peer)?;
+    let mut folders = SystemFolders::new(files);
     let mut writer = Noted::new(writer);
-    match write_decision(env.alloc(), &mut writer, &decision) {
-        Err(CheckFault::WriteFault) => Err(CheckFailure {
-            fault: CheckFault::WriteFault,
-            cause: Cause::of(CauseOf::Output, writer.error()),
+    match tell_decision(
+        env.alloc(),
+        &SystemVariables(env),
+        &mut folders,
+        &mut writer,
+        cdb,
+    ) {
+        Ok(()) => Ok(()),
+        Err(fault) => Err(CheckFailure {
+            fault,
+            cause: match fault {
+                CheckFault::NoFile | CheckFault::Device | CheckFault::ReadFault => folders.cause(),
+                CheckFault::WriteFault => Cause::of(CauseOf::Output, writer.error()),
+                _ => None,
+            },
         }),
-        written => Ok(written?),
     }
+}
+
+/// Writes what the compiled file at a path decides for the peer of the variables `TCPREMOTEIP`, `TCPREMOTEHOST` and `TCPREMOTEINFO`. One
+/// that is unset, empty or not UTF-8 counts as unknown; an unknown address is `0.0.0.0`. A folder that is not there has no files, and there is no
+/// file at a path whose last part is no name.
+///
+/// # Errors
+/// In the order of `CheckFault`. Before `WriteFault` nothing was written.
+pub fn tell_decision<V: Variables, F: Folders, W: Write>(
+    alloc: Global,
+    variables: &V,
+    folders: &mut F,
+    writer: &mut W,
+    cdb: &str,
+) -> Result<(), CheckFault>
+    ensures checks { IsTrue V.honest → IsTrue F.honest → Checks (V.value variables.now) (F.stands folders.old) cdb.now
+        (W.contents writer.old) (W.contents writer.new) result }
+    ensures unwritten { IfErr result (λ fault. fault ≢ CheckFault.WriteFault → writer.new ≡ writer.old) }
+{
+    let peer = read_peer(alloc, variables)?;
+    let decision = decide_in(alloc, folders, cdb, &peer)?;
+    write_decision(alloc, writer, &decision)
 }
 
 /// Writes what a compiled file decides.
@@ -128,112 +158,75 @@ fn write_decision<W: Write>(
     alloc: Global,
     writer: &mut W,
     decision: &Decision,
-) -> Result<(), CheckFault> {
+) -> Result<(), CheckFault>
+    ensures written { OnOk result
+        (Appends (W.contents writer.old) (W.contents writer.new) (answer_lines decision.now)) }
+    ensures faults { IfErr result (λ fault. (fault ≡ CheckFault.WriteFault)
+        ⊎ ((fault ≡ CheckFault.OutOfMemory) × (writer.new ≡ writer.old))) }
+{
     let mut answer = Vec::new(alloc);
     append_answer(&mut answer, decision)?;
     write_answer(writer, answer.as_slice())
 }
 
-/// The peer of `TCPREMOTEIP`, `TCPREMOTEHOST` and `TCPREMOTEINFO`. What is unset, empty or no UTF-8 is unknown; an unknown address is 0.0.0.0.
+/// What the compiled file at a path decides.
 ///
 /// # Errors
-/// `BadIp`, else `BadHost`, else `BadInfo`, where the variable is no address, or no name that a peer may have; `OutOfMemory`.
-pub fn read_peer<E: Env + AllocGlobal>(env: &E) -> Result<Peer, CheckFault> {
-    let ip = read_address(env)?;
-    let host = read_variable(env, "TCPREMOTEHOST")?;
-    let info = read_variable(env, "TCPREMOTEINFO")?;
-    make_peer(env.alloc(), ip, host.as_deref(), info.as_deref())
-}
-
-/// The address of `TCPREMOTEIP`.
-fn read_address<E: Env + AllocGlobal>(env: &E) -> Result<[u8; 4], CheckFault> {
-    match read_variable(env, "TCPREMOTEIP")? {
-        None => Ok(NO_ADDRESS),
-        Some(text) => parse_address(text.as_str()).ok_or(CheckFault::BadIp),
-    }
-}
-
-/// The peer of what is known of it.
-fn make_peer(
+/// `NoFile` where none stands there, and those of `decide_at`.
+fn decide_in<F: Folders>(
     alloc: Global,
-    ip: [u8; 4],
-    host: Option<&str>,
-    info: Option<&str>,
-) -> Result<Peer, CheckFault> {
-    match Peer::new(alloc, ip, 0, host, info) {
-        Ok(peer) => Ok(peer),
-        Err(PeerFault::BadHost) => Err(CheckFault::BadHost),
-        Err(PeerFault::BadInfo) => Err(CheckFault::BadInfo),
-        Err(PeerFault::OutOfMemory) => Err(CheckFault::OutOfMemory),
-    }
-}
-
-/// A variable, if it is set, not empty, and UTF-8.
-fn read_variable<E: Env + AllocGlobal>(env: &E, name: &str) -> Result<Option<String>, AllocError> {
-    match env::var(env, name) {
-        Ok(text) if text.is_empty() => Ok(None),
-        Ok(text) => Ok(Some(text)),
-        Err(VarError::NotPresent) | Err(VarError::NotUnicode) => Ok(None),
-        Err(VarError::OutOfMemory) => Err(AllocError),
-    }
-}
-
-/// What the compiled file at a path decides, if there is one. A folder that is not there has no files, and there is no file at a path whose
-/// last part is no name.
-fn decide_in<F: Files + Drop>(
-    alloc: Global,
-    files: F,
+    folders: &mut F,
     cdb: &str,
     peer: &Peer,
-) -> Result<Decision, CheckFailure>
-where
-    F::File: FileExt,
+) -> Result<Decision, CheckFault>
+    ensures decided { IsTrue F.honest → IfOk result (DecidesAt (F.stands folders.old) cdb.now peer.now) }
+    ensures refused { IsTrue F.honest → IfErr result (FailsAt (F.stands folders.old) cdb.now peer.now) }
 {
     let (folder, name) = split_path(cdb);
     let name = read_name(alloc, name)?;
-    let mut dir = open_folder(alloc, files, folder)?;
-    let fault = match decide_at(alloc, &mut dir, &name, peer) {
-        Ok(decision) if matches!(decision.found, Found::NoFile) => CheckFault::NoFile,
-        Ok(decision) => return Ok(decision),
-        Err(fault) => fault,
+    let mut dir = match folders.find(alloc, folder_path(folder)) {
+        Ok(dir) => dir,
+        Err(FolderFault::NoFolder) => return Err(CheckFault::NoFile),
+        Err(FolderFault::Device) => return Err(CheckFault::Device),
+        Err(FolderFault::OutOfMemory) => return Err(CheckFault::OutOfMemory),
     };
-    let cause = match fault {
-        CheckFault::NoFile | CheckFault::Device | CheckFault::ReadFault => {
-            Cause::of_look_up(dir.disk().failure())
-        }
-        _ => None,
-    };
-    Err(CheckFailure { fault, cause })
+    let decided = decide_there(alloc, &mut dir, &name, peer);
+    if decided.is_err() {
+        folders.failed(&dir);
+    }
+    decided
+}
+
+/// What the compiled file under a name decides.
+///
+/// # Errors
+/// `NoFile` where none stands there, and those of `decide_at`.
+fn decide_there<D: Dir>(
+    alloc: Global,
+    dir: &mut D,
+    name: &Name,
+    peer: &Peer,
+) -> Result<Decision, CheckFault>
+    ensures decided { IsTrue D.honest → IfOk result (DecidesThere (content (D.state dir.old) name.now) peer.now) }
+    ensures refused { IsTrue D.honest
+        → IfErr result (HasNone name.now (content (D.state dir.old) name.now) peer.now) }
+{
+    let decision = decide_at(alloc, dir, name, peer)?;
+    match decision.found {
+        Found::NoFile => Err(CheckFault::NoFile),
+        _ => Ok(decision),
+    }
 }
 
 /// The name of the compiled file.
-fn read_name(alloc: Global, text: &str) -> Result<Name, CheckFault> {
+fn read_name(alloc: Global, text: &str) -> Result<Name, CheckFault>
+    ensures kept { IfOk result (λ name. name ≡ text.now) }
+    ensures refused { IfErr result (NameFails text.now) }
+{
     match Name::new(alloc, text.as_bytes()) {
         Ok(name) => Ok(name),
         Err(NameFault::OutOfMemory) => Err(CheckFault::OutOfMemory),
         Err(_) => Err(CheckFault::NoFile),
-    }
-}
-
-/// The folder of the compiled file.
-fn open_folder<F: Files + Drop>(
-    alloc: Global,
-    files: F,
-    folder: &str,
-) -> Result<OsDir<F>, CheckFailure>
-where
-    F::File: FileExt,
-{
-    match OsDir::find(alloc, files, folder_path(folder)) {
-        Ok(dir) => Ok(dir),
-        Err(FolderError { fault, error }) => Err(CheckFailure {
-            fault: match fault {
-                FolderFault::NoFolder => CheckFault::NoFile,
-                FolderFault::Device => CheckFault::Device,
-                FolderFault::OutOfMemory => CheckFault::OutOfMemory,
-            },
-            cause: Cause::of(CauseOf::Folder, error),
-        }),
     }
 }
 

@@ -1,89 +1,51 @@
 //! Installations in one folder take turns.
-use dir_calls::{DirFault, Name};
-use dir_disk::{LockTry, OsDir};
-use std::fs::{File, Files};
-use std::io::{self, Write};
-use std::thread;
-use std::time::{Clock, Duration, Instant};
+ghost use Rattle.std.specs.Prelude.{◌≡◌, ℕ, Bool, List, Option, None, false, IsTrue, OnOk, OnErr};
+ghost use Rattle.dir_calls.specs.Replacing.{KeepsWhatLasts};
+ghost use Rattle.rules_tools.specs.Turns.{IsFree, LacksTurn};
 
-/// How long one try for the lock is before the next, in milliseconds.
-const PAUSE: u64 = 20;
+use dir_calls::{Dir, Name};
 
-/// After how many seconds the wait for another installation is told.
-const TOLD_AFTER: u64 = 3;
-
-/// After how many seconds it is given up.
-const GIVEN_UP_AFTER: u64 = 60;
-
-/// How many seconds are waited for whoever holds the folder, but has no scratch file there, and no lock file: that is no installation.
-const FOLDER_AFTER: u64 = 2;
-
-/// How many tries there are at most: more than a minute has room for.
-const TRIES: u64 = 1_000_000;
-
-/// What is told of a wait.
-const WAITING: &[u8] = b"tcprules: waiting for another installation\n";
-
-/// Why an installation has no turn.
+/// An installation has no turn.
 #[derive(Clone, Copy, PartialEq, Eq, Debug)]
-pub enum NoTurn {
-    /// Others had the lock for a minute.
-    Others,
-    /// The system failed.
-    Device,
+pub struct NoTurn;
+
+/// How installations take turns in a directory.
+pub trait Turns<D: Dir> {
+    /// The name of the lock's own file, where it is one of the directory's.
+    ghost lock_name: { Option (List ℕ) };
+
+    /// Whether a turn was refused for what the directory counts as no failure: others had it, or there is no such folder.
+    ghost refused: { Self → Bool };
+
+    /// Takes a turn, and waits for it while others have it, for as long as that is waited for. `scratch` is the name under which the
+    /// installation will write. What lasts under another name than the lock's own lasts there, and stands there whenever the machine stops
+    /// meanwhile.
+    ///
+    /// # Errors
+    /// The turn is not had. The directory is as before, but for the lock.
+    fn take(&mut self, dir: &mut D, scratch: &Name) -> Result<(), NoTurn>
+        ensures stays { IsTrue D.honest → (name : List ℕ) → IsFree lock_name name
+            → KeepsWhatLasts D.state D.moment D.left_since name dir.old dir.new }
+        ensures count { OnOk result (D.failed dir.new ≡ D.failed dir.old) }
+        ensures blames { OnErr result (LacksTurn (D.failed dir.old) (D.failed dir.new) (refused self.new)) };
+
+    /// Is shown the directory right after one of its calls failed, so that the cause can be told.
+    fn failed(&mut self, dir: &D)
+        ensures { refused self.new ≡ refused self.old };
 }
 
-impl From<DirFault> for NoTurn {
-    fn from(_: DirFault) -> Self {
-        NoTurn::Device
-    }
-}
+/// The turns of a directory that nobody else uses: each is had at once.
+#[derive(Clone, Copy, PartialEq, Eq, Debug)]
+pub struct Alone;
 
-/// Takes the lock of a folder (`OsDir::try_lock`), and waits for it where another installation has it: after three seconds that is told on
-/// `errors`, and after a minute it is given up.
-///
-/// The folder itself may be held by anybody who can open it. Where it is, but this installation has the lock file and nothing stands under the
-/// scratch name, that is waited for two seconds alone: no installation is under way there that would use this name.
-pub fn take_turn<S, E>(
-    dir: &mut OsDir<&S>,
-    system: &S,
-    errors: &mut E,
-    scratch: &Name,
-) -> Result<(), NoTurn>
-where
-    S: Files<File = File> + Clock,
-    E: Write,
-{
-    let began = Instant::now(system);
-    let mut told = false;
-    for tries in 0..TRIES {
-        let taken = dir.try_lock()?;
-        let waited = seconds_since(system, &began, tries);
-        match taken {
-            LockTry::Taken => return Ok(()),
-            LockTry::FolderHeld if waited >= FOLDER_AFTER && !dir.may_stand(scratch) => {
-                return Ok(());
-            }
-            LockTry::FolderHeld | LockTry::Held => {}
-        }
-        if waited >= GIVEN_UP_AFTER {
-            return Err(NoTurn::Others);
-        }
-        if waited >= TOLD_AFTER && !told {
-            let _ = errors.write_all(WAITING);
-            told = true;
-        }
-        thread::sleep(system, Duration::from_millis(PAUSE));
-    }
-    Err(NoTurn::Others)
-}
+impl<D: Dir> Turns<D> for Alone {
+    ghost lock_name = { None };
 
-// How many whole seconds a wait has lasted: by the clock, or, where that fails, by its pauses.
-fn seconds_since<C: Clock>(clock: &C, began: &io::Result<Instant>, pauses: u64) -> u64 {
-    if let Ok(began) = began
-        && let Ok(waited) = began.elapsed(clock)
-    {
-        return waited.as_secs();
+    ghost refused = { λ _. false };
+
+    fn take(&mut self, _dir: &mut D, _scratch: &Name) -> Result<(), NoTurn> {
+        Ok(())
     }
-    pauses.saturating_mul(PAUSE) / 1_000
+
+    fn failed(&mut self, _dir: &D) {}
 }

@@ -72,6 +72,11 @@ returns-in_err-step-clause-lasts g c = λ honest olds lasts.
     (c.in_err-step.ensures.changes honest c.loop.invariant.is_open (λ done. let ok = (c.in_err-step.ensures.after_done c.loop.invariant.is_open done).0 in absurd (cc)))
     (c.loop.invariant.progress honest) (c.step.ensures.old_or_new honest) lasts)
 
+pub returns-in_err-step-clause-device : goal.returns-in_err-step-clause-device
+returns-in_err-step-clause-device g c = λ honest.
+    let p = err_from_is_err_and c.from_residual.result c.from_residual.ensures.1 in
+    rw (p.1, p.2) (c.in_err-step.ensures.device honest)
+
 pub returns-in_err-step-clause-blames : goal.returns-in_err-step-clause-blames
 returns-in_err-step-clause-blames g c =
     let p = err_from_is_err_and c.from_residual.result c.from_residual.ensures.1 in

@@ -1,0 +1,56 @@
+use Rattle.std.proofs.Common.{ℕ, sym, subst, ◌∙◌}
+use Rattle.std.specs.Prelude.{IfErr}
+use Rattle.std.proofs.lemmas.Result.{err_from_is_err_and}
+use Rattle.rules_install.specs.Installs.{installing}
+use Rattle.rules_tools.specs.FolderParts.{folder_dir, folder_turns}
+use Rattle.rules_tools.specs.Turns.{BlamesTurn}
+use Rattle.rules_tools.proofs.RunLemmas.{after_keeps, after_lasts, fresh_device, fresh_ends, unready_keeps, unready_lasts}
+use Rattle.rules_tools.proofs.installing.install_begun.Goals as goal
+
+pub returns-in_err-make_ready-clause-ends : goal.returns-in_err-make_ready-clause-ends
+returns-in_err-make_ready-clause-ends g c =
+    let p = err_from_is_err_and c.from_residual.result c.from_residual.ensures.1 in
+    rw (p.1, p.2) (fresh_ends c.in_err-make_ready.field-0.0 c.in_err-make_ready.ensures.faults)
+
+pub returns-in_err-make_ready-clause-any_moment : goal.returns-in_err-make_ready-clause-any_moment
+returns-in_err-make_ready-clause-any_moment g c = λ honest free.
+    let s = installing c.args.install.now in
+    unready_keeps g.D.Dir.state g.D.Dir.moment g.D.Dir.left_since s (folder_dir c.args.folder.now) (folder_dir c.make_ready.new.folder)
+    (c.make_ready.ensures.stays honest s.names.cdb free (λ same. c.consistent.ensures.names (sym same ∙ c.requires.scratch)))
+
+pub returns-in_err-make_ready-clause-lasts : goal.returns-in_err-make_ready-clause-lasts
+returns-in_err-make_ready-clause-lasts g c = λ honest free.
+    let p = err_from_is_err_and c.from_residual.result c.from_residual.ensures.1 in
+    let s = installing c.args.install.now in
+    rw (p.1, p.2)
+    (unready_lasts g.D.Dir.state g.D.Dir.moment g.D.Dir.left_since s (folder_dir c.args.folder.now) (folder_dir c.make_ready.new.folder)
+    (c.make_ready.ensures.stays honest s.names.cdb free (λ same. c.consistent.ensures.names (sym same ∙ c.requires.scratch)))
+    c.in_err-make_ready.field-0.0 c.in_err-make_ready.ensures.faults)
+
+pub returns-in_err-make_ready-clause-device : goal.returns-in_err-make_ready-clause-device
+returns-in_err-make_ready-clause-device g c = λ honest.
+    let p = err_from_is_err_and c.from_residual.result c.from_residual.ensures.1 in
+    rw (p.1, p.2) (fresh_device c.in_err-make_ready.field-0.0 c.in_err-make_ready.ensures.faults)
+
+pub returns-in_err-make_ready-clause-blames : goal.returns-in_err-make_ready-clause-blames
+returns-in_err-make_ready-clause-blames g c =
+    let p = err_from_is_err_and c.from_residual.result c.from_residual.ensures.1 in
+    rw (p.1, p.2) c.in_err-make_ready.ensures.blames
+
+pub returns-clause-any_moment : goal.returns-clause-any_moment
+returns-clause-any_moment g c = λ honest free.
+    let s = installing c.args.install.now in
+    after_keeps g.D.Dir.state g.D.Dir.moment g.D.Dir.left_since s (folder_dir c.args.folder.now) (folder_dir c.make_ready.new.folder) (folder_dir c.install_ready.new.folder)
+    (c.make_ready.ensures.stays honest s.names.cdb free (λ same. c.consistent.ensures.names (sym same ∙ c.requires.scratch))) (c.install_ready.ensures.any_moment honest)
+
+pub returns-clause-lasts : goal.returns-clause-lasts
+returns-clause-lasts g c = λ honest free.
+    let s = installing c.args.install.now in
+    after_lasts g.D.Dir.state g.D.Dir.moment g.D.Dir.left_since s (folder_dir c.args.folder.now) (folder_dir c.make_ready.new.folder) (folder_dir c.install_ready.new.folder) c.install_ready.result
+    (c.make_ready.ensures.stays honest s.names.cdb free (λ same. c.consistent.ensures.names (sym same ∙ c.requires.scratch))) (c.install_ready.ensures.lasts honest)
+
+pub returns-clause-blames : goal.returns-clause-blames
+returns-clause-blames g c =
+    let new = folder_dir c.install_ready.new.folder in
+    subst (λ (before : ℕ). IfErr c.install_ready.result (BlamesTurn before (g.D.Dir.failed new) (g.T.Turns.refused (folder_turns c.install_ready.new.folder)))) c.in_ok-make_ready.ensures.count
+    c.install_ready.ensures.blames

@@ -1,0 +1,67 @@
+use Rattle.std.proofs.Common.{sym, ap, ◌∙◌}
+use Rattle.std.specs.Prelude.{Ok, Err}
+use Rattle.std.proofs.lemmas.Result.{err_from_is_err_and}
+use Rattle.rules_install.specs.Installing.{Installing}
+use Rattle.rules_install.specs.Installs.{installing}
+use Rattle.rules_tools.specs.FolderParts.{folder_dir, folder_turns}
+use Rattle.rules_tools.proofs.InstalledLemmas.{disk_passes, disk_touches, fails_passes, installs, memory_fails, unchanged}
+use Rattle.rules_tools.proofs.installing.install_named.Goals as goal
+
+pub returns-in_err-scratch-clause-installs : goal.returns-in_err-scratch-clause-installs
+returns-in_err-scratch-clause-installs g c =
+    let p = err_from_is_err_and c.from_residual.result c.from_residual.ensures.1 in
+    let input = g.R.Read.remaining c.args.reader.now in
+    let d = folder_dir c.args.folder.now in
+    rw (p.1, p.2)
+    (unchanged g.D.Dir.honest g.D.Dir.state g.D.Dir.moment g.D.Dir.left_since g.D.Dir.failed g.T.Turns.lock_name (g.T.Turns.refused (folder_turns c.args.folder.now)) input c.args.names d _
+    (λ is image left. g.met.D.Dir.only_now d image is left) (memory_fails input))
+
+pub returns-in_err-install-clause-installs : goal.returns-in_err-install-clause-installs
+returns-in_err-install-clause-installs g c =
+    let p = err_from_is_err_and c.from_residual-in_err-install.result c.from_residual-in_err-install.ensures.1 in
+    let input = g.R.Read.remaining c.args.reader.now in
+    let d = folder_dir c.args.folder.now in
+    rw (p.1, p.2)
+    (unchanged g.D.Dir.honest g.D.Dir.state g.D.Dir.moment g.D.Dir.left_since g.D.Dir.failed g.T.Turns.lock_name (g.T.Turns.refused (folder_turns c.args.folder.now)) input c.args.names d c.in_err-install.field-0.0
+    (λ is image left. g.met.D.Dir.only_now d image is left) c.in_err-install.ensures.refused)
+
+pub returns-in_err-install-clause-of_text : goal.returns-in_err-install-clause-of_text
+returns-in_err-install-clause-of_text g c =
+    let p = err_from_is_err_and c.from_residual-in_err-install.result c.from_residual-in_err-install.ensures.1 in
+    let fails = c.in_err-install.ensures.refused in
+    rw (p.1, p.2) (fails_passes fails.text c.in_err-install.field-0.0 fails.fails)
+
+pub install_begun-requires-clause-is_open : goal.install_begun-requires-clause-is_open
+install_begun-requires-clause-is_open g c = ap (λ (s : Installing). s.over) c.in_ok-install.ensures.compiled.begun
+
+pub install_begun-requires-clause-unbegun : goal.install_begun-requires-clause-unbegun
+install_begun-requires-clause-unbegun g c = ap (λ (s : Installing). s.reached) c.in_ok-install.ensures.compiled.begun
+
+pub install_begun-requires-clause-scratch : goal.install_begun-requires-clause-scratch
+install_begun-requires-clause-scratch g c = c.in_ok-scratch.ensures ∙ c.tmp.ensures.name ∙ sym (ap (λ (s : Installing). s.names.tmp) c.in_ok-install.ensures.compiled.begun)
+
+pub returns-in_err-install_begun-clause-installs : goal.returns-in_err-install_begun-clause-installs
+returns-in_err-install_begun-clause-installs g c =
+    let p = err_from_is_err_and c.from_residual-in_err-install_begun.result c.from_residual-in_err-install_begun.ensures.1 in
+    let e = c.in_err-install_begun.ensures in
+    rw (p.1, p.2)
+    (installs g.D.Dir.honest g.D.Dir.state g.D.Dir.moment g.D.Dir.left_since g.D.Dir.failed g.T.Turns.lock_name (g.T.Turns.refused (folder_turns c.install_begun.new.folder)) (g.R.Read.remaining c.args.reader.now) c.args.names
+    c.decides.ensures (installing c.in_ok-install.install) (folder_dir c.args.folder.now) (folder_dir c.install_begun.new.folder) (Err c.in_err-install_begun.field-0.0) c.in_ok-install.ensures.compiled
+    (record { ends = e.ends; any_moment = e.any_moment; lasts = e.lasts; done = e.done; written = e.written; device = e.device; blames = e.blames }))
+
+pub returns-in_err-install_begun-clause-untouched : goal.returns-in_err-install_begun-clause-untouched
+returns-in_err-install_begun-clause-untouched g c = λ refusal.
+    let p = err_from_is_err_and c.from_residual-in_err-install_begun.result c.from_residual-in_err-install_begun.ensures.1 in
+    absurd (disk_touches c.in_err-install_begun.field-0.0 c.in_err-install_begun.ensures.ends (rw (p.1, p.2) at refusal))
+
+pub returns-in_err-install_begun-clause-of_text : goal.returns-in_err-install_begun-clause-of_text
+returns-in_err-install_begun-clause-of_text g c =
+    let p = err_from_is_err_and c.from_residual-in_err-install_begun.result c.from_residual-in_err-install_begun.ensures.1 in
+    rw (p.1, p.2) (disk_passes c.in_err-install_begun.field-0.0 c.in_err-install_begun.ensures.ends)
+
+pub returns-clause-installs : goal.returns-clause-installs
+returns-clause-installs g c =
+    let e = c.in_ok-install_begun.ensures in
+    installs g.D.Dir.honest g.D.Dir.state g.D.Dir.moment g.D.Dir.left_since g.D.Dir.failed g.T.Turns.lock_name (g.T.Turns.refused (folder_turns c.install_begun.new.folder)) (g.R.Read.remaining c.args.reader.now) c.args.names
+    c.decides.ensures (installing c.in_ok-install.install) (folder_dir c.args.folder.now) (folder_dir c.install_begun.new.folder) (Ok c.in_ok-install_begun.field-0) c.in_ok-install.ensures.compiled
+    (record { ends = e.ends; any_moment = e.any_moment; lasts = e.lasts; done = e.done; written = e.written; device = e.device; blames = e.blames })

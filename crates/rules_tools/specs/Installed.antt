@@ -1,0 +1,120 @@
+-- What a run of `tcprules` tells, and what it leaves under the name of the rules file.
+use Rattle.std.specs.Prelude.{◌≡◌, ◌≢◌, ◌<◌, ⊤, ℕ, Bool, IsTrue, List, ◌∷◌, Option, Some, None, IfSome, IfErr, OnOk, Result, Ok, Err}
+use Rattle.dir_calls.specs.Directory.{Directory, content}
+use Rattle.dir_calls.specs.Lasting.{LastsAmong}
+use Rattle.cdb_write.specs.Image.{finished_length}
+use Rattle.cdb_write.specs.Making.{limit_of}
+use Rattle.cdb_read.specs.Compiled.{Compiled, stored}
+use Rattle.rule_lines.specs.Faults.{IsAccepted, fault_of}
+use Rattle.rule_lines.specs.Pairs.{pairs_of}
+use Rattle.rule_lines.specs.declared.fault.LineKind.TheVariants.{LongText as TextIsLong}
+use Rattle.rules_install.specs.Filled.{whole_file}
+use Rattle.rules_install.specs.Installing.{Installing, HasForGood}
+use Rattle.rules_install.specs.NamePair.{NamePair}
+use Rattle.rules_install.specs.Whole.{DecidesAs, MayBeInstalled, RunKeeps, begun_of}
+use Rattle.rules_install.specs.declared.Phase.TheVariants.{Fresh, Named, Done}
+use Rattle.rules_tools.specs.Paths.{IsSplit, paths_fault}
+use Rattle.rules_tools.specs.Reviews.{profile}
+use Rattle.rules_tools.specs.Turns.{HasFailed, IsFree, LacksTurn}
+use Rattle.rules_tools.specs.declared.tcprules.TcprulesFault.{TcprulesFault}
+use Rattle.rules_tools.specs.declared.tcprules.TcprulesFault.TheVariants.{BadName, OtherFolder, SameName, ReadFault, Line, LongText, TooLarge, Device, OutOfMemory}
+
+-- the text that was read: all that the reader had, where that is known
+abbrev pub WasRead : Option (List ℕ) → List ℕ → Type 0
+WasRead input text = IfSome input (λ all. text ≡ all)
+
+-- why a text comes to no installation: it can't be read, it is refused with its fault, its compiled file would be too large, or memory runs out
+abbrev pub FailsText : List ℕ → TcprulesFault → Type 0
+FailsText text ReadFault = ⊤
+FailsText text (Line fault) = (fault_of profile text ≡ Some fault) × (fault.kind ≢ TextIsLong)
+FailsText text LongText = (line : ℕ) × (fault_of profile text ≡ Some (record { line = line; kind = TextIsLong }))
+FailsText text TooLarge = IsAccepted profile text × (limit_of profile.file < finished_length (stored (pairs_of text)))
+FailsText text OutOfMemory = ⊤
+FailsText text fault = ⊥
+
+-- which answer comes of which text: only one that may be installed comes as far as the disk
+abbrev pub Answers : List ℕ → Result (Unit {0}) TcprulesFault → Type 0
+Answers text (Ok done) = MayBeInstalled profile text
+Answers text (Err (Device phase)) = MayBeInstalled profile text
+Answers text (Err fault) = FailsText text fault
+
+-- the text or its paths were refused, or it could not be read
+abbrev pub IsRefusal : Result (Unit {0}) TcprulesFault → Type 0
+IsRefusal (Ok done) = ⊥
+IsRefusal (Err (Device phase)) = ⊥
+IsRefusal (Err OutOfMemory) = ⊥
+IsRefusal (Err fault) = ⊤
+
+-- what may stand under the name of the rules file afterwards, where one of these stood before: the new file too, but not after a fault on
+-- the way to a phase before `Named`
+abbrev pub may_stand : Result (Unit {0}) TcprulesFault → List ℕ → List (Option (List ℕ)) → List (Option (List ℕ))
+may_stand (Ok done) file olds = Some file ∷ olds
+may_stand (Err (Device Named)) file olds = Some file ∷ olds
+may_stand (Err (Device Done)) file olds = Some file ∷ olds
+may_stand (Err fault) file olds = olds
+
+abbrev pub LastsAfter : Installing → Directory → Directory → Result (Unit {0}) TcprulesFault → Type 0
+LastsAfter s old new result =
+    (olds : List (Option (List ℕ))) → LastsAmong old s.names.cdb olds
+    → LastsAmong new s.names.cdb (may_stand result (whole_file s.rules) olds)
+
+-- the device is blamed only where it failed, or at first where no turn was had
+abbrev pub Blames : ℕ → ℕ → Bool → TcprulesFault → Type 0
+Blames before now refused (Device Fresh) = LacksTurn before now refused
+Blames before now refused (Device phase) = HasFailed before now
+Blames before now refused fault = ⊤
+
+-- A run for two names, over a directory before and after it, whose lock may have a file of its own; `refused` says that a turn was refused.
+pub record Installs {D : Type 0} (honest : Bool) (state : D → Directory) (moment : D → ℕ) (left_since : D → ℕ → Directory → Type 0) (failed : D → ℕ)
+    (lock : Option (List ℕ)) (refused : Bool) (input : Option (List ℕ)) (names : NamePair) (old new : D) (result : Result (Unit {0}) TcprulesFault) : Type 0 where
+  -- the text that was read, to its end, and what is told of it
+  pub text : List ℕ
+  pub read : WasRead input text
+  pub told : Answers text result
+  -- whenever the machine stops since the run began, what stood under the name of the rules file stands there, or the file that is compiled of
+  -- the text, whole; and so it is at the end, by what is told
+  pub any_moment : IsTrue honest → IsFree lock names.cdb → RunKeeps state moment left_since (begun_of text names) old new
+  pub lasts : IsTrue honest → IsFree lock names.cdb → LastsAfter (begun_of text names) (state old) (state new) result
+  -- once it is told that all is done, this file alone, which decides each peer as the text does
+  pub done : IsTrue honest → OnOk result (HasForGood (begun_of text names) (state new))
+  pub compiled : OnOk result (Compiled (whole_file (pairs_of text)) text)
+  pub decides : IsTrue honest → OnOk result (DecidesAs (content (state new) names.cdb) text)
+  pub blames : IsTrue honest → IfErr result (Blames (failed old) (failed new) refused)
+
+-- what is told of two paths, and then of a text: nothing is wrong with the paths where the text is told of
+abbrev pub Tells : (folder other : List ℕ) → NamePair → Result (Unit {0}) TcprulesFault → Type 0
+Tells folder other names (Err BadName) = paths_fault folder other names ≡ Some BadName
+Tells folder other names (Err OtherFolder) = paths_fault folder other names ≡ Some OtherFolder
+Tells folder other names (Err SameName) = paths_fault folder other names ≡ Some SameName
+Tells folder other names result = paths_fault folder other names ≡ None
+
+-- a run for two names tells nothing of paths
+abbrev pub PassesPaths : Result (Unit {0}) TcprulesFault → Type 0
+PassesPaths (Err BadName) = ⊥
+PassesPaths (Err OtherFolder) = ⊥
+PassesPaths (Err SameName) = ⊥
+PassesPaths result = ⊤
+
+-- A run for two paths: the names in them, what is told of them, and where nothing is wrong with them the run for these names.
+pub record Runs {D : Type 0} (honest : Bool) (state : D → Directory) (moment : D → ℕ) (left_since : D → ℕ → Directory → Type 0) (failed : D → ℕ)
+    (lock : Option (List ℕ)) (refused : Bool) (input : Option (List ℕ)) (cdb tmp : List ℕ) (old new : D) (result : Result (Unit {0}) TcprulesFault) : Type 0 where
+  pub folder : List ℕ
+  pub other : List ℕ
+  pub names : NamePair
+  pub first : IsSplit cdb folder names.cdb
+  pub second : IsSplit tmp other names.tmp
+  pub told : Tells folder other names result
+  pub installs : paths_fault folder other names ≡ None → Installs honest state moment left_since failed lock refused input names old new result
+
+-- what a text that was read is compiled to: an installation of which no step was made
+pub record CompilesTo (input : Option (List ℕ)) (names : NamePair) (s : Installing) : Type 0 where
+  pub text : List ℕ
+  pub read : WasRead input text
+  pub may : MayBeInstalled profile text
+  pub begun : s ≡ begun_of text names
+
+-- or why it comes to none
+pub record FailsInput (input : Option (List ℕ)) (fault : TcprulesFault) : Type 0 where
+  pub text : List ℕ
+  pub read : WasRead input text
+  pub fails : FailsText text fault
