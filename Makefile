@@ -4,7 +4,7 @@
 # make install    PREFIX=..  puts the program, a link of each tool's name, the man pages, bash's completion and the log reader in place; it builds
 #                 nothing. MANDIR is the folder of the pages, DESTDIR stands in front of all, FORCE=1 replaces files of others
 # make uninstall  takes them away, and no file of others
-# make dist       packs an archive for any x86-64 Linux into dist/, and its SHA-256
+# make dist       packs an archive for x86-64 Linux with glibc into dist/, and its SHA-256
 # make deb        packs a Debian package into dist/, which stands beside Debian's ucspi-tcp
 # make check      proves everything from nothing, and runs all tests
 # make bench      times the tools and the server, and measures their memory

@@ -20,15 +20,20 @@ TOOLS = ("addcr", "delcr", "fixcrio", "recordio", "rulesim", "tcprules", "tcprul
 DOCUMENTS = ["README.md"] + sorted("docs/" + name for name in os.listdir(os.path.join(TOP, "docs")) if name.endswith(".md") and name != "COOKBOOK.md")
 COOKBOOK = "docs/COOKBOOK.md"
 # what users read, in the terms that they search for; the documents for provers have terms of their own, which they explain
-FOR_PROVERS = ("ARCHITECTURE", "COMPILED_FILES", "DECISIONS", "DIRECTORIES", "EVENTS", "HEADLINE", "INSTALLATIONS", "PROOFS")
-FOR_USERS = [name for name in DOCUMENTS + [COOKBOOK] if os.path.basename(name)[:-3] not in FOR_PROVERS]
+FOR_PROVERS = ("ARCHITECTURE", "DECISIONS", "DIRECTORIES", "HEADLINE", "INSTALLATIONS", "PROOFS")
+FOR_USERS = [name for name in DOCUMENTS + [COOKBOOK, "CHANGELOG.md"] if os.path.basename(name)[:-3] not in FOR_PROVERS]
+# files of which users read the comments
+COMMENTED = ("Makefile", "completions", "examples", "scripts")
 # terms that no document for users has, each with the one that stands for it
 TERMS = {
     r"words?": "argument, option or message", r"told|telling|tells?(?! them apart)": "reported, printed, shown", r"faulty|amiss": "wrong",
-    r"want of": "out of, lack of", r"faults?(?! at)": "error", r"a stop|the stop|machine stop\w*": "crash", r"by force": "by fault injection",
+    r"want of": "out of, lack of", r"faults?(?! at)": "error", r"stops?|stopped": "crash, end or deny", r"by force": "by fault injection",
 }
 # where a term is the right one
-MEANT = {"docs/SCRIPTS.md": ["a *stop*", "Words are separated"], "docs/RELIABILITY.md": ["fault injection"], "docs/TOOLS.md": ["device fault"]}
+MEANT = {
+    "docs/SCRIPTS.md": ["a *stop*"], "docs/RELIABILITY.md": ["fault injection"], "docs/TOOLS.md": ["device fault"], "docs/COOKBOOK.md": ["is stopped"],
+    "examples/rsync/tcpserver-rsync.service": ["systemctl stop"],
+}
 # a port in the arguments of a server behind the shell's back
 BEHIND = re.compile(r"(?:ucspi )?tcpserver\b.* (\d+) \S.*&\s*$")
 LIMIT = 600
@@ -186,6 +191,15 @@ def check_links(checks, name, text):
     checks.expect("%s: links that lead nowhere" % name, lost, [])
 
 
+def check_comments(checks):
+    """The comments of what users read have the terms of the trade too."""
+    for part in COMMENTED:
+        path = os.path.join(TOP, part)
+        for path in [path] if os.path.isfile(path) else [os.path.join(place, name) for place, _, names in os.walk(path) for name in names]:
+            with open(path, encoding="utf-8") as file:
+                check_terms(checks, os.path.relpath(path, TOP), "\n".join(re.findall(r"^ *(#.*)$", file.read(), re.M)))
+
+
 def check_terms(checks, name, text):
     """A document for users has the terms of the trade; code and commands are left out."""
     prose = re.sub(r"`[^`]*`", "", re.sub(r"^    .*$", "", text, flags=re.M))
@@ -199,7 +213,8 @@ def check(program, failures):
     """How many tests there were."""
     checks = Checks("documents", failures)
     check_readme(checks)
-    for name in DOCUMENTS + [COOKBOOK]:
+    check_comments(checks)
+    for name in DOCUMENTS + [COOKBOOK, "CHANGELOG.md"]:
         with open(os.path.join(TOP, name), encoding="utf-8") as file:
             text = file.read()
         check_links(checks, name, text)

@@ -22,7 +22,7 @@ WAITING = "tcprules: waiting for another installation\n"
 FRESH = "tcprules: device fault at fresh\n"
 GIVEN_UP = 60
 # seconds: how long an installation is waited for; how much longer than it has to one may take, far from being given up; and how long a call is held up
-LIMIT, SLACK, HELD_UP = 600, 45, 5
+LIMIT, SLACK, HELD_UP = 600, 45, 12
 OLD, NEW, DENIED = b"10.:deny\n", b":deny\n", "rule :\ndeny connection\n"
 
 

@@ -212,6 +212,27 @@ def check_try(checks, place):
     os.unlink(tried)
 
 
+def check_try_build(checks, place):
+    """`make try` as far as it goes without the kit: a stand-in for it runs the program as `rt try` does, and that one copies itself."""
+    kit, tried = os.path.join(place.folder, "kit"), os.path.join(place.folder, "out", "try", "ucspi")
+    os.mkdir(kit)
+    with open(os.path.join(kit, "rt"), "w", encoding="ascii") as file:
+        file.write('#!/bin/sh\ntest "$1 $2" = "try --" && shift 2 && exec "%s" "$@"\n' % place.program)
+    os.chmod(os.path.join(kit, "rt"), 0o755)
+    for _ in range(2):
+        ended = subprocess.run(
+            ["scripts/try", "build", tried], cwd=TOP, env={"PATH": kit + ":" + PATH}, stdin=subprocess.DEVNULL, stdout=subprocess.PIPE, stderr=subprocess.PIPE,
+            timeout=LIMIT)
+        checks.expect("what is built without proofs", (ended.returncode, ended.stdout), (0, b""))
+        checks.expect("what stands there", sorted(os.listdir(os.path.dirname(tried))), sorted(TOOLS + ("ucspi",)))
+        with open(place.program, "rb") as one, open(tried, "rb") as other:
+            checks.expect("it is the program that ran", one.read() == other.read(), True)
+    words = [os.path.join(os.path.dirname(tried), "addcr")]
+    checks.expect("a tool of it", subprocess.run(words, input=b"a\n", stdout=subprocess.PIPE, timeout=LIMIT).stdout, b"a\r\n")
+    shutil.rmtree(kit)
+    shutil.rmtree(os.path.join(place.folder, "out"))
+
+
 def completed(words, folder):
     """What bash offers for the last of these words."""
     script = 'source "$1"; shift; COMP_WORDS=("$@"); COMP_CWORD=$(($# - 1)); _ucspi; ((${#COMPREPLY[@]})) && printf "%s\\n" "${COMPREPLY[@]}"; exit 0'
@@ -265,6 +286,7 @@ def check(program, failures):
         check_all_foreign(checks, place)
         check_running(checks, place)
         check_try(checks, place)
+        check_try_build(checks, place)
         check_completion(checks, room)
     return checks.tests
 

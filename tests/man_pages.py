@@ -381,9 +381,9 @@ def check_log_lines(checks):
 
 
 def check_terms(checks, page):
-    """The prose of a page has the terms of the trade (the commands of `rulesim` have words)."""
-    prose = "\n".join(line for lines in page.sections.values() for line in lines if not line.startswith((".", "$", "tcp")) or line.startswith(".Nd "))
-    prose = prose.replace("The words of a command", "")
+    """The prose of a page has the terms of the trade; examples, and what stands in a line of its own macro, are left out."""
+    lines = re.sub(r"^\.Bd -literal.*?^\.Ed$", "", "\n".join(line for lines in page.sections.values() for line in lines), flags=re.M | re.S).split("\n")
+    prose = "\n".join(line for line in lines if not line.startswith(".") or line.startswith(".Nd "))
     found = [term.group(0) for form in TERMS for term in re.finditer(r"\b(?:%s)\b" % form, prose)]
     checks.expect(page.name + ": terms for which there are better ones", found, [])
 

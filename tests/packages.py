@@ -115,6 +115,8 @@ def check_alone(checks, folder, room):
     """The programs run in a root that has nothing but them and the C library."""
     if os.geteuid() != 0:
         return skip("programs in a root of their own, since that takes root")
+    with open(os.path.join(folder, "bin", "ucspi"), "rb") as file:
+        checks.expect("the newest glibc that it needs, as the documents have it", max(map(int, re.findall(rb"\0GLIBC_2\.(\d+)", file.read()))), 34)
     root = os.path.join(room, "alone")
     shutil.copytree(folder, os.path.join(root, "u"), symlinks=True)
     known = re.compile(r"/(ld-linux-x86-64|lib(c|m|gcc_s))\.so")

@@ -209,13 +209,16 @@ def left_behind(suite):
 
 def closed_early(suite):
     """A connection ends when its last holder closes it, though the program runs on; its place is free when the program ends."""
-    with suite.start(["-v", "-c", "2"] + server_runs.QUIET, ["sh", "-c", "echo hi; exec <&- >&-; sleep 1; exit 4"]) as server:
-        began = time.monotonic()
+    # it ends once somebody opens this
+    gate = suite.path("early-gate")
+    os.mkfifo(gate)
+    with suite.start(["-v", "-c", "2"] + server_runs.QUIET, ["sh", "-c", "echo hi; exec <&- >&-; read a < %s; exit 4" % gate]) as server:
         suite.expect("a program that closes its connection", server.ask(), b"hi\n")
-        suite.holds("the client sees the end before the program's", time.monotonic() - began < 0.9)
         server_runs.wait_until("the program alone", lambda: server.live() == 1)
+        time.sleep(0.3)
+        suite.expect("its place is kept", server.live(), 1)
+        os.close(os.open(gate, os.O_WRONLY))
         server.idle()
-        suite.holds("its place comes back later", time.monotonic() - began >= 0.9)
         suite.holds("its exit code", suite.original or "end 1 status 4" in server.lines(), server.lines())
         suite.audit("a program that closes its connection", server)
 

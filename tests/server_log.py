@@ -20,6 +20,8 @@ COMES = ["status: 0/1", "status: 1/1", "pid 1 from {ip}"]
 OK = COMES + ["ok 1 :127.0.0.1:{port} :{ip}::{peer}"]
 DENY = COMES + ["deny 1 :127.0.0.1:{port} :{ip}::{peer}"]
 FREE = ["status: 0/1"]
+# how long none has come, in seconds, where no more of a burst will come
+NONE_COMES = 20
 
 
 def one_rule():
@@ -195,11 +197,12 @@ def levels(suite):
             suite.expect("an address that is full under %r" % options, (server.end(), sorted(set(server.lines()))), (0, wanted))
 
 
-def burst_client(server, source, order):
-    """A client that asks its program for an end, or resets first."""
+def burst_client(server, source, order, came):
+    """A client that asks its program for an end, or resets first; it adds itself to those that have come."""
     try:
         with server.connect(source) as client:
             client.sendall(order)
+            came.append(source)
             if order == b"reset\n":
                 server_runs.reset(client)
                 return
@@ -223,11 +226,11 @@ def bursts(suite):
         with suite.start(["-v", "-c", "8", "-x", path] + options, program) as server:
             for round_ in range(2):
                 os.kill(server.process.pid, signal.SIGSTOP)
-                sources = ["127.0.%d.%d" % (1 + n % 3, 1 + n // 3 % 7) for n in range(60)]
-                threads = [threading.Thread(target=burst_client, args=(server, source, orders[n % 5])) for n, source in enumerate(sources)]
+                sources, came = ["127.0.%d.%d" % (1 + n % 3, 1 + n // 3 % 7) for n in range(60)], []
+                threads = [threading.Thread(target=burst_client, args=(server, source, orders[n % 5], came)) for n, source in enumerate(sources)]
                 for thread in threads:
                     thread.start()
-                all_have_come(server.port, 60)
+                all_have_come(came, 60)
                 os.kill(server.process.pid, signal.SIGCONT)
                 for thread in threads:
                     thread.join(server_runs.WAIT)
@@ -242,23 +245,13 @@ def bursts(suite):
                 suite.holds("a burst fills the server under %r" % options, least <= events.most <= events.limit, events.most)
 
 
-def all_have_come(port, number):
-    """Waits until so many connections wait at a port, or none has come for two seconds, as where the system's queue takes no more."""
-    came, last = time.monotonic(), 0
-    while last < number and time.monotonic() < came + 2:
+def all_have_come(came, number):
+    """Waits until so many clients have come, or none has come for long, as where the system's queue takes no more."""
+    since, last = time.monotonic(), 0
+    while last < number and time.monotonic() < since + NONE_COMES:
         time.sleep(0.005)
-        if waiting_at(port) != last:
-            came, last = time.monotonic(), waiting_at(port)
-
-
-def waiting_at(port):
-    """How many connections wait to be accepted at a port."""
-    with open("/proc/net/tcp") as file:
-        for line in file:
-            words = line.split()
-            if words[1].endswith(":%04X" % port) and words[3] == "0A":
-                return int(words[4].split(":")[1], 16)
-    return 0
+        if len(came) != last:
+            since, last = time.monotonic(), len(came)
 
 
 def audits(suite):

@@ -159,8 +159,8 @@ def kept_threads(suite):
         server_runs.wait_until("the first threads", lambda: server.threads() == others + each)
         for _ in range(200):
             suite.expect("one after another", server.ask(b"a\n"), b"a\n")
-        # the next client may come before the last connection is told
-        suite.holds("threads after 200 connections", server.threads() <= others + 3 + 4 * each, server.threads())
+        # the next client may come before the last connection is told; eight begin connections where programs start slowly
+        suite.holds("threads after 200 connections", server.threads() <= others + 7 + 4 * each, server.threads())
         clients = [server.connect() for _ in range(30)]
         for client in clients:
             client.sendall(b"x")

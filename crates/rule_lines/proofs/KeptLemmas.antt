@@ -145,3 +145,9 @@ module _ (kept : List ℕ) (here next : LinePlace) (is : IsLineAt kept here) (li
               ∙ get_or-map (rule_of (the_instr line.code.now)) (addresses_read line.addresses) place [] rule place-in),
           place-in,
         )
+
+  -- the rule with an address of the line
+  pub slice_get-at : (n : ℕ) → n < length (addresses_read line.addresses) → slice_get (rules_in kept) (here.before + n) ≡ Some (rule_of_line line n)
+  slice_get-at n inside =
+      let place : here.before + n - here.before ≡ n = omega arith in
+      (slice_get-line (here.before + n) (omega arith) (omega (arith, before, inside))).0 ∙ ap (λ p. Some (rule_of_line line p)) place

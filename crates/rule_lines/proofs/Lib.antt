@@ -11,9 +11,12 @@ pub mod KeepLemmas
 pub mod KeptLemmas
 pub mod LineLemmas
 pub mod NumberLemmas
+pub mod OpenLemmas
 pub mod ParseLemmas
+pub mod PlainLemmas
 pub mod RangeLemmas
 pub mod ReadLemmas
 pub mod RowLemmas
 pub mod SettingLemmas
 pub mod SplitLemmas
+pub mod TallyLemmas

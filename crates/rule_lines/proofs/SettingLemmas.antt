@@ -24,9 +24,9 @@ use Rattle.rule_lines.proofs.CutLemmas.{cut_at-parts, cut_at-before}
 use Rattle.rule_lines.proofs.ReadLemmas.{value_at-cut, setting_at-cut}
 
 -- text without a zero byte
-record IsClean (bytes : List ℕ) : Type 0 where
-  utf8 : IsUtf8 bytes
-  zeros : has_byte 0 bytes ≡ false
+pub record IsClean (bytes : List ℕ) : Type 0 where
+  pub utf8 : IsUtf8 bytes
+  pub zeros : has_byte 0 bytes ≡ false
 
 -- no part of bytes has a byte that they don't have
 pub has_byte-parts : (b : ℕ) (xs ys : List ℕ) → has_byte b (xs ++ ys) ≡ false → (has_byte b xs ≡ false) × (has_byte b ys ≡ false)
@@ -46,7 +46,7 @@ IsUtf8-around before after b ascii text =
     )
 
 -- the same of text without a zero byte
-IsClean-around : (before after : List ℕ) (b : ℕ) → b < 128 → IsClean (before ++ b ∷ after) → IsClean before × IsClean after
+pub IsClean-around : (before after : List ℕ) (b : ℕ) → b < 128 → IsClean (before ++ b ∷ after) → IsClean before × IsClean after
 IsClean-around before after b ascii clean =
     let texts = IsUtf8-around before after b ascii clean.utf8 in
     let parts = has_byte-parts 0 before (b ∷ after) clean.zeros in (

@@ -1,15 +1,18 @@
 -- The lines that a list keeps, one for each rule line of its text: the address as it stands there, a colon, and the code of the instruction.
-use Rattle.std.specs.Prelude.{◌≡◌, ℕ, ◌+◌, ◌<◌, ◌≤◌, Bool, true, false, is_some, List, [], length, drop, get_or, slice_get, Option, Some, None, unwrap_or, flat_map}
+use Rattle.std.specs.Prelude.{◌≡◌, ℕ, ◌+◌, ◌-◌, ◌<◌, ◌≤◌, Bool, true, false, is_some, List, [], ◌++◌, length, drop, get_or, slice_get, decimal, Option, Some, None, unwrap_or, flat_map}
 use Rattle.std.specs.List.{AllByRecursion}
 use Rattle.rule_lines.specs.declared.instr.Instr.{Instr}
 use Rattle.rule_lines.specs.declared.instr.Verdict.TheVariants.{Allow}
 use Rattle.rule_lines.specs.declared.kept.FoundRule.{FoundRule}
 use Rattle.rule_lines.specs.declared.kept.KeptLine.{KeptLine}
 use Rattle.rule_lines.specs.declared.kept.LinePlace.{LinePlace}
+use Rattle.rule_lines.specs.declared.kept.Tally.{Tally}
+use Rattle.rule_lines.specs.declared.open_range.OpenRange.{OpenRange}
 use Rattle.rule_lines.specs.Codes.{code_of, decoded}
 use Rattle.rule_lines.specs.Lines.{Line, has_byte, lines_of}
 use Rattle.rule_lines.specs.Pairs.{Rule, address_in, instructions_in, pairs_in, pairs_of, pairs_with}
 use Rattle.rule_lines.specs.ReadAddresses.{addresses_read}
+use Rattle.rule_lines.specs.Rows.{stored_length}
 use Rattle.rule_lines.specs.Spread.{is_bad_range, spread}
 use Rattle.rule_lines.specs.Texts.{AreOfText}
 
@@ -35,18 +38,23 @@ pub record IsKeptLine (line : List ℕ) : Type 0 where
 abbrev pub AreKept : List ℕ → Type 0
 AreKept kept = AllByRecursion (λ (line : Line). (line.ended ≡ true) × IsKeptLine line.bytes) (lines_of kept)
 
--- what is kept of a trimmed line: as many rules as it has, and no more bytes
-pub record IsKeptOf (line kept : List ℕ) (count : ℕ) : Type 0 where
+-- there are so many rules, and so long are they where they are stored
+pub record Tallies (rules : List Rule) (tally : Tally) : Type 0 where
+  pub counted : tally.rules ≡ length rules
+  pub measured : tally.bytes ≡ stored_length rules
+
+-- what is kept of a trimmed line: the rules that it has, and no more bytes
+pub record IsKeptOf (line kept : List ℕ) (tally : Tally) : Type 0 where
   pub lines : AreKept kept
   pub rules : rules_in kept ≡ pairs_in line
-  pub counted : count ≡ length (pairs_in line)
+  pub tallied : Tallies (pairs_in line) tally
   pub short : length kept ≤ length line
 
--- what is kept of a text: its rules, of which there are so many
-pub record IsKept (text kept : List ℕ) (count : ℕ) : Type 0 where
+-- what is kept of a text: its rules
+pub record IsKept (text kept : List ℕ) (tally : Tally) : Type 0 where
   pub lines : AreKept kept
   pub rules : rules_in kept ≡ pairs_of text
-  pub counted : count ≡ length (pairs_of text)
+  pub tallied : Tallies (pairs_of text) tally
 
 -- the rules of a line that was read
 abbrev pub rules_under : KeptLine → List Rule
@@ -67,15 +75,28 @@ pub record IsLineAt (kept : List ℕ) (line : LinePlace) : Type 0 where
 pub record IsFound (kept : List ℕ) (i : ℕ) (found : FoundRule) : Type 0 where
   pub rule : slice_get (rules_in kept) i ≡ Some (rule_of_line found.line found.place)
   pub place : found.place < length (addresses_read found.line.addresses)
+  pub place_by : found.place ≤ i
+  pub others : (n : ℕ) → n < length (addresses_read found.line.addresses) → slice_get (rules_in kept) (i - found.place + n) ≡ Some (rule_of_line found.line n)
   pub decodes : is_some (decoded found.line.code.now) ≡ true
   pub resume : IsLineAt kept found.resume
   pub resume_by : found.resume.before ≤ i + 1
 
--- kept lines, the number of their rules, which are those of an accepted text, and one of the lines
-pub record Keeps (kept : List ℕ) (len : ℕ) (near : LinePlace) : Type 0 where
-  pub counted : len ≡ length (rules_in kept)
+-- the rule with the address at a place of an open range
+abbrev pub rule_of_range : OpenRange → ℕ → Rule
+rule_of_range range place =
+    record { address = range.front.items ++ decimal (range.numbers.first + place) ++ range.back.items; instr = the_instr range.code.items }
+
+-- its rules stand among those of kept lines
+pub record IsOpenAmong (kept : List ℕ) (range : OpenRange) : Type 0 where
+  pub rules : (place : ℕ) → place < range.numbers.count → slice_get (rules_in kept) (range.before + place) ≡ Some (rule_of_range range place)
+  pub decodes : 0 < range.numbers.count → is_some (decoded range.code.items) ≡ true
+
+-- kept lines, the tally of their rules, which are those of an accepted text, one of the lines, and an open range
+pub record Keeps (kept : List ℕ) (tally : Tally) (near : LinePlace) (range : OpenRange) : Type 0 where
+  pub tallied : Tallies (rules_in kept) tally
   pub lines : AreKept kept
   pub near_is : IsLineAt kept near
+  pub range_is : IsOpenAmong kept range
   pub of_text : AreOfText (rules_in kept)
 
 -- a rule as it is stored, or none

@@ -1,5 +1,5 @@
 -- A text cut into lines, and a line trimmed at its end.
-use Rattle.std.specs.Prelude.{◌≡◌, ℕ, Bool, true, false, ◌&&◌, ◌||◌, ◌==◌, List, [], ◌∷◌, length, if◌then◌else◌}
+use Rattle.std.specs.Prelude.{◌≡◌, ◌⊎◌, ℕ, Bool, true, false, ◌&&◌, ◌||◌, ◌==◌, List, [], ◌∷◌, ◌++◌, length, if◌then◌else◌}
 use Rattle.std.specs.List.{list_any}
 
 -- whether a byte stands among them
@@ -33,6 +33,10 @@ lines_of text = pieces_of 10 text
 -- the first line of a text, whether or not a line feed ended it, and what follows it
 abbrev pub IsFirstLine : List ℕ → List ℕ → List ℕ → Type 0
 IsFirstLine text line rest = (ended : Bool) × (lines_of text ≡ record { bytes = line; ended = ended } ∷ lines_of rest)
+
+-- what stands before a line feed and what follows it; or all, and nothing
+abbrev pub IsCutAtFeed : List ℕ → List ℕ → List ℕ → Type 0
+IsCutAtFeed text line rest = (text ≡ line ++ 10 ∷ rest) ⊎ ((text ≡ line) × (rest ≡ []))
 
 -- a space or a tab
 abbrev pub is_blank : ℕ → Bool

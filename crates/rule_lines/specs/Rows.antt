@@ -1,8 +1,8 @@
--- The addresses of a range, and rules whose instructions may be.
-use Rattle.std.specs.Prelude.{ℕ, List, ◌++◌, map, decimal}
-use Rattle.std.specs.List.{AllByRecursion, range_with_len}
+-- The addresses of a range, rules whose instructions may be, and how long rules are where they are stored.
+use Rattle.std.specs.Prelude.{ℕ, ◌+◌, List, ◌++◌, length, map, decimal}
+use Rattle.std.specs.List.{AllByRecursion, range_with_len, sum_by}
 use Rattle.rule_lines.specs.declared.spread.Numbers.{Numbers}
-use Rattle.rule_lines.specs.Codes.{IsInstr}
+use Rattle.rule_lines.specs.Codes.{IsInstr, code_of}
 use Rattle.rule_lines.specs.Pairs.{Rule}
 
 -- an address for each number, between two parts
@@ -12,3 +12,15 @@ addresses_under front numbers back = map (λ n. front ++ decimal n ++ back) (ran
 -- each rule has an instruction that may be
 abbrev pub AreRules : List Rule → Type 0
 AreRules rules = AllByRecursion (λ (rule : Rule). IsInstr rule.instr) rules
+
+-- how many bytes a rule has where it is stored: its address, and the code of its instruction
+abbrev pub rule_length : Rule → ℕ
+rule_length rule = length rule.address + length (code_of rule.instr)
+
+-- and all rules together
+abbrev pub stored_length : List Rule → ℕ
+stored_length rules = sum_by rule_length rules
+
+-- the same of addresses, each with a code of this length
+abbrev pub length_with : ℕ → List (List ℕ) → ℕ
+length_with code addresses = sum_by (λ (address : List ℕ). length address + code) addresses

@@ -1,5 +1,6 @@
 -- Why a line gives no rules, for contracts within the crate.
-use Rattle.std.specs.Prelude.{◌≡◌, ℕ, Bool, is_none, List, Option, Some, None, if◌then◌else◌}
+use Rattle.std.specs.Prelude.{◌≡◌, ℕ, Bool, true, false, is_none, List, Option, Some, None, if◌then◌else◌}
+use Rattle.std.specs.Str.{is_utf8}
 use Rattle.rule_lines.specs.declared.fault.LineKind.{LineKind}
 use Rattle.rule_lines.specs.declared.fault.LineKind.TheVariants.{NoVerdict, BadSetting}
 use Rattle.rule_lines.specs.declared.fault.RuleFault.{RuleFault}
@@ -8,8 +9,12 @@ use Rattle.rule_lines.specs.declared.fault.ParseFault.TheVariants.{Line as AtLin
 use Rattle.rule_lines.specs.declared.fault.RuleFault.TheVariants.{Kind, OutOfMemory}
 use Rattle.rule_lines.specs.declared.instr.Verdict.{Verdict}
 use Rattle.rule_lines.specs.Faults.{first_faulty}
-use Rattle.rule_lines.specs.Lines.{lines_of}
+use Rattle.rule_lines.specs.Lines.{has_byte, lines_of}
 use Rattle.rule_lines.specs.Pairs.{settings_after, verdict_of}
+
+-- text without a zero byte
+abbrev pub IsPlain : List ℕ → Type 0
+IsPlain bytes = (is_utf8 bytes ≡ true) × (has_byte 0 bytes ≡ false)
 
 -- it has this fault, or there was no memory for its rules
 abbrev pub Names : Option LineKind → RuleFault → Type 0

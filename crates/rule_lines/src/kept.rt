@@ -1,11 +1,13 @@
 //! The lines that a list keeps: an address, a colon, and the code of the instruction.
-ghost use Rattle.std.specs.Prelude.{◌≡◌, ◌++◌, ◌+◌, ◌-◌, ◌<◌, ◌≤◌, ◌^◌, ℕ, List, None, true, drop, is_some, length, slice_get, MatchOption};
+ghost use Rattle.std.specs.Prelude.{◌≡◌, ◌++◌, ◌+◌, ◌-◌, ◌<◌, ◌≤◌, ◌^◌, ℕ, List, None, true, drop, is_some, length, slice_get, IfSome, MatchOption};
 ghost use Rattle.rule_lines.specs.Codes.{decoded};
 ghost use Rattle.rule_lines.specs.Kept.{AreKept, IsFound, IsKeptLine, IsLineAt, rules_at, rules_in, rules_under};
 ghost use Rattle.rule_lines.specs.ReadAddresses.{addresses_read};
+ghost use Rattle.rule_lines.specs.Rows.{addresses_under, length_with};
 
 use crate::lines::first_line;
-use crate::spread::{ReadAddress, read_address};
+use crate::spread::{Numbers, ReadAddress, number_at, read_address};
+use itoa::Buffer;
 use memchr::memchr;
 
 /// A kept line, read: its addresses, and the code of its instruction.
@@ -90,6 +92,65 @@ pub(crate) fn count_in(addresses: &ReadAddress<'_>) -> usize
         ReadAddress::One(_) => 1,
         ReadAddress::Range { numbers, .. } => usize::from(numbers.count),
     }
+}
+
+/// How many rules there are, and how many bytes their addresses and the codes of their instructions have.
+#[derive(Clone, Copy, Debug)]
+pub(crate) struct Tally {
+    pub(crate) rules: usize,
+    pub(crate) bytes: usize,
+}
+
+impl Tally {
+    /// Of no rules.
+    pub(crate) const NONE: Tally = Tally { rules: 0, bytes: 0 };
+
+    /// That of the rules of both, where there is room for its numbers.
+    pub(crate) fn with(self, other: Tally) -> Option<Tally>
+        ensures rules { IfSome result (λ both. both.rules ≡ self.rules + other.rules) }
+        ensures bytes { IfSome result (λ both. both.bytes ≡ self.bytes + other.bytes) }
+    {
+        Some(Tally {
+            rules: self.rules.checked_add(other.rules)?,
+            bytes: self.bytes.checked_add(other.bytes)?,
+        })
+    }
+}
+
+/// The tally of the rules that addresses make with a code of this length, where there is room for its numbers.
+pub(crate) fn tally_of(addresses: &ReadAddress<'_>, code_length: usize) -> Option<Tally>
+    ensures rules { IfSome result (λ tally. tally.rules ≡ length (addresses_read addresses.now)) }
+    ensures bytes { IfSome result (λ tally. tally.bytes ≡ length_with code_length (addresses_read addresses.now)) }
+{
+    let bytes = match addresses {
+        ReadAddress::One(address) => address.len().checked_add(code_length)?,
+        ReadAddress::Range {
+            front,
+            numbers,
+            back,
+        } => range_length(front, *numbers, back, code_length)?,
+    };
+    Some(Tally {
+        rules: count_in(addresses),
+        bytes,
+    })
+}
+
+/// How many bytes the addresses of a range have, each with a code of this length, where there is room for that number.
+fn range_length(front: &[u8], numbers: Numbers, back: &[u8], code_length: usize) -> Option<usize>
+    ensures { IfSome result (λ bytes. bytes ≡ length_with code_length (addresses_under front.now numbers back.now)) }
+{
+    let around = front
+        .len()
+        .checked_add(back.len())?
+        .checked_add(code_length)?;
+    let mut bytes = 0usize;
+    for place in 0..numbers.count {
+        let mut buffer = Buffer::new();
+        let digits = buffer.format(number_at(numbers, usize::from(place))).len();
+        bytes = bytes.checked_add(around)?.checked_add(digits)?;
+    }
+    Some(bytes)
 }
 
 /// The rule at place `i` of kept lines, looked for from a line on.

@@ -11,6 +11,7 @@ pub mod laws;
 pub mod limits;
 pub mod lines;
 pub mod list;
+mod open_range;
 pub mod source;
 pub mod spread;
 pub mod text;

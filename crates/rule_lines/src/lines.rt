@@ -1,6 +1,6 @@
 //! The lines of a text.
 ghost use Rattle.std.specs.Prelude.{◌≡◌, ◌<◌, ◌≤◌, ◌+◌, ◌-◌, false, drop, length};
-ghost use Rattle.rule_lines.specs.Lines.{IsFirstLine, has_byte, is_blank, trimmed};
+ghost use Rattle.rule_lines.specs.Lines.{IsCutAtFeed, IsFirstLine, has_byte, is_blank, trimmed};
 
 use memchr::memchr;
 
@@ -9,6 +9,7 @@ pub fn first_line(text: &[u8]) -> (&[u8], &[u8])
     requires { 0 < length text.now }
     ensures lines { IsFirstLine text.now result.0.now result.1.now }
     ensures one_line { has_byte 10 result.0.now ≡ false }
+    ensures cut { IsCutAtFeed text.now result.0.now result.1.now }
     ensures follows { result.1.now ≡ drop (length text.now - length result.1.now) text.now }
     ensures shorter { length result.1.now < length text.now }
     ensures parts { length result.0.now + length result.1.now ≤ length text.now }

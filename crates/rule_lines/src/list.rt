@@ -4,17 +4,18 @@ ghost use Rattle.std.specs.Char.{to_ascii_lowercase};
 ghost use Rattle.std.specs.List.{Contains};
 ghost use Rattle.byte_text.specs.Outcomes.{AppendsPart};
 ghost use Rattle.rule_lines.specs.Codes.{code_of};
-ghost use Rattle.rule_lines.specs.Kept.{AreKept, IsStored, rules_in};
+ghost use Rattle.rule_lines.specs.Kept.{AreKept, IsStored, Tallies, rules_in};
 ghost use Rattle.rule_lines.specs.Lookups.{found_among, code_found};
-ghost use Rattle.rule_lines.specs.Rows.{AreRules, addresses_under};
+ghost use Rattle.rule_lines.specs.Rows.{AreRules, addresses_under, stored_length};
 ghost use Rattle.rule_lines.specs.Spread.{folded};
 ghost use Rattle.rule_lines.specs.Texts.{AreOfText};
 ghost use Rattle.rule_lines.specs.ReadAddresses.{addresses_read};
 
 use crate::code::{DecodeFault, decode_instr};
 use crate::instr::Instr;
-use crate::kept::{KeptLine, LinePlace, first_kept, rule_at};
-use crate::spread::{Numbers, ReadAddress};
+use crate::kept::{KeptLine, LinePlace, Tally, first_kept, rule_at};
+use crate::open_range::{OpenRange, append_numbered};
+use crate::spread::{Numbers, ReadAddress, number_at};
 use byte_text::whole_or_none;
 use itoa::Buffer;
 use memchr::memchr;
@@ -27,9 +28,11 @@ use std::str;
 #[derive(Debug, Drop)]
 pub struct RuleList {
     kept: Vec<u8>,
-    len: usize,
+    tally: Tally,
     /// A line from which the rules at and after it are looked for.
     near: LinePlace,
+    /// The range whose rules are being written.
+    range: OpenRange,
 }
 
 impl Model for RuleList {
@@ -42,7 +45,7 @@ impl Model for RuleList {
 
     ghost view = { λ l. rules_in l.kept.items };
 
-    ghost invariant = { λ l. Keeps l.kept.items l.len l.near };
+    ghost invariant = { λ l. Keeps l.kept.items l.tally l.near l.range };
 }
 
 /// A rule of a list: an address with its instruction, lent by the list.
@@ -91,10 +94,7 @@ impl<'a> Pair<'a> {
                 back,
             } => {
                 let number = number_at(numbers, self.place);
-                out.extend_from_slice(front)?;
-                let mut buffer = Buffer::new();
-                out.extend_from_slice(buffer.format(number).as_bytes())?;
-                out.extend_from_slice(back)?;
+                append_numbered(out, front, number, back)?;
             }
         }
         Ok(())
@@ -121,14 +121,6 @@ impl<'a> Pair<'a> {
     }
 }
 
-/// The number in the address at a place of a range, from 0.
-fn number_at(numbers: Numbers, place: usize) -> u32
-    requires { place < numbers.count }
-    ensures { result ≡ numbers.first + place }
-{
-    u32::from(numbers.first) + place as u32
-}
-
 /// A rule as it is stored: its address, and the code of its instruction.
 #[derive(Debug, Drop)]
 pub struct StoredRule {
@@ -149,17 +141,19 @@ impl StoredRule {
 }
 
 impl RuleList {
-    /// The list of kept lines, which have so many rules.
-    pub(crate) fn new(kept: Vec<u8>, len: usize) -> RuleList
+    /// The list of kept lines, whose rules have this tally.
+    pub(crate) fn new(kept: Vec<u8>, tally: Tally) -> RuleList
         requires kept { AreKept kept.items }
-        requires counted { len ≡ length (rules_in kept.items) }
+        requires tallied { Tallies (rules_in kept.items) tally }
         requires of_text { AreOfText (rules_in kept.items) }
         ensures { result ≡ rules_in kept.items }
     {
+        let range = OpenRange::closed(*kept.allocator());
         RuleList {
             kept,
-            len,
+            tally,
             near: LinePlace::FRONT,
+            range,
         }
     }
 
@@ -168,7 +162,14 @@ impl RuleList {
         ensures count { result ≡ length self.now }
         ensures known { AreRules self.now }
     {
-        self.len
+        self.tally.rules
+    }
+
+    /// How many bytes the addresses of all rules and the codes of their instructions have together.
+    pub fn stored_length(&self) -> usize
+        ensures { result ≡ stored_length self.now }
+    {
+        self.tally.bytes
     }
 
     /// A law: they are the rules of an accepted text.
@@ -183,7 +184,7 @@ impl RuleList {
     pub fn is_empty(&self) -> bool
         ensures { result ≡ (length self.now == 0) }
     {
-        self.len == 0
+        self.tally.rules == 0
     }
 
     /// The rule at place `i`, from 0, or `None` past the end. The lines before it are gone over, but for those before a place that was
@@ -191,7 +192,7 @@ impl RuleList {
     pub fn get(&self, i: usize) -> Option<Pair<'_>>
         ensures { result ≡ slice_get self.now i }
     {
-        if i >= self.len {
+        if i >= self.tally.rules {
             return None;
         }
         let found = rule_at(&self.kept, self.near.not_behind(i), i)?;
@@ -211,13 +212,18 @@ impl RuleList {
         ensures written { IfOk result (λ found.
             IsStored (slice_get self.old i) found rule.new.key.items rule.new.code.items) }
     {
-        if i >= self.len {
+        if let Some(place) = self.range.place_of(i) {
+            self.range.write(place, rule)?;
+            return Ok(true);
+        }
+        if i >= self.tally.rules {
             return Ok(false);
         }
         let Some(found) = rule_at(&self.kept, self.near.not_behind(i), i) else {
             return Ok(false);
         };
         let resume = found.resume;
+        self.range.take_up(i, &found)?;
         let pair = Pair {
             line: found.line,
             place: found.place,
@@ -237,8 +243,9 @@ impl RuleList {
         let alloc = *self.kept.allocator();
         Ok(RuleList {
             kept: Vec::from_slice(alloc, &self.kept)?,
-            len: self.len,
+            tally: self.tally,
             near: self.near,
+            range: OpenRange::closed(alloc),
         })
     }
 

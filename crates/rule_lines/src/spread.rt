@@ -115,6 +115,14 @@ fn next_dot(bytes: &[u8]) -> usize
     memchr(b'.', bytes).unwrap_or(bytes.len())
 }
 
+/// The number in the address at a place of a range, from 0.
+pub(crate) fn number_at(numbers: Numbers, place: usize) -> u32
+    requires { place < numbers.count }
+    ensures { result ≡ numbers.first + place }
+{
+    u32::from(numbers.first) + place as u32
+}
+
 /// The numbers from `low` to `high` that are not above 255.
 fn numbers_between(low: u32, high: u32) -> Numbers
     ensures { range_with_len result.first result.count ≡ range_with_len low (min high 255 + 1 - low) }

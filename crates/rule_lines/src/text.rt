@@ -1,17 +1,17 @@
 //! Rule texts.
-ghost use Rattle.std.specs.Prelude.{◌≡◌, ◌<◌, ◌≤◌, ◌+◌, ◌++◌, ◌==◌, ℕ, [], None, false, drop, length, take, IfOk, IfErr, OnOk};
+ghost use Rattle.std.specs.Prelude.{◌≡◌, ◌↔◌, ◌<◌, ◌≤◌, ◌+◌, ◌++◌, ◌==◌, ℕ, [], None, true, false, drop, length, take, IfOk, IfErr, IsTrue, OnOk};
 ghost use Rattle.std.specs.List.{position_or_len};
 ghost use Rattle.std.specs.Str.{is_utf8};
 ghost use Rattle.rule_lines.specs.Faults.{fault_beside, fault_in, fault_under, first_faulty, IsAccepted, Refuses};
 ghost use Rattle.rule_lines.specs.Kept.{IsKept, IsKeptOf};
 ghost use Rattle.rule_lines.specs.Lines.{has_byte, lines_of};
 ghost use Rattle.rule_lines.specs.Pairs.{address_in, instructions_in, is_ignored, pairs_of, verdict_of};
-ghost use Rattle.rule_lines.specs.RuleFaults.{Names, RefusesLines};
+ghost use Rattle.rule_lines.specs.RuleFaults.{IsPlain, Names, RefusesLines};
 ghost use Rattle.rule_lines.specs.Spread.{is_bad_range};
 
 use crate::fault::{LineFault, LineKind, ParseFault, RuleFault};
 use crate::instructions::append_code;
-use crate::kept::count_in;
+use crate::kept::{Tally, tally_of};
 use crate::limits::Limits;
 use crate::lines::{first_line, trim_blanks};
 use crate::list::RuleList;
@@ -49,29 +49,31 @@ pub fn parse_owned(text: Vec<u8>, limits: &Limits) -> Result<RuleList, ParseFaul
         return Err(LONG_TEXT);
     }
     let mut kept = text;
-    let count = keep_lines(&mut kept, limits.line)?;
+    let plain = is_plain(&kept);
+    let tally = keep_lines(&mut kept, plain, limits.line)?;
     kept.shrink_to_fit();
-    Ok(RuleList::new(kept, count))
+    Ok(RuleList::new(kept, tally))
 }
 
-/// Puts the kept lines of a text in its place, and says how many rules they have.
-fn keep_lines(text: &mut Vec<u8>, limit: u64) -> Result<usize, ParseFault>
+/// Puts the kept lines of a text in its place, and tells the tally of their rules. In a text that is `plain` no line is looked at for that.
+fn keep_lines(text: &mut Vec<u8>, plain: bool, limit: u64) -> Result<Tally, ParseFault>
+    requires { plain ≡ true → IsPlain text.old.items }
     ensures faultless { OnOk result (first_faulty limit 1 (lines_of text.old.items) ≡ None) }
-    ensures kept { IfOk result (λ count. IsKept text.old.items text.new.items count) }
+    ensures kept { IfOk result (λ tally. IsKept text.old.items text.new.items tally) }
     ensures refused { IfErr result (RefusesLines limit text.old.items) }
 {
     let mut line_kept = Vec::new(*text.allocator());
     let mut start = 0;
     let mut end = 0;
     let mut number = 0;
-    let mut count = 0usize;
+    let mut tally = Tally::NONE;
     while start < text.len() {
         let (line, after) = first_line(&text[start..]);
         let next = text.len() - after.len();
         number += 1;
-        match keep_line(trim_blanks(line), limit, &mut line_kept) {
-            // A text of more than `usize::MAX` addresses is one for which there is no memory.
-            Ok(more) => count = count.checked_add(more).ok_or(AllocError)?,
+        match keep_line(trim_blanks(line), plain, limit, &mut line_kept) {
+            // A text whose addresses have more than `usize::MAX` bytes is one for which there is no memory.
+            Ok(more) => tally = tally.with(more).ok_or(AllocError)?,
             Err(RuleFault::Kind(kind)) => {
                 return Err(ParseFault::Line(LineFault { line: number, kind }));
             }
@@ -82,7 +84,7 @@ fn keep_lines(text: &mut Vec<u8>, limit: u64) -> Result<usize, ParseFault>
         start = next;
     }
     text.truncate(end);
-    Ok(count)
+    Ok(tally)
 }
 
 /// Puts bytes over others, from a place on.
@@ -95,25 +97,34 @@ fn overwrite(text: &mut Vec<u8>, place: usize, bytes: &[u8])
     text[place..place + bytes.len()].copy_from_slice(bytes);
 }
 
-/// Puts what is kept of a trimmed line in place of the bytes of `kept`, and says how many rules it has.
+/// Puts what is kept of a trimmed line in place of the bytes of `kept`, and tells the tally of its rules. A line that is `plain` is text without
+/// a zero byte; of any other that is not known.
 ///
 /// # Errors
 /// The least kind for which the line is faulty, and `OutOfMemory`.
-fn keep_line(line: &[u8], limit: u64, kept: &mut Vec<u8>) -> Result<usize, RuleFault>
-    requires { has_byte 10 line.now ≡ false }
+fn keep_line(line: &[u8], plain: bool, limit: u64, kept: &mut Vec<u8>) -> Result<Tally, RuleFault>
+    requires one_line { has_byte 10 line.now ≡ false }
+    requires plain { plain ≡ true → IsPlain line.now }
     ensures faultless { OnOk result (fault_in limit line.now ≡ None) }
     ensures kept { IfOk result (IsKeptOf line.now kept.new.items) }
     ensures refused { IfErr result (Names (fault_in limit line.now)) }
 {
     kept.clear();
     match memchr(b':', line) {
-        Some(colon) if line[0] != b'#' => keep_rule(line, colon, limit, kept),
-        _ => Ok(0),
+        Some(colon) if line[0] != b'#' => keep_rule(line, colon, plain, limit, kept),
+        _ => Ok(Tally::NONE),
     }
 }
 
 /// The same for a line that is a rule, whose first colon stands at `colon`.
-fn keep_rule(line: &[u8], colon: usize, limit: u64, kept: &mut Vec<u8>) -> Result<usize, RuleFault>
+fn keep_rule(
+    line: &[u8],
+    colon: usize,
+    plain: bool,
+    limit: u64,
+    kept: &mut Vec<u8>,
+) -> Result<Tally, RuleFault>
+    requires plain { plain ≡ true → IsPlain line.now }
     requires one_line { has_byte 10 line.now ≡ false }
     requires rule { is_ignored line.now ≡ false }
     requires inside { colon < length line.now }
@@ -123,28 +134,33 @@ fn keep_rule(line: &[u8], colon: usize, limit: u64, kept: &mut Vec<u8>) -> Resul
     ensures kept { IfOk result (IsKeptOf line.now kept.new.items) }
     ensures refused { IfErr result (Names (fault_under limit line.now (verdict_of (instructions_in line.now)))) }
 {
-    let is_text = is_text(line);
+    let is_text = is_text(line, plain);
     kept.extend_from_slice(&line[..colon + 1])?;
     append_code(is_text, &line[colon + 1..], kept)?;
+    let code_length = kept.len() - (colon + 1);
     kept.extend_from_slice(b"\n")?;
     let Some(addresses) = read_address(&line[..colon]) else {
         return Err(RuleFault::Kind(LineKind::BadRange));
     };
-    if let Some(kind) = fault_beside_range(line, is_text, limit) {
+    if let Some(kind) = fault_beside_range(line, is_text, plain, limit) {
         return Err(RuleFault::Kind(kind));
     }
-    Ok(count_in(&addresses))
+    match tally_of(&addresses, code_length) {
+        Some(tally) => Ok(tally),
+        None => Err(RuleFault::OutOfMemory),
+    }
 }
 
 /// What is wrong with a rule line whose instructions and range can be read.
-fn fault_beside_range(line: &[u8], is_text: bool, limit: u64) -> Option<LineKind>
+fn fault_beside_range(line: &[u8], is_text: bool, plain: bool, limit: u64) -> Option<LineKind>
     requires text { is_text ≡ is_utf8 line.now }
+    requires plain { plain ≡ true → has_byte 0 line.now ≡ false }
     requires range { is_bad_range (address_in line.now) ≡ false }
     ensures { result ≡ fault_beside limit line.now }
 {
     if !is_text {
         Some(LineKind::NotText)
-    } else if memchr(0, line).is_some() {
+    } else if has_zero(line, plain) {
         Some(LineKind::NulByte)
     } else if line.len() as u64 > limit {
         Some(LineKind::LongLine)
@@ -153,9 +169,25 @@ fn fault_beside_range(line: &[u8], is_text: bool, limit: u64) -> Option<LineKind
     }
 }
 
-/// Whether a line is UTF-8.
-fn is_text(line: &[u8]) -> bool
-    ensures { result ≡ is_utf8 line.now }
+/// Whether a text is UTF-8 without a zero byte.
+fn is_plain(text: &[u8]) -> bool
+    ensures { IsTrue result ↔ IsPlain text.now }
 {
-    str::from_utf8(line).is_ok()
+    is_text(text, false) && !has_zero(text, false)
+}
+
+/// Whether there is a zero byte: not where it is known that bytes are plain.
+fn has_zero(bytes: &[u8], plain: bool) -> bool
+    requires { plain ≡ true → has_byte 0 bytes.now ≡ false }
+    ensures { result ≡ has_byte 0 bytes.now }
+{
+    !plain && memchr(0, bytes).is_some()
+}
+
+/// Whether bytes are UTF-8: they are where it is known that they are plain.
+fn is_text(bytes: &[u8], plain: bool) -> bool
+    requires { plain ≡ true → is_utf8 bytes.now ≡ true }
+    ensures { result ≡ is_utf8 bytes.now }
+{
+    plain || str::from_utf8(bytes).is_ok()
 }

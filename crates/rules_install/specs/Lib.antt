@@ -6,5 +6,6 @@ pub mod NamePair
 pub mod ParseFaults
 pub mod PhaseWords
 pub mod Pieces
+pub mod Places
 pub mod Steps
 pub mod Whole

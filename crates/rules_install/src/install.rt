@@ -1,6 +1,6 @@
 //! An installation, step by step.
 ghost use Rattle.std.specs.Prelude.{◌≡◌, ◌≢◌, ◌^◌, ◌≤◌, ◌<◌, ◌⊎◌, ◌||◌, length, IsTrue, true, false, None, Some, is_some, IfOk, IfErr, OnOk};
-ghost use Rattle.cdb_write.specs.Image.{finished_length};
+ghost use Rattle.cdb_write.specs.Image.{finished_length, header_bytes, pointers_of};
 ghost use Rattle.cdb_write.specs.Making.{limit_of};
 ghost use Rattle.cdb_read.specs.Compiled.{stored};
 ghost use Rattle.rules_install.specs.Filled.{IsWritten, blank_file};
@@ -178,6 +178,15 @@ impl Install {
         }
     }
 
+    // The pointers of all tables.
+    fn make_header(&mut self, alloc: Global) -> Result<Vec<u8>, AllocError>
+        ensures same { installing self.new ≡ installing self.old }
+        ensures header { IfOk result (λ header.
+            header.items ≡ header_bytes (pointers_of (stored (installing self.old).rules))) }
+    {
+        self.pieces.header(alloc, &mut self.rule)
+    }
+
     // Puts the pointers in their place.
     fn put_pointers<D: Dir>(&mut self, alloc: Global, dir: &mut D) -> Result<Phase, InstallFault>
         requires is_open { (installing self.old).over ≡ false }
@@ -188,7 +197,7 @@ impl Install {
             Filling self.old self.new dir.old dir.new result }
         ensures more { OnOk result (FillsMore (installing self.old) (installing self.new)) }
     {
-        let header = self.pieces.header(alloc)?;
+        let header = self.make_header(alloc)?;
         let outcome = dir.patch(alloc, 0, &header);
         if outcome.is_ok() {
             self.patched = true;

@@ -6,6 +6,7 @@ pub mod install;
 pub mod laws;
 pub mod names;
 mod pieces;
+mod places;
 pub mod whole;
 
 ghost use Rattle.std.specs.Prelude.{◌≡◌};

@@ -1,14 +1,17 @@
 //! The pieces of which a compiled file is made.
-ghost use Rattle.std.specs.Prelude.{◌≡◌, ◌⊎◌, ◌<◌, ◌≤◌, [], IfOk, IfErr, OnErr, OnOk};
+ghost use Rattle.std.specs.Prelude.{◌≡◌, ◌⊎◌, ◌↔◌, ◌<◌, ◌≤◌, List, [], IsTrue, IfOk, IfErr, OnErr, OnOk};
+ghost use Rattle.cdb_write.specs.Format.{entries_of};
 ghost use Rattle.cdb_write.specs.Image.{finished_length, pointers_of, header_bytes};
 ghost use Rattle.cdb_write.specs.Making.{limit_of};
+ghost use Rattle.cdb_write.specs.Tables.{HoldsByTable};
 ghost use Rattle.cdb_read.specs.Compiled.{stored};
-ghost use Rattle.cdb_write.specs.Tables.{AreTablesOf};
+ghost use Rattle.rule_lines.specs.Pairs.{Rule};
 ghost use Rattle.rules_install.specs.Pieces.{Continues};
 
 use crate::InstallFault;
+use crate::places::{Places, place_all, place_record};
 use cdb_write::layout::{HEADER_LENGTH, LENGTHS_LENGTH, SLOTS_LENGTH, TABLE_COUNT, file_limit};
-use cdb_write::{Tables, append_record, hash, header, table_piece};
+use cdb_write::{Tables, append_record, header, table_piece};
 use rule_lines::{RuleList, StoredRule};
 use std::alloc::{AllocError, Global};
 use std::marker::Model;
@@ -21,69 +24,53 @@ pub enum Piece {
     Table(usize),
 }
 
-/// The pieces of the file of a list of rules. The list is kept, and the hash and the place of each record by their tables.
+/// The pieces of the file of a list of rules. The list is kept, and the place of each record from when it is made.
 #[derive(Drop)]
 pub struct Pieces {
     list: RuleList,
-    tables: Tables,
-    /// Where the tables begin.
-    end: u32,
+    places: Places,
 }
 
 impl Model for Pieces {
     ghost use Rattle.std.specs.Prelude.{List};
     ghost use Rattle.rule_lines.specs.Pairs.{Rule};
-    ghost use Rattle.cdb_write.specs.Tables.{AreTablesOf};
-    ghost use Rattle.cdb_read.specs.Compiled.{stored};
+    ghost use Rattle.rules_install.specs.Places.{ArePlaced};
 
     ghost Value = { List Rule };
 
     ghost view = { λ p. p.list };
 
-    ghost invariant = { λ p. AreTablesOf (stored p.list) p.tables p.end };
+    ghost invariant = { λ p. ArePlaced p.list p.places };
 }
 
-/// Where the records of a list stand, by their tables, and where the tables begin, if the finished file keeps to the limit.
-fn place_records(
-    alloc: Global,
-    list: &mut RuleList,
-    limit: u64,
-) -> Result<(Tables, u32), InstallFault>
-    ensures same { list.new ≡ list.old }
-    ensures prepared { IfOk result (λ placed. AreTablesOf (stored list.old) placed.0 placed.1) }
-    ensures fits { IfOk result (λ _. finished_length (stored list.old) ≤ limit_of limit) }
-    ensures refused { result ≡ Err InstallFault.TooLarge → limit_of limit < finished_length (stored list.old) }
-    ensures faults { IfErr result (λ fault. (fault ≡ InstallFault.TooLarge) ⊎ (fault ≡ InstallFault.OutOfMemory)) }
+/// Whether the finished file of a list keeps to the limit.
+fn keeps_to(list: &RuleList, limit: u64) -> bool
+    ensures { IsTrue result ↔ (finished_length (stored list.now) ≤ limit_of limit) }
 {
-    let limit = file_limit(limit);
-    let mut tables = Tables::new(alloc)?;
-    let mut end = HEADER_LENGTH as u64;
-    let mut finished = end;
-    let mut place = 0;
-    let mut rule = StoredRule::new(alloc);
-    while list.write_rule(place, &mut rule)? {
-        let length = (rule.key.len() as u64).saturating_add(rule.code.len() as u64);
-        finished = length.saturating_add(finished + (LENGTHS_LENGTH + SLOTS_LENGTH) as u64);
-        if finished > limit {
-            return Err(InstallFault::TooLarge);
-        }
-        tables.push((hash(&rule.key), end as u32))?;
-        end += LENGTHS_LENGTH as u64 + length;
-        place += 1;
-    }
-    Ok((tables, end as u32))
+    let beside = (LENGTHS_LENGTH + SLOTS_LENGTH) as u64;
+    let records = (list.len() as u64)
+        .saturating_mul(beside)
+        .saturating_add(list.stored_length() as u64);
+    records.saturating_add(HEADER_LENGTH as u64) <= file_limit(limit)
 }
 
 impl Pieces {
     /// The pieces of the file of a list, if the file keeps to the limit.
-    pub fn new(alloc: Global, mut list: RuleList, limit: u64) -> Result<Pieces, InstallFault>
+    pub fn new(alloc: Global, list: RuleList, limit: u64) -> Result<Pieces, InstallFault>
         ensures kept { IfOk result (λ pieces. pieces ≡ list) }
         ensures fits { IfOk result (λ _. finished_length (stored list) ≤ limit_of limit) }
         ensures refused { result ≡ Err InstallFault.TooLarge → limit_of limit < finished_length (stored list) }
         ensures faults { IfErr result (λ fault. (fault ≡ InstallFault.TooLarge) ⊎ (fault ≡ InstallFault.OutOfMemory)) }
     {
-        let (tables, end) = place_records(alloc, &mut list, limit)?;
-        Ok(Pieces { list, tables, end })
+        if !keeps_to(&list, limit) {
+            return Err(InstallFault::TooLarge);
+        }
+        let places = Places {
+            tables: Tables::new(alloc)?,
+            placed: 0,
+            end: HEADER_LENGTH as u32,
+        };
+        Ok(Pieces { list, places })
     }
 
     /// The list.
@@ -117,44 +104,67 @@ impl Pieces {
             }
             Piece::Record(i) => {
                 if self.list.write_rule(i, rule)? {
+                    if i == self.places.placed {
+                        place_record(&mut self.places, rule)?;
+                    }
                     append_record(piece, &rule.key, &rule.code)?;
                     Ok(Some(Piece::Record(i + 1)))
                 } else {
-                    self.table(alloc, 0, piece)
+                    self.table(alloc, 0, rule, piece)
                 }
             }
-            Piece::Table(t) => self.table(alloc, t, piece),
+            Piece::Table(t) => self.table(alloc, t, rule, piece),
         }
     }
 
     // The same of the first table from this one on that has records.
     fn table(
-        &self,
+        &mut self,
         alloc: Global,
         first: usize,
+        rule: &mut StoredRule,
         piece: &mut Vec<u8>,
     ) -> Result<Option<Piece>, AllocError>
         requires { piece.old.items ≡ [] }
-        ensures made { IfOk result (Continues self.now (Piece.Table first) piece.new.items) }
+        ensures same { self.new ≡ self.old }
+        ensures made { IfOk result (Continues self.old (Piece.Table first) piece.new.items) }
         ensures unmade { OnErr result (piece.new.items ≡ []) }
     {
-        for t in first..TABLE_COUNT {
-            let entries = self.tables.get(t);
-            if !entries.is_empty() {
-                *piece = table_piece(alloc, entries)?;
-                return Ok(Some(Piece::Table(t + 1)));
-            }
-        }
-        Ok(None)
+        place_all(&mut self.list, &mut self.places, rule)?;
+        next_table(alloc, &self.places.tables, first, piece)
     }
 
-    /// The pointers of all tables.
-    pub fn header(&self, alloc: Global) -> Result<Vec<u8>, AllocError>
-        ensures { IfOk result (λ header. header.items ≡ header_bytes (pointers_of (stored self.now))) }
+    /// The pointers of all tables. The bytes of `rule` are overwritten.
+    pub fn header(&mut self, alloc: Global, rule: &mut StoredRule) -> Result<Vec<u8>, AllocError>
+        ensures same { self.new ≡ self.old }
+        ensures header { IfOk result (λ header. header.items ≡ header_bytes (pointers_of (stored self.old))) }
     {
-        let pointers = self.tables.pointers(alloc, self.end)?;
+        place_all(&mut self.list, &mut self.places, rule)?;
+        let pointers = self.places.tables.pointers(alloc, self.places.end)?;
         header(alloc, &pointers)
     }
+}
+
+/// The piece of the first table from this one on that has records, and the place of the next, where all rules have a place.
+fn next_table(
+    alloc: Global,
+    tables: &Tables,
+    first: usize,
+    piece: &mut Vec<u8>,
+) -> Result<Option<Piece>, AllocError>
+    requires { piece.old.items ≡ [] }
+    ensures made { IfOk result (λ next. (rules : List Rule) → HoldsByTable tables.now (entries_of (stored rules))
+        → Continues rules (Piece.Table first) piece.new.items next) }
+    ensures unmade { OnErr result (piece.new.items ≡ []) }
+{
+    for t in first..TABLE_COUNT {
+        let entries = tables.get(t);
+        if !entries.is_empty() {
+            *piece = table_piece(alloc, entries)?;
+            return Ok(Some(Piece::Table(t + 1)));
+        }
+    }
+    Ok(None)
 }
 
 impl Pieces {

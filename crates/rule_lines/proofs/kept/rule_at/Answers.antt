@@ -1,11 +1,11 @@
 -- Line after line is read until one has the rule.
-use Rattle.std.proofs.Common.{◌≡◌, ◌+◌, ◌-◌, ◌<◌, ◌≤◌, ◌++◌, [], length, drop, length-drop, refl, sym, ap, subst, ◌∙◌, arith}
+use Rattle.std.proofs.Common.{◌≡◌, ◌+◌, ◌-◌, ◌<◌, ◌≤◌, ◌++◌, [], length, drop, slice_get, length-drop, refl, sym, ap, subst, ◌∙◌, arith}
 use Rattle.std.proofs.lemmas.List.{drop_all, take_rest}
 use Rattle.std.proofs.lemmas.Option.{slice_get_past}
 use Rattle.rule_lines.specs.declared.kept.LinePlace.{LinePlace}
 use Rattle.rule_lines.specs.Kept.{AreKept, IsLineAt, rules_in, rules_under}
 use Rattle.rule_lines.specs.ReadAddresses.{addresses_read}
-use Rattle.rule_lines.proofs.KeptLemmas.{IsLineAt-next, slice_get-line}
+use Rattle.rule_lines.proofs.KeptLemmas.{IsLineAt-next, slice_get-at, slice_get-line}
 use Rattle.rule_lines.proofs.kept.rule_at.Goals as goal
 use Rattle.rule_lines.proofs.kept.rule_at.Goals.{After-count_in, then-is_last, else-is_last}
 
@@ -62,6 +62,12 @@ returns-then-i-next c =
     record {
       rule = found.0;
       place = found.1;
+      place_by = omega arith;
+      others = λ n inside.
+          let before = c.loop-here.here.before in
+          let back : c.args.i - (c.args.i - before) ≡ before = omega (arith, c.loop-here.invariant.1) in
+          ap (λ k. slice_get (rules_in c.args.kept.now) (k + n)) back
+          ∙ slice_get-at c.args.kept.now c.loop-here.here (next_of at) c.loop-here.invariant.0 c.first_kept.result.0 c.first_kept.result.1.now read.rules read.follows read.shorter c.first_kept.ensures.kept refl read.before n inside;
       decodes = c.first_kept.ensures.decodes;
       resume = elim c.if-is_last.branch [
         | then-is_last w ↦ subst (IsLineAt c.args.kept.now) (sym w.result-is) (next_is at)

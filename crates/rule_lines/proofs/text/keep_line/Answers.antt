@@ -1,5 +1,5 @@
 -- A line with a colon that does not begin with `#` is a rule, and every other line is ignored.
-use Rattle.std.proofs.Common.{◌==◌, sym}
+use Rattle.std.proofs.Common.{◌==◌, refl, sym}
 use Rattle.std.proofs.lemmas.Bool.{cond-true}
 use Rattle.rule_lines.specs.Pairs.{is_ignored}
 use Rattle.rule_lines.proofs.FoundLemmas.{position_or_len-found}
@@ -14,4 +14,4 @@ pub returns-in_default-2-clause-faultless : goal.returns-in_default-2-clause-fau
 returns-in_default-2-clause-faultless c = cond-true (is_ignored c.args.line.now) _ _ (is_ignored-nowhere c.args.line.now c.in_default.ensures)
 
 pub returns-in_default-2-clause-kept : goal.returns-in_default-2-clause-kept
-returns-in_default-2-clause-kept c = IsKeptOf-none c.args.line.now c.clear.new.self.items c.clear.ensures.items (is_ignored-nowhere c.args.line.now c.in_default.ensures)
+returns-in_default-2-clause-kept c = IsKeptOf-none c.args.line.now c.clear.new.self.items _ refl refl c.clear.ensures.items (is_ignored-nowhere c.args.line.now c.in_default.ensures)

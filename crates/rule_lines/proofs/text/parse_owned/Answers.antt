@@ -8,6 +8,6 @@ pub new-requires-clause-of_text : goal.new-requires-clause-of_text
 new-requires-clause-of_text c = ∣ record {
   limits = c.args.limits.now;
   text = c.args.text.items;
-  accepted = accepted_from c.args.limits.now c.args.text.items (omega arith) c.in_ok-count.ensures.faultless;
-  says = sym (ap rules_in c.shrink_to_fit.ensures.items ∙ c.in_ok-count.ensures.kept.rules);
+  accepted = accepted_from c.args.limits.now c.args.text.items (omega arith) c.in_ok-tally.ensures.faultless;
+  says = sym (ap rules_in c.shrink_to_fit.ensures.items ∙ c.in_ok-tally.ensures.kept.rules);
 } ∣₁

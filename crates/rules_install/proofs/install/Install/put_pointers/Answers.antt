@@ -1,9 +1,11 @@
-use Rattle.std.proofs.Common.{arith, ◌≡◌, ◌⊎◌, [], ◌∷◌, inl, inr, true, false, refl, sym, ◌∙◌, ap}
+use Rattle.std.proofs.Common.{arith, ◌≡◌, ◌⊎◌, [], ◌∷◌, inl, inr, true, false, length, refl, sym, subst, ◌∙◌, ap}
 use Rattle.std.specs.Prelude.{Err, is_ok, Contains}
 use Rattle.dir_calls.specs.declared.fault.DirFault.TheVariants.{NoScratch, Device, OutOfMemory as NoMemory}
 use Rattle.std.proofs.lemmas.Result.{err_from_is_err_and}
 use Rattle.dir_calls.specs.Calls.{patches}
 use Rattle.dir_calls.proofs.Lasting.{patches_keeps}
+use Rattle.rules_install.specs.Filled.{blank_file}
+use Rattle.rules_install.specs.Installing.{Installing, next_phase}
 use Rattle.rules_install.specs.Installs.{installing}
 use Rattle.rules_install.proofs.FillBytes.{length-blank, pointers_less}
 use Rattle.rules_install.proofs.FillSteps.{advanced, filling_steps, filling_has, filling_more, patch_noted, pointers_fit, pointers_has, still_steps, unpatched, was_begun}
@@ -13,11 +15,15 @@ use Rattle.rules_install.proofs.install.Install.put_pointers.Given.{Over}
 use Rattle.rules_install.proofs.install.Install.put_pointers.Goals as goal
 use Rattle.rules_install.proofs.install.Install.put_pointers.Goals.{After-drop-header, then-is_ok, else-is_ok}
 
+-- all bytes of the file were appended
+abbrev HasAll : Installing → Type 0
+HasAll s = s.filled ≡ length (blank_file s.rules)
+
 pub returns-in_err-header-clause-step : goal.returns-in_err-header-clause-step
 returns-in_err-header-clause-step g c =
-    let s = installing c.args.self.now in
     let p = err_from_is_err_and c.from_residual.result c.from_residual.ensures.1 in
-    still_steps g.D.Dir.honest g.D.Dir.state g.D.Dir.moment g.D.Dir.left_since g.D.Dir.failed s s c.args.dir.now c.from_residual.result refl (p.1 ∙ ap Err p.2)
+    still_steps g.D.Dir.honest g.D.Dir.state g.D.Dir.moment g.D.Dir.left_since g.D.Dir.failed (installing c.args.self.now) (installing c.make_header.new.self) c.args.dir.now c.from_residual.result
+    c.make_header.ensures.same (p.1 ∙ ap Err p.2)
     c.requires.fits (λ image honest left. g.met.D.Dir.only_now c.args.dir.now image honest left)
 
 pub returns-in_err-header-clause-more : goal.returns-in_err-header-clause-more
@@ -27,22 +33,23 @@ returns-in_err-header-clause-more g c =
 
 pub invariant_of-self : goal.invariant_of-self
 invariant_of-self g c =
-    let self = c.args.self.now in
+    let self = c.make_header.new.self in
+    let whole = subst HasAll (sym c.make_header.ensures.same) c.requires.whole in
     record {
       rest_is = self.rest_is;
       taken_fits = self.taken_fits;
       filled_fits = self.filled_fits;
       small = self.small;
-      whole = λ _. c.requires.whole;
-      not_begun = λ none. absurd (was_begun (installing self) c.requires.next none);
-      unfilled = λ made. absurd (let none = (self.unfilled made).0 in omega (arith, none, length-blank self.pieces, c.requires.whole));
+      whole = λ _. whole;
+      not_begun = λ none. absurd (was_begun (installing self) (ap next_phase c.make_header.ensures.same ∙ c.requires.next) none);
+      unfilled = λ made. absurd (let none = (self.unfilled made).0 in omega (arith, none, length-blank self.pieces, whole));
     }
 
 pub patch-outcome-requires : goal.patch-outcome-requires
 patch-outcome-requires g c = record {
   inside = λ honest file is.
       pointers_fit (installing c.args.self.now) (g.D.Dir.state c.args.dir.now) c.requires.next (c.requires.fits honest c.requires.is_open) c.requires.whole
-      c.deref.result.now (c.deref.ensures.value ∙ c.in_ok-header.ensures) file is;
+      c.deref.result.now (c.deref.ensures.value ∙ c.in_ok-header.ensures.header) file is;
 }
 
 -- what is noted of the patch
@@ -53,8 +60,8 @@ noted_is g c =
     let t = installing c.if-is_ok.self in
     let cases : ((is_ok outcome ≡ true) × (t ≡ record s { patched = true })) ⊎ ((is_ok outcome ≡ false) × (t ≡ s)) =
     elim c.if-is_ok.branch [
-      | then-is_ok w ↦ inl (sym c.is_ok.ensures.value ∙ w.if-is_ok.true, ap installing w.self-is)
-      | else-is_ok w ↦ inr (sym c.is_ok.ensures.value ∙ w.if-is_ok.false, ap installing w.self-is)
+      | then-is_ok w ↦ inl (sym c.is_ok.ensures.value ∙ w.if-is_ok.true, ap installing w.self-is ∙ ap (λ (i : Installing). record i { patched = true }) c.make_header.ensures.same)
+      | else-is_ok w ↦ inr (sym c.is_ok.ensures.value ∙ w.if-is_ok.false, ap installing w.self-is ∙ c.make_header.ensures.same)
     ] in
     patch_noted s t (installing c.note.new.self) outcome c.note.ensures.noted cases
 
@@ -63,7 +70,7 @@ returns-clause-step g c =
     let s = installing c.args.self.now in
     let d = g.D.Dir.state c.args.dir.now in
     let header = c.deref.result.now in
-    let header_is = c.deref.ensures.value ∙ c.in_ok-header.ensures in
+    let header_is = c.deref.ensures.value ∙ c.in_ok-header.ensures.header in
     filling_steps g.D.Dir.honest g.D.Dir.state g.D.Dir.moment g.D.Dir.left_since g.D.Dir.failed s c.args.dir.now c.patch-outcome.new.self
     (λ _. patches 0 header) (patches 0 header) (λ _. record s { patched = true }) c.patch-outcome.result (installing c.note.new.self) c.note.result
     (noted_is g c) c.note.ensures.answer

@@ -2,14 +2,37 @@ use Rattle.std.proofs.Common.{◌≡◌, ℕ, ◌+◌, ◌<◌, List, [], ◌++�
 use Rattle.std.proofs.lemmas.List.{length-replicate}
 use Rattle.rule_lines.specs.Codes.{code_of}
 use Rattle.rule_lines.specs.Pairs.{Rule}
-use Rattle.cdb_write.specs.Format.{record_bytes, record_of, records_of}
+use Rattle.cdb_write.specs.Format.{hash_of, record_bytes, record_of, records_of}
 use Rattle.cdb_write.specs.Image.{tables_of}
+use Rattle.cdb_write.specs.Tables.{AddsEntry}
 use Rattle.cdb_write.proofs.RecordLemmas.{length-record_bytes}
 use Rattle.cdb_read.specs.Compiled.{pair_of, stored}
 use Rattle.rules_install.specs.Pieces.{from_piece}
+use Rattle.rules_install.specs.Places.{ArePlaced}
 use Rattle.rules_install.specs.declared.pieces.Piece.TheVariants.{Zeros, Record, Table}
+use Rattle.rules_install.proofs.PlaceLemmas.{ArePlaced-more, room-next}
 use Rattle.rules_install.proofs.PieceLemmas.{behind, past_from_none, place-fits, records-more, records-past, rule-fits, stored-here, stored-none}
 use Rattle.rules_install.proofs.pieces.Pieces.make.Goals as goal
+
+pub place_record-requires-clause-fits : goal.place_record-requires-clause-fits
+place_record-requires-clause-fits c =
+    let list = c.self.inside.list in
+    let found = stored-here _ _ _ _ c.in_ok-write_rule-in-Record.ensures.written c.if-branch.true in
+    let at = ap (slice_get list) (sym c.if-i-self.true) ∙ found.1 in
+    let room = room-next list c.self.inside.places found.0 at c.self.invariant in
+    omega (arith, room.0, ap length found.2, ap length found.3)
+
+pub invariant_of-self-in-Continue-branch-3 : goal.invariant_of-self-in-Continue-branch-3
+invariant_of-self-in-Continue-branch-3 c =
+    let list = c.self.inside.list in
+    let old = c.self.inside.places in
+    let new = c.place_record.new.places in
+    let found = stored-here _ _ _ _ c.in_ok-write_rule-in-Record.ensures.written c.if-branch.true in
+    let at = ap (slice_get list) (sym c.if-i-self.true) ∙ found.1 in
+    let said = c.in_ok-place_record-in-Record.ensures in
+    let adds = subst (λ (key : List ℕ). AddsEntry (hash_of key, old.end) old.tables new.tables) found.2 said.tables in
+    subst (λ (rules : List Rule). ArePlaced rules new) (sym c.in_ok-write_rule-in-Record.ensures.same)
+    (ArePlaced-more list old new found.0 at c.self.invariant adds (omega (arith, said.end, ap length found.2, ap length found.3)) said.placed)
 
 pub append_record-requires-clause-key_fits : goal.append_record-requires-clause-key_fits
 append_record-requires-clause-key_fits c =

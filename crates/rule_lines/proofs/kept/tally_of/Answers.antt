@@ -1,0 +1,1 @@
+-- One address keeps its length, and a range is as long as its addresses.

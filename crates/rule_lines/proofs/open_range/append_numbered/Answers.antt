@@ -1,0 +1,1 @@
+-- One part after another.
