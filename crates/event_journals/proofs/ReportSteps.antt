@@ -1,5 +1,5 @@
 -- The report of a history with one event more.
-use Rattle.std.proofs.Common.{◌≡◌, ℕ, zero, suc, ◌+◌, ◌-◌, ◌<◌, ◌≤◌, ◌^◌, min, List, [], ◌∷◌, ◌++◌, length, take, Bool, true, cond, refl, sym, ap, ◌∙◌, arith, take_all, length-append}
+use Rattle.std.proofs.Common.{◌≡◌, ℕ, zero, suc, ◌+◌, ◌-◌, ◌<◌, ◌≤◌, ◌^◌, List, [], ◌∷◌, ◌++◌, length, take, true, cond, refl, sym, ap, ◌∙◌, arith, take_all, length-append}
 use Rattle.std.specs.Prelude.{max}
 use Rattle.std.specs.List.{count_by}
 use Rattle.std.proofs.lemmas.List.{take-append-le}
@@ -10,13 +10,13 @@ use Rattle.server_events.specs.declared.event.Event.{Event}
 use Rattle.server_events.specs.declared.event.Event.TheVariants.{Admitted, Opened, Decided, Started, StartFailed, Ended, Retired, Dropped, Stepped, StepFailed, Stop}
 use Rattle.server_events.specs.declared.report.Report.{Report}
 use Rattle.server_events.specs.declared.state.Connection.{Connection}
-use Rattle.server_events.specs.Live.{live_of, retired_of}
+use Rattle.server_events.specs.Live.{retired_of}
 use Rattle.server_events.specs.Reports.{report_of, most_of, is_admission}
-use Rattle.server_events.specs.ServerState.{ServerState, start, is_legal, state_after, after, may_happen, is_retired}
+use Rattle.server_events.specs.ServerState.{ServerState, start, is_legal, state_after, after, is_retired}
 use Rattle.server_events.proofs.History.{is_legal-snoc, is_legal-take, state_after-snoc, last_after, last_state_after, room_for}
 use Rattle.server_events.proofs.LiveLemmas.{live_len, live_count, retired_count, most_up_to, most_next}
 use Rattle.server_events.proofs.Limits.{limit_world_after, within}
-use Rattle.event_journals.specs.Journals.{one_more, next_report, TellsOf, FitsSerial, GoesOn}
+use Rattle.event_journals.specs.Journals.{one_more, next_report, FitsSerial, GoesOn}
 use Rattle.event_journals.proofs.Countings.{retired_in, next_live, next_retired, moves}
 
 -- two reports with the same numbers

@@ -21,7 +21,6 @@ legal_is (more {u} {v} {w} {event} {events} step rest) =
       both_true _ _ here.0 (ap (λ (s : ServerState). is_legal s events) (sym here.1) ∙ later.0),
       later.1 ∙ ap (λ (s : ServerState). state_after s events) here.1,
     )
-
 legal_is (beside {u} {v} {w} {events} out rest) =
     let later = legal_is rest in
     let same : v.server ≡ u.server = ap (λ (x : World). x.server) out.moves in

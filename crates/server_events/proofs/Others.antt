@@ -1,5 +1,5 @@
 -- Steps of others.
-use Rattle.std.proofs.Common.{◌≡◌, ◌≢◌, inl, inr, ⊎_elim, ℕ, zero, suc, List, [], ◌∷◌, ◌++◌, length, refl, sym, ◌∙◌, ap, subst}
+use Rattle.std.proofs.Common.{◌≡◌, ◌≢◌, ⊎_elim, ℕ, zero, suc, List, [], ◌∷◌, ◌++◌, length, refl, ◌∙◌, ap, subst}
 use Rattle.std.specs.Prelude.{slice_get, Option, None, Some, option_and_then}
 use Rattle.std.specs.Option.{option_map}
 use Rattle.std.specs.FinMap.{get}
@@ -12,7 +12,7 @@ use Rattle.dir_calls.proofs.NameTables.{current-push, left_current, left_push, l
 use Rattle.server_events.specs.Steps.{LeavesAlone, LeavesRules, LeavesScratch, Outside}
 use Rattle.server_events.specs.Taken.{CanBeChanged, IsOthers, with_others}
 use Rattle.server_events.specs.Worlds.{Accepted, HoldsRules, RulesName, StandsAt, UnderWay, World, standing}
-use Rattle.server_events.proofs.StandingTexts.{IsText, Lasts}
+use Rattle.server_events.proofs.StandingTexts.{Lasts}
 
 -- ---- what stands under a name that is left alone
 

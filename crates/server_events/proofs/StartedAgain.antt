@@ -2,7 +2,7 @@
 use Rattle.std.proofs.Common.{◌≡◌, ℕ, List, [], ◌∷◌, Option, Some, None, refl, sym, ap, subst, arith}
 use Rattle.std.specs.Prelude.{slice_get, option_and_then}
 use Rattle.rules_install.specs.declared.Phase.{Phase}
-use Rattle.dir_calls.specs.Directory.{Directory, content, number_of}
+use Rattle.dir_calls.specs.Directory.{content, number_of}
 use Rattle.server_events.specs.declared.event.Event.{Event}
 use Rattle.server_events.specs.declared.event.Event.TheVariants.{Stop}
 use Rattle.server_events.specs.Again.{BeginsAgain}

@@ -1,5 +1,5 @@
 -- A server, and the installers beside it, as processes of their own over one directory.
-use Rattle.std.specs.Prelude.{◌≡◌, ℕ, Bool, true, false, List, [], ◌∷◌, Option, None}
+use Rattle.std.specs.Prelude.{◌≡◌, Bool, true, false, List, [], ◌∷◌, None}
 use Rattle.server_events.specs.declared.event.Event.{Event}
 use Rattle.server_events.specs.declared.event.Event.TheVariants.{Stepped, StepFailed, Stop}
 use Rattle.server_events.specs.ServerState.{start}

@@ -1,8 +1,8 @@
 -- A server's calls, over the directory as others left it, are its steps by itself.
-use Rattle.std.proofs.Common.{◌≡◌, true, ℕ, List, [], Option, None, refl, sym, ap, subst, ◌∙◌}
+use Rattle.std.proofs.Common.{◌≡◌, true, List, Option, None, refl, sym, ap, subst, ◌∙◌}
 use Rattle.rules_install.specs.declared.Phase.{Phase}
-use Rattle.server_events.specs.Processes.{KeepsInstallers, ServerSteps, is_connections, of_server}
-use Rattle.server_events.specs.ServerState.{ServerState, after}
+use Rattle.server_events.specs.Processes.{is_connections, of_server}
+use Rattle.server_events.specs.ServerState.{ServerState}
 use Rattle.server_events.specs.Steps.{Moves, Step}
 use Rattle.server_events.specs.Worlds.{KeptFile, World}
 use Rattle.server_events.specs.declared.event.Event.{Event}
@@ -59,8 +59,7 @@ pub by_itself : (w : World) (y z : YardState) (files more : List KeptFile) (even
 by_itself w y z files more event own at leads =
     let next = leads (of_server w) at in
     let same = sym (its_own w next.0 event own next.1) in
-    let v = shared w next.0 in
-    (
+    let v = shared w next.0 in (
       v,
       record {
         its = own;

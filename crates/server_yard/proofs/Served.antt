@@ -1,8 +1,8 @@
 -- What serves a connection is a series of calls, so that a history of the headline goes on by its events.
-use Rattle.std.proofs.Common.{◌≡◌, ℕ, List, [], ◌∷◌, ◌++◌, Option, None, Some, sym, ap, ◌∙◌}
+use Rattle.std.proofs.Common.{◌≡◌, ℕ, List, [], ◌∷◌, ◌++◌, None, Some, sym, ap, ◌∙◌}
 use Rattle.server_events.specs.ServerState.{ServerState, stage_of}
 use Rattle.server_events.specs.Steps.{none, more}
-use Rattle.server_events.specs.Worlds.{KeptFile, World, kept_by}
+use Rattle.server_events.specs.Worlds.{KeptFile, kept_by}
 use Rattle.server_events.specs.declared.event.Event.{Event}
 use Rattle.server_events.specs.declared.event.Stage.TheVariants as stage
 use Rattle.server_events.proofs.InstalledRuns.{legal_then}

@@ -1,6 +1,5 @@
-use Rattle.std.proofs.Common.{◌≡◌, IsTrue, refl, sym, ◌∙◌, ap, subst, arith, rules}
+use Rattle.std.proofs.Common.{sym, arith, rules}
 use Rattle.std.proofs.lemmas.Result.{err_from_is_err_and}
-use Rattle.std.specs.Prelude.{Ok, Some}
 use denote.Enum.Bare.{differs_true, differs_false}
 use Rattle.rules_install.specs.Installing.{next_phase}
 use Rattle.rules_install.specs.Installs.{installing}
