@@ -1,5 +1,7 @@
 //! Programs, and jobs that run them.
 ghost use Rattle.std.specs.Prelude.{◌≡◌, true, false, Bool, Result, map, string_bytes, IfOk, IfErr, OnOk};
+ghost use Rattle.rule_lookup.specs.declared.outcome.StartFault.{StartFault as Fault};
+ghost use Rattle.rule_lookup.specs.declared.outcome.Status.{Status as StatusOf};
 ghost use Rattle.child_jobs.specs.declared.launch.WaitFault.{WaitFault};
 ghost use Rattle.ucspi_env.specs.Variables.{Variables};
 ghost use Rattle.child_jobs.specs.Programs.{ProgramText};
@@ -82,6 +84,9 @@ pub enum WaitFault {
 pub struct NoEnds;
 
 /// A running program. It tells its program and its environment, which stay.
+///
+/// A job is let go in two ways: by a wait that succeeded, or by `abandon`. One that runs a program of the system should not be `Drop`, so that
+/// no other way lets it go.
 pub trait Job {
     /// The end of the pipe that the program reads.
     type Input: Write;
@@ -100,6 +105,9 @@ pub trait Job {
 
     /// What a kill may answer, with the job before it and after it. A job of which nothing is known may answer anything.
     ghost killed: { Self → Self → Result (Unit {0}) WaitFault → Type 0 };
+
+    /// How its program may have ended, where a wait for it succeeds. That of a job of which nothing is known may have ended anyhow.
+    ghost ended: { Self → StatusOf → Type 0 };
 
     /// The two ends of its pipes: what is written into the first the program reads on descriptor 0, and what it writes on descriptor 1
     /// is read from the second. They are given once. It takes no memory.
@@ -130,27 +138,41 @@ pub trait Job {
     fn wait(self) -> Result<Status, (Self, WaitFault)>
     where
         Self: Sized,
+        ensures told { IfOk result (ended self) }
         ensures program { IfErr result (λ refused. program refused.0 ≡ program self) }
         ensures environment { IfErr result (λ refused. environment refused.0 ≡ environment self) }
         ensures no_ends { IfErr result (λ refused. has_ends refused.0 ≡ false) };
+
+    /// Lets the program go without its end: it may run on, and nobody waits for it any more. Pipe ends that were not given are closed. It is
+    /// for a program that could not be waited for, and for one whose end nobody can be told; whoever counts programs counts it for good.
+    fn abandon(self)
+    where
+        Self: Sized;
 }
 
-/// What starts programs.
+/// What starts one program.
 pub trait Launcher {
     /// What it starts.
     type Job: Job;
 
-    /// Starts a program with these variables and no others, its standard input and output on pipes.
+    /// Why it may have started no program with these variables. A launcher of which nothing is known may answer any fault.
+    ghost refuses: { Self → ProgramText → Variables → Fault → Type 0 };
+
+    /// Starts a program with these variables and no others, its standard input and output on pipes. It is tried once: the launcher is spent.
     ///
     /// # Errors
     /// `NotFound` where there is no such program, `Refused` where the system refuses it, as where it may not be executed, `Other`
-    /// where anything else is amiss; `OutOfMemory`. Nothing runs then.
+    /// where anything else is amiss; `OutOfMemory`. Nothing runs then: a job that was made can't be let go of here but by `Job::abandon`, so
+    /// what a job takes is there before the program is started.
     fn start(
-        &self,
+        self,
         alloc: Global,
         program: &Program,
         environment: &Environment,
     ) -> Result<Self::Job, StartFault>
+    where
+        Self: Sized,
+        ensures refused { IfErr result (refuses self program.now environment.now) }
         ensures program { IfOk result (λ job. Self.Job.program job ≡ program.now) }
         ensures environment { IfOk result (λ job. Self.Job.environment job ≡ environment.now) };
 }

@@ -50,13 +50,13 @@ impl<L: Ledger, J: Job> Running<L, J> {
     }
 }
 
-impl<L: Ledger, J: Job + Drop> Running<L, J> {
-    /// Lets the child go, and strands its place: it stays counted for good.
+impl<L: Ledger, J: Job> Running<L, J> {
+    /// Abandons the child, as `Job::abandon` does, and strands its place: it stays counted for good.
     pub fn strand(self) {
         self.give_up().strand();
     }
 
-    /// Lets the child go, and retires its place: it stays counted in its table for good. It takes no memory.
+    /// Abandons the child, as `Job::abandon` does, and retires its place: it stays counted in its table for good. It takes no memory.
     pub fn retire(self, table: &mut Table<L>)
         requires { is_used table.old (place_of self) ≡ true }
         ensures { table.new ≡ record table.old { retired = table.old.retired + 1 } }
@@ -64,23 +64,24 @@ impl<L: Ledger, J: Job + Drop> Running<L, J> {
         table.retire(self.give_up());
     }
 
-    // Lets the child go, and hands out its place.
+    // Abandons the child, and hands out its place.
     fn give_up(self) -> Place<L>
         ensures { result ≡ place_of self }
     {
-        let Running { job: _, place } = self;
+        let Running { job, place } = self;
+        job.abandon();
         place
     }
 }
 
-/// Starts a program with these variables at a place.
+/// Starts a program with these variables at a place. It is tried once.
 ///
 /// # Errors
-/// The launcher's, with the place handed back. Nothing runs then.
+/// The launcher's own, with the place handed back. Nothing runs then.
 pub fn start<L: Ledger, S: Launcher>(
     alloc: Global,
     place: Place<L>,
-    launcher: &S,
+    launcher: S,
     program: &Program,
     environment: &Environment,
 ) -> Result<Running<L, S::Job>, (Place<L>, StartFault)>
@@ -88,6 +89,7 @@ pub fn start<L: Ledger, S: Launcher>(
     ensures program { IfOk result (λ running. S.Job.program (job_of running) ≡ program.now) }
     ensures environment { IfOk result (λ running. S.Job.environment (job_of running) ≡ environment.now) }
     ensures back { IfErr result (λ refused. refused.0 ≡ place) }
+    ensures refused { IfErr result (λ refused. S.refuses launcher program.now environment.now refused.1) }
 {
     match launcher.start(alloc, program, environment) {
         Ok(job) => Ok(Running { job, place }),
@@ -95,7 +97,7 @@ pub fn start<L: Ledger, S: Launcher>(
     }
 }
 
-/// Waits until a child has ended, and gives its place back with how it ended.
+/// Waits until a child has ended, and gives its place back with how it ended, as its job tells.
 ///
 /// # Errors
 /// Those of `Job::wait`: the same child holds the same place, has no pipe ends to give, and may be waited for again.
@@ -103,6 +105,7 @@ pub fn finish<L: Ledger, J: Job>(
     running: Running<L, J>,
 ) -> Result<(Place<L>, Status), (Running<L, J>, WaitFault)>
     ensures place { IfOk result (λ ended. ended.0 ≡ place_of running) }
+    ensures told { IfOk result (λ ended. J.ended (job_of running) ended.1) }
     ensures same { IfErr result (λ refused. IsSameRun J.program J.environment running refused.0) }
     ensures no_ends { IfErr result (λ refused. J.has_ends (job_of refused.0) ≡ false) }
 {

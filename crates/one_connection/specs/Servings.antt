@@ -4,7 +4,7 @@ use Rattle.std.specs.Io.KnownBytes.{Appends}
 use Rattle.child_jobs.specs.Plans.{PlanText}
 use Rattle.child_jobs.specs.Programs.{ProgramText}
 use Rattle.rule_lines.specs.declared.instr.Verdict.{Verdict}
-use Rattle.rule_lines.specs.declared.instr.Verdict.TheVariants.{Allow}
+use Rattle.rule_lines.specs.declared.instr.Verdict.TheVariants.{Allow, Deny}
 use Rattle.rule_lines.specs.declared.source.FindFault.TheVariants as find
 use Rattle.rule_lookup.specs.Peers.{Client}
 use Rattle.rule_lookup.specs.declared.decision.Decision.{Decision}
@@ -16,10 +16,17 @@ use Rattle.rule_lookup.specs.declared.outcome.StartFault.{StartFault}
 use Rattle.ucspi_env.specs.Child.{environment_of}
 use Rattle.ucspi_env.specs.Variables.{Variables}
 use Rattle.child_jobs.specs.declared.running.Running.{Running}
+use Rattle.server_events.specs.declared.event.Event.{Event}
+use Rattle.server_events.specs.declared.event.Event.TheVariants.{Started, StartFailed, Dropped}
+use Rattle.server_events.specs.declared.event.Stage.{Stage}
+use Rattle.server_events.specs.declared.event.Stage.TheVariants as stage
 use Rattle.one_connection.specs.Openings.{CountsFailure, Decides, FailsToDecide, Opening}
 use Rattle.one_connection.specs.declared.desk.OpenFault.{OpenFault}
 use Rattle.one_connection.specs.declared.desk.OpenFault.TheVariants as fault
+use Rattle.one_connection.specs.declared.desk.Undecided.{Undecided}
+use Rattle.one_connection.specs.declared.desk.Undecided.TheVariants as undecided
 use Rattle.one_connection.specs.declared.serving.Served.{Served}
+use Rattle.one_connection.specs.Unstarted.{IsUndenied}
 
 -- the decision of a connection by something that it may find when it opens the rules
 pub record IsDecision (finds : Opening → Type 0) (honest sound : Bool) (peer : Client) (decision : Decision) : Type 0 where
@@ -45,6 +52,12 @@ pub record IsChild (finds : Opening → Type 0) (honest sound : Bool) (peer : Cl
   pub allowed : IsPrepared finds honest sound peer plan Allow environment
   pub planned : program ≡ plan.program
 
+-- A child of an allowed connection was to be started, and the launcher refused the plan's program with the variables of the decision.
+pub record IsRefused (finds : Opening → Type 0) (honest sound : Bool) (peer : Client) (plan : PlanText) (refuses : ProgramText → Variables → StartFault → Type 0) (fault : StartFault) : Type 0 where
+  pub environment : Variables
+  pub allowed : IsPrepared finds honest sound peer plan Allow environment
+  pub refused : refuses plan.program environment fault
+
 -- the cause of a drop where a decision fails
 abbrev pub cause_of : DecideFault → DropCause
 cause_of (Find find.Short) = cause.Damaged
@@ -58,6 +71,11 @@ abbrev pub cause_of_open : OpenFault → DropCause
 cause_of_open fault.Directory = cause.Directory
 cause_of_open fault.OutOfTurn = cause.Directory
 cause_of_open fault.OutOfMemory = cause.Memory
+
+-- the same where it could not be decided
+abbrev pub cause_of_undecided : Undecided → DropCause
+cause_of_undecided undecided.OutOfTurn = cause.Directory
+cause_of_undecided undecided.OutOfMemory = cause.Memory
 
 -- the decision by something that may be found fails, for this cause
 pub record FailsFor (finds : Opening → Type 0) (honest sound : Bool) (peer : Client) (why : DropCause) : Type 0 where
@@ -101,9 +119,9 @@ abbrev pub OnDenied : {L : _} {J : Type 0} {I O : _} → Served L J I O → Type
 OnDenied Served.Denied P = P
 OnDenied _ P = ⊤
 
-abbrev pub OnStartFailed : {L : _} {J : Type 0} {I O : _} → Served L J I O → Type 0 → Type 0
-OnStartFailed (Served.StartFailed fault) P = P
-OnStartFailed _ P = ⊤
+abbrev pub IfStartFailed : {L : _} {J : Type 0} {I O : _} → Served L J I O → (StartFault → Type 0) → Type 0
+IfStartFailed (Served.StartFailed fault) P = P fault
+IfStartFailed _ P = ⊤
 
 abbrev pub IfDropped : {L : _} {J : Type 0} {I O : _} → Served L J I O → (DropCause → Type 0) → Type 0
 IfDropped (Served.Dropped why) P = P why
@@ -112,3 +130,25 @@ IfDropped _ P = ⊤
 abbrev pub UnlessRunning : {L : _} {J : Type 0} {I O : _} → Served L J I O → Type 0 → Type 0
 UnlessRunning (Served.Running child) P = ⊤
 UnlessRunning _ P = P
+
+-- the event that its serving ends with, by its answer
+abbrev pub last_event : {L : _} {J : Type 0} {I O : _} → ℕ → Served L J I O → Event
+last_event n (Served.Running child) = Started n
+last_event n Served.Denied = Dropped n cause.Denied
+last_event n (Served.StartFailed fault) = StartFailed n fault
+last_event n (Served.Dropped why) = Dropped n why
+
+-- the stage in which that comes: a denial where it was decided to deny, and no other drop there
+abbrev pub ComesAt : {L : _} {J : Type 0} {I O : _} → Served L J I O → Stage → Type 0
+ComesAt (Served.Running child) at = at ≡ stage.Decided Allow
+ComesAt Served.Denied at = at ≡ stage.Decided Deny
+ComesAt (Served.StartFailed fault) at = at ≡ stage.Decided Allow
+ComesAt (Served.Dropped why) at = IsUndenied at
+
+-- this event is the last that a desk told, and it came in such a stage
+pub record IsLastTold {D : Type 0} (tells : D → Event → D → Type 0) (stands : D → Stage → Type 0) (comes_at : Stage → Type 0) (event : Event) (desk : D) : Type 0 where
+  pub before : D
+  pub stage : Stage
+  pub stood : stands before stage
+  pub comes : comes_at stage
+  pub told : tells before event desk

@@ -1,24 +1,21 @@
-//! The calls of one connection.
-ghost use Rattle.std.specs.Prelude.{◌≡◌, ◌↔◌, ℕ, Bool, Some, IsTrue, IfOk, IfErr, OnOk, OnErr};
+//! The desk of a connection.
+ghost use Rattle.std.specs.Prelude.{◌≡◌, ℕ, Bool, Option, Some, IsTrue, false, is_some, IfOk, IfErr, OnOk, OnErr};
 ghost use Rattle.child_jobs.specs.Runs.{place_of};
 ghost use Rattle.rule_lines.specs.declared.instr.Verdict.TheVariants.{Allow};
 ghost use Rattle.rule_lookup.specs.Peers.{Client};
 ghost use Rattle.rule_lookup.specs.declared.decision.Missing.{Missing as MissingFile};
+ghost use Rattle.server_events.specs.declared.event.Event.{Event as EventOf};
+ghost use Rattle.server_events.specs.declared.event.Event.TheVariants.{Opened, Decided, Started, StartFailed, Dropped};
 ghost use Rattle.server_events.specs.declared.event.Stage.{Stage as StageOf};
 ghost use Rattle.server_events.specs.declared.event.Stage.TheVariants as stage;
 ghost use Rattle.one_connection.specs.Openings.{CanFail, Decides, FailsToDecide, Opening};
-ghost use Rattle.server_yard.specs.Yards.{serial_of};
 ghost use Rattle.one_connection.specs.Unstarted.{IsUnstarted};
-ghost use Rattle.one_connection.specs.YardDesks.{StandsAt};
 
-use crate::deciding::decide_by_pass;
 use child_jobs::{Job, Running};
 use child_table::Place;
-use dir_calls::{Dir, DirFault};
-use event_journals::Journal;
+use dir_calls::DirFault;
 use rule_lookup::{DecideFault, Decision, DropCause, Peer, StartFault};
-use server_events::Stage;
-use server_yard::{Pass, Premises, Yard};
+use server_yard::Premises;
 use std::alloc::Global;
 use thiserror::Error;
 
@@ -49,10 +46,21 @@ impl From<DirFault> for OpenFault {
     }
 }
 
-/// Where the events of one connection are made, after it was let in: a yard, or one caller's part of a yard that several share.
+/// Why a connection could not be decided. It is as before.
+#[derive(Clone, Copy, PartialEq, Eq, Debug, Error)]
+pub enum Undecided {
+    /// The connection has not opened the rules so, or was decided before.
+    #[error("out of turn")]
+    OutOfTurn,
+    /// There was no memory.
+    #[error("out of memory")]
+    OutOfMemory,
+}
+
+/// The desk of one connection, where its events are made after it was let in: by a yard, or by one caller's part of a yard that several share.
 ///
-/// `stands` is what is known of where a connection stands; a desk that others use too knows nothing of it, and says so by a `stands` that is
-/// always true.
+/// `stands` is what is known of where the connection stands, `found` what it found when it opened the rules, and `tells` the event that a call
+/// made. Where others use the yard too a call may be out of turn: its event was asked for then, and did not happen.
 pub trait Desk<L: Premises> {
     /// The right to one child, as `start_failed` and `dropped` take it back: a `Place<L>`.
     type Place;
@@ -83,13 +91,19 @@ pub trait Desk<L: Premises> {
     /// What may be found when the rules are opened now.
     ghost finds: { Self → Opening → Type 0 };
 
+    /// What was found when the connection opened them.
+    ghost found: { Self → Option Opening };
+
+    /// Between these two states of the desk it told this event, and no other.
+    ghost tells: { Self → EventOf → Self → Type 0 };
+
     /// What is decided of a connection without a rules file.
     ghost is_missing: { Self → MissingFile → Type 0 };
 
     /// How many failures its directory counted.
     ghost failures: { Self → ℕ };
 
-    /// Whether others use it too, so that a call may be out of turn or want memory.
+    /// Whether others use the yard too, so that a call may be out of turn or want memory.
     ghost is_shared: { Bool };
 
     /// Opens the rules for a connection that was let in.
@@ -107,6 +121,8 @@ pub trait Desk<L: Premises> {
         ensures opened { OnOk result (stands self.new place.now number peer.now stage.Opened) }
         ensures its { IfOk result (λ pass. serial pass ≡ number) }
         ensures found { IfOk result (λ pass. finds self.old (opening pass)) }
+        ensures keeps { IfOk result (λ pass. found self.new ≡ Some (opening pass)) }
+        ensures told { IfOk result (λ pass. tells self.old (Opened number (is_some (opening pass).bytes)) self.new) }
         ensures missing { IfOk result (λ pass. is_missing self.new (opening pass).missing) }
         ensures refused { OnErr result (stands self.new place.now number peer.now stage.Admitted) }
         ensures cause { CanFail is_shared (failures self.old) (failures self.new) result };
@@ -123,7 +139,7 @@ pub trait Desk<L: Premises> {
     /// The connection is decided as `decide` decided by its pass.
     ///
     /// # Errors
-    /// There was no memory: both are handed back, and the connection is as before.
+    /// `OutOfTurn` where the desk does not have the connection so; `OutOfMemory`. The connection is as before.
     fn decided(
         &mut self,
         alloc: Global,
@@ -131,154 +147,37 @@ pub trait Desk<L: Premises> {
         pass: Self::Pass,
         peer: &Peer,
         decision: Decision,
-    ) -> Result<(), (Self::Pass, Decision)>
+    ) -> Result<(), Undecided>
         requires stands { stands self.old place.now (serial pass) peer.now stage.Opened }
         requires missing { is_missing self.old (opening pass).missing }
         requires decides { Decides honest sound (opening pass) peer.now decision }
         ensures decided { OnOk result
             (stands self.new place.now (serial pass) peer.now (stage.Decided decision.verdict)) }
+        ensures told { OnOk result (tells self.old (Decided (serial pass) decision) self.new) }
         ensures refused { OnErr result (stands self.new place.now (serial pass) peer.now stage.Opened) }
         ensures at_once { OnErr result (IsTrue is_shared) }
+        ensures keeps { found self.new ≡ found self.old }
         ensures failures { failures self.new ≡ failures self.old };
 
     /// The child of a connection that was allowed runs.
     fn started<C: Job>(&mut self, running: &Running<L, C>, number: u64, peer: &Peer)
         requires stands { stands self.old (place_of running.now) number peer.now (stage.Decided Allow) }
-        ensures started { stands self.new (place_of running.now) number peer.now stage.Started };
+        ensures told { tells self.old (Started number) self.new }
+        ensures started { is_shared ≡ false → stands self.new (place_of running.now) number peer.now stage.Started }
+        ensures keeps { found self.new ≡ found self.old };
 
-    /// The child of a connection that was allowed could not be started: the connection is gone.
+    /// The child of a connection that was allowed could not be started, by this fault: the connection is gone.
     fn start_failed(&mut self, place: Self::Place, number: u64, peer: &Peer, fault: StartFault)
         requires stands { stands self.old (index place) number peer.now (stage.Decided Allow) }
-        ensures gone { is_gone self.new number };
+        ensures told { tells self.old (StartFailed number fault) self.new }
+        ensures gone { is_gone self.new number }
+        ensures keeps { found self.new ≡ found self.old };
 
-    /// A connection is given up before a child was started: it is gone.
+    /// A connection is given up before a child was started, for this cause: it is gone.
     fn dropped(&mut self, place: Self::Place, number: u64, peer: &Peer, cause: DropCause)
         requires stands { IsUnstarted (stands self.old (index place) number peer.now) }
+        ensures told { tells self.old (Dropped number cause) self.new }
         ensures gone { is_gone self.new number }
+        ensures keeps { found self.new ≡ found self.old }
         ensures failures { failures self.new ≡ failures self.old };
-}
-
-/// Whether a place is that of a connection with this serial and this peer, which was let in and no more: what `serve_one` asks for, over a
-/// yard. It takes no memory.
-pub fn is_admitted<L: Premises, D: Dir + Drop, J: Journal>(
-    yard: &Yard<L, D, J>,
-    place: &Place<L>,
-    serial: u64,
-    peer: &Peer,
-) -> bool
-    ensures { IsTrue result ↔ StandsAt yard.now place.now serial peer.now stage.Admitted }
-{
-    has_serial(yard, place, serial)
-        && yard.stage(serial) == Some(Stage::Admitted)
-        && yard.is_peer(serial, peer)
-}
-
-// Whether a place is that of a connection with this serial that is alive.
-fn has_serial<L: Premises, D: Dir + Drop, J: Journal>(
-    yard: &Yard<L, D, J>,
-    place: &Place<L>,
-    serial: u64,
-) -> bool
-    ensures { IsTrue result ↔ (serial_of yard.now place.now ≡ Some serial) }
-{
-    yard.serial_of(place) == Some(serial)
-}
-
-impl<L: Premises, D: Dir + Drop, J: Journal> Desk<L> for Yard<L, D, J> {
-    ghost use Rattle.std.specs.Prelude.{◌≡◌, false, IfErr, IfOk, OnErr, OnOk};
-    ghost use Rattle.rule_lines.specs.declared.instr.Verdict.TheVariants.{Allow};
-    ghost use Rattle.server_events.specs.declared.event.Stage.TheVariants as stage;
-    ghost use Rattle.server_yard.specs.Passes.{IsDecidedBy, pass_missing, pass_serial};
-    ghost use Rattle.server_yard.specs.Yards.{yard_directory, yard_rules};
-    ghost use Rattle.server_events.specs.Worlds.{missing_by};
-    ghost use Rattle.one_connection.specs.Unstarted.{IsUnstarted};
-    ghost use Rattle.one_connection.specs.Openings.{Decides, FailsToDecide, opening_of};
-    ghost use Rattle.one_connection.specs.YardDesks.{FindsOf, StandsAt, IsGoneFrom};
-
-    type Place = Place<L>;
-
-    type Pass = Pass<L, D::File>;
-
-    ghost index = { λ place. place };
-
-    ghost opening = { λ pass. opening_of D.File.bytes pass };
-
-    ghost serial = { λ pass. pass_serial pass };
-
-    ghost honest = { D.File.honest };
-
-    ghost sound = { D.File.sound };
-
-    ghost stands = { λ yard place serial peer stage. StandsAt yard place serial peer stage };
-
-    ghost is_gone = { λ yard serial. IsGoneFrom yard serial };
-
-    ghost finds = { λ yard opening. FindsOf D.honest D.state yard opening };
-
-    ghost is_missing = { λ yard missing. missing ≡ missing_by (yard_rules yard) };
-
-    ghost failures = { λ yard. D.failed (yard_directory yard) };
-
-    ghost is_shared = { false };
-
-    fn open(
-        &mut self,
-        alloc: Global,
-        _place: &Place<L>,
-        serial: u64,
-        _peer: &Peer,
-    ) -> Result<Pass<L, D::File>, OpenFault> {
-        match self.open(alloc, serial) {
-            Ok(pass) => Ok(pass),
-            Err(fault) => Err(OpenFault::from(fault)),
-        }
-    }
-
-    fn decide(alloc: Global, pass: &Pass<L, D::File>, peer: &Peer) -> Result<Decision, DecideFault>
-        ensures decided { IfOk result (Decides D.File.honest D.File.sound (opening_of D.File.bytes pass.now) peer.now) }
-        ensures refused { IfErr result
-            (FailsToDecide D.File.honest D.File.sound (opening_of D.File.bytes pass.now) peer.now) }
-    {
-        decide_by_pass(alloc, pass, peer)
-    }
-
-    fn decided(
-        &mut self,
-        _alloc: Global,
-        place: &Place<L>,
-        pass: Pass<L, D::File>,
-        peer: &Peer,
-        decision: Decision,
-    ) -> Result<(), (Pass<L, D::File>, Decision)>
-        requires stands { StandsAt self.old place.now (pass_serial pass) peer.now stage.Opened }
-        requires missing { pass_missing pass ≡ missing_by (yard_rules self.old) }
-        requires decides { IsDecidedBy D.File.honest D.File.sound D.File.bytes pass peer.now decision }
-        ensures decided { OnOk result
-            (StandsAt self.new place.now (pass_serial pass) peer.now (stage.Decided decision.verdict)) }
-        ensures refused { OnErr result (StandsAt self.new place.now (pass_serial pass) peer.now stage.Opened) }
-        ensures at_once { OnErr result ⊥ }
-        ensures failures { D.failed (yard_directory self.new) ≡ D.failed (yard_directory self.old) }
-    {
-        self.decided(pass, peer, decision);
-        Ok(())
-    }
-
-    fn started<C: Job>(&mut self, running: &Running<L, C>, _serial: u64, _peer: &Peer) {
-        self.started(running);
-    }
-
-    fn start_failed(&mut self, place: Place<L>, serial: u64, peer: &Peer, fault: StartFault)
-        requires stands { StandsAt self.old place serial peer.now (stage.Decided Allow) }
-        ensures gone { IsGoneFrom self.new serial }
-    {
-        self.start_failed(place, fault);
-    }
-
-    fn dropped(&mut self, place: Place<L>, serial: u64, peer: &Peer, cause: DropCause)
-        requires stands { IsUnstarted (StandsAt self.old place serial peer.now) }
-        ensures gone { IsGoneFrom self.new serial }
-        ensures failures { D.failed (yard_directory self.new) ≡ D.failed (yard_directory self.old) }
-    {
-        self.dropped(place, cause);
-    }
 }

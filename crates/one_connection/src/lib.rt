@@ -4,7 +4,9 @@
 pub mod deciding;
 pub mod desk;
 pub mod serving;
+pub mod yard_desk;
 
 pub use deciding::decide_by_pass;
-pub use desk::{Desk, OpenFault, is_admitted};
+pub use desk::{Desk, OpenFault, Undecided};
 pub use serving::{Served, serve_one};
+pub use yard_desk::{YardDesk, is_admitted};

@@ -1,13 +1,15 @@
 //! A connection from its admission to the start of its child.
-ghost use Rattle.std.specs.Prelude.{◌≡◌, ◌≢◌, ℕ, [], IfOk, IfErr, OnErr, is_err};
+ghost use Rattle.std.specs.Prelude.{◌≡◌, ◌≢◌, ℕ, [], false, IfOk, IfErr, OnErr, is_err};
 ghost use Rattle.child_jobs.specs.Runs.{job_of, place_of};
 ghost use Rattle.rule_lines.specs.declared.instr.Verdict.TheVariants.{Allow, Deny};
 ghost use Rattle.rule_lookup.specs.declared.outcome.DropCause.TheVariants as cause;
+ghost use Rattle.server_events.specs.declared.event.Event.TheVariants.{Dropped, StartFailed};
 ghost use Rattle.server_events.specs.declared.event.Stage.TheVariants as stage;
-ghost use Rattle.one_connection.specs.Servings.{Drops, FailsFor, Greets, IfDropped, IfRunning, IsChild, IsDecidedAs, IsPrepared, OnDenied, OnStartFailed, UnlessRunning, cause_of, cause_of_open, is_cut_short};
-ghost use Rattle.one_connection.specs.Unstarted.{IsUnstarted};
+ghost use Rattle.one_connection.specs.Openings.{WasFound};
+ghost use Rattle.one_connection.specs.Servings.{ComesAt, Drops, FailsFor, Greets, IfDropped, IfRunning, IfStartFailed, IsChild, IsDecidedAs, IsLastTold, IsPrepared, IsRefused, OnDenied, UnlessRunning, cause_of, cause_of_open, cause_of_undecided, is_cut_short, last_event};
+ghost use Rattle.one_connection.specs.Unstarted.{IsUnstarted, StandsUndenied};
 
-use crate::desk::{Desk, OpenFault};
+use crate::desk::{Desk, OpenFault, Undecided};
 use byte_pump::write_out;
 use child_jobs::{Job, Launcher, Plan, Running, start};
 use child_table::Place;
@@ -59,6 +61,16 @@ fn cause_of_open(fault: OpenFault) -> DropCause
     }
 }
 
+// Why a connection is dropped that could not be decided.
+fn cause_of_undecided(fault: Undecided) -> DropCause
+    ensures { result ≡ cause_of_undecided fault }
+{
+    match fault {
+        Undecided::OutOfTurn => DropCause::Directory,
+        Undecided::OutOfMemory => DropCause::Memory,
+    }
+}
+
 // Writes the banner to a connection.
 fn greet<W: Write>(writer: &mut W, banner: &[u8]) -> Result<(), DropCause>
     ensures greeted { Greets (W.contents writer.old) (W.contents writer.new) banner.now (is_err result) }
@@ -81,12 +93,12 @@ fn prepare<L: Premises, D: Desk<L, Place = Place<L>>>(
     plan: &Plan,
 ) -> Result<Prepared, DropCause>
     requires stands { D.stands desk.old place.now serial peer.now stage.Admitted }
-    ensures prepared { IfOk result (λ made. IsPrepared (D.finds desk.old) D.honest D.sound
+    ensures prepared { IfOk result (λ made. IsPrepared (WasFound (D.found desk.new) (D.finds desk.old)) D.honest D.sound
         peer.now plan.now made.verdict made.environment) }
     ensures decided { IfOk result (λ made. D.stands desk.new place.now serial peer.now (stage.Decided made.verdict)) }
-    ensures dropped { IfErr result (Drops (FailsFor (D.finds desk.old) D.honest D.sound peer.now)
+    ensures dropped { IfErr result (Drops (FailsFor (WasFound (D.found desk.new) (D.finds desk.old)) D.honest D.sound peer.now)
         D.is_shared (D.failures desk.old) (D.failures desk.new) []) }
-    ensures unstarted { OnErr result (IsUnstarted (D.stands desk.new place.now serial peer.now)) }
+    ensures undenied { OnErr result (StandsUndenied (D.stands desk.new place.now serial peer.now)) }
 {
     let pass = match desk.open(alloc, place, serial, peer) {
         Ok(pass) => pass,
@@ -105,7 +117,7 @@ fn prepare<L: Premises, D: Desk<L, Place = Place<L>>>(
             environment,
             verdict,
         }),
-        Err(_) => Err(DropCause::Memory),
+        Err(fault) => Err(cause_of_undecided(fault)),
     }
 }
 
@@ -119,7 +131,9 @@ fn give_up<L: Premises, D: Desk<L, Place = Place<L>>>(
 )
     requires index { (place : ℕ) → D.index place ≡ place }
     requires stands { IsUnstarted (D.stands desk.old place serial peer.now) }
+    ensures told { D.tells desk.old (Dropped serial cause) desk.new }
     ensures gone { D.is_gone desk.new serial }
+    ensures keeps { D.found desk.new ≡ D.found desk.old }
     ensures failures { D.failures desk.new ≡ D.failures desk.old }
 {
     desk.dropped(place, serial, peer, cause);
@@ -135,7 +149,9 @@ fn tell_failure<L: Premises, D: Desk<L, Place = Place<L>>>(
 )
     requires index { (place : ℕ) → D.index place ≡ place }
     requires stands { D.stands desk.old place serial peer.now (stage.Decided Allow) }
+    ensures told { D.tells desk.old (StartFailed serial fault) desk.new }
     ensures gone { D.is_gone desk.new serial }
+    ensures keeps { D.found desk.new ≡ D.found desk.old }
 {
     desk.start_failed(place, serial, peer, fault);
 }
@@ -148,7 +164,7 @@ fn run<L: Premises, D: Desk<L, Place = Place<L>>, S: Launcher>(
     serial: u64,
     peer: &Peer,
     plan: &Plan,
-    launcher: &S,
+    launcher: S,
     environment: &Environment,
 ) -> Served<L, S::Job>
     requires index { (place : ℕ) → D.index place ≡ place }
@@ -156,8 +172,12 @@ fn run<L: Premises, D: Desk<L, Place = Place<L>>, S: Launcher>(
     ensures running { IfRunning result (λ child. (S.Job.program (job_of child) ≡ plan.now.program)
         × (S.Job.environment (job_of child) ≡ environment.now)) }
     ensures started { IfRunning result (λ child. (place_of child ≡ place)
-        × D.stands desk.new place serial peer.now stage.Started) }
+        × (D.is_shared ≡ false → D.stands desk.new place serial peer.now stage.Started)) }
+    ensures refused { IfStartFailed result (S.refuses launcher plan.now.program environment.now) }
+    ensures told { IsLastTold D.tells (λ d. D.stands d place serial peer.now)
+        (ComesAt result) (last_event serial result) desk.new }
     ensures gone { UnlessRunning result (D.is_gone desk.new serial) }
+    ensures keeps { D.found desk.new ≡ D.found desk.old }
     ensures neither { OnDenied result ⊥ × IfDropped result (λ why. ⊥) }
 {
     match start(alloc, place, launcher, plan.program(), environment) {
@@ -173,34 +193,40 @@ fn run<L: Premises, D: Desk<L, Place = Place<L>>, S: Launcher>(
 }
 
 /// Serves a connection that was let in, up to the start of its child (UCSPI-1996; the page of `tcpserver`): it writes the plan's banner, opens
-/// the rules, decides, and starts the plan's program with the environment of that decision.
+/// the rules, decides, and starts the plan's program with the environment of that decision. The desk is that of this connection, and keeps what
+/// was found when the rules were opened.
 ///
-/// The answer says how it went. `Running` only where the decision by the rules file that was opened is to allow: the child's program is
-/// the plan's, and its environment is that of this decision. `Denied` only where that decision is to deny. `StartFailed` with the launcher's
-/// fault: nothing runs. `Dropped` with the cause: the banner could not be written, the rules file could not be opened or read or is
-/// damaged, or there was no memory. Unless the child runs the connection is gone, and its place is free.
-pub fn serve_one<L: Premises, D: Desk<L, Place = Place<L>>, S: Launcher, W: Write>(
+/// The answer says how it went, and is the last that the desk told. `Running` only where the decision by what was found is to allow: the
+/// child's program is the plan's, and its environment is that of this decision. `Denied` only where that decision is to deny. `StartFailed` with
+/// the launcher's own fault, where it is to allow: nothing runs. `Dropped` with the cause: the banner could not be written, the rules file could
+/// not be opened or read or is damaged, or there was no memory; not once it was decided to deny. Unless the child runs the connection is gone,
+/// and its place is free.
+pub fn serve_one<L: Premises, D: Desk<L, Place = Place<L>>, S: Launcher + Drop, W: Write>(
     alloc: Global,
     desk: &mut D,
     place: Place<L>,
     serial: u64,
     peer: &Peer,
     plan: &Plan,
-    launcher: &S,
+    launcher: S,
     writer: &mut W,
 ) -> Served<L, S::Job>
     requires index { (place : ℕ) → D.index place ≡ place }
     requires admitted { D.stands desk.old place serial peer.now stage.Admitted }
     // the decided program, with the decided environment
-    ensures running { IfRunning result (λ child. IsChild (D.finds desk.old) D.honest D.sound
+    ensures running { IfRunning result (λ child. IsChild (WasFound (D.found desk.new) (D.finds desk.old)) D.honest D.sound
         peer.now plan.now (S.Job.program (job_of child)) (S.Job.environment (job_of child))) }
     ensures started { IfRunning result (λ child. (place_of child ≡ place)
-        × D.stands desk.new place serial peer.now stage.Started) }
-    ensures denied { OnDenied result (IsDecidedAs (D.finds desk.old) D.honest D.sound peer.now Deny) }
-    ensures start_failed { OnStartFailed result
-        (IsDecidedAs (D.finds desk.old) D.honest D.sound peer.now Allow) }
-    ensures dropped { IfDropped result (Drops (FailsFor (D.finds desk.old) D.honest D.sound peer.now)
+        × (D.is_shared ≡ false → D.stands desk.new place serial peer.now stage.Started)) }
+    ensures denied { OnDenied result
+        (IsDecidedAs (WasFound (D.found desk.new) (D.finds desk.old)) D.honest D.sound peer.now Deny) }
+    ensures start_failed { IfStartFailed result (IsRefused (WasFound (D.found desk.new) (D.finds desk.old)) D.honest D.sound
+        peer.now plan.now (S.refuses launcher)) }
+    ensures dropped { IfDropped result (Drops (FailsFor (WasFound (D.found desk.new) (D.finds desk.old)) D.honest D.sound peer.now)
         D.is_shared (D.failures desk.old) (D.failures desk.new) plan.now.banner) }
+    // the last event that was told, and the stage in which it came
+    ensures told { IsLastTold D.tells (λ d. D.stands d place serial peer.now)
+        (ComesAt result) (last_event serial result) desk.new }
     ensures gone { UnlessRunning result (D.is_gone desk.new serial) }
     // the banner alone is written, and before all else
     ensures greeted { Greets (W.contents writer.old) (W.contents writer.new) plan.now.banner (is_cut_short result) }

@@ -80,6 +80,8 @@ impl<'a, R: Processes> HandingLauncher<'a, R> {
 impl<'a, R: Processes + Wait + Clock, H: Wait> Starter<Handle<'a, H>> for HandingLauncher<'a, R> {
     type Job = OsJob;
 
+    ghost refuses = { λ _ _ _ _ _. ⊤ };
+
     /// As of the trait; a connection that was given before is `Other`.
     fn start_for(
         &self,
@@ -113,8 +115,7 @@ fn wait_for_process<R: Wait + Clock>(rt: &R, reserve: &Reserve, waits: u32) {
     thread::sleep(rt, Duration::from_millis(longer.min(LONGEST_WAIT)));
 }
 
-/// A program, and whether it is over: once it was waited for, or could not be.
-#[derive(Drop)]
+/// A program, and whether it is over: once it was waited for, or could not be. The language lets nobody drop it: it is waited for, or abandoned.
 pub struct ServiceJob<'a, R> {
     rt: &'a R,
     job: OsJob,
@@ -126,6 +127,8 @@ where
     R: Processes + Files + Wait + Clock,
 {
     type Job = ServiceJob<'a, R>;
+
+    ghost refuses = { λ _ _ _ _ _. ⊤ };
 
     fn start_for(
         &self,
@@ -165,6 +168,8 @@ impl<'a, R: Wait + Clock> Job for ServiceJob<'a, R> {
 
     ghost killed = { λ _ _ _. ⊤ };
 
+    ghost ended = { λ job. ⟦<OsJob as Job>⟧.ended job.job };
+
     fn ends(&mut self) -> Result<(ProgramInput<'a, R>, ChildStdout), NoEnds> {
         let (pipe, output) = self.job.ends()?;
         let Ok(over) = Arc::try_clone(&self.over) else {
@@ -190,6 +195,15 @@ impl<'a, R: Wait + Clock> Job for ServiceJob<'a, R> {
             Ok(status) => Ok(status),
             Err((job, fault)) => Err((ServiceJob { rt, job, over }, fault)),
         }
+    }
+
+    fn abandon(self) {
+        let ServiceJob {
+            rt: _,
+            job,
+            over: _,
+        } = self;
+        job.abandon();
     }
 }
 

@@ -416,7 +416,7 @@ where
     A: Acceptor,
     A::Writer: Follow<<S::Job as Job>::Output>,
     S: Starter<A::Shut> + Sync,
-    S::Job: Send + Drop,
+    S::Job: Send,
     <S::Job as Job>::Input: Send + Drop,
     <S::Job as Job>::Output: Send + Drop,
 {

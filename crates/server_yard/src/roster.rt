@@ -294,7 +294,7 @@ impl<L: Ledger, J: Journal> Roster<L, J> {
     }
 
     /// A child is retired, and its place stays counted for good.
-    pub(crate) fn retire<C: Job + Drop>(&mut self, running: Running<L, C>)
+    pub(crate) fn retire<C: Job>(&mut self, running: Running<L, C>)
         requires started { stage_at (seat_of self.old (place_of running)) (roll_of self.old).server ≡ Some stage.Started }
         ensures noted { Notes J.told J.count J.stored
             (Retired (number_at (seat_of self.old (place_of running)))) (roll_of self.old) (roll_of self.new) }

@@ -476,8 +476,8 @@ impl<L: Premises, D: Dir + Drop, J: Journal> Yard<L, D, J> {
         self.leave(place, serial, Event::Ended { serial, status });
     }
 
-    /// The child of a connection could not be waited for: it is let go, and its place stays counted for good. It takes no memory.
-    pub fn retired<C: Job + Drop>(&mut self, running: Running<L, C>)
+    /// The child of a connection could not be waited for: it is abandoned, and its place stays counted for good. It takes no memory.
+    pub fn retired<C: Job>(&mut self, running: Running<L, C>)
         requires started { stage_of_place self.old (place_of running) ≡ Some stage.Started }
         ensures noted { Notes J.told J.count J.stored
             (Retired (number_of self.old (place_of running))) (yard_roll self.old) (yard_roll self.new) }

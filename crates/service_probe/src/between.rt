@@ -78,7 +78,7 @@ where
         tap: NoTap,
     };
     let run = (&program, &variables);
-    Ok(run_between(rt, alloc, &launcher, run, (input, output), |_| None))
+    Ok(run_between(rt, alloc, launcher, run, (input, output), |_| None))
 }
 
 /// Prints how a program by a script ends that was served, or was not.

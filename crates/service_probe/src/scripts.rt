@@ -151,7 +151,7 @@ impl<'a> Script<'a> {
 }
 
 /// Starts jobs by these scripts, in the order in which they are started, the last for all that follow.
-#[derive(Drop)]
+#[derive(Clone, Copy, Drop)]
 pub struct Scripts<'a, R> {
     pub rt: &'a R,
     pub words: &'a [String],
@@ -159,7 +159,6 @@ pub struct Scripts<'a, R> {
 }
 
 /// A job by a script.
-#[derive(Drop)]
 pub struct ScriptedJob<'a, R> {
     rt: &'a R,
     script: Script<'a>,
@@ -173,8 +172,10 @@ pub struct ScriptedJob<'a, R> {
 impl<'a, R: Clock + Wait> Launcher for Scripts<'a, R> {
     type Job = ScriptedJob<'a, R>;
 
+    ghost refuses = { λ _ _ _ _. ⊤ };
+
     fn start(
-        &self,
+        self,
         _alloc: Global,
         program: &Program,
         environment: &Environment,
@@ -199,6 +200,8 @@ impl<'a, R: Clock + Wait> Launcher for Scripts<'a, R> {
 impl<'a, R: Clock + Wait> Starter<Silent> for Scripts<'a, R> {
     type Job = ScriptedJob<'a, R>;
 
+    ghost refuses = { λ _ _ _ _ _. ⊤ };
+
     fn start_for(
         &self,
         alloc: Global,
@@ -206,7 +209,7 @@ impl<'a, R: Clock + Wait> Starter<Silent> for Scripts<'a, R> {
         program: &Program,
         environment: &Environment,
     ) -> Result<ScriptedJob<'a, R>, NotStarted> {
-        Ok(self.start(alloc, program, environment)?)
+        Ok((*self).start(alloc, program, environment)?)
     }
 }
 
@@ -236,6 +239,8 @@ impl<'a, R: Clock + Wait> Job for ScriptedJob<'a, R> {
 
     ghost killed = { λ _ _ _. ⊤ };
 
+    ghost ended = { λ _ _. ⊤ };
+
     fn ends(&mut self) -> Result<(SharedWriter<'a, R, Vec<u8>>, &'static [u8]), NoEnds> {
         self.ends.take().ok_or(NoEnds)
     }
@@ -250,12 +255,31 @@ impl<'a, R: Clock + Wait> Job for ScriptedJob<'a, R> {
         self.tally.waits.fetch_add(1, Ordering::SeqCst);
         let letter = self.script.waits.get(self.waited).copied();
         self.waited = self.waited.saturating_add(1);
-        match letter {
+        let end = match letter {
             Some(digit @ b'0'..=b'9') => Ok(Status::Code(digit - b'0')),
             Some(b's') => Ok(Status::Signal),
             Some(b'a') if self.has_company() => Ok(Status::Code(0)),
-            Some(b'm') => Err((self, WaitFault::OutOfMemory)),
-            _ => Err((self, WaitFault::Failed)),
+            Some(b'm') => Err(WaitFault::OutOfMemory),
+            _ => Err(WaitFault::Failed),
+        };
+        match end {
+            Ok(status) => {
+                self.abandon();
+                Ok(status)
+            }
+            Err(fault) => Err((self, fault)),
         }
+    }
+
+    fn abandon(self) {
+        let ScriptedJob {
+            rt: _,
+            script: _,
+            ends: _,
+            waited: _,
+            tally: _,
+            program: _,
+            environment: _,
+        } = self;
     }
 }

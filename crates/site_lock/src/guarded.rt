@@ -7,7 +7,7 @@ ghost use Rattle.server_yard.specs.Passes.{IsDecidedBy, finding_file, pass_file,
 ghost use Rattle.server_yard.specs.Stepping.{HandsBack, begin_event, step_event};
 ghost use Rattle.server_yard.specs.Yards.{yard_roll, yard_server};
 ghost use Rattle.site_lock.specs.Callers.{IsCountedFor, caller_number, caller_share};
-ghost use Rattle.site_turns.specs.Receipts.{CountsFor, IsReceiptFor, IsReceiptOf, event_serial, more_if};
+ghost use Rattle.site_turns.specs.Receipts.{CountsFor, IsReceiptFor, IsReceiptOf, more_if, refused_event};
 
 use crate::caller::{Caller, Callers};
 use child_jobs::{Job, Running};
@@ -18,7 +18,7 @@ use rule_lookup::{Decision, DropCause, Peer, StartFault, Status};
 use rules_install::{Install, InstallFault, Phase};
 use server_yard::{AdmitFault, Finding, Pass, Premises, Yard};
 use site_turns::turns::OpenFault;
-use site_turns::{Receipt, turns};
+use site_turns::{OutOfTurn, Receipt, turns};
 use std::alloc::Global;
 use std::sync::ledger::Book;
 
@@ -116,82 +116,94 @@ impl<L: Premises, N: Callers, D: Dir + Drop, J: Journal> Guarded<L, N, D, J> {
     pub(crate) fn started<C: Job>(
         &mut self,
         caller: &mut Caller<N>,
+        serial: u64,
         running: &Running<L, C>,
-    ) -> Option<Receipt>
-        ensures receipt { IfSome result (λ r. IsReceiptOf (caller_number caller.old) (Started (event_serial r.event)) r) }
-        ensures counted { IsCountedFor result caller.old caller.new }
+    ) -> Result<Receipt, OutOfTurn>
+        ensures receipt { IfOk result (IsReceiptOf (caller_number caller.old) (Started serial)) }
+        ensures counted { IfOk result (λ r. IsCountedFor (Some r) caller.old caller.new) }
+        ensures asked { IfErr result (λ refusal. refused_event refusal ≡ Started serial) }
+        ensures refused { OnErr result (IsCountedFor None caller.old caller.new) }
     {
         let Guarded { yard, events } = self;
         let before = yard.journal().events();
-        let receipt = turns::started(yard, caller.number, running)?;
+        let receipt = turns::started(yard, caller.number, serial, running)?;
         add_one(events, caller, before);
-        Some(receipt)
+        Ok(receipt)
     }
 
     pub(crate) fn start_failed(
         &mut self,
         caller: &mut Caller<N>,
+        serial: u64,
         place: Place<L>,
         fault: StartFault,
-    ) -> Option<Receipt>
-        ensures receipt { IfSome result (λ r.
-            IsReceiptOf (caller_number caller.old) (StartFailed (event_serial r.event) fault) r) }
-        ensures counted { IsCountedFor result caller.old caller.new }
+    ) -> Result<Receipt, OutOfTurn>
+        ensures receipt { IfOk result (IsReceiptOf (caller_number caller.old) (StartFailed serial fault)) }
+        ensures counted { IfOk result (λ r. IsCountedFor (Some r) caller.old caller.new) }
+        ensures asked { IfErr result (λ refusal. refused_event refusal ≡ StartFailed serial fault) }
+        ensures refused { OnErr result (IsCountedFor None caller.old caller.new) }
     {
         let Guarded { yard, events } = self;
         let before = yard.journal().events();
-        let receipt = turns::start_failed(yard, caller.number, place, fault)?;
+        let receipt = turns::start_failed(yard, caller.number, serial, place, fault)?;
         add_one(events, caller, before);
-        Some(receipt)
+        Ok(receipt)
     }
 
     pub(crate) fn ended(
         &mut self,
         caller: &mut Caller<N>,
+        serial: u64,
         place: Place<L>,
         status: Status,
-    ) -> Option<Receipt>
-        ensures receipt { IfSome result (λ r.
-            IsReceiptOf (caller_number caller.old) (Ended (event_serial r.event) status) r) }
-        ensures counted { IsCountedFor result caller.old caller.new }
+    ) -> Result<Receipt, OutOfTurn>
+        ensures receipt { IfOk result (IsReceiptOf (caller_number caller.old) (Ended serial status)) }
+        ensures counted { IfOk result (λ r. IsCountedFor (Some r) caller.old caller.new) }
+        ensures asked { IfErr result (λ refusal. refused_event refusal ≡ Ended serial status) }
+        ensures refused { OnErr result (IsCountedFor None caller.old caller.new) }
     {
         let Guarded { yard, events } = self;
         let before = yard.journal().events();
-        let receipt = turns::ended(yard, caller.number, place, status)?;
+        let receipt = turns::ended(yard, caller.number, serial, place, status)?;
         add_one(events, caller, before);
-        Some(receipt)
+        Ok(receipt)
     }
 
-    pub(crate) fn retired<C: Job + Drop>(
+    pub(crate) fn retired<C: Job>(
         &mut self,
         caller: &mut Caller<N>,
+        serial: u64,
         running: Running<L, C>,
-    ) -> Option<Receipt>
-        ensures receipt { IfSome result (λ r. IsReceiptOf (caller_number caller.old) (Retired (event_serial r.event)) r) }
-        ensures counted { IsCountedFor result caller.old caller.new }
+    ) -> Result<Receipt, OutOfTurn>
+        ensures receipt { IfOk result (IsReceiptOf (caller_number caller.old) (Retired serial)) }
+        ensures counted { IfOk result (λ r. IsCountedFor (Some r) caller.old caller.new) }
+        ensures asked { IfErr result (λ refusal. refused_event refusal ≡ Retired serial) }
+        ensures refused { OnErr result (IsCountedFor None caller.old caller.new) }
     {
         let Guarded { yard, events } = self;
         let before = yard.journal().events();
-        let receipt = turns::retired(yard, caller.number, running)?;
+        let receipt = turns::retired(yard, caller.number, serial, running)?;
         add_one(events, caller, before);
-        Some(receipt)
+        Ok(receipt)
     }
 
     pub(crate) fn dropped(
         &mut self,
         caller: &mut Caller<N>,
+        serial: u64,
         place: Place<L>,
         cause: DropCause,
-    ) -> Option<Receipt>
-        ensures receipt { IfSome result (λ r.
-            IsReceiptOf (caller_number caller.old) (Dropped (event_serial r.event) cause) r) }
-        ensures counted { IsCountedFor result caller.old caller.new }
+    ) -> Result<Receipt, OutOfTurn>
+        ensures receipt { IfOk result (IsReceiptOf (caller_number caller.old) (Dropped serial cause)) }
+        ensures counted { IfOk result (λ r. IsCountedFor (Some r) caller.old caller.new) }
+        ensures asked { IfErr result (λ refusal. refused_event refusal ≡ Dropped serial cause) }
+        ensures refused { OnErr result (IsCountedFor None caller.old caller.new) }
     {
         let Guarded { yard, events } = self;
         let before = yard.journal().events();
-        let receipt = turns::dropped(yard, caller.number, place, cause)?;
+        let receipt = turns::dropped(yard, caller.number, serial, place, cause)?;
         add_one(events, caller, before);
-        Some(receipt)
+        Ok(receipt)
     }
 
     pub(crate) fn install_begin(

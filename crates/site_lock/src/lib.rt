@@ -9,4 +9,4 @@ pub mod site;
 
 pub use caller::{Caller, Callers};
 pub use site::{Room, Site};
-pub use site_turns::{Receipt, audit, receipt, turns};
+pub use site_turns::{OutOfTurn, Receipt, audit, receipt, turns};

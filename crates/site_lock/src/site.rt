@@ -6,7 +6,7 @@ ghost use Rattle.server_yard.specs.Passes.{IsDecidedBy, finding_file, pass_file,
 ghost use Rattle.server_yard.specs.Stepping.{HandsBack, begin_event, step_event};
 ghost use Rattle.server_yard.specs.Yards.{yard_roll};
 ghost use Rattle.site_lock.specs.Callers.{AreNew, IsCountedFor, caller_number, total_share};
-ghost use Rattle.site_turns.specs.Receipts.{IsReceiptOf, event_serial};
+ghost use Rattle.site_turns.specs.Receipts.{IsReceiptOf, refused_event};
 
 use crate::caller::{Caller, Callers};
 use crate::guarded::Guarded;
@@ -17,7 +17,7 @@ use event_journals::Journal;
 use rule_lookup::{Decision, DropCause, Peer, StartFault, Status};
 use rules_install::{Install, InstallFault, Phase};
 use server_yard::{AdmitFault, Finding, Pass, Premises, Yard};
-use site_turns::Receipt;
+use site_turns::{OutOfTurn, Receipt};
 use site_turns::turns::OpenFault;
 use std::alloc::{AllocError, Global};
 use std::sync::ledger::{Blank, Share};
@@ -155,83 +155,110 @@ impl<L: Premises, N: Callers, D: Dir + Drop, J: Journal> Site<L, N, D, J> {
             .decided(caller, alloc, pass, peer, decision)
     }
 
-    /// The child of a connection runs: `turns::started` under the lock.
+    /// The child of the connection with this serial runs: `turns::started` under the lock.
+    ///
+    /// # Errors
+    /// It was not its turn.
     pub fn started<R: Wait, C: Job>(
         &self,
         rt: &R,
         caller: &mut Caller<N>,
+        serial: u64,
         running: &Running<L, C>,
-    ) -> Option<Receipt>
-        ensures receipt { IfSome result (λ r. IsReceiptOf (caller_number caller.old) (Started (event_serial r.event)) r) }
-        ensures counted { IsCountedFor result caller.old caller.new }
+    ) -> Result<Receipt, OutOfTurn>
+        ensures receipt { IfOk result (IsReceiptOf (caller_number caller.old) (Started serial)) }
+        ensures counted { IfOk result (λ r. IsCountedFor (Some r) caller.old caller.new) }
+        ensures asked { IfErr result (λ refusal. refused_event refusal ≡ Started serial) }
+        ensures refused { OnErr result (IsCountedFor None caller.old caller.new) }
     {
-        self.guarded.lock(rt).started(caller, running)
+        self.guarded.lock(rt).started(caller, serial, running)
     }
 
-    /// The child of a connection could not be started: `turns::start_failed` under the lock.
+    /// The child of the connection with this serial could not be started: `turns::start_failed` under the lock.
+    ///
+    /// # Errors
+    /// It was not its turn. The place stays counted for good.
     pub fn start_failed<R: Wait>(
         &self,
         rt: &R,
         caller: &mut Caller<N>,
+        serial: u64,
         place: Place<L>,
         fault: StartFault,
-    ) -> Option<Receipt>
-        ensures receipt { IfSome result (λ r.
-            IsReceiptOf (caller_number caller.old) (StartFailed (event_serial r.event) fault) r) }
-        ensures counted { IsCountedFor result caller.old caller.new }
+    ) -> Result<Receipt, OutOfTurn>
+        ensures receipt { IfOk result (IsReceiptOf (caller_number caller.old) (StartFailed serial fault)) }
+        ensures counted { IfOk result (λ r. IsCountedFor (Some r) caller.old caller.new) }
+        ensures asked { IfErr result (λ refusal. refused_event refusal ≡ StartFailed serial fault) }
+        ensures refused { OnErr result (IsCountedFor None caller.old caller.new) }
     {
-        let receipt = self.guarded.lock(rt).start_failed(caller, place, fault);
+        let outcome = self.guarded.lock(rt).start_failed(caller, serial, place, fault);
         self.freed.notify_all();
-        receipt
+        outcome
     }
 
-    /// The child of a connection has ended: `turns::ended` under the lock.
+    /// The child of the connection with this serial has ended: `turns::ended` under the lock.
+    ///
+    /// # Errors
+    /// It was not its turn. The place stays counted for good.
     pub fn ended<R: Wait>(
         &self,
         rt: &R,
         caller: &mut Caller<N>,
+        serial: u64,
         place: Place<L>,
         status: Status,
-    ) -> Option<Receipt>
-        ensures receipt { IfSome result (λ r.
-            IsReceiptOf (caller_number caller.old) (Ended (event_serial r.event) status) r) }
-        ensures counted { IsCountedFor result caller.old caller.new }
+    ) -> Result<Receipt, OutOfTurn>
+        ensures receipt { IfOk result (IsReceiptOf (caller_number caller.old) (Ended serial status)) }
+        ensures counted { IfOk result (λ r. IsCountedFor (Some r) caller.old caller.new) }
+        ensures asked { IfErr result (λ refusal. refused_event refusal ≡ Ended serial status) }
+        ensures refused { OnErr result (IsCountedFor None caller.old caller.new) }
     {
-        let receipt = self.guarded.lock(rt).ended(caller, place, status);
+        let outcome = self.guarded.lock(rt).ended(caller, serial, place, status);
         self.freed.notify_all();
-        receipt
+        outcome
     }
 
-    /// The child of a connection could not be waited for: `turns::retired` under the lock.
-    pub fn retired<R: Wait, C: Job + Drop>(
+    /// The child of the connection with this serial could not be waited for: `turns::retired` under the lock.
+    ///
+    /// # Errors
+    /// It was not its turn.
+    pub fn retired<R: Wait, C: Job>(
         &self,
         rt: &R,
         caller: &mut Caller<N>,
+        serial: u64,
         running: Running<L, C>,
-    ) -> Option<Receipt>
-        ensures receipt { IfSome result (λ r. IsReceiptOf (caller_number caller.old) (Retired (event_serial r.event)) r) }
-        ensures counted { IsCountedFor result caller.old caller.new }
+    ) -> Result<Receipt, OutOfTurn>
+        ensures receipt { IfOk result (IsReceiptOf (caller_number caller.old) (Retired serial)) }
+        ensures counted { IfOk result (λ r. IsCountedFor (Some r) caller.old caller.new) }
+        ensures asked { IfErr result (λ refusal. refused_event refusal ≡ Retired serial) }
+        ensures refused { OnErr result (IsCountedFor None caller.old caller.new) }
     {
-        let receipt = self.guarded.lock(rt).retired(caller, running);
+        let outcome = self.guarded.lock(rt).retired(caller, serial, running);
         self.freed.notify_all();
-        receipt
+        outcome
     }
 
-    /// A connection is given up: `turns::dropped` under the lock.
+    /// The connection with this serial is given up: `turns::dropped` under the lock.
+    ///
+    /// # Errors
+    /// It was not its turn. The place stays counted for good.
     pub fn dropped<R: Wait>(
         &self,
         rt: &R,
         caller: &mut Caller<N>,
+        serial: u64,
         place: Place<L>,
         cause: DropCause,
-    ) -> Option<Receipt>
-        ensures receipt { IfSome result (λ r.
-            IsReceiptOf (caller_number caller.old) (Dropped (event_serial r.event) cause) r) }
-        ensures counted { IsCountedFor result caller.old caller.new }
+    ) -> Result<Receipt, OutOfTurn>
+        ensures receipt { IfOk result (IsReceiptOf (caller_number caller.old) (Dropped serial cause)) }
+        ensures counted { IfOk result (λ r. IsCountedFor (Some r) caller.old caller.new) }
+        ensures asked { IfErr result (λ refusal. refused_event refusal ≡ Dropped serial cause) }
+        ensures refused { OnErr result (IsCountedFor None caller.old caller.new) }
     {
-        let receipt = self.guarded.lock(rt).dropped(caller, place, cause);
+        let outcome = self.guarded.lock(rt).dropped(caller, serial, place, cause);
         self.freed.notify_all();
-        receipt
+        outcome
     }
 
     /// Begins an installation: `turns::install_begin` under the lock.

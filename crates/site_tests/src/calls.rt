@@ -101,13 +101,13 @@ pub(crate) fn run_child<L: Premises, N: Callers, R: Abort + Wait>(
     alloc: Global,
     site: &Site<L, N, MemDir, Full>,
     caller: &mut Caller<N>,
-    place: Place<L>,
+    (serial, place): (u64, Place<L>),
     receipts: &mut Vec<Receipt>,
 ) {
     let running = start_child(rt, alloc, place);
-    keep(rt, receipts, site.started(rt, caller, &running));
+    keep(rt, receipts, site.started(rt, caller, serial, &running).ok());
     let (place, status) = end_child(rt, running);
-    keep(rt, receipts, site.ended(rt, caller, place, status));
+    keep(rt, receipts, site.ended(rt, caller, serial, place, status).ok());
 }
 
 /// A peer for a caller: for the first one 1.1.1.1, and so on.

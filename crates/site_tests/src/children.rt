@@ -1,5 +1,6 @@
 //! Children that do nothing, and end by themselves.
 ghost use Rattle.std.specs.Prelude.{◌≡◌, false, ⊤};
+ghost use Rattle.rule_lookup.specs.declared.outcome.Status.TheVariants.{Code};
 ghost use Rattle.child_jobs.specs.Runs.{place_of};
 
 use child_jobs::{Job, Launcher, NoEnds, Program, Running, WaitFault, finish, start};
@@ -13,7 +14,6 @@ use std::snapshot::Snapshot;
 use ucspi_env::Environment;
 
 /// A job that has ended as soon as it is waited for.
-#[derive(Drop)]
 pub(crate) struct Idle {
     program: Snapshot<Program>,
     environment: Snapshot<Environment>,
@@ -32,6 +32,8 @@ impl Job for Idle {
 
     ghost killed = { λ _ _ _. ⊤ };
 
+    ghost ended = { λ _ status. status ≡ Code 7 };
+
     fn ends(&mut self) -> Result<(Sink, Empty), NoEnds> {
         Err(NoEnds)
     }
@@ -41,19 +43,29 @@ impl Job for Idle {
     }
 
     fn wait(self) -> Result<Status, (Idle, WaitFault)> {
+        self.abandon();
         Ok(Status::Code(7))
+    }
+
+    fn abandon(self) {
+        let Idle {
+            program: _,
+            environment: _,
+        } = self;
     }
 }
 
-/// Starts such jobs.
+/// Starts such a job.
 #[derive(Drop)]
 struct Starts;
 
 impl Launcher for Starts {
     type Job = Idle;
 
+    ghost refuses = { λ _ _ _ _. ⊥ };
+
     fn start(
-        &self,
+        self,
         _alloc: Global,
         program: &Program,
         environment: &Environment,
@@ -74,7 +86,7 @@ pub(crate) fn start_child<L: Premises, R: Abort>(
     ensures { place_of result ≡ place }
 {
     let program = Program::new(String::new(alloc), Vec::new(alloc));
-    match start(alloc, place, &Starts, &program, &Environment::new(alloc)) {
+    match start(alloc, place, Starts, &program, &Environment::new(alloc)) {
         Ok(running) => running,
         Err((place, _)) => {
             place.strand();

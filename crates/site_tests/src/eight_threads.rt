@@ -49,11 +49,12 @@ fn serve<L: Premises, N: Callers, R: Abort + Wait>(
     let (serial, place) = let_in(rt, site, caller, &peer, receipts);
     let pass = open(rt, alloc, site, caller, serial, receipts);
     match decided(rt, alloc, site, caller, pass, &peer, receipts).verdict {
-        Verdict::Allow => run_child(rt, alloc, site, caller, place, receipts),
+        Verdict::Allow => run_child(rt, alloc, site, caller, (serial, place), receipts),
         Verdict::Deny => keep(
             rt,
             receipts,
-            site.dropped(rt, caller, place, DropCause::Denied),
+            site.dropped(rt, caller, serial, place, DropCause::Denied)
+                .ok(),
         ),
     }
 }

@@ -36,11 +36,11 @@ fn allowed<L: Premises, N: Callers, R: Abort + Wait>(
     caller: &mut Caller<N>,
     peer: &Peer,
     receipts: &mut Vec<Receipt>,
-) -> Place<L> {
+) -> (u64, Place<L>) {
     let (serial, place) = let_in(rt, site, caller, peer, receipts);
     let pass = open(rt, alloc, site, caller, serial, receipts);
     let _decision = decided(rt, alloc, site, caller, pass, peer, receipts);
-    place
+    (serial, place)
 }
 
 // Four connections, one after another.
@@ -52,20 +52,18 @@ fn four_by_site<L: Premises, N: Callers, R: Abort + Wait>(
     receipts: &mut Vec<Receipt>,
 ) {
     let peer = peer_of(alloc, 1).expect(rt, "memory");
-    let place = allowed(rt, alloc, site, caller, &peer, receipts);
-    let receipt = site.start_failed(rt, caller, place, StartFault::NotFound);
-    keep(rt, receipts, receipt);
-    let (_, place) = let_in(rt, site, caller, &peer, receipts);
-    keep(
-        rt,
-        receipts,
-        site.dropped(rt, caller, place, DropCause::Memory),
-    );
-    let place = allowed(rt, alloc, site, caller, &peer, receipts);
-    run_child(rt, alloc, site, caller, place, receipts);
-    let running = start_child(rt, alloc, allowed(rt, alloc, site, caller, &peer, receipts));
-    keep(rt, receipts, site.started(rt, caller, &running));
-    keep(rt, receipts, site.retired(rt, caller, running));
+    let (serial, place) = allowed(rt, alloc, site, caller, &peer, receipts);
+    let answer = site.start_failed(rt, caller, serial, place, StartFault::NotFound);
+    keep(rt, receipts, answer.ok());
+    let (serial, place) = let_in(rt, site, caller, &peer, receipts);
+    let answer = site.dropped(rt, caller, serial, place, DropCause::Memory);
+    keep(rt, receipts, answer.ok());
+    let served = allowed(rt, alloc, site, caller, &peer, receipts);
+    run_child(rt, alloc, site, caller, served, receipts);
+    let (serial, place) = allowed(rt, alloc, site, caller, &peer, receipts);
+    let running = start_child(rt, alloc, place);
+    keep(rt, receipts, site.started(rt, caller, serial, &running).ok());
+    keep(rt, receipts, site.retired(rt, caller, serial, running).ok());
 }
 
 // The same by the one caller of a site, in which there is no room for more then.
@@ -135,7 +133,7 @@ fn allowed_in_turn<L: Premises, R: Abort>(
     yard: &mut Yard<L, MemDir, Full>,
     peer: &Peer,
     receipts: &mut Vec<Receipt>,
-) -> Place<L> {
+) -> (u64, Place<L>) {
     let (serial, place) = admitted_in_turn(rt, yard, peer, receipts);
     let Ok((pass, receipt)) = turns::open(yard, 1, alloc, serial) else {
         place.strand();
@@ -147,7 +145,7 @@ fn allowed_in_turn<L: Premises, R: Abort>(
         Ok(receipt) => keep(rt, receipts, receipt),
         Err(_) => panic!(rt; "memory"),
     }
-    place
+    (serial, place)
 }
 
 // The same four connections.
@@ -158,25 +156,21 @@ fn four_in_turn<L: Premises, R: Abort>(
     receipts: &mut Vec<Receipt>,
 ) {
     let peer = peer_of(alloc, 1).expect(rt, "memory");
-    let place = allowed_in_turn(rt, alloc, yard, &peer, receipts);
-    keep(
-        rt,
-        receipts,
-        turns::start_failed(yard, 1, place, StartFault::NotFound),
-    );
-    let (_, place) = admitted_in_turn(rt, yard, &peer, receipts);
-    keep(
-        rt,
-        receipts,
-        turns::dropped(yard, 1, place, DropCause::Memory),
-    );
-    let running = start_child(rt, alloc, allowed_in_turn(rt, alloc, yard, &peer, receipts));
-    keep(rt, receipts, turns::started(yard, 1, &running));
+    let (serial, place) = allowed_in_turn(rt, alloc, yard, &peer, receipts);
+    let answer = turns::start_failed(yard, 1, serial, place, StartFault::NotFound);
+    keep(rt, receipts, answer.ok());
+    let (serial, place) = admitted_in_turn(rt, yard, &peer, receipts);
+    let answer = turns::dropped(yard, 1, serial, place, DropCause::Memory);
+    keep(rt, receipts, answer.ok());
+    let (serial, place) = allowed_in_turn(rt, alloc, yard, &peer, receipts);
+    let running = start_child(rt, alloc, place);
+    keep(rt, receipts, turns::started(yard, 1, serial, &running).ok());
     let (place, status) = end_child(rt, running);
-    keep(rt, receipts, turns::ended(yard, 1, place, status));
-    let running = start_child(rt, alloc, allowed_in_turn(rt, alloc, yard, &peer, receipts));
-    keep(rt, receipts, turns::started(yard, 1, &running));
-    keep(rt, receipts, turns::retired(yard, 1, running));
+    keep(rt, receipts, turns::ended(yard, 1, serial, place, status).ok());
+    let (serial, place) = allowed_in_turn(rt, alloc, yard, &peer, receipts);
+    let running = start_child(rt, alloc, place);
+    keep(rt, receipts, turns::started(yard, 1, serial, &running).ok());
+    keep(rt, receipts, turns::retired(yard, 1, serial, running).ok());
 }
 
 fn in_turn<L: Premises, R: Abort + AllocGlobal>(rt: &R, places: Blank)

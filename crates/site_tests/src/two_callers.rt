@@ -6,11 +6,10 @@ use crate::peer_of;
 use crate::sites::{close, new_site};
 use dir_calls::MemDir;
 use event_journals::Full;
-use server_events::Event;
 use server_yard::{Premises, Yard};
 use site_lock::audit::{Mismatch, audit};
 use site_lock::turns::OpenFault;
-use site_lock::{Caller, Callers, Receipt, Site};
+use site_lock::{Caller, Callers, Receipt, Site, turns};
 use std::alloc::Global;
 use std::marker::Brand;
 use std::process::Abort;
@@ -72,7 +71,12 @@ fn close_early<L: Premises, N: Callers, R: Abort>(
     }
 }
 
-fn two<L: Premises, N: Callers, R: Abort + Wait + AllocGlobal>(rt: &R, places: Blank, parts: Blank)
+fn two<L: Premises, N: Callers, R: Abort + Wait + AllocGlobal>(
+    rt: &R,
+    places: Blank,
+    parts: Blank,
+    twice: [Receipt; 2],
+)
     requires places { (places.name ≡ L.name) × (places.parts ≡ L.parts) × (places.parts ≡ 2) }
     requires met { L.met ≡ false }
     requires parts { (parts.name ≡ N.name) × (parts.parts ≡ N.parts) × (parts.parts ≡ 2) }
@@ -83,7 +87,8 @@ fn two<L: Premises, N: Callers, R: Abort + Wait + AllocGlobal>(rt: &R, places: B
     let mut receipts = Vec::new(alloc);
     let_each_in(rt, alloc, &site, &mut callers, &mut receipts);
     let yard = close_at_last(rt, site, callers, &receipts);
-    check_twice(rt, alloc, &yard);
+    // one receipt twice is not right the second time
+    assert_eq!(rt; audit(&yard, &twice), Err(Mismatch(1)));
 }
 
 // Closing is refused while the second caller is away, and not once it is back.
@@ -101,23 +106,37 @@ fn close_at_last<L: Premises, N: Callers, R: Abort>(
     close(rt, site, callers, receipts)
 }
 
-// One receipt twice is not right the second time.
-fn check_twice<L: Premises, R: Abort>(rt: &R, alloc: Global, yard: &Yard<L, MemDir, Full>) {
-    let twice = [first_receipt(rt, alloc), first_receipt(rt, alloc)];
-    assert_eq!(rt; audit(yard, &twice), Err(Mismatch(1)));
+// The receipt of the first connection of a yard.
+fn first_receipt<L: Premises, R: Abort + AllocGlobal>(rt: &R, places: Blank) -> Receipt
+    requires places { (places.name ≡ L.name) × (places.parts ≡ L.parts) × (places.parts ≡ 1) }
+    requires met { L.met ≡ false }
+{
+    let alloc = rt.alloc();
+    let (dir, journal) = (MemDir::new(alloc), Full::new(alloc));
+    let made = Yard::<L, MemDir, Full>::new(alloc, places, dir, None, 1, journal);
+    let mut yard = made.expect(rt, "the limit is above 0");
+    first_in(rt, alloc, &mut yard)
 }
 
-// The receipt of the first connection.
-fn first_receipt<R: Abort>(rt: &R, alloc: Global) -> Receipt {
+// Lets a connection of the first caller into a yard, in which it stays.
+fn first_in<L: Premises, R: Abort>(
+    rt: &R,
+    alloc: Global,
+    yard: &mut Yard<L, MemDir, Full>,
+) -> Receipt {
     let peer = peer_of(alloc, 1).expect(rt, "memory");
-    Receipt {
-        caller: 1,
-        at: 1,
-        event: Event::Admitted { serial: 1, peer },
+    match turns::admit(yard, 1, &peer) {
+        Ok((_, place, receipt)) => {
+            place.strand();
+            receipt
+        }
+        Err(_) => panic!(rt; "a place is left"),
     }
 }
 
 #[test]
 fn two_callers_with_receipts(rt: HostRuntime) {
-    two::<Brand, Brand, _>(&rt, Blank::new(2), Blank::new(2));
+    let one = first_receipt::<Brand, _>(&rt, Blank::new(1));
+    let other = first_receipt::<Brand, _>(&rt, Blank::new(1));
+    two::<Brand, Brand, _>(&rt, Blank::new(2), Blank::new(2), [one, other]);
 }

@@ -2,29 +2,19 @@
 use Rattle.std.specs.Prelude.{◌≡◌, ⊤, ℕ, Bool, true, false, Option, Some, None}
 use Rattle.event_journals.specs.Journals.{one_more}
 use Rattle.server_events.specs.declared.event.Event.{Event}
-use Rattle.server_events.specs.declared.event.Event.TheVariants.{Admitted, Opened, Decided, Started, StartFailed, Ended, Retired, Dropped, Stepped, StepFailed, Stop}
+use Rattle.site_turns.specs.declared.receipt.OutOfTurn.{OutOfTurn}
 use Rattle.site_turns.specs.declared.receipt.Receipt.{Receipt}
 
 -- the receipt of a caller's event at a place, and of one that follows so many events
 abbrev pub receipt_at : ℕ → ℕ → Event → Receipt
-receipt_at at who event = record { caller = who; at = at; event = event }
+receipt_at at who event = record { caller = who; at = at; event = event; seal = tt }
 
 abbrev pub receipt_after : ℕ → ℕ → Event → Receipt
 receipt_after count who event = receipt_at (one_more count) who event
 
--- the connection that an event is of, or 0, which is none
-abbrev pub event_serial : Event → ℕ
-event_serial (Admitted n peer) = n
-event_serial (Opened n there) = n
-event_serial (Decided n decision) = n
-event_serial (Started n) = n
-event_serial (StartFailed n fault) = n
-event_serial (Ended n status) = n
-event_serial (Retired n) = n
-event_serial (Dropped n cause) = n
-event_serial (Stepped phase) = 0
-event_serial (StepFailed phase) = 0
-event_serial Stop = 0
+-- the event that was out of turn
+abbrev pub refused_event : OutOfTurn → Event
+refused_event refusal = refusal.asked.value
 
 -- a receipt is a caller's, for this event
 pub record IsReceiptOf (who : ℕ) (what : Event) (r : Receipt) : Type 0 where

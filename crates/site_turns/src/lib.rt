@@ -6,4 +6,4 @@ pub mod audit;
 pub mod receipt;
 pub mod turns;
 
-pub use receipt::Receipt;
+pub use receipt::{OutOfTurn, Receipt};

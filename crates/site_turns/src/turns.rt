@@ -1,12 +1,12 @@
 //! One event call of a yard each, for a caller who can't know whether it is its turn. Each says who calls, tests whether the table of events
 //! allows the event, and either makes the yard's call of its name, with a receipt where that was an event, or changes nothing but who
 //! speaks. None of them waits.
-ghost use Rattle.std.specs.Prelude.{◌≡◌, ◌≢◌, ◌+◌, ◌↔◌, true, false, Err, None, Some, IsTrue, IsSome, IfOk, IfErr, IfNone, IfSome, OnErr, OnSome, SomeIff, Ok, is_some, length, option_map, if◌then◌else◌};
+ghost use Rattle.std.specs.Prelude.{◌≡◌, ◌≢◌, ◌+◌, ◌↔◌, true, false, Err, None, Some, IsTrue, IsOk, IfOk, IfErr, IfNone, IfSome, OnErr, OnOk, OnSome, SomeIff, Ok, is_some, length, option_map, if◌then◌else◌};
 ghost use Rattle.child_jobs.specs.Runs.{place_of};
 ghost use Rattle.rules_install.specs.Installs.{installing};
 ghost use Rattle.rules_install.specs.declared.Phase.TheVariants.{Done};
 ghost use Rattle.rules_install.specs.declared.fault.InstallFault.TheVariants.{Over};
-ghost use Rattle.server_events.specs.ServerState.{is_admitted, is_allowed, is_unstarted, stage_of};
+ghost use Rattle.server_events.specs.ServerState.{is_admitted, is_allowed, is_started, is_unstarted, stage_of};
 ghost use Rattle.server_events.specs.Worlds.{missing_by};
 ghost use Rattle.server_events.specs.declared.event.Event.TheVariants.{Admitted, Opened, Decided, Started, StartFailed, Ended, Retired, Dropped};
 ghost use Rattle.server_events.specs.declared.event.Stage.TheVariants as stage;
@@ -17,11 +17,11 @@ ghost use Rattle.server_yard.specs.Standing.{LeadsDecided, LeadsOn, LeadsOpened,
 ghost use Rattle.server_yard.specs.Stepping.{GoesAsStep, HandsBack, IsRefusedAs, begin_event, event_of_step, fault_event, kept_after_begin, kept_after_step, last_begun_after, lists_after_begin, step_event};
 ghost use Rattle.server_yard.specs.Yards.{IsSameBeside, IsSameButDirectory, LeavesNothingElse, MayBegin, kept_number, kept_under, last_begun, number_of, stage_of_place, yard_directory, yard_installing, yard_roll, yard_rules, yard_seat, yard_server, yard_state};
 ghost use Rattle.server_yard.specs.declared.roster.AdmitFault.TheVariants.{Full, FullForAddress, OutOfMemory, Spent};
-ghost use Rattle.site_turns.specs.Receipts.{receipt_after, receipt_at};
-ghost use Rattle.site_turns.specs.Turns.{IsInTurn, IsPassedOver, MayBeDecided, NotesBy, spoken_by};
+ghost use Rattle.site_turns.specs.Receipts.{receipt_after, receipt_at, refused_event};
+ghost use Rattle.site_turns.specs.Turns.{CountsDevice, IsAt, IsInTurn, IsPassedOver, MayBeDecided, NotesBy, spoken_by};
 ghost use Rattle.site_turns.specs.declared.turns.OpenFault.TheVariants as open_fault;
 
-use crate::receipt::Receipt;
+use crate::receipt::{OutOfTurn, Receipt};
 use child_jobs::{Job, Running};
 use child_table::Place;
 use dir_calls::{Dir, DirFault};
@@ -84,8 +84,8 @@ pub fn admit<L: Premises, D: Dir + Drop, J: Journal>(
 /// Opens the rules for a connection, as `Yard::open` does.
 ///
 /// # Errors
-/// `OutOfTurn` exactly where no connection of this serial was let in and has not opened them; else those of `Yard::open`, which are `Device`
-/// and `OutOfMemory`.
+/// `OutOfTurn` exactly where no connection of this serial was let in and has not opened them; else those of `Yard::open`, which are `Device`,
+/// where its failure was counted, and `OutOfMemory`.
 pub fn open<L: Premises, D: Dir + Drop, J: Journal>(
     yard: &mut Yard<L, D, J>,
     caller: u64,
@@ -109,6 +109,7 @@ pub fn open<L: Premises, D: Dir + Drop, J: Journal>(
         (spoken_by caller (yard_roll yard.old)) (yard_roll yard.new)) }
     ensures err_state { IsTrue D.honest
         → OnErr result (yard_state D.state yard.new ≡ yard_state D.state yard.old) }
+    ensures counted { CountsDevice (D.failed (yard_directory yard.old)) (D.failed (yard_directory yard.new)) result }
     ensures without { yard_rules yard.old ≡ None → yard_directory yard.new ≡ yard_directory yard.old }
     ensures same { IsSameButDirectory J.lists yard.old yard.new }
     ensures seats { KeepsSeats (yard_seat yard.old) (yard_seat yard.new) }
@@ -204,157 +205,170 @@ pub fn decided<L: Premises, D: Dir + Drop, J: Journal>(
     Ok(Some(receipt(yard, caller, event)))
 }
 
-/// The child of a connection runs, as by `Yard::started`: where the connection at its place was allowed. Else there is no receipt.
+/// The child of the connection with this serial runs, as by `Yard::started`: where it has the child's place and was allowed.
+///
+/// # Errors
+/// It was not its turn. Nothing changed but who speaks.
 pub fn started<L: Premises, D: Dir + Drop, J: Journal, C: Job>(
     yard: &mut Yard<L, D, J>,
     caller: u64,
+    serial: u64,
     running: &Running<L, C>,
-) -> Option<Receipt>
-    ensures in_turn { IsSome result ↔ (is_allowed (stage_of_place yard.old (place_of running.now)) ≡ true) }
-    ensures receipt { IfSome result (λ r. r ≡ receipt_after (J.count (yard_roll yard.old).journal)
-        caller (Started (number_of yard.old (place_of running.now)))) }
-    ensures noted { IfSome result (λ r. NotesBy J.told J.count J.stored
-        caller r.event (yard_roll yard.old) (yard_roll yard.new)) }
-    ensures step { IsTrue D.honest → IfSome result (λ r. LeadsOn
-        r.event (yard_state D.state yard.old) (yard_state D.state yard.new)) }
-    ensures out { IfNone result (IsPassedOver J.lists caller yard.old yard.new) }
+) -> Result<Receipt, OutOfTurn>
+    ensures in_turn { IsOk result ↔ IsAt is_allowed serial yard.old (place_of running.now) }
+    ensures receipt { IfOk result (λ r.
+        r ≡ receipt_after (J.count (yard_roll yard.old).journal) caller (Started serial)) }
+    ensures noted { OnOk result (NotesBy J.told J.count J.stored
+        caller (Started serial) (yard_roll yard.old) (yard_roll yard.new)) }
+    ensures step { IsTrue D.honest → OnOk result (LeadsOn
+        (Started serial) (yard_state D.state yard.old) (yard_state D.state yard.new)) }
+    ensures asked { IfErr result (λ refusal. refused_event refusal ≡ Started serial) }
+    ensures out { OnErr result (IsPassedOver J.lists caller yard.old yard.new) }
     ensures same { IsSameBeside J.lists yard.old yard.new }
     ensures seats { KeepsSeats (yard_seat yard.old) (yard_seat yard.new) }
 {
     yard.speaker(caller);
-    let serial = allowed(yard, running.place())?;
+    let event = Event::Started { serial };
+    if allowed(yard, running.place()) != Some(serial) {
+        return Err(OutOfTurn::of(&event));
+    }
     yard.started(running);
-    Some(receipt(yard, caller, Event::Started { serial }))
+    Ok(receipt(yard, caller, event))
 }
 
-/// The child of a connection could not be started, as by `Yard::start_failed`: where the connection at this place was allowed. Else
-/// there is no receipt, and the place stays counted for good.
+/// The child of the connection with this serial could not be started, as by `Yard::start_failed`: where it has this place and was allowed.
+///
+/// # Errors
+/// It was not its turn: the place stays counted for good, and nothing changed but who speaks.
 pub fn start_failed<L: Premises, D: Dir + Drop, J: Journal>(
     yard: &mut Yard<L, D, J>,
     caller: u64,
+    serial: u64,
     place: Place<L>,
     fault: StartFault,
-) -> Option<Receipt>
-    ensures in_turn { IsSome result ↔ (is_allowed (stage_of_place yard.old place) ≡ true) }
-    ensures receipt { IfSome result (λ r. r ≡ receipt_after (J.count (yard_roll yard.old).journal)
-        caller (StartFailed (number_of yard.old place) fault)) }
-    ensures noted { IfSome result (λ r. NotesBy J.told J.count J.stored
-        caller r.event (yard_roll yard.old) (yard_roll yard.new)) }
-    ensures step { IsTrue D.honest → IfSome result (λ r. LeadsOn
-        r.event (yard_state D.state yard.old) (yard_state D.state yard.new)) }
-    ensures gone { OnSome result (stage_of (number_of yard.old place) (yard_server yard.new).connections ≡ None) }
-    ensures out { IfNone result (IsPassedOver J.lists caller yard.old yard.new) }
+) -> Result<Receipt, OutOfTurn>
+    ensures in_turn { IsOk result ↔ IsAt is_allowed serial yard.old place }
+    ensures receipt { IfOk result (λ r.
+        r ≡ receipt_after (J.count (yard_roll yard.old).journal) caller (StartFailed serial fault)) }
+    ensures noted { OnOk result (NotesBy J.told J.count J.stored
+        caller (StartFailed serial fault) (yard_roll yard.old) (yard_roll yard.new)) }
+    ensures step { IsTrue D.honest → OnOk result (LeadsOn
+        (StartFailed serial fault) (yard_state D.state yard.old) (yard_state D.state yard.new)) }
+    ensures gone { OnOk result (stage_of serial (yard_server yard.new).connections ≡ None) }
+    ensures asked { IfErr result (λ refusal. refused_event refusal ≡ StartFailed serial fault) }
+    ensures out { OnErr result (IsPassedOver J.lists caller yard.old yard.new) }
     ensures same { IsSameBeside J.lists yard.old yard.new }
     ensures seats { KeepsSeats (yard_seat yard.old) (yard_seat yard.new) }
 {
     yard.speaker(caller);
-    match allowed(yard, &place) {
-        Some(serial) => {
-            yard.start_failed(place, fault);
-            Some(receipt(yard, caller, Event::StartFailed { serial, fault }))
-        }
-        None => {
-            place.strand();
-            None
-        }
+    let event = Event::StartFailed { serial, fault };
+    if allowed(yard, &place) != Some(serial) {
+        place.strand();
+        return Err(OutOfTurn::of(&event));
     }
+    yard.start_failed(place, fault);
+    Ok(receipt(yard, caller, event))
 }
 
-/// The child of a connection has ended, as by `Yard::ended`: where that of the connection at this place was started. Else there is no
-/// receipt, and the place stays counted for good.
+/// The child of the connection with this serial has ended, as by `Yard::ended`: where it has this place and its child was started.
+///
+/// # Errors
+/// It was not its turn: the place stays counted for good, and nothing changed but who speaks.
 pub fn ended<L: Premises, D: Dir + Drop, J: Journal>(
     yard: &mut Yard<L, D, J>,
     caller: u64,
+    serial: u64,
     place: Place<L>,
     status: Status,
-) -> Option<Receipt>
-    ensures in_turn { IsSome result ↔ (stage_of_place yard.old place ≡ Some stage.Started) }
-    ensures receipt { IfSome result (λ r. r ≡ receipt_after (J.count (yard_roll yard.old).journal)
-        caller (Ended (number_of yard.old place) status)) }
-    ensures noted { IfSome result (λ r. NotesBy J.told J.count J.stored
-        caller r.event (yard_roll yard.old) (yard_roll yard.new)) }
-    ensures step { IsTrue D.honest → IfSome result (λ r. LeadsOn
-        r.event (yard_state D.state yard.old) (yard_state D.state yard.new)) }
-    ensures gone { OnSome result (stage_of (number_of yard.old place) (yard_server yard.new).connections ≡ None) }
-    ensures out { IfNone result (IsPassedOver J.lists caller yard.old yard.new) }
+) -> Result<Receipt, OutOfTurn>
+    ensures in_turn { IsOk result ↔ IsAt is_started serial yard.old place }
+    ensures receipt { IfOk result (λ r.
+        r ≡ receipt_after (J.count (yard_roll yard.old).journal) caller (Ended serial status)) }
+    ensures noted { OnOk result (NotesBy J.told J.count J.stored
+        caller (Ended serial status) (yard_roll yard.old) (yard_roll yard.new)) }
+    ensures step { IsTrue D.honest → OnOk result (LeadsOn
+        (Ended serial status) (yard_state D.state yard.old) (yard_state D.state yard.new)) }
+    ensures gone { OnOk result (stage_of serial (yard_server yard.new).connections ≡ None) }
+    ensures asked { IfErr result (λ refusal. refused_event refusal ≡ Ended serial status) }
+    ensures out { OnErr result (IsPassedOver J.lists caller yard.old yard.new) }
     ensures same { IsSameBeside J.lists yard.old yard.new }
     ensures seats { KeepsSeats (yard_seat yard.old) (yard_seat yard.new) }
 {
     yard.speaker(caller);
-    match served(yard, &place) {
-        Some(serial) => {
-            yard.ended(place, status);
-            Some(receipt(yard, caller, Event::Ended { serial, status }))
-        }
-        None => {
-            place.strand();
-            None
-        }
+    let event = Event::Ended { serial, status };
+    if served(yard, &place) != Some(serial) {
+        place.strand();
+        return Err(OutOfTurn::of(&event));
     }
+    yard.ended(place, status);
+    Ok(receipt(yard, caller, event))
 }
 
-/// The child of a connection could not be waited for, as by `Yard::retired`: where that of the connection at its place was started. Else
-/// there is no receipt. The child is let go, and its place stays counted for good, in both cases.
-pub fn retired<L: Premises, D: Dir + Drop, J: Journal, C: Job + Drop>(
+/// The child of the connection with this serial could not be waited for, as by `Yard::retired`: where it has the child's place and its child
+/// was started. The child is abandoned, and its place stays counted for good, in turn or not.
+///
+/// # Errors
+/// It was not its turn. Nothing changed but who speaks.
+pub fn retired<L: Premises, D: Dir + Drop, J: Journal, C: Job>(
     yard: &mut Yard<L, D, J>,
     caller: u64,
+    serial: u64,
     running: Running<L, C>,
-) -> Option<Receipt>
-    ensures in_turn { IsSome result ↔ (stage_of_place yard.old (place_of running) ≡ Some stage.Started) }
-    ensures receipt { IfSome result (λ r. r ≡ receipt_after (J.count (yard_roll yard.old).journal)
-        caller (Retired (number_of yard.old (place_of running)))) }
-    ensures noted { IfSome result (λ r. NotesBy J.told J.count J.stored
-        caller r.event (yard_roll yard.old) (yard_roll yard.new)) }
-    ensures step { IsTrue D.honest → IfSome result (λ r. LeadsOn
-        r.event (yard_state D.state yard.old) (yard_state D.state yard.new)) }
-    ensures out { IfNone result (IsPassedOver J.lists caller yard.old yard.new) }
+) -> Result<Receipt, OutOfTurn>
+    ensures in_turn { IsOk result ↔ IsAt is_started serial yard.old (place_of running) }
+    ensures receipt { IfOk result (λ r.
+        r ≡ receipt_after (J.count (yard_roll yard.old).journal) caller (Retired serial)) }
+    ensures noted { OnOk result (NotesBy J.told J.count J.stored
+        caller (Retired serial) (yard_roll yard.old) (yard_roll yard.new)) }
+    ensures step { IsTrue D.honest → OnOk result (LeadsOn
+        (Retired serial) (yard_state D.state yard.old) (yard_state D.state yard.new)) }
+    ensures asked { IfErr result (λ refusal. refused_event refusal ≡ Retired serial) }
+    ensures out { OnErr result (IsPassedOver J.lists caller yard.old yard.new) }
     ensures same { IsSameBeside J.lists yard.old yard.new }
     ensures seats { KeepsSeats (yard_seat yard.old) (yard_seat yard.new) }
 {
     yard.speaker(caller);
-    match served(yard, running.place()) {
-        Some(serial) => {
-            yard.retired(running);
-            Some(receipt(yard, caller, Event::Retired { serial }))
-        }
-        None => {
-            running.strand();
-            None
-        }
+    let event = Event::Retired { serial };
+    if served(yard, running.place()) != Some(serial) {
+        running.strand();
+        return Err(OutOfTurn::of(&event));
     }
+    yard.retired(running);
+    Ok(receipt(yard, caller, event))
 }
 
-/// A connection is given up, as by `Yard::dropped`: where no child of the connection at this place was started. Else there is no
-/// receipt, and the place stays counted for good.
+/// The connection with this serial is given up, as by `Yard::dropped`: where it has this place and no child of it was started.
+///
+/// # Errors
+/// It was not its turn: the place stays counted for good, and nothing changed but who speaks.
 pub fn dropped<L: Premises, D: Dir + Drop, J: Journal>(
     yard: &mut Yard<L, D, J>,
     caller: u64,
+    serial: u64,
     place: Place<L>,
     cause: DropCause,
-) -> Option<Receipt>
-    ensures in_turn { IsSome result ↔ (is_unstarted (stage_of_place yard.old place) ≡ true) }
-    ensures receipt { IfSome result (λ r. r ≡ receipt_after (J.count (yard_roll yard.old).journal)
-        caller (Dropped (number_of yard.old place) cause)) }
-    ensures noted { IfSome result (λ r. NotesBy J.told J.count J.stored
-        caller r.event (yard_roll yard.old) (yard_roll yard.new)) }
-    ensures step { IsTrue D.honest → IfSome result (λ r. LeadsOn
-        r.event (yard_state D.state yard.old) (yard_state D.state yard.new)) }
-    ensures gone { OnSome result (stage_of (number_of yard.old place) (yard_server yard.new).connections ≡ None) }
-    ensures out { IfNone result (IsPassedOver J.lists caller yard.old yard.new) }
+) -> Result<Receipt, OutOfTurn>
+    ensures in_turn { IsOk result ↔ IsAt is_unstarted serial yard.old place }
+    ensures receipt { IfOk result (λ r.
+        r ≡ receipt_after (J.count (yard_roll yard.old).journal) caller (Dropped serial cause)) }
+    ensures noted { OnOk result (NotesBy J.told J.count J.stored
+        caller (Dropped serial cause) (yard_roll yard.old) (yard_roll yard.new)) }
+    ensures step { IsTrue D.honest → OnOk result (LeadsOn
+        (Dropped serial cause) (yard_state D.state yard.old) (yard_state D.state yard.new)) }
+    ensures gone { OnOk result (stage_of serial (yard_server yard.new).connections ≡ None) }
+    ensures asked { IfErr result (λ refusal. refused_event refusal ≡ Dropped serial cause) }
+    ensures out { OnErr result (IsPassedOver J.lists caller yard.old yard.new) }
     ensures same { IsSameBeside J.lists yard.old yard.new }
     ensures seats { KeepsSeats (yard_seat yard.old) (yard_seat yard.new) }
 {
     yard.speaker(caller);
-    match unstarted(yard, &place) {
-        Some(serial) => {
-            yard.dropped(place, cause);
-            Some(receipt(yard, caller, Event::Dropped { serial, cause }))
-        }
-        None => {
-            place.strand();
-            None
-        }
+    let event = Event::Dropped { serial, cause };
+    if unstarted(yard, &place) != Some(serial) {
+        place.strand();
+        return Err(OutOfTurn::of(&event));
     }
+    yard.dropped(place, cause);
+    Ok(receipt(yard, caller, event))
 }
 
 /// Begins an installation, as `Yard::install_begin` does, and answers what that does, with a receipt where it was an event: at its first
@@ -434,6 +448,7 @@ fn receipt<L: Premises, D: Dir + Drop, J: Journal>(
         caller,
         at: yard.journal().events(),
         event,
+        seal: (),
     }
 }
 
@@ -519,7 +534,7 @@ fn served<L: Premises, D: Dir + Drop, J: Journal>(
     yard: &Yard<L, D, J>,
     place: &Place<L>,
 ) -> Option<u64>
-    ensures { SomeIff result (stage_of_place yard.now place.now ≡ Some stage.Started) (number_of yard.now place.now) }
+    ensures { SomeIff result (is_started (stage_of_place yard.now place.now) ≡ true) (number_of yard.now place.now) }
 {
     let serial = yard.serial_of(place)?;
     match yard.stage(serial) {

@@ -1,5 +1,5 @@
 //! `fixcrio` and `recordio`: a program between two pumps.
-ghost use Rattle.std.specs.Prelude.{◌≡◌};
+ghost use Rattle.std.specs.Prelude.{◌≡◌, IfOk};
 ghost use Rattle.stream_tools.specs.declared.between.BetweenFault.TheVariants.{OutOfMemory};
 
 use crate::filter::TURNS;
@@ -62,7 +62,7 @@ pub struct Lane<E, S, T> {
 pub fn run_between<H, L, I, O, S, T, F>(
     rt: &H,
     alloc: Global,
-    launcher: &L,
+    launcher: L,
     run: (&Program, &Environment),
     lanes: (Lane<I, S, T>, Lane<O, S, T>),
     watch: F,
@@ -71,7 +71,6 @@ where
     H: Threads + Wait + Sync,
     F: FnOnce(&<L::Job as Job>::Input) -> Option<Watch>,
     L: Launcher,
-    L::Job: Drop,
     <L::Job as Job>::Input: Send + Drop,
     <L::Job as Job>::Output: Drop,
     I: Read + Send + Drop,
@@ -88,7 +87,7 @@ where
 /// Starts a program.
 fn start_job<L: Launcher>(
     alloc: Global,
-    launcher: &L,
+    launcher: L,
     (program, environment): (&Program, &Environment),
 ) -> Result<L::Job, BetweenFault> {
     match launcher.start(alloc, program, environment) {
@@ -131,22 +130,36 @@ where
     pump_both(rt, alloc, (input, to), (from, output))
 }
 
-/// The end of a program, which is waited for once. One that was not served, since its input got no thread, is given up.
-pub fn end_of<J: Job + Drop>(job: J, served: bool) -> Result<Status, BetweenFault> {
+/// The end of a program, which is waited for once, and abandoned where that fails. One that was not served, since its input got no thread, is
+/// given up.
+pub fn end_of<J: Job>(job: J, served: bool) -> Result<Status, BetweenFault> {
     if !served {
         return Err(give_up(job));
     }
+    match wait_once(job) {
+        Ok(status) => Ok(status),
+        Err(WaitFault::Failed) => Err(BetweenFault::Device),
+        Err(WaitFault::OutOfMemory) => Err(BetweenFault::OutOfMemory),
+    }
+}
+
+/// Waits for a program, and abandons it where that fails: nobody else could wait for it.
+fn wait_once<J: Job>(job: J) -> Result<Status, WaitFault>
+    ensures { IfOk result (J.ended job) }
+{
     match job.wait() {
         Ok(status) => Ok(status),
-        Err((_, WaitFault::Failed)) => Err(BetweenFault::Device),
-        Err((_, WaitFault::OutOfMemory)) => Err(BetweenFault::OutOfMemory),
+        Err((job, fault)) => {
+            job.abandon();
+            Err(fault)
+        }
     }
 }
 
 /// Ends a program that can't be served, whatever the system answers.
-fn give_up<J: Job + Drop>(mut job: J) -> BetweenFault {
+fn give_up<J: Job>(mut job: J) -> BetweenFault {
     let _ = job.kill();
-    let _ = job.wait();
+    let _ = wait_once(job);
     BetweenFault::CannotStart
 }
 

@@ -78,8 +78,7 @@ impl<'a, P: Processes + Files> OsLauncher<'a, P> {
     }
 }
 
-/// A child of this process, and the ends of its pipes until they are given. It is neither waited for nor killed when it is let go.
-#[derive(Drop)]
+/// A child of this process, and the ends of its pipes until they are given. The language lets nobody drop it: it is waited for, or abandoned.
 pub struct OsJob {
     child: ChildProcess,
     ends: Option<(ChildStdin, ChildStdout)>,
@@ -90,8 +89,10 @@ pub struct OsJob {
 impl<'a, P: Processes + Files> Launcher for OsLauncher<'a, P> {
     type Job = OsJob;
 
+    ghost refuses = { λ _ _ _ _. ⊤ };
+
     fn start(
-        &self,
+        self,
         alloc: Global,
         program: &Program,
         environment: &Environment,
@@ -153,6 +154,8 @@ impl Job for OsJob {
 
     ghost killed = { λ _ _ _. ⊤ };
 
+    ghost ended = { λ _ _. ⊤ };
+
     fn ends(&mut self) -> Result<(ChildStdin, ChildStdout), NoEnds> {
         self.ends.take().ok_or(NoEnds)
     }
@@ -165,8 +168,20 @@ impl Job for OsJob {
         // a program that waits for input could not end
         drop(self.ends.take());
         match self.child.wait() {
-            Ok(status) => Ok(status),
+            Ok(status) => {
+                self.abandon();
+                Ok(status)
+            }
             Err(fault) => Err((self, fault)),
         }
+    }
+
+    fn abandon(self) {
+        let OsJob {
+            child: _,
+            ends: _,
+            program: _,
+            environment: _,
+        } = self;
     }
 }

@@ -134,7 +134,7 @@ where
         tap: output_tap,
     };
     let launcher = OsLauncher::new(rt, search);
-    run_between(rt, alloc, &launcher, run, (input, output), |pipe| {
+    run_between(rt, alloc, launcher, run, (input, output), |pipe| {
         Watch::new(alloc, rt, STANDARD_INPUT, pipe.as_raw_fd())
     })
 }

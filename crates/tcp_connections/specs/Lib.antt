@@ -1,2 +1,3 @@
--- What the ends of a connection are named.
+-- What the ends of a connection are named, and why its program was not started.
 pub mod Names
+pub mod Refusals

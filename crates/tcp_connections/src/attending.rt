@@ -1,4 +1,7 @@
 //! The streams of a connection, and its child from its start to its end.
+ghost use Rattle.std.specs.Prelude.{ℕ, IfOk, OnErr};
+ghost use Rattle.rule_lookup.specs.declared.outcome.Status.{Status as StatusOf};
+
 use crate::accepting::{Follow, Patience, Shut};
 use crate::rounds::wait_in_rounds;
 use byte_pump::{NoTap, Recorder, Tap, pump};
@@ -39,11 +42,19 @@ pub trait Endings<L: Ledger, C: Job> {
     /// A child that could not be waited for: a `Running<L, C>`.
     type Child;
 
-    /// The child of the connection with this serial number ended, and gave its place back.
-    fn ended(&mut self, place: Self::Place, serial: u64, status: Status);
+    /// Between these two states it was told that the child of the connection with this serial number ended so.
+    ghost tells_end: { Self → ℕ → StatusOf → Self → Type 0 };
+
+    /// Between these two states it was told that the child of the connection with this serial number could not be waited for.
+    ghost tells_retired: { Self → ℕ → Self → Type 0 };
+
+    /// The child of the connection with this serial number ended so, and gave its place back.
+    fn ended(&mut self, place: Self::Place, serial: u64, status: Status)
+        ensures told { tells_end self.old serial status self.new };
 
     /// The child of the connection with this serial number could not be waited for: its place stays counted.
-    fn retired(&mut self, child: Self::Child, serial: u64);
+    fn retired(&mut self, child: Self::Child, serial: u64)
+        ensures told { tells_retired self.old serial self.new };
 }
 
 /// What a client sends, on its way to the child, through a chain of line wrappers.
@@ -64,12 +75,12 @@ pub struct Chains<G> {
     pub output: Chain<G>,
 }
 
-/// A child that runs. One that is let go stays counted for good.
-struct Held<L: Ledger, C: Job + Drop> {
+/// A child that runs. One that is let go is abandoned, and stays counted for good.
+struct Held<L: Ledger, C: Job> {
     running: Option<Running<L, C>>,
 }
 
-impl<L: Ledger, C: Job + Drop> Drop for Held<L, C> {
+impl<L: Ledger, C: Job> Drop for Held<L, C> {
     fn drop(self) {
         let Held { running } = self;
         if let Some(running) = running {
@@ -80,14 +91,14 @@ impl<L: Ledger, C: Job + Drop> Drop for Held<L, C> {
 
 /// A child that runs and holds its connection itself.
 #[derive(Drop)]
-pub struct Handed<L: Ledger, C: Job + Drop> {
+pub struct Handed<L: Ledger, C: Job> {
     held: Held<L, C>,
     serial: u64,
 }
 
 /// A connection whose child runs, and what the child says, on its way to the client, through a chain of line wrappers.
 #[derive(Drop)]
-pub struct Talk<L: Ledger, C: Job + Drop, F, O, X, G> {
+pub struct Talk<L: Ledger, C: Job, F, O, X, G> {
     held: Held<L, C>,
     serial: u64,
     port: u16,
@@ -121,7 +132,7 @@ impl<R: Wait, W: Write> Attendant<'_, R, W> {
     ) -> Handed<L, C>
     where
         L: Ledger,
-        C: Job + Drop,
+        C: Job,
         I: Drop,
         O: Drop,
         X: Drop,
@@ -138,7 +149,7 @@ impl<R: Wait, W: Write> Attendant<'_, R, W> {
     pub fn see_out<L, C, E>(&self, endings: &mut E, handed: Handed<L, C>)
     where
         L: Ledger,
-        C: Job + Drop,
+        C: Job,
         E: Endings<L, C, Place = Place<L>, Child = Running<L, C>>,
     {
         let Handed { mut held, serial } = handed;
@@ -159,7 +170,7 @@ impl<R: Wait, W: Write> Attendant<'_, R, W> {
     where
         G: Drop,
         L: Ledger,
-        C: Job + Drop,
+        C: Job,
         C::Input: Drop,
         C::Output: Drop,
         E: Endings<L, C, Place = Place<L>, Child = Running<L, C>>,
@@ -226,7 +237,7 @@ impl<R: Wait, W: Write> Attendant<'_, R, W> {
     pub fn pass_down<L, C, E, F, O, X, G>(&self, endings: &mut E, talk: Talk<L, C, F, O, X, G>)
     where
         L: Ledger,
-        C: Job + Drop,
+        C: Job,
         E: Endings<L, C, Place = Place<L>, Child = Running<L, C>>,
         F: Read + Drop,
         O: Write + Drop,
@@ -314,6 +325,8 @@ where
     L: Ledger,
     C: Job,
     E: Endings<L, C, Place = Place<L>, Child = Running<L, C>>,
+    ensures ended { IfOk ended (λ end. E.tells_end endings.old serial end.1 endings.new) }
+    ensures retired { OnErr ended (E.tells_retired endings.old serial endings.new) }
 {
     match ended {
         Ok((place, status)) => endings.ended(place, serial, status),

@@ -1,5 +1,8 @@
 //! What starts the programs of connections.
-ghost use Rattle.std.specs.Prelude.{◌≡◌, IfOk};
+ghost use Rattle.std.specs.Prelude.{◌≡◌, IfOk, IfErr};
+ghost use Rattle.child_jobs.specs.Programs.{ProgramText};
+ghost use Rattle.stream_tools.specs.declared.process.NotStarted.{NotStarted as Refusal};
+ghost use Rattle.ucspi_env.specs.Variables.{Variables};
 
 use child_jobs::{Job, Launcher, Program};
 use rule_lookup::StartFault;
@@ -13,6 +16,9 @@ pub trait Starter<X> {
     /// What it starts.
     type Job: Job;
 
+    /// Why it may have started no program with these variables for a connection. One of which nothing is known may answer anything.
+    ghost refuses: { Self → X → ProgramText → Variables → Refusal → Type 0 };
+
     /// Starts a program for a connection, with these variables and no others.
     ///
     /// # Errors
@@ -24,11 +30,12 @@ pub trait Starter<X> {
         program: &Program,
         environment: &Environment,
     ) -> Result<Self::Job, NotStarted>
+        ensures refused { IfErr result (refuses self.now connection.now program.now environment.now) }
         ensures program { IfOk result (λ job. Self.Job.program job ≡ program.now) }
         ensures environment { IfOk result (λ job. Self.Job.environment job ≡ environment.now) };
 }
 
-/// The launcher of one connection.
+/// The launcher of one connection, whose program it starts once.
 #[derive(Drop)]
 pub struct ConnectionLauncher<'a, R, S, X> {
     /// The runtime.
@@ -42,10 +49,15 @@ pub struct ConnectionLauncher<'a, R, S, X> {
 }
 
 impl<R: Wait, S: Starter<X>, X> Launcher for ConnectionLauncher<'_, R, S, X> {
+    ghost use Rattle.tcp_connections.specs.Refusals.{RefusesBy};
+
     type Job = S::Job;
 
+    ghost refuses = { λ launcher program variables fault.
+        RefusesBy (S.refuses launcher.starter.now launcher.connection.now program variables) fault };
+
     fn start(
-        &self,
+        self,
         alloc: Global,
         program: &Program,
         environment: &Environment,

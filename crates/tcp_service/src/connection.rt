@@ -61,14 +61,14 @@ pub(crate) struct Server<'a, L: Premises, N: Callers, D: Dir + Drop, J: Journal,
 
 /// A connection whose child runs.
 #[derive(Drop)]
-pub(crate) struct Begun<L: Premises, C: Job + Drop, F, O, X, G> {
+pub(crate) struct Begun<L: Premises, C: Job, F, O, X, G> {
     serial: u64,
     way: Way<L, C, F, O, X, G>,
 }
 
 /// Who has a connection whose child runs: the child itself, or the server, which passes the bytes on.
 #[derive(Drop)]
-enum Way<L: Premises, C: Job + Drop, F, O, X, G> {
+enum Way<L: Premises, C: Job, F, O, X, G> {
     HandedOver(Handed<L, C>),
     Pumped(Talk<L, C, F, O, X, G>),
 }
@@ -115,7 +115,6 @@ where
     ) -> Option<Started<L, I, S::Job, O, X, G>>
     where
         S: Starter<X>,
-        S::Job: Drop,
         <S::Job as Job>::Input: Drop,
         <S::Job as Job>::Output: Drop,
         O: Write + Follow<<S::Job as Job>::Output> + Drop,
@@ -160,7 +159,6 @@ where
     ) -> Option<Started<L, I, S::Job, O, X, G>>
     where
         S: Starter<X>,
-        S::Job: Drop,
         <S::Job as Job>::Input: Drop,
         <S::Job as Job>::Output: Drop,
         O: Write + Follow<<S::Job as Job>::Output> + Drop,
@@ -171,7 +169,13 @@ where
         let mut desk = LoggedDesk {
             rt: self.attendant.rt,
             alloc: self.attendant.alloc,
-            desk: SiteDesk::new(self.attendant.rt, self.site, self.caller, self.rules),
+            desk: SiteDesk::new(
+                self.attendant.rt,
+                self.site,
+                self.caller,
+                self.rules,
+                line.serial,
+            ),
             log: self.attendant.log,
             serial: line.serial,
             plan: &plan,
@@ -191,7 +195,7 @@ where
             line.serial,
             peer,
             &plan,
-            &launcher,
+            launcher,
             &mut line.writer,
         );
         match served {
@@ -213,7 +217,6 @@ where
     ) -> Option<Started<L, I, S::Job, O, X, G>>
     where
         S: Starter<X>,
-        S::Job: Drop,
         <S::Job as Job>::Input: Drop,
         <S::Job as Job>::Output: Drop,
         O: Write + Follow<<S::Job as Job>::Output> + Drop,
@@ -240,7 +243,6 @@ where
     )
     where
         S: Starter<X>,
-        S::Job: Drop,
     {
         let Begun { serial, way } = begun;
         let rt = self.attendant.rt;
@@ -248,7 +250,7 @@ where
         let mut desk = LoggedDesk {
             rt,
             alloc: self.attendant.alloc,
-            desk: SiteDesk::new(rt, self.site, self.caller, self.rules),
+            desk: SiteDesk::new(rt, self.site, self.caller, self.rules, serial),
             log: self.attendant.log,
             serial,
             plan: self.plan,
@@ -273,7 +275,7 @@ where
         let mut desk = LoggedDesk {
             rt,
             alloc: self.attendant.alloc,
-            desk: SiteDesk::new(rt, self.site, self.caller, self.rules),
+            desk: SiteDesk::new(rt, self.site, self.caller, self.rules, line.serial),
             log: self.attendant.log,
             serial: line.serial,
             plan: self.plan,
@@ -294,7 +296,7 @@ where
     J: Journal,
     U: Rules<L, D::File>,
     S: Starter<X>,
-    S::Job: Send + Drop,
+    S::Job: Send,
     <S::Job as Job>::Input: Send + Drop,
     <S::Job as Job>::Output: Send + Drop,
     M: Wrapping<Stage = G>,

@@ -3,7 +3,7 @@
 use child_jobs::{Job, Plan, Running};
 use child_table::Place;
 use fault_causes::words_of_error;
-use one_connection::{Desk, OpenFault};
+use one_connection::{Desk, OpenFault, Undecided};
 use rule_lookup::{DecideFault, Decision, DropCause, Peer, StartFault, Status};
 use server_log::{Cause, Log};
 use server_yard::Premises;
@@ -91,6 +91,10 @@ where
 
     type Child = K::Child;
 
+    ghost tells_end = { λ logged serial status after. K.tells_end logged.desk serial status after.desk };
+
+    ghost tells_retired = { λ logged serial after. K.tells_retired logged.desk serial after.desk };
+
     fn ended(&mut self, place: K::Place, serial: u64, status: Status) {
         let mut log = self.log.lock(self.rt);
         self.desk.ended(place, serial, status);
@@ -125,6 +129,10 @@ impl<L: Premises, K: Desk<L> + Living, R: Wait, W: Write> Desk<L> for LoggedDesk
 
     ghost finds = { λ logged. K.finds logged.desk };
 
+    ghost found = { λ logged. K.found logged.desk };
+
+    ghost tells = { λ logged event after. K.tells logged.desk event after.desk };
+
     ghost is_missing = { λ logged. K.is_missing logged.desk };
 
     ghost failures = { λ logged. K.failures logged.desk };
@@ -152,7 +160,7 @@ impl<L: Premises, K: Desk<L> + Living, R: Wait, W: Write> Desk<L> for LoggedDesk
         pass: K::Pass,
         peer: &Peer,
         decision: Decision,
-    ) -> Result<(), (K::Pass, Decision)> {
+    ) -> Result<(), Undecided> {
         let verdict = decision.verdict;
         let mut log = self.log.lock(self.rt);
         self.desk.decided(alloc, place, pass, peer, decision)?;

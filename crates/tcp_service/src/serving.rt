@@ -44,7 +44,7 @@ where
     U: Rules<L, D::File> + Sync,
     U::Handle: Send,
     S: Starter<A::Shut> + Sync,
-    S::Job: Send + Drop,
+    S::Job: Send,
     <S::Job as Job>::Input: Send + Drop,
     <S::Job as Job>::Output: Send + Drop,
     A::Writer: Follow<<S::Job as Job>::Output>,

@@ -28,9 +28,9 @@ fn call<L: Premises, N: Callers, R: Wait>(
 ) -> u64 {
     let mut events = 0u64;
     for _ in 0..connections {
-        if let Ok((_, place, _)) = site.admit(rt, &mut caller, peer) {
-            let dropped = site.dropped(rt, &mut caller, place, DropCause::Banner);
-            events = events.saturating_add(1 + u64::from(dropped.is_some()));
+        if let Ok((serial, place, _)) = site.admit(rt, &mut caller, peer) {
+            let dropped = site.dropped(rt, &mut caller, serial, place, DropCause::Banner);
+            events = events.saturating_add(1 + u64::from(dropped.is_ok()));
         }
     }
     events

@@ -1,5 +1,6 @@
 //! Jobs whose wait fails so often before it answers, or that do not start.
-ghost use Rattle.std.specs.Prelude.{◌≡◌, false, ⊤};
+ghost use Rattle.std.specs.Prelude.{◌≡◌, Err, false, ⊤};
+ghost use Rattle.rule_lookup.specs.declared.outcome.Status.TheVariants.{Code};
 
 use crate::shown::peer_of;
 use child_jobs::{Job, Launcher, NoEnds, Program, Running, WaitFault, finish, start};
@@ -16,7 +17,6 @@ use yard_steps::NoPipe;
 const WAITS: usize = 10;
 
 /// A job whose wait fails so often before it answers, and that can be killed once.
-#[derive(Drop)]
 struct Stubborn {
     fails: u64,
     is_killed: bool,
@@ -37,6 +37,8 @@ impl Job for Stubborn {
 
     ghost killed = { λ _ _ _. ⊤ };
 
+    ghost ended = { λ _ status. status ≡ Code 7 };
+
     fn ends(&mut self) -> Result<(NoPipe, NoPipe), NoEnds> {
         Err(NoEnds)
     }
@@ -54,19 +56,31 @@ impl Job for Stubborn {
             self.fails -= 1;
             return Err((self, WaitFault::Failed));
         }
+        self.abandon();
         Ok(Status::Code(7))
+    }
+
+    fn abandon(self) {
+        let Stubborn {
+            fails: _,
+            is_killed: _,
+            program: _,
+            environment: _,
+        } = self;
     }
 }
 
-/// Starts such jobs, or none.
+/// Starts such a job, or none.
 #[derive(Drop)]
 struct Stubborns(Result<u64, StartFault>);
 
 impl Launcher for Stubborns {
     type Job = Stubborn;
 
+    ghost refuses = { λ launcher _ _ fault. launcher.0 ≡ Err fault };
+
     fn start(
-        &self,
+        self,
         _alloc: Global,
         program: &Program,
         environment: &Environment,
@@ -92,7 +106,7 @@ pub fn run_job<L: Ledger>(
 {
     match Table::<L>::new(alloc, blank, 1) {
         Ok(mut table) => {
-            admit(alloc, &mut table, &Stubborns(fails), out);
+            admit(alloc, &mut table, Stubborns(fails), out);
             drop(table);
         }
         Err(_) => out.fail(),
@@ -100,7 +114,7 @@ pub fn run_job<L: Ledger>(
 }
 
 /// Lets a peer in, and runs a child in its place.
-fn admit<L: Ledger>(alloc: Global, table: &mut Table<L>, launcher: &Stubborns, out: &mut Answer) {
+fn admit<L: Ledger>(alloc: Global, table: &mut Table<L>, launcher: Stubborns, out: &mut Answer) {
     let Some(peer) = peer_of(alloc, 1) else {
         return out.fail();
     };
@@ -116,7 +130,7 @@ fn run_child<L: Ledger>(
     alloc: Global,
     table: &mut Table<L>,
     place: Place<L>,
-    launcher: &Stubborns,
+    launcher: Stubborns,
     out: &mut Answer,
 ) {
     out.count_line("place ", place.index() as u64);
@@ -134,7 +148,7 @@ fn run_child<L: Ledger>(
 fn started<L: Ledger>(
     alloc: Global,
     place: Place<L>,
-    launcher: &Stubborns,
+    launcher: Stubborns,
 ) -> Result<Running<L, Stubborn>, (Place<L>, StartFault)> {
     let program = Program::new(String::new(alloc), Vec::new(alloc));
     start(alloc, place, launcher, &program, &Environment::new(alloc))

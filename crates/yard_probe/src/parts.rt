@@ -1,4 +1,7 @@
 //! What the cases are made of: a launcher that counts, a writer that takes only so much, and damaged rules.
+ghost use Rattle.std.specs.Prelude.{◌≡◌, ◌⊎◌};
+ghost use Rattle.rule_lookup.specs.declared.outcome.StartFault.TheVariants.{OutOfMemory};
+
 use child_jobs::{Launcher, Program};
 use dir_calls::{Dir, DirFault, MemDir, Name, RulesFile};
 use rule_lookup::StartFault;
@@ -15,18 +18,22 @@ const CUT: usize = 2_073;
 /// How much memory a start takes.
 const ROOM: usize = 64;
 
-/// Starts jobs, which takes memory, and counts how often it was asked to.
+/// Starts a job, which takes memory, and counts that it was asked to.
 #[derive(Drop)]
-pub struct Counted {
+pub struct Counted<'a> {
     pub jobs: EndedJobs,
-    pub starts: AtomicU64,
+    pub starts: &'a AtomicU64,
 }
 
-impl Launcher for Counted {
+impl Launcher for Counted<'_> {
+    ghost use Rattle.yard_steps.specs.EndedJobs.{FailsWith};
+
     type Job = EndedJob;
 
+    ghost refuses = { λ launcher _ _ fault. (fault ≡ OutOfMemory) ⊎ FailsWith launcher.jobs fault };
+
     fn start(
-        &self,
+        self,
         alloc: Global,
         program: &Program,
         environment: &Environment,

@@ -9,7 +9,7 @@ use child_jobs::{Plan, Program};
 use child_table::Place;
 use dir_calls::{Dir, FuseDir, MemDir};
 use event_journals::Journal;
-use one_connection::{Served, is_admitted, serve_one};
+use one_connection::{Served, YardDesk, is_admitted, serve_one};
 use probe_answers::Answer;
 use rule_lookup::{Missing, Peer, StartFault, Status};
 use server_yard::{Premises, Yard};
@@ -143,9 +143,10 @@ fn serve_over<L: Premises, D: Dir + Drop, J: Journal>(
 {
     let missing = missing_of(setting.case);
     match yard_over::<L, D, J>(alloc, blank, dir, missing, 1, journal) {
-        Ok(mut yard) => {
-            serve_all(alloc, &mut yard, setting, out);
-            drop(yard);
+        Ok(yard) => {
+            let mut desk = YardDesk::new(yard);
+            serve_all(alloc, &mut desk, setting, out);
+            drop(desk);
         }
         Err(_) => out.fail(),
     }
@@ -159,29 +160,24 @@ fn missing_of(case: Case) -> Missing {
     }
 }
 
-/// Serves the connections by a yard.
+/// Serves the connections by the desk of a yard, one after the other.
 fn serve_all<L: Premises, D: Dir + Drop, J: Journal>(
     alloc: Global,
-    yard: &mut Yard<L, D, J>,
+    desk: &mut YardDesk<L, D, J>,
     setting: &Setting,
     out: &mut Answer,
 ) {
     for _ in 0..CONNECTIONS {
-        let launcher = launcher_of(setting.case);
         let mut writer = writer_of(setting.case);
-        serve(alloc, yard, setting, &launcher, &mut writer, out);
+        serve(alloc, desk, setting, &mut writer, out);
     }
 }
 
 /// What starts the programs of a case.
-fn launcher_of(case: Case) -> Counted {
-    let jobs = match case {
+fn jobs_of(case: Case) -> EndedJobs {
+    match case {
         Case::NotFound => EndedJobs::Failing(StartFault::NotFound),
         _ => EndedJobs::Ending(Status::Code(0)),
-    };
-    Counted {
-        jobs,
-        starts: AtomicU64::new(0),
     }
 }
 
@@ -196,16 +192,13 @@ fn writer_of(case: Case) -> Narrow {
 /// Lets a connection in and serves it.
 fn serve<L: Premises, D: Dir + Drop, J: Journal>(
     alloc: Global,
-    yard: &mut Yard<L, D, J>,
+    desk: &mut YardDesk<L, D, J>,
     setting: &Setting,
-    launcher: &Counted,
     writer: &mut Narrow,
     out: &mut Answer,
 ) {
-    match yard.admit(&setting.peer) {
-        Ok((serial, place)) => {
-            serve_by(alloc, yard, serial, place, setting, launcher, writer, out)
-        }
+    match desk.yard.admit(&setting.peer) {
+        Ok((serial, place)) => serve_by(alloc, desk, serial, place, setting, writer, out),
         Err(_) => out.fail(),
     }
 }
@@ -214,23 +207,27 @@ fn serve<L: Premises, D: Dir + Drop, J: Journal>(
 /// taken. A child that runs ends.
 fn serve_by<L: Premises, D: Dir + Drop, J: Journal>(
     alloc: Global,
-    yard: &mut Yard<L, D, J>,
+    desk: &mut YardDesk<L, D, J>,
     serial: u64,
     place: Place<L>,
     setting: &Setting,
-    launcher: &Counted,
     writer: &mut Narrow,
     out: &mut Answer,
 ) {
     let (peer, plan) = (&setting.peer, &setting.plan);
-    if !is_admitted(yard, &place, serial, peer) {
+    if !is_admitted(&desk.yard, &place, serial, peer) {
         place.strand();
         return out.fail();
     }
-    let served = serve_one(alloc, yard, place, serial, peer, plan, launcher, writer);
-    let live = yard.live();
-    end(yard, served, out);
-    out.count(", ", launcher.starts.load(Ordering::SeqCst));
+    let starts = AtomicU64::new(0);
+    let launcher = Counted {
+        jobs: jobs_of(setting.case),
+        starts: &starts,
+    };
+    let served = serve_one(alloc, desk, place, serial, peer, plan, launcher, writer);
+    let live = desk.yard.live();
+    end(&mut desk.yard, served, out);
+    out.count(", ", starts.load(Ordering::SeqCst));
     out.count(" starts, ", live);
     out.count(" alive, ", writer.taken as u64);
     out.line(" bytes");

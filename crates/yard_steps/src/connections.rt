@@ -75,7 +75,7 @@ pub fn start_for<L: Premises, D: Dir + Drop, J: Journal>(
         return None;
     }
     let program = Program::new(String::new(alloc), Vec::new(alloc));
-    match start(alloc, place, &jobs, &program, &Environment::new(alloc)) {
+    match start(alloc, place, jobs, &program, &Environment::new(alloc)) {
         Ok(running) => {
             yard.started(&running);
             Some(running)

@@ -1,5 +1,5 @@
 //! Jobs that run no program, and end as they are told to.
-ghost use Rattle.std.specs.Prelude.{false, ⊤};
+ghost use Rattle.std.specs.Prelude.{◌≡◌, Some, false, ⊤};
 
 use child_jobs::{Job, Launcher, NoEnds, Program, WaitFault};
 use rule_lookup::{StartFault, Status};
@@ -30,7 +30,6 @@ impl Write for NoPipe {
 }
 
 /// A job that has ended already, with this status; or one that can't be waited for.
-#[derive(Drop)]
 pub struct EndedJob {
     status: Option<Status>,
     program: Snapshot<Program>,
@@ -50,6 +49,8 @@ impl Job for EndedJob {
 
     ghost killed = { λ _ _ _. ⊤ };
 
+    ghost ended = { λ job status. job.status ≡ Some status };
+
     fn ends(&mut self) -> Result<(NoPipe, NoPipe), NoEnds> {
         Err(NoEnds)
     }
@@ -60,9 +61,20 @@ impl Job for EndedJob {
 
     fn wait(self) -> Result<Status, (EndedJob, WaitFault)> {
         match self.status {
-            Some(status) => Ok(status),
+            Some(status) => {
+                self.abandon();
+                Ok(status)
+            }
             None => Err((self, WaitFault::Failed)),
         }
+    }
+
+    fn abandon(self) {
+        let EndedJob {
+            status: _,
+            program: _,
+            environment: _,
+        } = self;
     }
 }
 
@@ -78,18 +90,22 @@ pub enum EndedJobs {
 }
 
 impl Launcher for EndedJobs {
+    ghost use Rattle.yard_steps.specs.EndedJobs.{FailsWith};
+
     type Job = EndedJob;
 
+    ghost refuses = { λ jobs _ _ fault. FailsWith jobs fault };
+
     fn start(
-        &self,
+        self,
         _alloc: Global,
         program: &Program,
         environment: &Environment,
     ) -> Result<EndedJob, StartFault> {
         let status = match self {
-            EndedJobs::Ending(status) => Some(*status),
+            EndedJobs::Ending(status) => Some(status),
             EndedJobs::Unwaitable => None,
-            EndedJobs::Failing(fault) => return Err(*fault),
+            EndedJobs::Failing(fault) => return Err(fault),
         };
         Ok(EndedJob {
             status,

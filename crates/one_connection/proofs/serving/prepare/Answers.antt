@@ -1,12 +1,15 @@
 -- The environment that is made is that of the decision; a decision that fails is a drop for its cause.
-use Rattle.std.specs.Prelude.{ℕ, Bool, []}
-use Rattle.std.proofs.Common.{refl, sym, subst, ◌∙◌, ap}
+use Rattle.std.specs.Prelude.{ℕ, Bool, IsTrue, []}
+use Rattle.std.proofs.Common.{refl, sym, subst, ◌∙◌, ap, inr}
 use Rattle.rule_lines.specs.declared.source.FindFault.TheVariants as find
 use Rattle.rule_lookup.specs.declared.decision.DecideFault.{DecideFault}
 use Rattle.rule_lookup.specs.declared.decision.DecideFault.TheVariants.{Find, Code, OutOfMemory}
 use Rattle.rule_lookup.specs.declared.outcome.DropCause.{DropCause}
 use Rattle.ucspi_env.specs.Child.{environment_of}
-use Rattle.one_connection.specs.Servings.{Drops, FailsFor, cause_of}
+use Rattle.one_connection.specs.Openings.{WasFound}
+use Rattle.one_connection.specs.Servings.{Drops, FailsFor, cause_of, cause_of_undecided}
+use Rattle.one_connection.specs.declared.desk.Undecided.{Undecided}
+use Rattle.one_connection.specs.declared.desk.Undecided.TheVariants as undecided
 use Rattle.one_connection.proofs.serving.prepare.Goals as goal
 
 -- a decision that fails is a drop, whatever its fault
@@ -17,10 +20,19 @@ drops_for fails is_shared before now (Find find.OutOfMemory) failed = _
 drops_for fails is_shared before now (Code fault) failed = failed
 drops_for fails is_shared before now OutOfMemory failed = _
 
+-- and so is one that can't be made, at a desk that others use too
+drops_undecided : (fails : DropCause → Type 0) (is_shared : Bool) (before now : ℕ) (fault : Undecided) → IsTrue is_shared → Drops fails is_shared before now [] (cause_of_undecided fault)
+drops_undecided fails is_shared before now undecided.OutOfTurn shared = inr shared
+drops_undecided fails is_shared before now undecided.OutOfMemory shared = _
+
 pub returns-in-Ok-decided-clause-prepared : goal.returns-in-Ok-decided-clause-prepared
 returns-in-Ok-decided-clause-prepared g c = record {
   decision = c.in-Ok-decide.decision;
-  decided = record { found = g.D.Desk.opening c.in-Ok.pass; was_found = c.in-Ok.ensures.found; by_rules = c.in-Ok-decide.ensures.decided };
+  decided = record {
+    found = g.D.Desk.opening c.in-Ok.pass;
+    was_found = record { its = c.decided.ensures.keeps ∙ c.in-Ok.ensures.keeps; may_be = c.in-Ok.ensures.found };
+    by_rules = c.in-Ok-decide.ensures.decided;
+  };
   same = refl;
   given =
       c.in-Ok-build.ensures
@@ -30,11 +42,17 @@ returns-in-Ok-decided-clause-prepared g c = record {
 
 pub returns-in-Err-decide-clause-dropped : goal.returns-in-Err-decide-clause-dropped
 returns-in-Err-decide-clause-dropped g c =
-    let fails = FailsFor (g.D.Desk.finds c.args.desk.now) g.D.Desk.honest g.D.Desk.sound c.args.peer.now in
-    let is_shared = g.D.Desk.is_shared in
-    let before = g.D.Desk.failures c.args.desk.now in
-    let now = g.D.Desk.failures c.open.new.self in
+    let d = g.D.Desk in
+    let now = c.open.new.self in
+    let fails = FailsFor (WasFound (d.found now) (d.finds c.args.desk.now)) d.honest d.sound c.args.peer.now in
     let fault = c.in-Err-decide.fault in
     let failed : fails (cause_of fault) =
-    record { found = g.D.Desk.opening c.in-Ok.pass; was_found = c.in-Ok.ensures.found; fault = fault; fails = c.in-Err-decide.ensures.refused; for_it = refl } in
-    subst (Drops fails is_shared before now []) (sym c.cause_of.ensures) (drops_for fails is_shared before now fault failed)
+    record {
+      found = d.opening c.in-Ok.pass;
+      was_found = record { its = c.in-Ok.ensures.keeps; may_be = c.in-Ok.ensures.found };
+      fault = fault;
+      fails = c.in-Err-decide.ensures.refused;
+      for_it = refl;
+    } in
+    subst (Drops fails d.is_shared (d.failures c.args.desk.now) (d.failures now) []) (sym c.cause_of.ensures)
+    (drops_for fails d.is_shared (d.failures c.args.desk.now) (d.failures now) fault failed)

@@ -5,6 +5,7 @@ use Rattle.std.proofs.Common.{refl, subst}
 use Rattle.rule_lookup.specs.declared.outcome.DropCause.{DropCause}
 use Rattle.rule_lookup.specs.declared.outcome.DropCause.TheVariants as cause
 use Rattle.server_events.specs.declared.event.Stage.TheVariants as stage
+use Rattle.one_connection.specs.Openings.{WasFound}
 use Rattle.one_connection.specs.Servings.{Drops, FailsFor, Greets, is_banner}
 use Rattle.one_connection.proofs.serving.serve_one.Goals as goal
 
@@ -28,7 +29,7 @@ returns-in-Err-prepare-clause-greeted g c =
     let old = g.W.Write.contents c.args.writer.now in
     let new = g.W.Write.contents c.greet.new.writer in
     let wrote : Appends old new c.args.plan.now.banner = subst (λ banner. Appends old new banner) c.banner.ensures c.in_default.ensures.greeted in
-    let fails = FailsFor (g.D.Desk.finds c.args.desk.now) g.D.Desk.honest g.D.Desk.sound c.args.peer.now in
+    let fails = FailsFor (WasFound (g.D.Desk.found c.prepare.new.desk) (g.D.Desk.finds c.args.desk.now)) g.D.Desk.honest g.D.Desk.sound c.args.peer.now in
     greets_dropped old new c.args.plan.now.banner fails g.D.Desk.is_shared (g.D.Desk.failures c.args.desk.now) (g.D.Desk.failures c.prepare.new.desk) c.in-Err-prepare.cause wrote c.in-Err-prepare.ensures.dropped
 
 pub run-requires-clause-stands : goal.run-requires-clause-stands

@@ -12,3 +12,9 @@ ghosts-two-N-Ledger g a = record { name = a.parts.name; parts = a.parts.parts }
 
 abbrev pub ghosts-two-N-Callers : goal.ghosts-two-N-Callers
 ghosts-two-N-Callers g a = record { all = 2; before = 0 }
+
+abbrev pub ghosts-first_receipt-L-Ledger : goal.ghosts-first_receipt-L-Ledger
+ghosts-first_receipt-L-Ledger g a = record { name = a.places.name; parts = a.places.parts }
+
+abbrev pub ghosts-first_receipt-L-Premises : goal.ghosts-first_receipt-L-Premises
+ghosts-first_receipt-L-Premises g a = record { met = false }

@@ -1,16 +1,16 @@
-use Rattle.std.proofs.Common.{ℕ, ap, ◌∙◌}
+use Rattle.std.proofs.Common.{ℕ, ap, rules}
 use Rattle.server_events.specs.declared.event.Event.TheVariants as event
 use Rattle.server_yard.specs.Yards.{number_of, yard_state}
 use Rattle.site_turns.proofs.Spoken.{found_is, leads_from, spoken_state}
 use Rattle.site_turns.proofs.turns.dropped.Goals as goal
 
-pub returns-in-Some-clause-step : goal.returns-in-Some-clause-step
-returns-in-Some-clause-step g c = λ honest.
+pub returns-clause-step : goal.returns-clause-step
+returns-clause-step g c = λ honest.
     let old = c.args.yard.now in
     let mid = c.speaker.new.self in
     let state = g.D.Dir.state in
-    let own = found_is _ _ (number_of mid c.args.place) c.in-Some.serial c.in-Some.is c.unstarted.ensures in
+    let own = found_is _ _ (number_of mid c.args.place) c.args.serial (search rules) c.unstarted.ensures in
     let e = event.Dropped (number_of mid c.args.place) c.args.cause in
-    leads_from e c.receipt.result.event (yard_state state mid) (yard_state state old) (yard_state state c.dropped.new.self)
-    (c.receipt.ensures.event ∙ ap (λ (n : ℕ). event.Dropped n c.args.cause) own)
+    leads_from e (event.Dropped c.args.serial c.args.cause) (yard_state state mid) (yard_state state old) (yard_state state c.dropped.new.self)
+    (ap (λ (n : ℕ). event.Dropped n c.args.cause) own)
     (spoken_state state g.J.Journal.lists c.args.caller old mid c.speaker.ensures.speaks c.speaker.ensures.same) (c.dropped.ensures.step honest)

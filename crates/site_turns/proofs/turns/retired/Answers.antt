@@ -1,4 +1,4 @@
-use Rattle.std.proofs.Common.{ℕ, ap, ◌∙◌}
+use Rattle.std.proofs.Common.{ℕ, ap, rules, ◌∙◌}
 use Rattle.child_jobs.specs.Runs.{place_of}
 use Rattle.server_events.specs.declared.event.Event.TheVariants as event
 use Rattle.server_yard.specs.Yards.{number_of, yard_roll, yard_state}
@@ -6,23 +6,23 @@ use Rattle.site_turns.specs.Turns.{spoken_by}
 use Rattle.site_turns.proofs.Spoken.{found_is, leads_from, notes_from, spoken_state}
 use Rattle.site_turns.proofs.turns.retired.Goals as goal
 
-pub returns-in-Some-clause-noted : goal.returns-in-Some-clause-noted
-returns-in-Some-clause-noted g c =
+pub returns-clause-noted : goal.returns-clause-noted
+returns-clause-noted g c =
     let old = c.args.yard.now in
     let mid = c.speaker.new.self in
     let j = g.J.Journal in
-    let own = found_is _ _ (number_of mid c.place.result.now) c.in-Some.serial c.in-Some.is c.served.ensures ∙ ap (λ (i : ℕ). number_of mid i) c.place.ensures in
-    notes_from j.told j.count j.stored (event.Retired (number_of mid (place_of c.args.running))) c.receipt.result.event
+    let own = found_is _ _ (number_of mid c.place.result.now) c.args.serial (search rules) c.served.ensures ∙ ap (λ (i : ℕ). number_of mid i) c.place.ensures in
+    notes_from j.told j.count j.stored (event.Retired (number_of mid (place_of c.args.running))) (event.Retired c.args.serial)
     (yard_roll mid) (spoken_by c.args.caller (yard_roll old)) (yard_roll c.retired.new.self)
-    (c.receipt.ensures.event ∙ ap (λ (n : ℕ). event.Retired n) own) c.speaker.ensures.speaks c.retired.ensures.noted
+    (ap (λ (n : ℕ). event.Retired n) own) c.speaker.ensures.speaks c.retired.ensures.noted
 
-pub returns-in-Some-clause-step : goal.returns-in-Some-clause-step
-returns-in-Some-clause-step g c = λ honest.
+pub returns-clause-step : goal.returns-clause-step
+returns-clause-step g c = λ honest.
     let old = c.args.yard.now in
     let mid = c.speaker.new.self in
     let state = g.D.Dir.state in
-    let own = found_is _ _ (number_of mid c.place.result.now) c.in-Some.serial c.in-Some.is c.served.ensures ∙ ap (λ (i : ℕ). number_of mid i) c.place.ensures in
-    leads_from (event.Retired (number_of mid (place_of c.args.running))) c.receipt.result.event
+    let own = found_is _ _ (number_of mid c.place.result.now) c.args.serial (search rules) c.served.ensures ∙ ap (λ (i : ℕ). number_of mid i) c.place.ensures in
+    leads_from (event.Retired (number_of mid (place_of c.args.running))) (event.Retired c.args.serial)
     (yard_state state mid) (yard_state state old) (yard_state state c.retired.new.self)
-    (c.receipt.ensures.event ∙ ap (λ (n : ℕ). event.Retired n) own)
+    (ap (λ (n : ℕ). event.Retired n) own)
     (spoken_state state g.J.Journal.lists c.args.caller old mid c.speaker.ensures.speaks c.speaker.ensures.same) (c.retired.ensures.step honest)

@@ -1,4 +1,4 @@
-use Rattle.std.proofs.Common.{ℕ, ap, ◌∙◌}
+use Rattle.std.proofs.Common.{ℕ, ap, rules, ◌∙◌}
 use Rattle.child_jobs.specs.Runs.{place_of}
 use Rattle.server_events.specs.declared.event.Event.TheVariants as event
 use Rattle.server_yard.specs.Yards.{number_of, yard_roll, yard_state}
@@ -11,18 +11,18 @@ returns-clause-noted g c =
     let old = c.args.yard.now in
     let mid = c.speaker.new.self in
     let j = g.J.Journal in
-    let own = found_is _ _ (number_of mid c.place.result.now) c.in_ok-serial.serial c.in_ok-serial.was c.allowed.ensures ∙ ap (λ (i : ℕ). number_of mid i) c.place.ensures in
-    notes_from j.told j.count j.stored (event.Started (number_of mid (place_of c.args.running.now))) c.receipt.result.event
+    let own = found_is _ _ (number_of mid c.place.result.now) c.args.serial (search rules) c.allowed.ensures ∙ ap (λ (i : ℕ). number_of mid i) c.place.ensures in
+    notes_from j.told j.count j.stored (event.Started (number_of mid (place_of c.args.running.now))) (event.Started c.args.serial)
     (yard_roll mid) (spoken_by c.args.caller (yard_roll old)) (yard_roll c.started.new.self)
-    (c.receipt.ensures.event ∙ ap (λ (n : ℕ). event.Started n) own) c.speaker.ensures.speaks c.started.ensures.noted
+    (ap (λ (n : ℕ). event.Started n) own) c.speaker.ensures.speaks c.started.ensures.noted
 
 pub returns-clause-step : goal.returns-clause-step
 returns-clause-step g c = λ honest.
     let old = c.args.yard.now in
     let mid = c.speaker.new.self in
     let state = g.D.Dir.state in
-    let own = found_is _ _ (number_of mid c.place.result.now) c.in_ok-serial.serial c.in_ok-serial.was c.allowed.ensures ∙ ap (λ (i : ℕ). number_of mid i) c.place.ensures in
-    leads_from (event.Started (number_of mid (place_of c.args.running.now))) c.receipt.result.event
+    let own = found_is _ _ (number_of mid c.place.result.now) c.args.serial (search rules) c.allowed.ensures ∙ ap (λ (i : ℕ). number_of mid i) c.place.ensures in
+    leads_from (event.Started (number_of mid (place_of c.args.running.now))) (event.Started c.args.serial)
     (yard_state state mid) (yard_state state old) (yard_state state c.started.new.self)
-    (c.receipt.ensures.event ∙ ap (λ (n : ℕ). event.Started n) own)
+    (ap (λ (n : ℕ). event.Started n) own)
     (spoken_state state g.J.Journal.lists c.args.caller old mid c.speaker.ensures.speaks c.speaker.ensures.same) (c.started.ensures.step honest)

@@ -4,12 +4,12 @@ use Rattle.server_events.specs.declared.event.Stage.TheVariants as stage
 use Rattle.server_yard.specs.Passes.{pass_serial}
 use Rattle.server_yard.specs.Yards.{yard_server}
 use Rattle.one_connection.proofs.Standings.{peer_then, stage_then}
-use Rattle.one_connection.proofs.desk.YardDesk.decided.Goals as goal
+use Rattle.one_connection.proofs.yard_desk.YardDeskDesk.decided.Goals as goal
 
 pub returns-clause-decided : goal.returns-clause-decided
 returns-clause-decided g c =
     let before = c.requires.stands in
-    let old = yard_server c.args.self.now in
+    let old = yard_server c.args.self.now.yard in
     let new = yard_server c.decided.new.self in
     let next = stage.Decided c.args.decision.verdict in
     let happens = c.decided.ensures.noted.happens in record {

@@ -9,17 +9,15 @@ use Rattle.server_events.specs.declared.event.Stage.TheVariants as stage
 use Rattle.server_yard.specs.Rolls.{number_at}
 use Rattle.server_yard.specs.Yards.{yard_server}
 use Rattle.one_connection.proofs.Standings.{peer_then, stage_then}
-use Rattle.one_connection.proofs.desk.YardDesk.started.Goals as goal
+use Rattle.one_connection.proofs.yard_desk.YardDeskDesk.started.Goals as goal
 
-pub returns : goal.returns
-returns g c =
+pub returns-clause-started : goal.returns-clause-started
+returns-clause-started g c = λ alone.
     let before = c.requires.stands in
-    let old = yard_server c.args.self.now in
+    let old = yard_server c.args.self.now.yard in
     let new = yard_server c.started.new.self in
     let happens = c.started.ensures.noted.happens ∙ ap (λ (n : ℕ). after old (Started n)) (ap number_at before.seat) in record {
-      started = record {
-        seat = c.started.ensures.seats (place_of c.args.running.now) ∙ before.seat;
-        has_peer = peer_then old new c.args._serial stage.Started c.args._peer.now happens before.has_peer;
-        has_stage = stage_then old new c.args._serial stage.Started (stage.Decided Allow) happens before.has_stage;
-      };
+      seat = c.started.ensures.seats (place_of c.args.running.now) ∙ before.seat;
+      has_peer = peer_then old new c.args._serial stage.Started c.args._peer.now happens before.has_peer;
+      has_stage = stage_then old new c.args._serial stage.Started (stage.Decided Allow) happens before.has_stage;
     }

@@ -1,0 +1,10 @@
+-- Why a program was not started.
+use Rattle.std.specs.Prelude.{◌≡◌}
+use Rattle.rule_lookup.specs.declared.outcome.StartFault.{StartFault}
+use Rattle.stream_tools.specs.declared.process.NotStarted.{NotStarted}
+
+-- what is told of a refusal that there may have been
+pub record RefusesBy (refuses : NotStarted → Type 0) (fault : StartFault) : Type 0 where
+  pub refusal : NotStarted
+  pub refused : refuses refusal
+  pub told : fault ≡ refusal.fault

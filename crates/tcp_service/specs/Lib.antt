@@ -1,0 +1,2 @@
+-- A caller of a site as the desk of one connection.
+pub mod SiteDesks

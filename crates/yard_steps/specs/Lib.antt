@@ -1,0 +1,2 @@
+-- Jobs that run no program.
+pub mod EndedJobs
