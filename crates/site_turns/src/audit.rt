@@ -1,6 +1,6 @@
 //! Receipts against the history.
-ghost use Rattle.std.specs.Prelude.{◌↔◌, ◌<◌, IsTrue, IfErr, OnOk, length};
-ghost use Rattle.event_journals.specs.Full.{full_notes};
+ghost use Rattle.std.specs.Prelude.{◌≡◌, ◌↔◌, ◌<◌, IsTrue, IfErr, OnOk, length};
+ghost use Rattle.event_journals.specs.Full.{full_events, full_notes};
 ghost use Rattle.server_yard.specs.Yards.{yard_roll};
 ghost use Rattle.site_turns.specs.Audits.{AreRight, AreRightBefore, IsAbove, IsFirstWrong, IsRight, Rise, StandsAtItsPlace};
 
@@ -21,6 +21,8 @@ pub struct Mismatch(pub usize);
 /// It takes no memory. For each receipt it goes back in the list to its caller's last one before: at most as many steps as there are
 /// receipts for each caller, and few where each caller's stand together.
 ///
+/// The history is stored as it is counted, so that a number of events that is known, as `Site::close` tells it, is that of the notes.
+///
 /// # Errors
 /// The first receipt that isn't.
 pub fn audit<L: Premises, D: Dir + Drop>(
@@ -29,7 +31,11 @@ pub fn audit<L: Premises, D: Dir + Drop>(
 ) -> Result<(), Mismatch>
     ensures ok { OnOk result (AreRight (full_notes (yard_roll yard.now).journal) receipts.now) }
     ensures wrong { IfErr result (λ m. IsFirstWrong (full_notes (yard_roll yard.now).journal) receipts.now m.0) }
+    ensures counted { full_events (yard_roll yard.now).journal ≡ length (full_notes (yard_roll yard.now).journal) }
 {
+    yard.history();
+    // this tells the proof that they fit into 64 bits
+    let _ = yard.journal().stored();
     for i in 0..receipts.len() {
         if !is_right(yard.journal(), receipts, i) {
             return Err(Mismatch(i));

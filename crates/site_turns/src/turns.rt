@@ -4,6 +4,7 @@
 ghost use Rattle.std.specs.Prelude.{◌≡◌, ◌≢◌, ◌+◌, ◌↔◌, true, false, Err, None, Some, IsTrue, IsSome, IfOk, IfErr, IfNone, IfSome, OnErr, OnSome, SomeIff, Ok, is_some, length, option_map, if◌then◌else◌};
 ghost use Rattle.child_jobs.specs.Runs.{place_of};
 ghost use Rattle.rules_install.specs.Installs.{installing};
+ghost use Rattle.rules_install.specs.Steps.{BlamesDevice, BlamesFault, IsOfDevice};
 ghost use Rattle.rules_install.specs.declared.Phase.TheVariants.{Done};
 ghost use Rattle.rules_install.specs.declared.fault.InstallFault.TheVariants.{Over};
 ghost use Rattle.server_events.specs.ServerState.{is_admitted, is_allowed, is_unstarted, stage_of};
@@ -109,6 +110,8 @@ pub fn open<L: Premises, D: Dir + Drop, J: Journal>(
         (spoken_by caller (yard_roll yard.old)) (yard_roll yard.new)) }
     ensures err_state { IsTrue D.honest
         → OnErr result (yard_state D.state yard.new ≡ yard_state D.state yard.old) }
+    ensures stops { IsTrue D.honest
+        → LeavesNothingElse D.state D.moment D.left_since yard.old yard.new }
     ensures without { yard_rules yard.old ≡ None → yard_directory yard.new ≡ yard_directory yard.old }
     ensures same { IsSameButDirectory J.lists yard.old yard.new }
     ensures seats { KeepsSeats (yard_seat yard.old) (yard_seat yard.new) }
@@ -380,6 +383,10 @@ pub fn install_begin<L: Premises, D: Dir + Drop, J: Journal>(
     ensures lists { J.lists (yard_roll yard.new).journal
         ≡ lists_after_begin result.0 (installing install).rules (J.lists (yard_roll yard.old).journal) }
     ensures back { IfErr result.0 (λ r. HandsBack (installing install) (installing r.0) r.1) }
+    ensures device { IsTrue D.honest → IfErr result.0 (λ r. IsOfDevice (Err r.1)) }
+    ensures blames { IfErr result.0 (λ r.
+        BlamesFault (D.failed (yard_directory yard.old)) (D.failed (yard_directory yard.new)) r.1) }
+    ensures untouched { IsRefusedAs Over result.0 → yard_directory yard.new ≡ yard_directory yard.old }
     ensures seats { KeepsSeats (yard_seat yard.old) (yard_seat yard.new) }
 {
     yard.speaker(caller);
@@ -411,6 +418,9 @@ pub fn install_step<L: Premises, D: Dir + Drop, J: Journal>(
     ensures begun { last_begun yard.new ≡ last_begun yard.old }
     ensures rules { yard_rules yard.new ≡ yard_rules yard.old }
     ensures lists { J.lists (yard_roll yard.new).journal ≡ J.lists (yard_roll yard.old).journal }
+    ensures device { IsTrue D.honest → IsOfDevice result.0 }
+    ensures blames { BlamesDevice (D.failed (yard_directory yard.old)) (D.failed (yard_directory yard.new)) result.0 }
+    ensures untouched { kept_under yard.old number ≡ None → yard_directory yard.new ≡ yard_directory yard.old }
     ensures seats { KeepsSeats (yard_seat yard.old) (yard_seat yard.new) }
 {
     yard.speaker(caller);

@@ -1,6 +1,7 @@
 use Rattle.std.proofs.Common.{◌≡◌, ◌+◌, ℕ, sym, ap, subst, ◌∙◌}
-use Rattle.std.specs.Prelude.{IfOk}
+use Rattle.std.specs.Prelude.{IfErr, IfOk}
 use Rattle.rules_install.specs.Installs.{installing}
+use Rattle.rules_install.specs.Steps.{BlamesFault}
 use Rattle.server_yard.specs.Rolls.{NotesSome, Roll}
 use Rattle.server_yard.specs.Standing.{LeadsSome, Matches, YardState}
 use Rattle.server_yard.specs.Stepping.{begin_event, kept_after_begin, last_begun_after, lists_after_begin}
@@ -71,3 +72,15 @@ pub returns-clause-number : goal.returns-clause-number
 returns-clause-number g c =
     let answer = c.install_begin-answer.result in
     subst (λ (last : ℕ). IfOk answer (λ number. number ≡ last + 1)) c.speaker.ensures.same.begun c.install_begin-answer.ensures.number
+
+pub returns-clause-device : goal.returns-clause-device
+returns-clause-device g c = c.install_begin-answer.ensures.device
+
+pub returns-clause-blames : goal.returns-clause-blames
+returns-clause-blames g c =
+    let failed = g.D.Dir.failed in
+    let new = c.install_begin-answer.new.self in
+    subst (λ d. IfErr c.install_begin-answer.result (λ r. BlamesFault (failed d) (failed (yard_directory new)) r.1)) c.speaker.ensures.same.directory c.install_begin-answer.ensures.blames
+
+pub returns-clause-untouched : goal.returns-clause-untouched
+returns-clause-untouched g c = λ refused. c.install_begin-answer.ensures.untouched refused ∙ c.speaker.ensures.same.directory

@@ -1,6 +1,7 @@
 use Rattle.std.proofs.Common.{◌≡◌, ◌≢◌, ◌↔◌, sym, ap, subst, ◌∙◌}
 use Rattle.std.specs.Prelude.{Err, IfSome, None, Option, Some, if◌then◌else◌, option_map}
 use Rattle.rules_install.specs.Installing.{Installing}
+use Rattle.rules_install.specs.Steps.{BlamesDevice}
 use Rattle.rules_install.specs.declared.fault.InstallFault.TheVariants.{Over}
 use Rattle.server_events.specs.declared.event.Event.{Event}
 use Rattle.server_yard.specs.Rolls.{NotesSome, Roll}
@@ -67,3 +68,17 @@ pub returns-clause-goes : goal.returns-clause-goes
 returns-clause-goes g c =
     let kept = spoken_kept g.J.Journal.lists c.args.yard.now c.speaker.new.self c.args.number c.speaker.ensures.same in
     subst (λ (k : Option Installing). IfSome k (λ s. GoesAsStep s (yard_installing c.install_step-answer.new.self) c.install_step-answer.result)) kept c.install_step-answer.ensures.goes
+
+pub returns-clause-device : goal.returns-clause-device
+returns-clause-device g c = c.install_step-answer.ensures.device
+
+pub returns-clause-blames : goal.returns-clause-blames
+returns-clause-blames g c =
+    let failed = g.D.Dir.failed in
+    let new = c.install_step-answer.new.self in
+    subst (λ d. BlamesDevice (failed d) (failed (yard_directory new)) c.install_step-answer.result) c.speaker.ensures.same.directory c.install_step-answer.ensures.blames
+
+pub returns-clause-untouched : goal.returns-clause-untouched
+returns-clause-untouched g c = λ none.
+    let kept = spoken_kept g.J.Journal.lists c.args.yard.now c.speaker.new.self c.args.number c.speaker.ensures.same in
+    c.install_step-answer.ensures.untouched (kept ∙ none) ∙ c.speaker.ensures.same.directory

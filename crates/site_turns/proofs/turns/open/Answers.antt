@@ -1,10 +1,10 @@
-use Rattle.std.proofs.Common.{refl, ap, subst, ◌∙◌}
+use Rattle.std.proofs.Common.{inr, refl, sym, ap, subst, ◌∙◌}
 use Rattle.std.specs.Prelude.{is_some}
 use Rattle.server_events.specs.Worlds.{missing_by}
 use Rattle.server_events.specs.declared.event.Event.TheVariants as event
 use Rattle.server_yard.specs.Passes.{pass_bytes, pass_file}
-use Rattle.server_yard.specs.Standing.{LeadsOpened, YardState, standing_of}
-use Rattle.server_yard.specs.Yards.{yard_roll, yard_state}
+use Rattle.server_yard.specs.Standing.{LeadsOpened, Matches, YardState, standing_of}
+use Rattle.server_yard.specs.Yards.{yard_directory, yard_roll, yard_state}
 use Rattle.site_turns.specs.Turns.{spoken_by}
 use Rattle.site_turns.proofs.Spoken.{notes_from, same_from, spoken_state}
 use Rattle.site_turns.proofs.turns.open.Goals as goal
@@ -69,3 +69,39 @@ returns-in-Err-clause-seats g c = λ i. c.open.ensures.seats i ∙ c.speaker.ens
 
 pub returns-then-ne-clause-seats : goal.returns-then-ne-clause-seats
 returns-then-ne-clause-seats g c = c.speaker.ensures.seats
+
+pub returns-in-Ok-clause-stops : goal.returns-in-Ok-clause-stops
+returns-in-Ok-clause-stops g c = λ honest files w image at left.
+    let old = c.args.yard.now in
+    let mid = c.speaker.new.self in
+    let dir = g.D.Dir in
+    let same = c.speaker.ensures.same in
+    c.open.ensures.stops honest files w image
+    (subst (λ (s : YardState). Matches s files w) (sym (spoken_state dir.state g.J.Journal.lists c.args.caller old mid c.speaker.ensures.speaks same)) at)
+    (subst (λ (from : _). dir.left_since (yard_directory c.open.new.self) (dir.moment from) image) (sym same.directory) left)
+
+pub returns-in-Err-OutOfMemory-clause-stops : goal.returns-in-Err-OutOfMemory-clause-stops
+returns-in-Err-OutOfMemory-clause-stops g c = λ honest files w image at left.
+    let old = c.args.yard.now in
+    let mid = c.speaker.new.self in
+    let dir = g.D.Dir in
+    let same = c.speaker.ensures.same in
+    c.open.ensures.stops honest files w image
+    (subst (λ (s : YardState). Matches s files w) (sym (spoken_state dir.state g.J.Journal.lists c.args.caller old mid c.speaker.ensures.speaks same)) at)
+    (subst (λ (from : _). dir.left_since (yard_directory c.open.new.self) (dir.moment from) image) (sym same.directory) left)
+
+pub returns-in-Err-clause-stops : goal.returns-in-Err-clause-stops
+returns-in-Err-clause-stops g c = λ honest files w image at left.
+    let old = c.args.yard.now in
+    let mid = c.speaker.new.self in
+    let dir = g.D.Dir in
+    let same = c.speaker.ensures.same in
+    c.open.ensures.stops honest files w image
+    (subst (λ (s : YardState). Matches s files w) (sym (spoken_state dir.state g.J.Journal.lists c.args.caller old mid c.speaker.ensures.speaks same)) at)
+    (subst (λ (from : _). dir.left_since (yard_directory c.open.new.self) (dir.moment from) image) (sym same.directory) left)
+
+pub returns-then-ne-clause-stops : goal.returns-then-ne-clause-stops
+returns-then-ne-clause-stops g c = λ honest files w image at left.
+    let same = c.speaker.ensures.same in
+    let dir = g.D.Dir in
+    inr (g.met.D.Dir.only_now (yard_directory c.speaker.new.self) image honest (subst (λ (from : _). dir.left_since (yard_directory c.speaker.new.self) (dir.moment from) image) (sym same.directory) left))
