@@ -75,9 +75,9 @@ module _ (old new : Lent) (address octets : List ℕ) (line : ℕ) (is : ipv4_in
   elsewhere other differs None other_is = refl
   elsewhere other differs (Some o) other_is =
       let apart_numbers : bytes_eq octets o ≡ false = false_from_ne_true _ (λ same.
-          let one : octets ≡ o = (bytes_eq-Decides octets o).0 same in
-          let both : address ≡ other = same_text address other o (is ∙ ap Some one) other_is in
-          absurd (let yes = (bytes_eq-Decides address other).1 both in cc)) in
+      let one : octets ≡ o = (bytes_eq-Decides octets o).0 same in
+      let both : address ≡ other = same_text address other o (is ∙ ap Some one) other_is in
+      absurd (let yes = (bytes_eq-Decides address other).1 both in cc)) in
       h o ∙ cond-false (bytes_eq octets o) (Some line) (by_octets old.whole o) apart_numbers
 
   pub noted-whole : (other : List ℕ) → line_lent new other ≡ cond (bytes_eq address other) (Some line) (line_lent old other)
