@@ -17,8 +17,8 @@ use event_journals::Journal;
 use rule_lookup::{Decision, DropCause, Peer, StartFault, Status};
 use rules_install::{Install, InstallFault, Phase};
 use server_yard::{AdmitFault, Finding, Pass, Premises, Yard};
-use site_turns::{OutOfTurn, Receipt};
 use site_turns::turns::OpenFault;
+use site_turns::{OutOfTurn, Receipt};
 use std::alloc::{AllocError, Global};
 use std::sync::ledger::{Blank, Share};
 use std::sync::{Condvar, Mutex, Wait};
@@ -191,7 +191,10 @@ impl<L: Premises, N: Callers, D: Dir + Drop, J: Journal> Site<L, N, D, J> {
         ensures asked { IfErr result (λ refusal. refused_event refusal ≡ StartFailed serial fault) }
         ensures refused { OnErr result (IsCountedFor None caller.old caller.new) }
     {
-        let outcome = self.guarded.lock(rt).start_failed(caller, serial, place, fault);
+        let outcome = self
+            .guarded
+            .lock(rt)
+            .start_failed(caller, serial, place, fault);
         self.freed.notify_all();
         outcome
     }

@@ -105,9 +105,17 @@ pub(crate) fn run_child<L: Premises, N: Callers, R: Abort + Wait>(
     receipts: &mut Vec<Receipt>,
 ) {
     let running = start_child(rt, alloc, place);
-    keep(rt, receipts, site.started(rt, caller, serial, &running).ok());
+    keep(
+        rt,
+        receipts,
+        site.started(rt, caller, serial, &running).ok(),
+    );
     let (place, status) = end_child(rt, running);
-    keep(rt, receipts, site.ended(rt, caller, serial, place, status).ok());
+    keep(
+        rt,
+        receipts,
+        site.ended(rt, caller, serial, place, status).ok(),
+    );
 }
 
 /// A peer for a caller: for the first one 1.1.1.1, and so on.

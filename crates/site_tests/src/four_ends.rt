@@ -62,7 +62,11 @@ fn four_by_site<L: Premises, N: Callers, R: Abort + Wait>(
     run_child(rt, alloc, site, caller, served, receipts);
     let (serial, place) = allowed(rt, alloc, site, caller, &peer, receipts);
     let running = start_child(rt, alloc, place);
-    keep(rt, receipts, site.started(rt, caller, serial, &running).ok());
+    keep(
+        rt,
+        receipts,
+        site.started(rt, caller, serial, &running).ok(),
+    );
     keep(rt, receipts, site.retired(rt, caller, serial, running).ok());
 }
 
@@ -166,7 +170,11 @@ fn four_in_turn<L: Premises, R: Abort>(
     let running = start_child(rt, alloc, place);
     keep(rt, receipts, turns::started(yard, 1, serial, &running).ok());
     let (place, status) = end_child(rt, running);
-    keep(rt, receipts, turns::ended(yard, 1, serial, place, status).ok());
+    keep(
+        rt,
+        receipts,
+        turns::ended(yard, 1, serial, place, status).ok(),
+    );
     let (serial, place) = allowed_in_turn(rt, alloc, yard, &peer, receipts);
     let running = start_child(rt, alloc, place);
     keep(rt, receipts, turns::started(yard, 1, serial, &running).ok());

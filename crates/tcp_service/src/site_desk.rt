@@ -166,9 +166,7 @@ where
     #[tactic(auto, using(crate::proofs::Asked::asked_for))]
     fn ended(&mut self, place: Place<L>, serial: u64, status: Status) {
         let mut caller = self.caller.lock(self.rt);
-        let answer = self
-            .site
-            .ended(self.rt, &mut caller, serial, place, status);
+        let answer = self.site.ended(self.rt, &mut caller, serial, place, status);
         self.last = Some(answer);
     }
 
