@@ -151,7 +151,7 @@ impl<'a> Script<'a> {
 }
 
 /// Starts jobs by these scripts, in the order in which they are started, the last for all that follow.
-#[derive(Clone, Copy, Drop)]
+#[derive(Drop)]
 pub struct Scripts<'a, R> {
     pub rt: &'a R,
     pub words: &'a [String],
@@ -209,7 +209,12 @@ impl<'a, R: Clock + Wait> Starter<Silent> for Scripts<'a, R> {
         program: &Program,
         environment: &Environment,
     ) -> Result<ScriptedJob<'a, R>, NotStarted> {
-        Ok((*self).start(alloc, program, environment)?)
+        let scripts = Scripts {
+            rt: self.rt,
+            words: self.words,
+            tally: self.tally,
+        };
+        Ok(scripts.start(alloc, program, environment)?)
     }
 }
 
