@@ -303,8 +303,8 @@ def check_rule_texts(checks):
 
 
 def check_variables(checks):
-    source = read("rules_tools/src/tcprulescheck.rt")
-    asked = set(re.findall(r'read_variable\(\w+, "(\w+)"\)', source))
+    source = read("rules_tools/src/variables.rt")
+    asked = set(re.findall(r'read_variable\(\w+, \w+, "(\w+)"\)', source))
     checks.expect("tcprulescheck: variables", Page("tcprulescheck").variables(), asked)
     asked = set(re.findall(r'variables\.get\("(\w+)"\)', read("stream_tools/src/tools.rt")))
     checks.expect("recordio: variables", Page("recordio").variables(), asked | {"PATH"})
