@@ -87,14 +87,7 @@ class Told:
     """What one client got, and the lines of its connection."""
 
     def __init__(self, server, source, seen):
-        with server.connect(source) as client:
-            peer = client.getsockname()[1]
-            try:
-                client.sendall(b"a\n")
-                client.shutdown(socket.SHUT_WR)
-            except OSError:
-                pass
-            self.answer = read_all(client)
+        peer, self.answer = server.talk(b"a\n", source)
         server.settle(seen)
         self.source = source
         self.lines = server.lines()[seen:]

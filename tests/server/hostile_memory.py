@@ -163,14 +163,7 @@ class Serving:
 
     def ask(self, kind):
         """Asks as a client of this kind: what is amiss, and whether the connection counts."""
-        with self.server.connect(kind.source) as client:
-            peer = client.getsockname()[1]
-            try:
-                client.sendall(b"a\n")
-                client.shutdown(socket.SHUT_WR)
-            except OSError:
-                pass
-            answer = read_all(client)
+        peer, answer = self.server.talk(b"a\n", kind.source)
         self.wait_for_lines()
         self.server.settle(self.seen + self.is_first)
         lines, serial = self.piece(), self.counted + 1

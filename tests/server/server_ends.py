@@ -13,7 +13,7 @@ import time
 import log_events
 from shared import failed_calls, server_runs
 from shared.clients import Pool
-from shared.server_runs import read_all, reset
+from shared.server_runs import free_port, listens, read_all, reset
 
 ROUND = 1000
 
@@ -262,9 +262,7 @@ def failed_threads(suite):
 def missing_descriptors(suite):
     """A server that was started without a standard descriptor: no client gets what is not its own."""
     for closed in ("<&-", "2>&-", "<&- 2>&-"):
-        with socket.socket() as free:
-            free.bind(("127.0.0.1", 0))
-            port = free.getsockname()[1]
+        port = free_port()
         words = suite.command + ["-v"] + server_runs.QUIET + ["127.0.0.1", str(port), "sh", "-c", "echo hi; cat"]
         process = subprocess.Popen(["sh", "-c", 'exec "$0" "$@" ' + closed] + words, stdout=subprocess.DEVNULL, stderr=subprocess.DEVNULL)
         suite.running.append(process)
@@ -276,12 +274,6 @@ def missing_descriptors(suite):
                 suite.expect("a client of a server started with " + closed, read_all(client), b"hi\na\n")
         process.terminate()
         process.wait(server_runs.WAIT)
-
-
-def listens(port):
-    """Whether something listens at this port."""
-    with open("/proc/net/tcp") as file:
-        return any(line.split()[1].endswith(":%04X" % port) and line.split()[3] == "0A" for line in file)
 
 
 def lost_log(suite):

@@ -2,7 +2,6 @@
 import os
 import re
 import signal
-import socket
 import subprocess
 import sys
 import threading
@@ -27,21 +26,10 @@ def one_rule():
     return compiled_files.ONE_RULE_POINTERS + compiled_files.ONE_RULE
 
 
-def talk(server, source="127.0.0.1"):
-    """A client that sends nothing: its port, and what it gets."""
-    with server.connect(source) as client:
-        peer = client.getsockname()[1]
-        try:
-            client.shutdown(socket.SHUT_WR)
-        except OSError:
-            pass
-        return peer, read_all(client)
-
-
 def single(suite, name, options, program, wanted, source="127.0.0.1", code=0, **how):
     """A server of one connection: its log, line by line."""
     with suite.start(["-v", "-c", "1", "-k", "1"] + options, program, **how) as server:
-        peer, _ = talk(server, source)
+        peer, _ = server.talk(source=source)
         ended = server.end()
         lines = [line.format(ip=source, port=server.port, peer=peer) for line in wanted]
         suite.expect(name, (ended, server.lines()), (code, lines))
@@ -99,7 +87,7 @@ def lost_banner(suite):
         os.kill(server.process.pid, signal.SIGSTOP)
         server_runs.reset(server.connect())
         os.kill(server.process.pid, signal.SIGCONT)
-        peer, got = talk(server)
+        peer, got = server.talk()
         suite.expect("the client after a lost banner", got, b"hello\nhi\n")
         ended = server.end()
         lines = COMES + ["drop 1 banner fault", "status: 0/1", "status: 1/1", "pid 2 from {ip}"]
@@ -140,7 +128,7 @@ def retired(suite):
     for level, wanted in (("-v", None), ("-Q", ["retired 1", "retired 2", "no places left"]), ("-q", ["no places left"])):
         with suite.start([level, "-c", "2"], ["sh", "-c", "echo hi; exit 3"], preexec_fn=forget_children) as server:
             for number in (1, 2):
-                suite.expect("client %d of a place to be retired" % number, talk(server)[1], b"hi\n")
+                suite.expect("client %d of a place to be retired" % number, server.talk()[1], b"hi\n")
                 if level == "-v":
                     server.wait_line("retired %d" % number)
             suite.expect("no places left under " + level, server.end(), 111)
@@ -179,10 +167,10 @@ def levels(suite):
     ]
     for options, program, wanted in cases:
         with suite.start(["-k", "1"] + options, program) as server:
-            talk(server)
+            server.talk()
             suite.expect("the log under %r of %r" % (options, program[0]), (server.end(), server.lines()), (0, wanted))
     with suite.start(["-k", "1", "-q", "-v"], ["true"]) as server:
-        talk(server)
+        server.talk()
         suite.expect("-v after -q", (server.end(), len(server.lines())), (0, 6))
     for options, wanted in (([], ["drop 127.0.0.1 address full"]), (["-q"], [])):
         with suite.start(["-k", "2", "-m", "1"] + options, ["sh", "-c", "echo hi; read a"]) as server, server.connect() as first:
@@ -299,7 +287,7 @@ def audits_of_ends(suite):
 def plain_log(suite):
     """The lines that djb's server has too, with its process numbers in place of serials."""
     with suite.start(["-v", "-c", "2", "-l", "a:b", "-R", "-H"], ["sh", "-c", "echo hi"]) as server:
-        peer, got = talk(server)
+        peer, got = server.talk()
         server.idle()
         number = r"\d+"
         forms = ["status: 0/2", "status: 1/2", "pid %s from 127.0.0.1" % number]

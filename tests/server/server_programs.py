@@ -7,10 +7,10 @@ import os
 import pwd
 import re
 import shutil
-import socket
 import subprocess
 
 from shared import server_runs
+from shared.server_runs import free_port
 
 FOLDERS = os.environ.get("PATH", "") + ":/usr/sbin:/sbin"
 # as whom Debian's Exim runs
@@ -148,9 +148,7 @@ def rsync_daemon_by_pipes(suite):
     """`rsync --daemon` that has pipes starts a daemon of its own, which listens outside of the rules."""
     if skipped(suite, "rsync"):
         return
-    with socket.socket() as free:
-        free.bind(("127.0.0.1", 0))
-        port = free.getsockname()[1]
+    port = free_port()
     path, number = config(suite, "rsyncd.conf", RSYNCD, port=port), suite.path("rsync.pid")
     with suite.start(server_runs.QUIET, found("rsync") + ["--daemon", "--config=" + path]) as server:
         suite.expect("rsync --daemon by pipes: its client", server.ask(), b"")

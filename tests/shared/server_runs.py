@@ -133,16 +133,21 @@ class Server:
                 pass
         return socket.socket()
 
-    def ask(self, text=b"", source=None, host=None, hold=0):
-        """Sends a text and, after some seconds, the end of it: what comes back."""
+    def talk(self, text=b"", source=None, host=None, hold=0):
+        """Sends a text and, after some seconds, the end of it: the port of this client, and what comes back."""
         with self.connect(source, host) as connection:
+            port = connection.getsockname()[1]
             time.sleep(hold)
             try:
                 connection.sendall(text)
                 connection.shutdown(socket.SHUT_WR)
             except OSError:
                 pass
-            return read_all(connection)
+            return port, read_all(connection)
+
+    def ask(self, text=b"", **how):
+        """The same: what comes back."""
+        return self.talk(text, **how)[1]
 
     def log(self):
         with open(self.path, "rb") as log:
@@ -302,7 +307,7 @@ class Suite(Checks):
 
     def child(self):
         """The program that counts those that run at once, and a new table for it."""
-        program = self.compiled("server/server_child.c")
+        program = self.compiled("shared/server_child.c")
         table = tempfile.mktemp(prefix="table-", dir=self.folder)
         with open(table, "wb") as file:
             file.truncate(4 * (4 + 2 * 65536))
