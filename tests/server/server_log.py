@@ -129,7 +129,7 @@ def retired(suite):
         with suite.start([level, "-c", "2"], ["sh", "-c", "echo hi; exit 3"], preexec_fn=forget_children) as server:
             for number in (1, 2):
                 suite.expect("client %d of a place to be retired" % number, server.talk()[1], b"hi\n")
-                if level == "-v":
+                if level != "-q":
                     server.wait_line("retired %d" % number)
             suite.expect("no places left under " + level, server.end(), 111)
             lines = [line for line in server.lines() if not line.startswith("ok ")]

@@ -129,7 +129,7 @@ class Server:
         if self.port:
             try:
                 return self.connect()
-            except ConnectionRefusedError:
+            except (ConnectionRefusedError, ConnectionResetError):
                 pass
         return socket.socket()
 
