@@ -45,9 +45,8 @@ def check_files(runs):
             if fault is None:
                 old = cdb([(address, code(verdict, settings)) for address, verdict, settings in rules])
             ended = runs.run(["tcprules", "rules", "rules.tmp"], text, cwd=folder, env={})
-            runs.ended("%r" % text[:300], ended, 0 if fault is None else 100, b"", errors)
-            if content(path) != old:
-                runs.fail("%r: the compiled file differs" % text[:300])
+            got = (ended.returncode, ended.stdout, ended.stderr, "the file" if content(path) == old else "another file")
+            runs.expect("%r" % text[:300], got, (0 if fault is None else 100, b"", errors, "the file"))
 
 
 def letters(number):
