@@ -1,0 +1,167 @@
+"""Lists of events: which may happen and what they come to, by `rulesim`; and by the program yard_probe what `rulesim` cannot say: limits of 0, what
+journals tell and store, and children whose wait fails or that do not start."""
+import os
+import tempfile
+
+from shared import refusals
+from shared.checks import Checks
+from shared.probes import Calls
+
+GROUP = "event_lists"
+
+ADMITTED = ["admitted 1 1.1.1.1"]
+OPENED = ADMITTED + ["opened 1 no"]
+ALLOWED = OPENED + ["decided 1 allow"]
+DENIED = OPENED + ["decided 1 deny"]
+STARTED = ALLOWED + ["started 1"]
+RETIRED = STARTED + ["retired 1"]
+NO_SUMS = "admitted 0 live 0 retired 0 most 0"
+TWO_DENIED = ["admitted 1 1.1.1.1", "admitted 2 1.1.1.1", "opened 1 no", "decided 1 deny", "dropped 1", "opened 2 no", "decided 2 deny"]
+RETIRED_AND_TWO_MORE = RETIRED + ["admitted 2 10.0.0.2", "admitted 3 1.1.1.1"]
+BEGUN_TWICE = ["phase fresh", "phase filling", "phase filling", "phase fresh", "phase filling", "phase synced", "phase named", "phase done"]
+BEGUN_ANEW = ["failed fresh", "failed fresh", "phase fresh", "phase fresh", "phase filling", "phase synced", "failed named", "phase fresh"]
+
+# name, the limits, the events, and what they come to
+LISTS = [
+    ("a retired connection", "1 1", RETIRED, "admitted 1 live 1 retired 1 most 1"),
+    ("a first serial of 2", "1 1", ["admitted 2 1.1.1.1"], "illegal 1"),
+    ("a connection after a stop", "1 1", ["stop", "admitted 1 1.1.1.1"], "admitted 1 live 1 retired 0 most 1"),
+    ("a drop after a failed start", "2 2", ALLOWED + ["startfailed 1", "dropped 1"], "illegal 5"),
+    ("a failed start", "2 2", ALLOWED + ["startfailed 1"], "admitted 1 live 0 retired 0 most 1"),
+    ("a start after a denial", "2 2", TWO_DENIED + ["started 2"], "illegal 8"),
+    ("a denial that is not dropped", "2 2", TWO_DENIED, "admitted 2 live 1 retired 0 most 2"),
+    ("a drop before the opening", "1 1", ADMITTED + ["dropped 1", "admitted 2 1.1.1.1"], "admitted 2 live 1 retired 0 most 1"),
+    ("a drop after the opening", "1 1", OPENED + ["dropped 1", "admitted 2 1.1.1.1"], "admitted 2 live 1 retired 0 most 1"),
+    ("a drop after the decision", "1 1", ALLOWED + ["dropped 1", "admitted 2 1.1.1.1"], "admitted 2 live 1 retired 0 most 1"),
+    ("an installation that goes on after its end", "1 1", BEGUN_TWICE + ["phase filling"], "illegal 9"),
+    ("an installation that begins twice", "1 1", BEGUN_TWICE, NO_SUMS),
+    ("installations that fail and begin anew", "1 1", BEGUN_ANEW, NO_SUMS),
+    ("a limit per address of 1, with a retired one", "9 1", RETIRED_AND_TWO_MORE, "illegal 7"),
+    ("a limit of 2, with a retired one", "2 9", RETIRED_AND_TWO_MORE, "illegal 7"),
+    ("a limit per address of 2, with a retired one", "9 2", RETIRED_AND_TWO_MORE, "admitted 3 live 3 retired 1 most 3"),
+]
+
+# what happened before, the limits, and each event that may not happen then
+OUT_OF_TURN = [
+    ("nothing", "9 9", [], ["opened 1 no", "ended 1 0", "dropped 1", "admitted 0 1.1.1.1", "admitted 2 1.1.1.1"]),
+    ("an admission", "9 9", ADMITTED, ["decided 1 allow", "started 1", "retired 1", "admitted 1 1.1.1.1"]),
+    ("an opening", "9 9", OPENED, ["opened 1 no", "started 1", "startfailed 1", "opened 2 no"]),
+    ("a decision that allows", "9 9", ALLOWED, ["opened 1 no", "decided 1 allow", "ended 1 0", "retired 1"]),
+    ("a decision that denies", "9 9", DENIED, ["started 1", "startfailed 1", "ended 1 0"]),
+    ("a start", "9 9", STARTED, ["dropped 1", "started 1", "startfailed 1", "opened 1 no"]),
+    ("a retirement", "9 9", RETIRED, ["ended 1 0", "retired 1", "dropped 1", "started 1"]),
+    ("no installation", "1 1", [], ["phase filling", "failed filling"]),
+    ("a fresh file", "1 1", ["phase fresh"], ["failed synced"]),
+    ("a filled file", "1 1", ["phase fresh", "phase filling"], ["phase named"]),
+    ("a file that is synced", "1 1", ["phase fresh", "phase filling", "phase synced"], ["phase done", "phase filling"]),
+    ("a stop during an installation", "1 1", ["phase fresh", "stop"], ["phase filling"]),
+    ("a fresh file that failed", "1 1", ["phase fresh", "failed fresh"], ["phase filling"]),
+]
+
+# the limits, the events, and the answer of the probe, which tells a fault in its own words
+REPLAYS = [
+    ("0 9", ADMITTED, "illegal event 1"),
+    ("9 0", ADMITTED, "illegal event 1"),
+    ("1 1", RETIRED + ["admitted 2 1.1.1.1"], "illegal event 6"),
+]
+
+CONNECTIONS = 1000
+CALLERS = 3
+# every fifth connection is retired, and the last one is let in beside all of those; of five connections the events are 3, 4, 5, 5 and 4
+REPORT = "admitted 1000 live 200 retired 200 most 201"
+EVENTS = 4200
+AFTER_A_STOP = "admitted 1000 live 0 retired 0 most 201, 4201 events"
+# of the connections 1 and 2, which have four events and five, the fifth and the ninth event
+FIFTH, NINTH = "caller 2: admitted 2 10.0.2.1", "caller 3: ended 2 3"
+
+# a place; that of its child, whose pipe ends are asked for and which is killed twice; each wait; and the place that is given back
+JOBS = [
+    (
+        "a wait that fails once",
+        ["job", "1"],
+        ["place 0", "place 0, no ends true, kills Ok(()) Err(Failed)", "Failed, place 0, live 1", "Code(7)", "place 0, live 0"],
+    ),
+    ("a program that does not start", ["no_job", "1"], ["place 0", "Refused", "place 0, live 0"]),
+]
+
+
+def lines(texts):
+    return "".join(text + "\n" for text in texts).encode()
+
+
+def script(limits, events):
+    """A script of `rulesim` that replays these events."""
+    return lines(["events " + limits] + ["event " + event for event in events] + ["replay"])
+
+
+def connection(serial):
+    """The events of a connection, which ends in one of five ways."""
+    front = ["admitted %d 10.0.%d.1" % (serial, serial % 7), "opened %d %s" % (serial, "no" if serial % 2 else "yes")]
+    ends = {
+        0: ["dropped %d"],
+        1: ["decided %d allow", "startfailed %d"],
+        2: ["decided %d allow", "started %d", "ended %d 3"],
+        3: ["decided %d allow", "started %d", "retired %d"],
+        4: ["decided %d deny", "dropped %d"],
+    }
+    return front + [end % serial for end in ends[serial % 5]]
+
+
+def all_events():
+    """The events of a thousand connections, one connection after the other."""
+    return [event for serial in range(1, CONNECTIONS + 1) for event in connection(serial)]
+
+
+def check_lists(program, failures):
+    """What lists of events come to, by `rulesim`."""
+    rulesim = Calls(program, GROUP, failures)
+    for name, limits, events, answer in LISTS:
+        rulesim.call(name, ["rulesim"], script(limits, events), lines([answer]))
+    for name, limits, before, wrong in OUT_OF_TURN:
+        for event in wrong:
+            answer = "illegal %d" % (len(before) + 1)
+            rulesim.call("%s after %s" % (event, name), ["rulesim"], script(limits, before + [event]), lines([answer]))
+    rulesim.call("a thousand connections", ["rulesim"], script(str(CONNECTIONS), all_events()), lines([REPORT]))
+    return rulesim.tests
+
+
+def check_calls(probe, failures):
+    """What the probe tells of lists, journals and jobs."""
+    calls = Calls(probe, GROUP, failures)
+    as_script = lambda events: lines("event " + event for event in events)
+    for limits, events, answer in REPLAYS:
+        calls.call("%d events under the limits %s" % (len(events), limits), ["replay"] + limits.split(), as_script(events), lines([answer]))
+    for name, words, answers in JOBS:
+        calls.call(name, words, b"", lines(answers))
+    events = all_events()
+    report = "%s, %d events" % (REPORT, EVENTS)
+    calls.call("a journal that counts", ["count_events", str(CALLERS)], as_script(events), lines([report]))
+    calls.call("a stop ends all", ["count_events", str(CALLERS)], as_script(events + ["stop"]), lines([AFTER_A_STOP]))
+    noted = ["caller %d: %s" % (at % CALLERS + 1, event) for at, event in enumerate(events)]
+    if (noted[4], noted[8], len(noted)) != (FIFTH, NINTH, EVENTS):
+        calls.fail("the events of a thousand connections", (len(noted), noted[:9]))
+    # at the places before the first and after the last there is none
+    calls.call("a journal that stores", ["store_events", str(CALLERS)], as_script(events), lines([report, "none"] + noted + ["none"]))
+    return calls.tests
+
+
+def check_memory(probe, failures):
+    """Each request for memory refused in turn: a replay that meets it tells so, where the probe itself does it ends without an answer, or else the
+    answer is that with ample memory."""
+    words, given, ample = ["replay", "1", "1"], lines("event " + event for event in ADMITTED), b"admitted 1 live 1 retired 0 most 1, 1 events\n"
+    checks, told = Checks(GROUP, failures), []
+    with tempfile.TemporaryDirectory() as folder:
+        requests = refusals.Requests(folder)
+        for request, variables in requests.each():
+            outcome = refusals.run([probe] + words, folder, given, dict(os.environ, **variables))
+            allowed = [(0, ample, b"")] + ([(0, b"out of memory\n", b""), (1, b"", b"")] if requests.is_refused() else [])
+            checks.holds("a replay, request %d refused" % request, outcome in allowed, outcome)
+            told.append(outcome[1])
+    if b"out of memory\n" not in told:
+        checks.fail("no replay was out of memory")
+    return checks.tests
+
+
+def check(probe, program, failures):
+    """Runs all cases, and answers how many they were."""
+    return check_lists(program, failures) + check_calls(probe, failures) + check_memory(probe, failures)

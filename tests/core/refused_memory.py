@@ -1,0 +1,70 @@
+"""Runs the program with one request for memory refused: the first, then the second, until a run meets no refusal.
+
+Each run has to end as one with ample memory does, or with `out of memory` and exit code 111, after answers that are a front of the ample run's; and a
+rules file is the new one where the run succeeded, else the old one. Beside it calls that no tool reaches, by the benchmarks that make them.
+"""
+import os
+import tempfile
+
+from shared import refusals
+from shared.checks import Checks
+from shared.refusals import NEW, OLD, SCRIPTS, STREAM, Nothing, Refusals
+
+GROUP = "refused_memory"
+
+
+class RulesFile:
+    """A folder with the old rules file, where a run that succeeded leaves the new one, and any other the old one."""
+
+    def __init__(self, refused):
+        self.refused = refused
+        self.new = self.file(refused.install("new", NEW))
+        self.old = self.file(refused.install("old", OLD))
+        self.path = os.path.join(refused.folder, "old")
+
+    @staticmethod
+    def file(folder):
+        with open(os.path.join(folder, "rules"), "rb") as file:
+            return file.read()
+
+    def folder(self):
+        with open(os.path.join(self.path, "rules"), "wb") as file:
+            file.write(self.old)
+        return self.path
+
+    def is_right(self, is_ample):
+        return self.file(self.path) == (self.new if is_ample else self.old)
+
+
+def check_tools(program, failures):
+    """Each tool, with each of its requests refused."""
+    with tempfile.TemporaryDirectory() as folder:
+        refused = Refusals(GROUP, failures, program, folder)
+        for name, script in SCRIPTS.items():
+            refused.each(name, ["rulesim"], script, Nothing(folder))
+        refused.each("an installation", ["tcprules", "rules", "tmp"], NEW, RulesFile(refused))
+        asked = Nothing(refused.install("asked", NEW))
+        refused.each("a question", ["tcprulescheck", "rules"], b"", asked)
+        refused.each("addcr", ["addcr"], STREAM, Nothing(folder))
+        refused.each("delcr", ["delcr"], STREAM, Nothing(folder))
+        refused.each_of_streams("fixcrio", ["fixcrio", "cat"], STREAM)
+        refused.each_of_streams("recordio", ["recordio", "cat"], STREAM)
+        return refused.tests
+
+
+def check_calls(bench, failures):
+    """Calls that no tool reaches: want of memory ends each of them, and nothing is printed."""
+    checks = Checks(GROUP, failures)
+    with tempfile.TemporaryDirectory() as folder:
+        requests = refusals.Requests(folder)
+        for words in (["maker", "40"], ["journals", "40"], ["replay", "40"], ["hosts", "20"]):
+            for request, variables in requests.each():
+                code, output, errors = refusals.run([bench] + words, folder, b"", variables)
+                wanted = (1, True) if requests.is_refused() else (0, False)
+                checks.holds("%s, request %d refused" % (words[0], request), (code, output == b"") == wanted, (code, output, errors))
+    return checks.tests
+
+
+def check(program, bench, failures):
+    """How many runs there were."""
+    return check_tools(program, failures) + check_calls(bench, failures)

@@ -1,0 +1,127 @@
+"""A server of connections and jobs that answer as they are told to, such jobs between two pumps, and the lines of the log, by the program
+service_probe."""
+from shared import probes
+
+# before the first connection, of its admission, and of its decision
+FIRST = b"""tcpserver: status: 0/1
+tcpserver: status: 1/1
+tcpserver: pid 1 from 127.0.0.1
+tcpserver: ok 1 :127.0.0.1:25 :127.0.0.1::1024
+"""
+ENDED_WITH_7 = b"tcpserver: end 1 status 7\ntcpserver: status: 0/1\n"
+RETIRED = b"tcpserver: retired 1\ntcpserver: status: 1/1\n"
+NO_ENDS = b"tcpserver: start 1 no pipe ends\n"
+# a limit of one, no connection that finds no memory, one that comes, and one that is let in
+ONE = ["1", "0", "1", "1"]
+
+# name, what is asked of the server, the scripts of its jobs, how it ended, and the log behind its first lines
+CASES = [
+    ("a child that ends is told with its status", ONE, ["ek=7"], "Count, 0 alive, 0 kills", ENDED_WITH_7),
+    ("a child that cannot be waited for keeps its place", ONE, ["ek"], "Count, 1 alive, 2 kills", RETIRED),
+    ("a server whose places are all retired ends", ["1", "0", "2", "2"], ["ek"], "NoPlaces, 1 alive, 2 kills", RETIRED),
+    ("a program that is not found", ONE, ["n"], "Count, 0 alive, 0 kills", b"tcpserver: start 1 not found\ntcpserver: status: 0/1\n"),
+    (
+        "a child without pipe ends is killed and waited for",
+        ONE,
+        ["k=s"],
+        "Count, 0 alive, 1 kills",
+        NO_ENDS + b"tcpserver: end 1 status signal\ntcpserver: status: 0/1\n",
+    ),
+    ("a child without pipe ends gets three kills", ONE, ["k"], "Count, 1 alive, 3 kills", NO_ENDS + RETIRED),
+    ("a child whose third wait answers", ONE, ["ek=fm7"], "Count, 0 alive, 2 kills", ENDED_WITH_7),
+    ("a kill that fails changes nothing", ONE, ["e=fm7"], "Count, 0 alive, 2 kills", ENDED_WITH_7),
+]
+
+# a program between two pumps that put carriage returns where they are missing: the call, the scripts, and how it ended
+PUMPED = 'given "down\\r\\n.\\r\\n"\nwritten "up\\r\\nend"\n'
+NOT_PUMPED = 'given ""\nwritten ""\n'
+PROGRAMS = [
+    ("a program is pumped both ways and waited for once", "between", "ek=3", "Ok(Code(3)), 0 kills, 1 waits\n" + PUMPED),
+    ("a program that is not found", "between", "n", "Err(CannotStart), 0 kills, 0 waits\n" + NOT_PUMPED),
+    ("a program that is refused", "between", "r", "Err(CannotStart), 0 kills, 0 waits\n" + NOT_PUMPED),
+    ("a program that can't be started", "between", "o", "Err(CannotStart), 0 kills, 0 waits\n" + NOT_PUMPED),
+    ("a program that finds no memory", "between", "m", "Err(OutOfMemory), 0 kills, 0 waits\n" + NOT_PUMPED),
+    ("a wait that fails is not made again", "between", "ek=f3", "Err(Device), 0 kills, 1 waits\n" + PUMPED),
+    ("a wait without memory is not made again", "between", "ek=m3", "Err(OutOfMemory), 0 kills, 1 waits\n" + PUMPED),
+    ("a program without pipe ends", "between", "k=s", "Err(CannotStart), 1 kills, 1 waits\n" + NOT_PUMPED),
+    ("one whose kill fails", "between", "=0", "Err(CannotStart), 1 kills, 1 waits\n" + NOT_PUMPED),
+    ("one whose kill and wait fail", "between", "x=f", "Err(CannotStart), 1 kills, 1 waits\n" + NOT_PUMPED),
+    ("a program whose input gets no thread", "unserved", "ek=s", "Err(CannotStart), 1 kills, 1 waits\n"),
+    ("one without a thread whose kill fails", "unserved", "e=0", "Err(CannotStart), 1 kills, 1 waits\n"),
+    ("one without a thread whose kill and wait fail", "unserved", "ex=f", "Err(CannotStart), 1 kills, 1 waits\n"),
+    ("a program that was served", "served", "ek=3", "Ok(Code(3)), 0 kills, 1 waits\n"),
+]
+
+# the lines of errors, and of them alone
+ERRORS = b"""tcpserver: start 2 not found
+tcpserver: start 3 no pipe ends
+tcpserver: retired 4
+tcpserver: drop 5 directory fault
+tcpserver: drop 10.0.2.7 address full
+tcpserver: out of memory
+"""
+
+# all lines
+ALL = b"""tcpserver: rules by name, and no names
+tcpserver: status: 0/40
+tcpserver: status: 1/40
+tcpserver: pid 1 from 10.0.2.7
+tcpserver: ok 1 mail.example:10.0.0.1:25 relay.example:10.0.2.7::41190
+tcpserver: end 1 status 0
+tcpserver: status: 0/40
+tcpserver: start 2 not found
+tcpserver: cause: smtpd: No such file or directory
+tcpserver: status: 3/40
+tcpserver: start 3 no pipe ends
+tcpserver: retired 4
+tcpserver: status: 2/40
+tcpserver: drop 5 directory fault
+tcpserver: cause: rules.cdb: Permission denied
+tcpserver: status: 1/40
+tcpserver: status: 0/40
+tcpserver: drop 10.0.2.7 address full
+tcpserver: out of memory
+"""
+
+
+def serve(program, asked, scripts):
+    """How a server ends, and its log."""
+    code, printed = probes.run([program, "serve"] + asked + scripts)
+    end, _, log = printed.partition(b"\n")
+    return code, end, log
+
+
+def check_longer(program, calls):
+    """Servers of several connections, of whose log only a part is the same each time."""
+    code, end, log = serve(program, ["2", "0", "2", "2"], ["ek=a"])
+    calls.holds("two children live at once", (code, end) == (0, b"Count, 0 alive, 0 kills"), (code, end))
+    for line in (b"tcpserver: end 1 status 0\n", b"tcpserver: end 2 status 0\n"):
+        calls.holds("two children live at once, and end", line in log, log)
+    code, end, log = serve(program, ["2", "0", "4", "4"], ["ek", "ek=7"])
+    calls.holds("one place is retired and the other serves on", (code, end) == (0, b"Count, 1 alive, 2 kills"), (code, end))
+    calls.holds("two places at first", log.startswith(b"tcpserver: status: 0/2\n"), log)
+    calls.holds("and one of them taken for good", log.endswith(b"tcpserver: status: 1/2\n"), log)
+    code, end, log = serve(program, ["1", "0", "3", "-"], ["ek=7"])
+    calls.holds("a hundred faults of accepting end a server", (code, end) == (0, b"AcceptFaults, 0 alive, 0 kills"), (code, end))
+    calls.holds("after the last connection", log.endswith(b"tcpserver: end 3 status 7\ntcpserver: status: 0/1\n"), log)
+
+
+def check_logs(program, calls):
+    """The lines of each event at each level."""
+    for level, lines in (("all", ALL), ("errors", ERRORS), ("quiet", b"")):
+        calls.call("each event at level " + level, ["log", level, "2000"], b"", b"taken\n" + lines)
+    calls.call("a line that is not taken is told", ["log", "errors", "10"], b"", b"not taken\ntcpserver:")
+
+
+def check(program, failures):
+    calls = probes.Calls(program, "service_calls", failures)
+    for name, asked, scripts, end, log in CASES:
+        calls.call(name, ["serve"] + asked + scripts, b"", end.encode() + b"\n" + FIRST + log)
+    lost = b"tcpserver: status: 0/1\n" + b"tcpserver: out of memory\n" * 150 + FIRST.partition(b"\n")[2] + ENDED_WITH_7
+    words = ["serve", "1", "150", "1", "1", "ek=7"]
+    calls.call("connections that find no memory are told and end no server", words, b"", b"Count, 0 alive, 0 kills\n" + lost)
+    for name, call, script, answer in PROGRAMS:
+        calls.call(name, [call, script], b"", answer.encode())
+    check_longer(program, calls)
+    check_logs(program, calls)
+    return calls.tests

@@ -1,0 +1,1 @@
+"""Files and folders: installations, failing devices, kills and crashes."""

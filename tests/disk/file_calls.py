@@ -1,0 +1,233 @@
+"""Calls that write compiled files, look keys up in them and install rules in a directory in memory, by the program call_probe. Files are compared
+byte for byte with worked ones, and with those of a plain writer."""
+import struct
+
+from core import yard_calls
+from shared import compiled_files, plain_texts, probes
+
+# a limit that no file here reaches
+NO_LIMIT = "4294967295"
+LARGE = "compiled file too large\n"
+DENY_PAIR = b"\tD\0\n"
+# the keys "4." and "6l" have one hash
+TWO_PAIRS = b"4.\tD\0\n6l\t\n"
+TABLE = bytes.fromhex("0000000000000000 0515000000080000")
+MANY = 3000
+MANY_KEYS = 2000
+ALLOW = b":allow\n"
+DENY = b":deny\n"
+NO_FILE = b"no file"
+# how many calls of a directory an installation of one rule makes
+CALLS = len(yard_calls.PHASES)
+DEVICE = b"device fault"
+OVER = b"the installation is over"
+HASHES = [("", 5381), ("a", 177604), ("10.3", 2085879289), ("4.", 5859231), ("6l", 5859231)]
+# each is installed in its turn over the one before
+TEXTS = [
+    b"nothing here\n",
+    b"1.2.3.37-53:allow\n:deny\n",
+    b"10.2-3.:deny\n10.3.0.1:allow\n",
+    b"1.2.3.5-:deny\n1.2.3.-2:deny\n1.2.3.254-999:deny\n1.2.3.07-8:deny\n=My-Host:deny\n",
+    b"joe@127.0.0.1:allow,R=\"1\"\n18.23.0.32:allow,R=\"2\"\n127.:allow,R=\"3\"\n:allow,R=\"4\"\n",
+    b":allow,RELAYCLIENT=\"\"\n1.:allow,A=/x,y/,B=|\"|\n",
+    b"",
+    DENY,
+    b"4.:deny\n6l:allow\n",
+    b"4.:deny\n4.:allow\n",
+    b"10.3.0.1:allow\n10.:deny\n",
+    b":allow,T=\"1\"\n",
+    b":allow,T=\"2\"\n",
+    ALLOW,
+]
+
+
+def pointers(*runs):
+    """The pointers of a file, so many of each: a count, a place and a number of slots."""
+    return b"".join(struct.pack("<II", place, slots) * count for count, place, slots in runs)
+
+
+def one_rule(slots):
+    """The key "" with the value "D\\0", and a table with so many slots by its pointer."""
+    rest = b"\x00\x00\x00\x00\x02\x00\x00\x00D\x00\x00\x00\x00\x00\x00\x00\x00\x00\x05\x15\x00\x00\x00\x08\x00\x00"
+    return pointers((5, 2058, 0), (1, 2058, slots), (250, 2074, 0)) + rest
+
+
+def one_slot(number, place):
+    """No record, and one slot, in the table of the key ""."""
+    return pointers((5, 0, 0), (1, 2048, 1), (250, 0, 0)) + struct.pack("<II", number, place)
+
+
+EMPTY = pointers((256, 2048, 0))
+ONE_RULE = one_rule(2)
+# the keys "4." and "6l" in one table of four slots, where the search for both begins at the last
+TWO_KEYS = (
+    pointers((159, 2070, 0), (1, 2070, 4), (96, 2102, 0))
+    + b"\x02\x00\x00\x00\x02\x00\x00\x004.D\x00\x02\x00\x00\x00\x00\x00\x00\x006l"
+    + bytes.fromhex("9f675900 0c080000") + bytes(16) + bytes.fromhex("9f675900 00080000")
+)
+
+
+def check_pieces(calls):
+    """Hashes, and the pieces of files."""
+    for key, number in HASHES:
+        calls.call("the hash of %r" % key, ["hash", key], b"", b"%d\n" % number)
+    calls.call("a record", ["record", ""], b"D\0", bytes.fromhex("00000000 02000000 4400"))
+    calls.call("a table of one record", ["table", "2048", "5381"], b"", TABLE)
+    calls.call("a table of none", ["table"], b"", b"")
+    calls.call("a header", ["header", "2048", "0"], b"", EMPTY)
+
+
+def check_pairs(calls):
+    """Files of pairs, and pairs for which a file has no room."""
+    for limit in (0, 2047, 2048, 2 ** 64 - 1):
+        calls.call("no pairs under a limit of %d" % limit, ["pairs", str(limit)], b"", EMPTY)
+    calls.call("one pair", ["pairs", NO_LIMIT], DENY_PAIR, ONE_RULE)
+    calls.call("two pairs of one hash", ["pairs", NO_LIMIT], TWO_PAIRS, TWO_KEYS)
+    calls.call("a pair over the limit", ["pairs", "2073"], DENY_PAIR, LARGE.encode() + EMPTY)
+    calls.call("a second pair over the limit", ["pairs", "2074"], DENY_PAIR + b"\t\n", LARGE.encode() + ONE_RULE)
+
+
+def first_value(file, key):
+    """The first value of a key, as the cdb page says how to look for it."""
+    number = 5381
+    for byte in key:
+        number = (number * 33 % 2 ** 32) ^ byte
+    table, slots = struct.unpack_from("<II", file, 8 * (number % 256))
+    for step in range(slots):
+        found, place = struct.unpack_from("<II", file, table + 8 * ((number // 256 + step) % slots))
+        if place == 0:
+            return None
+        if found == number:
+            key_length, value_length = struct.unpack_from("<II", file, place)
+            record = file[place + 8:place + 8 + key_length + value_length]
+            if record[:key_length] == key:
+                return record[key_length:]
+    return None
+
+
+def check_many_pairs(calls):
+    """Each first pair of many is found, and nothing else."""
+    pairs = [(b"key %d" % (number % MANY_KEYS), b"value %d" % number) for number in range(MANY)]
+    given = b"".join(key + b"\t" + value + b"\n" for key, value in pairs)
+    code, file = probes.run([calls.program, "file", "pairs", "1000000"], given)
+    wanted = [(key, value) for key, value in pairs[:MANY_KEYS]] + [(b"key %d" % MANY_KEYS, None), (b"", None)]
+    differing = [key for key, value in wanted if first_value(file, key) != value] if code == 0 else ["exit %d" % code]
+    calls.expect("many pairs: keys that are found otherwise", differing[:10], [])
+    calls.holds("many pairs: the file is that of a plain writer", file == compiled_files.cdb(pairs))
+
+
+def check_found(calls):
+    """What is found in worked files, in damaged ones, and by reads of a byte at a time."""
+    cases = [
+        ("one rule", ONE_RULE, "", b"value D\0"),
+        ("a key that one rule hasn't", ONE_RULE, "a", b"none"),
+        ("a pointer to more slots than there are", one_rule(3), "", b"damaged"),
+        ("the second key of one hash", TWO_KEYS, "6l", b"value "),
+        ("the first key of one hash", TWO_KEYS, "4.", b"value D\0"),
+        ("a key that two keys aren't", TWO_KEYS, "zz", b"none"),
+        ("a slot of another hash", one_slot(7, 2048), "", b"none"),
+        ("a slot whose record has another key", one_slot(5381, 2048), "", b"none"),
+        ("a slot whose record is cut", one_slot(5381, 2050), "", b"damaged"),
+        ("a slot whose record is a pointer", one_slot(5381, 8), "", b"value "),
+    ]
+    for name, file, key, wanted in cases:
+        calls.call(name, ["find", key, NO_LIMIT, "0"], file, wanted + b"\n")
+    for name, file, key, wanted in cases[:2] + cases[3:6]:
+        calls.call(name + ", a byte at a time", ["find", key, "1", "0"], file, wanted + b"\n")
+    calls.call("reads that give nothing", ["find", "", "0", "0"], ONE_RULE, b"damaged\n")
+    calls.call("reads of a look-up", ["reads", ""], ONE_RULE, b"4 reads of 26 bytes\n")
+    for read in range(1, 5):
+        calls.call("read %d fails" % read, ["find", "", NO_LIMIT, str(read)], ONE_RULE, b"device fault\n")
+
+
+def check_cut(calls):
+    """What is found in a file that is cut at each length: under a key that it has, and under one that it hasn't."""
+    cuts = len(ONE_RULE)
+    calls.call("a cut file's key", ["cuts", ""], ONE_RULE, b"damaged\n" * cuts)
+    calls.call("another key", ["cuts", "a"], ONE_RULE, b"damaged\n" * 2048 + b"none\n" * (cuts - 2048))
+
+
+def file_of(text):
+    """The compiled file of a text, by the plain reader of texts and the plain writer of files."""
+    rules, _ = plain_texts.rules_in(text)
+    return compiled_files.cdb([(address, plain_texts.code(verdict, settings)) for address, verdict, settings in rules])
+
+
+FILE_NAMES = {file_of(text): b"the file of " + text.strip() for text in (ALLOW, DENY)}
+
+
+def stands(call, renamed):
+    """What stops leave after so many calls of an installation of `:deny` over `:allow`: one that takes all changes of names, one that takes none,
+    and one that takes all but the last. Where a rename was made before and not settled, all but the last have it as soon as a call was made."""
+    kept = renamed or call >= yard_calls.NAMED
+    settled = call >= CALLS
+    return [file_of(DENY if is_new else ALLOW) for is_new in (kept, settled, settled or (renamed and call > 0))]
+
+
+def steps(fails, renamed=False):
+    """The answers of all steps of an installation of `:deny` over `:allow` and of one step more, where call number `fails` fails."""
+    lines = [b"not stepped"]
+    for call, phase in enumerate(yard_calls.PHASES, 1):
+        if call == fails:
+            lines += [DEVICE + b" at " + phase.encode()] + stands(call - 1, renamed) + [OVER] + stands(call - 1, renamed)
+            return lines + [b"stepped"]
+        lines += [phase.encode()] + stands(call, renamed)
+    return lines + [b"done"] + stands(CALLS, renamed) + [b"stepped"]
+
+
+def check_steps(calls):
+    """An installation whose calls fail in turn, what stands then, and a second one, which comes to its end."""
+    start = ["whole", ALLOW.decode(), "steps", DENY.decode()]
+    standing = ["show", "rules", "left", "kept", "left", "empty", "left", "junk"]
+    yield "eight calls of a directory", 0, start + ["show", "rules"], [b"installed"] + steps(0) + [file_of(DENY)]
+    for call in range(1, CALLS + 1):
+        kept = file_of(DENY if call == CALLS else ALLOW)
+        wanted = [b"installed"] + steps(call) + [kept, kept, file_of(ALLOW), file_of(ALLOW)] + steps(0, call == CALLS) + [file_of(DENY)]
+        words = start + standing + ["steps", DENY.decode(), "left", "empty"]
+        yield "call %d of a directory fails" % call, CALLS + call, words, wanted
+    wanted = [b"installed"] + steps(0) + [file_of(DENY), DEVICE]
+    yield "the call after the last fails", 2 * CALLS + 1, start + ["left", "empty", "show", "rules"], wanted
+
+
+def folder_cases():
+    """Name, which call fails, the commands, and the lines that are wanted."""
+    fault = DEVICE + b" at fresh"
+    yield "a device that fails at once", 1, ["whole", DENY.decode()], [fault]
+    wanted = [b"not stepped", fault] + [NO_FILE] * 3 + [OVER] + [NO_FILE] * 3 + [b"stepped", b"failures 1"]
+    yield "a step of a device that fails at once", 1, ["steps", DENY.decode(), "failures"], wanted
+    # 2,048 bytes of pointers, and 24 and the code `D` NUL for a rule without an address
+    words = ["limited", "2073", DENY.decode(), "show", "rules", "show", "tmp", "limited", "2074", DENY.decode(), "show", "rules"]
+    yield "a file over its limit", 0, words, [LARGE.strip().encode(), NO_FILE, NO_FILE, b"installed", file_of(DENY)]
+    words, wanted = [], []
+    for text in TEXTS:
+        words += ["whole", text.decode(), "show", "rules", "left", "empty"]
+        wanted += [b"installed", file_of(text), file_of(text)]
+    yield "installed files", 0, words, wanted
+    words = ["whole", ":deny\n1.2.3.4:allowed\n", "show", "tmp"]
+    yield "a text that is not accepted", 0, words, [b"line 2: bad setting", NO_FILE]
+
+
+def named(output):
+    """What was written, with the names of the two files in the place of their bytes."""
+    for file, name in FILE_NAMES.items():
+        output = output.replace(file, name)
+    return output
+
+
+def check_folders(calls):
+    """Installations over a directory in memory."""
+    for cases in (folder_cases(), check_steps(calls)):
+        for name, call, words, lines in cases:
+            code, printed = probes.run([calls.program, "file", "folder", str(call)] + words)
+            calls.expect(name, (code, named(printed)), (0, named(b"".join(line + b"\n" for line in lines))))
+
+
+def check(program, failures):
+    """Counts the cases, and adds a line to the failures for each that prints otherwise."""
+    calls = probes.Calls(program, "file_calls", failures, "file")
+    for part in (check_pieces, check_pairs, check_many_pairs, check_found, check_cut, check_folders):
+        part(calls)
+    same = "the rules file and the scratch file have one name\n"
+    calls.call("one name", ["names", "a", "a"], b"", same.encode())
+    calls.call("names that differ in case", ["names", "a", "A"], b"", b"a A\n")
+    return calls.tests

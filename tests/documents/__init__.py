@@ -1,0 +1,1 @@
+"""Documents, pages and packages, and that they say what is so."""

@@ -1,0 +1,212 @@
+"""Runs the commands of the README, and each line behind a `$` in the documents, and compares what they print with what stands below them. (The cookbook
+has a group of its own, `cookbook`, and the man pages too.) Looks at the links and the terms of all documents.
+
+The lines of one document run in one shell, in a folder of their own that has the examples. `make` is a command that takes the program that is there for
+the one that it would build; the port 2525 is another one, which is free. A server in the foreground is started at a free port of this machine alone, and
+ended once it listens.
+"""
+import os
+import re
+import shutil
+import subprocess
+import tempfile
+
+from documents.cookbook import blocks
+from shared.checks import TOP, Checks
+from shared.server_runs import free_port, listens, wait_until
+
+TOOLS = ("addcr", "delcr", "fixcrio", "recordio", "rulesim", "tcprules", "tcprulescheck", "tcpserver")
+DOCUMENTS = ["README.md"] + sorted("docs/" + name for name in os.listdir(os.path.join(TOP, "docs")) if name.endswith(".md") and name != "COOKBOOK.md")
+COOKBOOK = "docs/COOKBOOK.md"
+# what users read, in the terms that they search for; the documents for provers have terms of their own, which they explain
+FOR_PROVERS = ("ARCHITECTURE", "DECISIONS", "DIRECTORIES", "HEADLINE", "INSTALLATIONS", "PROOFS")
+FOR_USERS = [name for name in DOCUMENTS + [COOKBOOK, "CHANGELOG.md"] if os.path.basename(name)[:-3] not in FOR_PROVERS]
+# files of which users read the comments
+COMMENTED = ("Makefile", "completions", "examples", "scripts")
+# terms that no document for users has, each with the one that stands for it
+TERMS = {
+    r"words?": "argument, option or message", r"told|telling|tells?(?! them apart)": "reported, printed, shown", r"faulty|amiss": "wrong",
+    r"want of": "out of, lack of", r"faults?(?! at)": "error", r"stops?|stopped": "crash, end or deny", r"by force": "by fault injection",
+}
+# where a term is the right one
+MEANT = {
+    "docs/SCRIPTS.md": ["a *stop*"], "docs/RELIABILITY.md": ["fault injection"], "docs/TOOLS.md": ["device fault"], "docs/COOKBOOK.md": ["is stopped"],
+    "examples/rsync/tcpserver-rsync.service": ["systemctl stop"],
+}
+# a port in the arguments of a server behind the shell's back
+BEHIND = re.compile(r"(?:ucspi )?tcpserver\b.* (\d+) \S.*&\s*$")
+LIMIT = 600
+MARK = "--- the end of a command"
+MAKE = """#!/bin/sh
+if test $# = 0; then set -- all; fi
+exec /usr/bin/make -s -C '%(top)s' -o '%(program)s' -o '%(tried)s' PROGRAM='%(program)s' TRIED='%(tried)s' DESTDIR='%(folder)s' "$@"
+"""
+
+
+def commands_in(text):
+    """The lines behind a prompt, each with the lines below it; a command goes on where its line ends with a backslash."""
+    for _, block in blocks(text):
+        if not block.startswith("$ "):
+            continue
+        for part in re.split(r"^\$ ", block, flags=re.M)[1:]:
+            command, _, below = part.partition("\n")
+            while command.endswith("\\"):
+                more, _, below = below.partition("\n")
+                command += "\n" + more
+            yield command, below.rstrip("\n")
+
+
+def makes_in(text):
+    """The lines of a document that call make, without what stands behind them."""
+    return [line.split("#")[0].strip() for _, block in blocks(text) for line in block.split("\n") if re.match(r"make\b", line)]
+
+
+def log_of(number, most):
+    """The log of a server with so many connections, as many of them at once."""
+    lines, alive = ["tcpserver: status: 0/%d" % most], []
+    for serial in range(1, number + 1):
+        alive.append(serial)
+        address = "10.0.%d.%d" % (serial // 200, serial % 200 + 1)
+        lines += ["status: %d/%d" % (len(alive), most), "pid %d from %s" % (serial, address), "ok %d :10.0.0.1:25 :%s::1024" % (serial, address)]
+        while len(alive) == most or alive and serial == number:
+            lines.append("end %d status 0" % alive.pop(0))
+            lines.append("status: %d/%d" % (len(alive), most))
+    return "\n".join([lines[0]] + ["tcpserver: " + line for line in lines[1:]]) + "\n"
+
+
+class Shell:
+    """A shell in which one command after another runs."""
+
+    def __init__(self, folder, program):
+        self.bin = os.path.join(folder, "bin")
+        os.mkdir(self.bin)
+        for name in TOOLS + ("ucspi",):
+            os.symlink(program, os.path.join(self.bin, name))
+        tried = os.path.join(folder, "tried")
+        shutil.copy(program, tried)
+        with open(os.path.join(self.bin, "make"), "w", encoding="ascii") as file:
+            file.write(MAKE % {"top": TOP, "program": program, "tried": tried, "folder": os.path.join(folder, "root")})
+        os.chmod(os.path.join(self.bin, "make"), 0o755)
+        here = os.path.join(folder, "here")
+        os.mkdir(here)
+        shutil.copytree(os.path.join(TOP, "examples"), os.path.join(here, "examples"))
+        with open(os.path.join(here, "log"), "w", encoding="ascii") as file:
+            file.write(log_of(2040, 40))
+        os.symlink(os.path.join(TOP, "scripts"), os.path.join(here, "scripts"))
+        environment = {"PATH": self.bin + ":/usr/local/bin:/usr/bin:/bin", "LC_ALL": "C.UTF-8"}
+        self.process = subprocess.Popen(
+            ["bash", "--norc"], cwd=here, env=environment, stdin=subprocess.PIPE, stdout=subprocess.PIPE, stderr=subprocess.STDOUT, start_new_session=True)
+
+    def run(self, command):
+        """What a command prints on both streams, and its exit code."""
+        self.process.stdin.write(("%s\necho '%s' $?\n" % (command, MARK)).encode())
+        self.process.stdin.flush()
+        lines = []
+        while True:
+            line = self.process.stdout.readline().decode()
+            if line.startswith(MARK) or not line:
+                return "".join(lines).rstrip("\n"), int(line.split()[-1] if line else -1)
+            lines.append(line)
+
+    def run_listed(self, command):
+        """What a command of a document prints. A server that it starts behind the shell's back listens by then."""
+        printed = self.run(command)[0]
+        server = BEHIND.match(command)
+        if server:
+            wait_until("a server", lambda: listens(int(server.group(1))))
+        return printed
+
+    def serve(self, command):
+        """Starts a server until it listens: what it prints but for its first status."""
+        port = free_port()
+        self.run(re.sub(r" (0|localhost|\d+\.\d+\.\d+\.\d+) \d+ ", r" 127.0.0.1 %d " % port, command, count=1) + " > served 2>&1 &")
+        wait_until("a server", lambda: listens(port))
+        self.run("kill $!; wait $! 2>/dev/null")
+        return self.run("grep -v '^tcpserver: status: 0/' served")[0]
+
+    def close(self):
+        """Ends the shell; what it started and left has ended by then."""
+        self.process.stdin.close()
+        self.process.stdout.read()
+        self.process.stdout.close()
+        self.process.wait(LIMIT)
+
+
+def check_document(checks, program, name):
+    with open(os.path.join(TOP, name), encoding="utf-8") as file:
+        text = file.read().replace("2525", str(free_port()))
+    commands = list(commands_in(text))
+    checks.expect("%s: lines behind a prompt, and commands that are run" % name, len(re.findall(r"^    \$ ", text, re.M)), len(commands))
+    makes = makes_in(text) if name == "README.md" else []
+    if not commands and not makes:
+        return
+    with tempfile.TemporaryDirectory() as folder:
+        shell = Shell(folder, os.path.abspath(program))
+        for command in makes:
+            checks.expect("%s: %s: exit code" % (name, command), shell.run(command)[1], 0)
+        for command, below in commands:
+            is_server = re.match(r"(ucspi )?tcpserver\b", command) and not command.rstrip().endswith("&")
+            checks.expect("%s: %s" % (name, command), shell.serve(command) if is_server else shell.run_listed(command), below)
+        shell.close()
+
+
+def check_readme(checks):
+    """Its length, its links, and what it may not be without."""
+    with open(os.path.join(TOP, "README.md"), encoding="utf-8") as file:
+        text = file.read()
+    lines = text.split("\n")[:-1]
+    checks.holds("README.md: at most 130 lines", len(lines) <= 130, len(lines))
+    checks.expect("README.md: lines of at most 120 columns", [line for line in lines if len(line) > 120], [])
+    checks.holds("README.md: what it does not do comes before the first command", text.index("does not do") < text.index("\n    "))
+
+
+def anchors_in(text):
+    """The anchors of a document's headings, as the sites that show Markdown make them."""
+    return {re.sub(r"[^\w\- ]", "", heading.lower()).replace(" ", "-") for heading in re.findall(r"^#+ (.*)$", text, re.M)}
+
+
+def check_links(checks, name, text):
+    """Each link leads to a file that is there, and to a heading that it has."""
+    lost = []
+    for path, anchor in re.findall(r"\]\(([^)#:]*)(?:#([^)]*))?\)", text):
+        path = os.path.normpath(os.path.join(TOP, os.path.dirname(name), path)) if path else os.path.join(TOP, name)
+        if not os.path.exists(path):
+            lost.append(path)
+        elif anchor:
+            with open(path, encoding="utf-8") as file:
+                lost += [] if anchor in anchors_in(file.read()) else ["%s#%s" % (path, anchor)]
+    checks.expect("%s: links that lead nowhere" % name, lost, [])
+
+
+def check_comments(checks):
+    """The comments of what users read have the terms of the trade too."""
+    for part in COMMENTED:
+        path = os.path.join(TOP, part)
+        for path in [path] if os.path.isfile(path) else [os.path.join(place, name) for place, _, names in os.walk(path) for name in names]:
+            with open(path, encoding="utf-8") as file:
+                check_terms(checks, os.path.relpath(path, TOP), "\n".join(re.findall(r"^ *(#.*)$", file.read(), re.M)))
+
+
+def check_terms(checks, name, text):
+    """A document for users has the terms of the trade; code and commands are left out."""
+    prose = re.sub(r"`[^`]*`", "", re.sub(r"^    .*$", "", text, flags=re.M))
+    for meant in MEANT.get(name, []):
+        prose = prose.replace(meant, "")
+    found = [(term.group(0), better) for form, better in TERMS.items() for term in re.finditer(r"\b(?:%s)\b" % form, prose)]
+    checks.expect("%s: terms for which there are better ones" % name, found, [])
+
+
+def check(program, failures):
+    """How many tests there were."""
+    checks = Checks("documents", failures)
+    check_readme(checks)
+    check_comments(checks)
+    for name in DOCUMENTS + [COOKBOOK, "CHANGELOG.md"]:
+        with open(os.path.join(TOP, name), encoding="utf-8") as file:
+            text = file.read()
+        check_links(checks, name, text)
+        if name in FOR_USERS:
+            check_terms(checks, name, text)
+    for name in DOCUMENTS:
+        check_document(checks, program, name)
+    return checks.tests

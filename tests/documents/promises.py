@@ -1,0 +1,79 @@
+"""Compares the table of promises in docs/PROOFS.md with the sources: each crate is there, and each function, law and clause that a row names stands in
+it; and so is what would notice a breach, which each row names: a must-fail edit, or a group of `tests/run`.
+
+A row's contracts are parts with a `;` or `and` between them: the name of a function, of a law, of a module or of a crate, then those of its clauses.
+"""
+import os
+import re
+
+from shared.checks import TOP, Checks
+
+
+def rows():
+    """The rows of the table: the crate, its contracts, and what would notice a breach."""
+    with open(os.path.join(TOP, "docs", "PROOFS.md"), encoding="utf-8") as file:
+        text = file.read()
+    table = text[text.index("| Promise | Crate |"):]
+    lines = table[:table.index("\n\n")].split("\n")[2:]
+    cells = [line.strip("|").split(" | ")[-3:] for line in lines]
+    return [(crate.strip(" `"), contract.strip(), notice.strip()) for crate, contract, notice in cells]
+
+
+def is_crate(name):
+    return os.path.isdir(os.path.join(TOP, "crates", name, "src"))
+
+
+def sources(crate):
+    """All of a crate's sources in one text."""
+    folder = os.path.join(TOP, "crates", crate, "src")
+    texts = []
+    for name in sorted(os.listdir(folder)):
+        with open(os.path.join(folder, name), encoding="utf-8") as file:
+            texts.append(file.read())
+    return "\n".join(texts)
+
+
+def contracts(text, name):
+    """What stands behind the heads of the functions of this name, up to the next function."""
+    return "\n".join(re.findall(r"\bfn %s\b.*?(?=\bfn |\Z)" % name, text, re.S))
+
+
+def amiss(crate, part):
+    """The names of a part that are not there."""
+    head, *clauses = re.findall(r"`([\w:]+)`", part)
+    if is_crate(head):
+        text = sources(head)
+    else:
+        before, _, name = head.rpartition("::")
+        text = sources(before if before and is_crate(before) else crate)
+        if part.strip().startswith("law"):
+            return [law for law in [name] + clauses if not contracts(text, law)]
+        if not re.search(r"\b(?:fn|mod) %s\b" % name, text):
+            return [head]
+        text = contracts(text, name) or text
+    return [clause for clause in clauses if not re.search(r"\bensures %s\b" % clause, text)]
+
+
+def unknown(notice, groups):
+    """The names of a last cell that are neither an edit nor a group; the cell itself where it names nothing."""
+    names = re.findall(r"`([^`]+)`", notice)
+
+    def is_known(name):
+        crate, _, edit = name.partition("/")
+        return os.path.isfile(os.path.join(TOP, "crates", crate, "must-fail", edit)) if edit.endswith(".edit") else name in groups
+
+    return [name for name in names if not is_known(name)] if names else [notice]
+
+
+def check(groups, failures):
+    """How many parts and names were looked at; `groups` are the names of all groups of tests and of their parts."""
+    checks = Checks("promises", failures)
+    for crate, contract, notice in rows():
+        checks.expect("%s: what is neither an edit nor a group" % crate, unknown(notice, groups), [])
+        if not is_crate(crate):
+            checks.fail("there is no crate " + crate)
+            continue
+        for part in re.split(r"; | and (?=`)", contract):
+            if "`" in part:
+                checks.expect("%s: what it does not have" % crate, amiss(crate, part), [])
+    return checks.tests

@@ -1,0 +1,1 @@
+"""What rule texts mean: their compiled files, decisions, warnings and scripts."""

@@ -1,0 +1,1 @@
+"""The server with real clients on real sockets."""

@@ -1,0 +1,249 @@
+"""The limits of `tcpserver`: how many programs run at once, how many for one address, and after how many connections it ends.
+
+Those that run are counted by the programs themselves, in a table that they share (`server_child.c`).
+"""
+import os
+import socket
+import threading
+import time
+
+from shared import server_runs
+from shared.clients import Pool
+from shared.server_runs import counted, read_all
+
+CONNECTIONS = 2000
+CLIENTS = 100
+# how long a client of many keeps its program, in seconds
+HOLD = 0.02
+
+
+class Clients(Pool):
+    """Many clients at once: how many were served, and how many were closed without an answer."""
+
+    def __init__(self, server, sources, most=CLIENTS):
+        super().__init__(server, sources, most)
+        self.lock = threading.Lock()
+        self.served = self.closed = 0
+        self.amiss = []
+
+    def serve(self, source):
+        answer = self.asked(source=source, hold=HOLD)
+        with self.lock:
+            self.served += answer == b"hi\n"
+            self.closed += answer == b""
+            if answer not in (b"hi\n", b""):
+                self.amiss.append(answer)
+
+
+def sources_of(number, few):
+    """Addresses: every second one of a few, the others all different."""
+    return ["127.0.9.%d" % (n // 2 % few + 1) if n % 2 else "127.1.%d.%d" % (n // 250, n % 250 + 1) for n in range(number)]
+
+
+def fill(suite, server, sources):
+    """A client from each of these addresses, all of them served at once."""
+    clients = [server.connect(source) for source in sources]
+    suite.expect("as many at once as may be", [client.recv(3) for client in clients], [b"hi\n"] * len(clients))
+    return clients
+
+
+def release(clients):
+    """Lets the programs of these clients end."""
+    for client in clients:
+        with client:
+            client.shutdown(socket.SHUT_WR)
+            read_all(client)
+
+
+def many_connections(suite):
+    """Two thousand connections at `-c 40 -m 3`: never more than 40 programs at once, and never more than 3 for one address."""
+    program, table = suite.child()
+    with suite.start(["-v", "-c", "40", "-m", "3"], [program, table, "0"]) as server:
+        first = fill(suite, server, ["127.0.9.%d" % (n // 3 + 1) for n in range(39)])
+        suite.expect("a fourth from an address", server.ask(source="127.0.9.1"), b"")
+        first += fill(suite, server, ["127.0.8.1"])
+        clients = Clients(server, sources_of(CONNECTIONS, 7)).start()
+        release(first)
+        clients.finish()
+        server.idle()
+        running, most, most_of_one, ran = counted(table)
+        suite.expect("what clients got besides", clients.amiss, [])
+        suite.expect("clients served and closed", clients.served + clients.closed, CONNECTIONS)
+        suite.expect("programs at once, and for one address", (most, most_of_one), (40, 3))
+        suite.expect("programs that ran, and those still running", (ran, running), (clients.served + 40, 0))
+        events = suite.audit("two thousand connections", server, 3)
+        suite.expect("served and closed by the log", (events.admitted, events.full), (clients.served + 40, clients.closed + 1))
+
+
+def many_connections_of_all(suite):
+    """The same without -m."""
+    program, table = suite.child()
+    number = CONNECTIONS // 2
+    with suite.start(["-v", "-c", "12"] + server_runs.QUIET, [program, table, "0"]) as server:
+        first = fill(suite, server, ["127.0.9.1"] * 12)
+        clients = Clients(server, sources_of(number, 3)).start()
+        release(first)
+        clients.finish()
+        server.idle()
+        suite.expect("without -m", (clients.served, clients.closed, clients.amiss), (number, 0, []))
+        suite.expect("without -m: running, most, most for one address, all", counted(table), (0, 12, 12, number + 12))
+        suite.audit("without -m", server)
+
+
+def one_after_another(suite):
+    """Under `-c 1` a second client waits until the first one's program ended."""
+    with suite.start(["-v", "-c", "1"] + server_runs.QUIET, ["sh", "-c", "echo hi; read a; echo $a"]) as server:
+        first, second = server.connect(), server.connect()
+        suite.expect("the first", first.recv(100), b"hi\n")
+        second.settimeout(0.4)
+        try:
+            suite.holds("the second waits", False, second.recv(100))
+        except TimeoutError:
+            suite.holds("the second waits", True)
+        second.settimeout(server_runs.WAIT)
+        first.sendall(b"a\n")
+        suite.expect("the end of the first", read_all(first), b"a\n")
+        suite.expect("then the second", second.recv(100), b"hi\n")
+        second.sendall(b"b\n")
+        suite.expect("the end of the second", read_all(second), b"b\n")
+        first.close()
+        second.close()
+        server.idle()
+        suite.audit("one after another", server)
+    program, table = suite.child()
+    with suite.start(["-c", "1"] + server_runs.QUIET, [program, table, "0"]) as server:
+        clients = Clients(server, sources_of(100, 3), 20).start().finish()
+        suite.expect("100 one after another", (clients.served, counted(table)[1], counted(table)[3]), (100, 1, 100))
+
+
+def two_at_once(suite):
+    """Two clients each read a line before either sends one, so both programs live at once."""
+    with suite.start(["-v", "-c", "2", "-k", "2"], ["sh", "-c", "echo hi; read a"]) as server, server.connect() as first, server.connect() as second:
+        suite.expect("two clients at once", (first.recv(100), second.recv(100)), (b"hi\n", b"hi\n"))
+        first.sendall(b"\n")
+        second.sendall(b"\n")
+        suite.expect("the end after two", server.end(), 0)
+        ends = sorted(line for line in server.lines() if line.startswith("end "))
+        suite.expect("both ends", (ends, server.lines()[-1]), (["end 1 status 0", "end 2 status 0"], "status: 0/2"))
+        suite.audit("two clients at once", server)
+
+
+def gate(suite):
+    """The first program ends only once a second one was started: a server that waits for the first one alone never ends."""
+    mark = suite.path("gate")
+    waits = "n=0; until test -e '%s/open' || test $n = 20000; do sleep 0.01; n=$((n+1)); done" % mark
+    script = "if mkdir '%s' 2>/dev/null; then %s; else : > '%s/open'; fi; test -e '%s/open'" % (mark, waits, mark, mark)
+    with suite.start(["-v", "-c", "2"] + server_runs.QUIET, ["sh", "-c", script]) as server:
+        first = server.connect()
+        server_runs.wait_until("the first program", lambda: os.path.isdir(mark))
+        suite.expect("the second of two", server.ask(), b"")
+        suite.expect("the first of two", read_all(first), b"")
+        first.close()
+        server.idle()
+        ends = sorted(line.split()[3] for line in server.lines() if line.startswith("end "))
+        suite.expect("both ends at the gate", ends, ["0", "0"])
+        suite.audit("the gate", server)
+
+
+def counts(suite):
+    """`-k N` ends the server with exit code 0 after N connections, once the last program ended."""
+    deny = suite.install("127.0.0.2:deny\n:allow\n")
+    for number in (1, 2, 7):
+        with suite.start(["-v", "-k", str(number)], ["echo", "hi"]) as server:
+            got = [server.ask() for _ in range(number)]
+            suite.expect("-k %d" % number, (got, server.end(), server.live()), ([b"hi\n"] * number, 0, 0))
+            refused = refuses(server)
+            suite.holds("nothing is listened to after -k %d" % number, refused)
+            suite.audit("-k %d" % number, server)
+    with suite.start(["-v", "-k", "2", "-x", deny], ["echo", "hi"]) as server:
+        got = [server.ask(source="127.0.0.2"), server.ask()]
+        suite.expect("a denied connection counts", (got, server.end()), ([b"", b"hi\n"], 0))
+        suite.audit("-k with a denied connection", server)
+    with suite.start(["-v", "-k", "2"], ["/nonexistent"]) as server:
+        suite.expect("a program that can't be started counts", ([server.ask(), server.ask()], server.end()), ([b"", b""], 0))
+    with suite.start(["-k", "1"], ["sh", "-c", "echo hi; read a; sleep 0.3; echo bye"]) as server, server.connect() as client:
+        client.recv(3)
+        time.sleep(0.3)
+        suite.holds("the server waits for its last program", server.process.poll() is None)
+        client.sendall(b"\n")
+        suite.expect("the last program after -k", (read_all(client), server.end()), (b"bye\n", 0))
+
+
+def refuses(server):
+    try:
+        server.connect().close()
+    except ConnectionRefusedError:
+        return True
+    return False
+
+
+def counts_of_full_addresses(suite):
+    """A connection that its address has no room for does not count for -k, and has no serial."""
+    with suite.start(["-v", "-c", "4", "-m", "1", "-k", "2"], ["sh", "-c", "echo hi; read a"]) as server, server.connect() as first:
+        first.recv(3)
+        for _ in range(5):
+            suite.expect("a second one from the address", server.ask(), b"")
+        suite.expect("the second that counts", server.ask(b"\n", source="127.0.0.2"), b"hi\n")
+        first.sendall(b"\n")
+        suite.expect("the end after two that count", server.end(), 0)
+        events = suite.audit("full addresses under -k", server, 1)
+        suite.expect("two were let in, five were not", (events.admitted, events.full), (2, 5))
+
+
+def full_before_the_address(suite):
+    """Where the server is full a client waits, whatever its address has."""
+    with suite.start(["-v", "-c", "1", "-m", "1"], ["sh", "-c", "echo hi; read a"]) as server:
+        first, second = server.connect(), server.connect()
+        first.recv(3)
+        time.sleep(0.2)
+        first.sendall(b"\n")
+        read_all(first)
+        suite.expect("the second is not closed", second.recv(100), b"hi\n")
+        second.close()
+        first.close()
+        server.idle()
+        suite.holds("no address was full", not any("full" in line for line in server.lines()), server.log())
+        suite.audit("full before the address", server, 1)
+
+
+def places_come_back(suite):
+    """However a connection ends, its place comes back, and its address's: after each way a full round is served."""
+    deny = suite.install("127.0.0.2:deny\n127.0.0.3:allow,WAY=\"kill\"\n:allow\n")
+    program = ["sh", "-c", 'echo hi; test "$WAY" = kill && kill -9 $$; read a']
+    with suite.start(["-v", "-c", "3", "-m", "2", "-x", deny], program) as server:
+        for source in ("127.0.0.2", "127.0.0.3", "127.0.0.4", "127.0.0.2", "127.0.0.3"):
+            for _ in range(7):
+                server.ask(source=source)
+                server.idle()
+        clients = [server.connect("127.0.0.4"), server.connect("127.0.0.4"), server.connect("127.0.0.5")]
+        suite.expect("a full round", [client.recv(3) for client in clients], [b"hi\n"] * 3)
+        for client in clients:
+            server_runs.reset(client)
+        server.idle()
+        suite.audit("places come back", server, 2)
+
+
+def many_at_once(suite):
+    """Four hundred programs at once."""
+    program, table = suite.child()
+    with suite.start(["-v", "-c", "400"] + server_runs.QUIET, [program, table, "0"]) as server:
+        clients = [server.connect("127.2.%d.%d" % (n // 200, n % 200 + 1)) for n in range(400)]
+        suite.expect("400 clients", [client.recv(3) for client in clients], [b"hi\n"] * 400)
+        suite.expect("400 programs at once", counted(table)[:2], (400, 400))
+        for client in clients:
+            client.shutdown(socket.SHUT_WR)
+        suite.expect("400 ends", [read_all(client) for client in clients], [b""] * 400)
+        for client in clients:
+            client.close()
+        server.idle()
+        events = suite.audit("400 at once", server)
+        if events:
+            suite.expect("400 at once by the log", events.most, 400)
+
+
+CHECKS = [
+    two_at_once, one_after_another, gate, counts, counts_of_full_addresses, full_before_the_address, places_come_back, many_connections,
+    many_connections_of_all, many_at_once,
+]
+COMMON = [one_after_another, gate, many_connections_of_all, many_at_once]
+HANDED = CHECKS

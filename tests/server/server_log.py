@@ -1,0 +1,303 @@
+"""The log of `tcpserver`: every line under -v, -Q and -q, which lines stand together, and the log read as a list of events."""
+import os
+import re
+import signal
+import subprocess
+import sys
+import threading
+import time
+
+import log_events
+from shared import compiled_files, failed_calls, server_runs
+from shared.checks import SCRIPTS
+from shared.server_runs import read_all
+
+# what the log of a single connection begins with
+COMES = ["status: 0/1", "status: 1/1", "pid 1 from {ip}"]
+OK = COMES + ["ok 1 :127.0.0.1:{port} :{ip}::{peer}"]
+DENY = COMES + ["deny 1 :127.0.0.1:{port} :{ip}::{peer}"]
+FREE = ["status: 0/1"]
+# how long none has come, in seconds, where no more of a burst will come
+NONE_COMES = 20
+
+
+def one_rule():
+    """The compiled file of the text `:deny`."""
+    return compiled_files.ONE_RULE_POINTERS + compiled_files.ONE_RULE
+
+
+def single(suite, name, options, program, wanted, source="127.0.0.1", code=0, **how):
+    """A server of one connection: its log, line by line."""
+    with suite.start(["-v", "-c", "1", "-k", "1"] + options, program, **how) as server:
+        peer, _ = server.talk(source=source)
+        ended = server.end()
+        lines = [line.format(ip=source, port=server.port, peer=peer) for line in wanted]
+        suite.expect(name, (ended, server.lines()), (code, lines))
+        suite.audit(name, server)
+
+
+def ends(suite):
+    for program, status in (
+        (["true"], "0"), (["false"], "1"), (["sh", "-c", "exit 7"], "7"), (["sh", "-c", "exit 255"], "255"),
+        (["sh", "-c", "echo hi; cat; exit 100"], "100"), (["sh", "-c", "kill -9 $$"], "signal"),
+        (["sh", "-c", "echo hi; kill -15 $$"], "signal"), (["sh", "-c", "kill -SEGV $$"], "signal"),
+        (["sh", "-c", "kill -ABRT $$"], "signal"), (["sh", "-c", "exec <&- >&-; sleep 0.2; exit 3"], "3"), (["sh", "-c", "exit 137"], "137"),
+    ):
+        single(suite, "the end of %r" % program, [], program, OK + ["end 1 status " + status] + FREE)
+    single(suite, "the end of one from another address", [], ["true"], OK + ["end 1 status 0"] + FREE, "127.200.1.255")
+
+
+def start_faults(suite):
+    plain = suite.path("plain-file", "#!/bin/sh\n")
+    os.chmod(plain, 0o644)
+    empty = suite.path("empty-program", "")
+    os.chmod(empty, 0o755)
+    for program, fault in (
+        ("/nonexistent/program", "not found"), ("no-such-program-here", "not found"), (suite.path("absent"), "not found"),
+        (plain, "refused"), ("/", "refused"), (suite.folder, "refused"), (empty, "failed"),
+    ):
+        single(suite, "the start of %r" % program, [], [program, "x"], OK + ["start 1 " + fault] + FREE)
+
+
+def denied(suite):
+    single(suite, "a rule that denies", ["-x", suite.install(":deny\n")], ["true"], DENY + FREE)
+    single(suite, "a rule that allows", ["-x", suite.install(":allow\n")], ["true"], OK + ["end 1 status 0"] + FREE)
+    single(suite, "no rules file", ["-x", suite.path("absent.cdb")], ["true"], DENY + FREE)
+    single(suite, "no rules file, under -X", ["-X", "-x", suite.path("absent.cdb")], ["true"], OK + ["end 1 status 0"] + FREE)
+
+
+def dropped(suite):
+    whole = one_rule()
+    for length in (0, 1, 2047, 2048, 2073):
+        path = suite.path("cut.cdb", whole[:length])
+        single(suite, "rules cut to %d bytes" % length, ["-x", path], ["true"], COMES + ["drop 1 rules damaged"] + FREE)
+    path = suite.path("bad-code.cdb", compiled_files.cdb([(b"", b"x")]))
+    single(suite, "rules with a value that is none", ["-X", "-x", path], ["true"], COMES + ["drop 1 rules damaged"] + FREE)
+    os.mkdir(suite.path("folder.cdb"))
+    for options in (["-x", suite.path("folder.cdb")], ["-X", "-x", suite.path("folder.cdb")]):
+        single(suite, "a folder in place of the rules", options, ["true"], COMES + ["drop 1 directory fault"] + FREE)
+    path = suite.install(":allow\n")
+    how = {"env": dict(os.environ, **failed_calls.Library(suite.folder).run("pread", "EIO", 1).environment)}
+    single(suite, "rules that can't be read", ["-N", "/dev/null", "-x", path], ["true"], COMES + ["drop 1 rules read fault"] + FREE, **how)
+
+
+def lost_banner(suite):
+    """A client that resets before it is let in: the banner can't be written."""
+    with suite.start(["-v", "-c", "1", "-k", "2", "-B", "hello\n"], ["echo", "hi"]) as server:
+        os.kill(server.process.pid, signal.SIGSTOP)
+        server_runs.reset(server.connect())
+        os.kill(server.process.pid, signal.SIGCONT)
+        peer, got = server.talk()
+        suite.expect("the client after a lost banner", got, b"hello\nhi\n")
+        ended = server.end()
+        lines = COMES + ["drop 1 banner fault", "status: 0/1", "status: 1/1", "pid 2 from {ip}"]
+        lines += ["ok 2 :127.0.0.1:{port} :{ip}::{peer}", "end 2 status 0", "status: 0/1"]
+        wanted = [line.format(ip="127.0.0.1", port=server.port, peer=peer) for line in lines]
+        suite.expect("a lost banner", (ended, server.lines()), (0, wanted))
+        suite.audit("a lost banner", server)
+
+
+def address_full(suite):
+    with suite.start(["-v", "-c", "4", "-m", "1", "-k", "3"], ["sh", "-c", "echo hi; read a"]) as server:
+        first = server.connect("127.0.0.1")
+        suite.expect("the first from an address", first.recv(3), b"hi\n")
+        suite.expect("a second one from that address", server.ask(source="127.0.0.1"), b"")
+        suite.expect("one from another address", server.ask(b"\n", source="127.0.0.2"), b"hi\n")
+        server.wait_line("end 2 status 0")
+        first.sendall(b"\n")
+        read_all(first)
+        server.wait_line("end 1 status 0")
+        suite.expect("a third one, after the first", server.ask(b"\n", source="127.0.0.1"), b"hi\n")
+        ended = server.end()
+        plain = [line for line in server.lines() if not line.startswith("ok ")]
+        first.close()
+        # the second connection's end and the first one's come in this order, since each was waited for
+        wanted = ["status: 0/4", "status: 1/4", "pid 1 from 127.0.0.1", "drop 127.0.0.1 address full", "status: 2/4", "pid 2 from 127.0.0.2"]
+        wanted += ["end 2 status 0", "status: 1/4", "end 1 status 0", "status: 0/4"]
+        wanted += ["status: 1/4", "pid 3 from 127.0.0.1", "end 3 status 0", "status: 0/4"]
+        suite.expect("an address that is full", (ended, plain), (0, wanted))
+        suite.audit("an address that is full", server, 1)
+
+
+def forget_children():
+    signal.signal(signal.SIGCHLD, signal.SIG_IGN)
+
+
+def retired(suite):
+    """Where whoever starts the server ignores SIGCHLD no child can be waited for, so each place is given up."""
+    for level, wanted in (("-v", None), ("-Q", ["retired 1", "retired 2", "no places left"]), ("-q", ["no places left"])):
+        with suite.start([level, "-c", "2"], ["sh", "-c", "echo hi; exit 3"], preexec_fn=forget_children) as server:
+            for number in (1, 2):
+                suite.expect("client %d of a place to be retired" % number, server.talk()[1], b"hi\n")
+                if level != "-q":
+                    server.wait_line("retired %d" % number)
+            suite.expect("no places left under " + level, server.end(), 111)
+            lines = [line for line in server.lines() if not line.startswith("ok ")]
+            if wanted is None:
+                suite.audit("retired places", server)
+                wanted = ["status: 0/2", "status: 1/2", "pid 1 from 127.0.0.1", "retired 1", "status: 1/2"]
+                wanted += ["status: 2/2", "pid 2 from 127.0.0.1", "retired 2", "status: 2/2", "no places left"]
+            suite.expect("the log of retired places under " + level, lines, wanted)
+
+
+def fields(suite):
+    """Names in a verdict's line: their marks, and their cut at a hundred bytes."""
+    cases = [
+        ("a:b", "a?b"), ("a b%c", "a?b?c"), ("é", "??"), ("~!", "~!"), ("\x7f\x01", "??"), ("a" * 99, "a" * 99), ("a" * 100, "a" * 100 + "..."),
+        ("a" * 101, "a" * 100 + "..."), ("a" * 99 + "é", "a" * 99 + "?..."), ("", ""), ("0", "0"),
+    ]
+    for given, printed in cases:
+        wanted = COMES + ["ok 1 %s:127.0.0.1:{port} :{ip}::{peer}" % printed, "end 1 status 0"] + FREE
+        single(suite, "the local name %r" % given, ["-l", given], ["true"], wanted)
+    table = suite.path("table", "127.0.0.1 Local%s\n127.0.0.2 a:b%%c\n127.0.0.3 %s\n" % ("", "b" * 255))
+    for source, printed in (("127.0.0.1", "local"), ("127.0.0.2", "a?b?c"), ("127.0.0.3", "b" * 100 + "..."), ("127.0.0.4", "")):
+        wanted = COMES + ["ok 1 local:127.0.0.1:{port} %s:{ip}::{peer}" % printed, "end 1 status 0"] + FREE
+        single(suite, "the remote name %r" % printed, ["-N", table], ["true"], wanted, source)
+
+
+def levels(suite):
+    """What -v, -Q and -q print; the last given counts."""
+    absent, path = suite.path("absent"), suite.path("cut.cdb", one_rule()[:2073])
+    deny = suite.install(":deny\n")
+    cases = [
+        ([], ["true"], []), ([], [absent], ["start 1 not found"]), (["-Q"], [absent], ["start 1 not found"]), (["-q"], [absent], []),
+        (["-vq"], [absent], []), (["-qQ"], [absent], ["start 1 not found"]), (["-vQ"], ["true"], []), (["-v", "-q", "-Q"], ["false"], []),
+        (["-x", path], ["true"], ["drop 1 rules damaged"]), (["-q", "-x", path], ["true"], []), (["-x", deny], ["true"], []),
+        (["-q"], ["sh", "-c", "echo mine >&2"], ["mine"]), (["-Q"], ["sh", "-c", "echo mine >&2"], ["mine"]),
+    ]
+    for options, program, wanted in cases:
+        with suite.start(["-k", "1"] + options, program) as server:
+            server.talk()
+            suite.expect("the log under %r of %r" % (options, program[0]), (server.end(), server.lines()), (0, wanted))
+    with suite.start(["-k", "1", "-q", "-v"], ["true"]) as server:
+        server.talk()
+        suite.expect("-v after -q", (server.end(), len(server.lines())), (0, 6))
+    for options, wanted in (([], ["drop 127.0.0.1 address full"]), (["-q"], [])):
+        with suite.start(["-k", "2", "-m", "1"] + options, ["sh", "-c", "echo hi; read a"]) as server, server.connect() as first:
+            first.recv(3)
+            suite.expect("a second client under %r" % options, server.ask(), b"")
+            first.sendall(b"\n")
+            read_all(first)
+            server_runs.wait_until("a second one", lambda: server.ask(b"\n") == b"hi\n")
+            suite.expect("an address that is full under %r" % options, (server.end(), sorted(set(server.lines()))), (0, wanted))
+
+
+def burst_client(server, source, order, came):
+    """A client that asks its program for an end, or resets first; it adds itself to those that have come."""
+    try:
+        with server.connect(source) as client:
+            client.sendall(order)
+            came.append(source)
+            if order == b"reset\n":
+                server_runs.reset(client)
+                return
+            read_all(client)
+    except OSError:
+        pass
+
+
+def taken(server):
+    """How many connections the log says were let in or closed for their address."""
+    log = server.log()
+    return log.count(b"\ntcpserver: pid ") + log.count(b" address full\n")
+
+
+def bursts(suite):
+    """Connections that come all at once, each with an end of its own: the log is legal, and ends with nothing alive."""
+    path = suite.install("127.0.1.:deny\n127.0.2.:allow\n")
+    program = ["sh", "-c", 'read a; case "$a" in kill) kill -9 $$;; slow) sleep 0.05;; out) yes | head -c 300000;; esac; exit 4']
+    orders = [b"kill\n", b"slow\n", b"out\n", b"reset\n", b"\n"]
+    for options, per in (([], None), (["-m", "2"], 2), (["-c", "1"], None), (["-c", "3", "-m", "1"], 1)):
+        with suite.start(["-v", "-c", "8", "-x", path] + options, program) as server:
+            for round_ in range(2):
+                os.kill(server.process.pid, signal.SIGSTOP)
+                sources, came = ["127.0.%d.%d" % (1 + n % 3, 1 + n // 3 % 7) for n in range(60)], []
+                threads = [threading.Thread(target=burst_client, args=(server, source, orders[n % 5], came)) for n, source in enumerate(sources)]
+                for thread in threads:
+                    thread.start()
+                all_have_come(came, 60)
+                os.kill(server.process.pid, signal.SIGCONT)
+                for thread in threads:
+                    thread.join(server_runs.WAIT)
+                # one that reset its connection has not waited for the server
+                server_runs.wait_until("each client of a burst", lambda: taken(server) >= 60 * (round_ + 1))
+                server.idle()
+            events = suite.audit("a burst under %r" % options, server, per)
+            suite.expect("those of a burst under %r" % options, events.admitted + events.full, 120)
+            if per is None:
+                # programs that have their connections themselves may be over before others are started
+                least = min(2, events.limit) if suite.handed else events.limit
+                suite.holds("a burst fills the server under %r" % options, least <= events.most <= events.limit, events.most)
+
+
+def all_have_come(came, number):
+    """Waits until so many clients have come, or none has come for long, as where the system's queue takes no more."""
+    since, last = time.monotonic(), 0
+    while last < number and time.monotonic() < since + NONE_COMES:
+        time.sleep(0.005)
+        if len(came) != last:
+            since, last = time.monotonic(), len(came)
+
+
+def audits(suite):
+    """A log that is read as events by the script, and logs that tell of what may not be."""
+    head = b"tcpserver: status: 0/1\ntcpserver: status: 1/1\ntcpserver: pid 1 from 1.1.1.1\nnot of the server\n"
+    ok = b"tcpserver: ok 1 :2.2.2.2:25 :1.1.1.1::1024\n"
+    free = b"tcpserver: status: 0/1\n"
+    second = b"tcpserver: status: 1/1\ntcpserver: pid 2 from 1.1.1.1\n"
+    cases = [
+        (b"tcpserver: status: 0/1\n", "admitted 0 live 0 retired 0 most 0", 0),
+        (head + ok + b"tcpserver: end 1 status 9\n" + free + second, "admitted 2 live 1 retired 0 most 1", 0),
+        (head + ok + b"tcpserver: start 1 no pipe ends\ntcpserver: end 1 status signal\n" + free, "admitted 1 live 0 retired 0 most 1", 0),
+        (head + ok.replace(b"ok", b"deny") + free, "admitted 1 live 0 retired 0 most 1", 0),
+        (head + b"tcpserver: drop 1 rules damaged\n" + free, "admitted 1 live 0 retired 0 most 1", 0),
+        (head + ok + b"tcpserver: retired 1\ntcpserver: status: 1/1\ntcpserver: no places left\n", "admitted 1 live 1 retired 1 most 1", 0),
+        (head + second.replace(b"1/1", b"2/1"), "illegal 2", 0),
+        (head + ok + ok, "illegal 4", 0),
+        (head + b"tcpserver: end 1 status 0\n" + free, "illegal 2", 0),
+        (head + ok.replace(b"ok", b"deny") + b"tcpserver: end 1 status 0\n" + free, "illegal 4", 0),
+        (head + free, "admitted 1 live 1 retired 0 most 1", 1),
+        (head + b"tcpserver: drop 1 bad luck\n", "admitted 1 live 1 retired 0 most 1", 1),
+        (head + ok + b"tcpserver: end 1 status 0\n", "admitted 1 live 0 retired 0 most 1", 0),
+        (head + ok + b"tcpserver: end 1 status 0\ntcpserver: pid 2 from 1.1.1.1\n", "admitted 2 live 1 retired 0 most 1", 1),
+        (head + second.replace(b"pid 2", b"pid 3"), "illegal 2", 1),
+        # a shell tells a fault in pieces, and the server's lines may stand between them
+        (head + ok + b"sh: 1: tcpserver: end 1 status 0\n" + free + b"echo: fault\n", "admitted 1 live 0 retired 0 most 1", 0),
+        (head + ok + b"tcpserver: end 1 status 0\n" + free + b"sh: 1: " + second + b"echo: fault\n", "admitted 2 live 1 retired 0 most 1", 0),
+        (head + ok + b"12 > tcpserver: end 1 status 0\n1 of tcpserver: all\n", "admitted 1 live 1 retired 0 most 1", 0),
+    ]
+    script = os.path.join(SCRIPTS, "log_events.py")
+    for log, wanted, code in cases:
+        words = subprocess.run([sys.executable, script], input=log, stdout=subprocess.PIPE, stderr=subprocess.DEVNULL, timeout=server_runs.WAIT)
+        ended = subprocess.run([suite.program, "rulesim"], input=words.stdout, stdout=subprocess.PIPE, timeout=server_runs.WAIT)
+        suite.expect("the log %r" % log, (ended.stdout.decode().strip(), words.returncode), (wanted, code))
+
+
+def audits_of_ends(suite):
+    """Of several denied connections that one end may be of, the one is taken that lets the others go on."""
+    log = "status: 0/3\nstatus: 1/3\npid 1 from 1.1.1.1\nstatus: 2/3\npid 2 from 2.2.2.2\n"
+    log += "deny 1 :0.0.0.0:1 :1.1.1.1::1\ndeny 2 :0.0.0.0:1 :2.2.2.2::2\n"
+    log += "status: 1/3\nstatus: 2/3\npid 3 from 2.2.2.2\ndeny 3 :0.0.0.0:1 :2.2.2.2::3\nstatus: 1/3\nstatus: 0/3\n"
+    events = log_events.Events(re.sub("(?m)^", "tcpserver: ", log).encode(), 1)
+    suite.expect("denied ends", [event for event in events.events if event.startswith("dropped")], ["dropped 2", "dropped 1", "dropped 3"])
+    ended = subprocess.run([suite.program, "rulesim"], input=events.script().encode(), stdout=subprocess.PIPE, timeout=server_runs.WAIT)
+    suite.expect("the replay of denied ends", ended.stdout.decode(), "admitted 3 live 0 retired 0 most 2\n")
+
+
+def plain_log(suite):
+    """The lines that djb's server has too, with its process numbers in place of serials."""
+    with suite.start(["-v", "-c", "2", "-l", "a:b", "-R", "-H"], ["sh", "-c", "echo hi"]) as server:
+        peer, got = server.talk()
+        server.idle()
+        number = r"\d+"
+        forms = ["status: 0/2", "status: 1/2", "pid %s from 127.0.0.1" % number]
+        forms += [r"ok %s a\?b:127.0.0.1:%d :127.0.0.1::%d" % (number, server.port, peer), "end %s status 0" % number, "status: 0/2"]
+        matched = [re.fullmatch(form, line) is not None for form, line in zip(forms, server.lines())]
+        suite.expect("a plain log", (got, matched, len(server.lines())), (b"hi\n", [True] * 6, 6))
+
+
+CHECKS = [
+    plain_log, ends, start_faults, denied, dropped, lost_banner, address_full, retired, fields, levels, bursts, audits, audits_of_ends,
+]
+COMMON = [plain_log]
+HANDED = [plain_log, ends, start_faults, denied, dropped, lost_banner, address_full, retired, levels, bursts]

@@ -1,0 +1,192 @@
+"""What `tcpserver` has of the system for its connections: threads that are kept, and descriptors, threads, processes and memory that are there
+before a client is taken. Where they are not, clients wait with the system, and all are served; a server that could serve nobody says so.
+"""
+import os
+import queue
+import resource
+import shutil
+import socket
+import subprocess
+import threading
+import time
+
+from shared import failed_calls, server_runs
+from shared.clients import Together
+from shared.server_runs import read_all
+
+# the users from here on are nobody's
+USERS = 50000
+
+
+class Clients(Together):
+    """Clients of a program that sends back what it gets, which connect all at once, and each of which has its answer for a while before it ends:
+    what they got."""
+
+    def __init__(self, server, count, hold):
+        super().__init__(count)
+        self.server = server
+        self.hold = hold
+        self.all_there = threading.Barrier(count)
+        self.got = queue.SimpleQueue()
+
+    def run(self):
+        try:
+            self.all_there.wait(server_runs.WAIT)
+            with self.server.connect() as client:
+                self.got.put(self.talk(client))
+        except OSError as fault:
+            self.got.put(repr(fault).encode())
+
+    def talk(self, client):
+        client.sendall(b"hi\n")
+        answer = client.recv(3)
+        time.sleep(self.hold)
+        client.shutdown(socket.SHUT_WR)
+        return answer + read_all(client)
+
+    def all(self):
+        self.start().finish()
+        got = [self.got.get() for _ in self.threads]
+        return {answer: got.count(answer) for answer in got}
+
+
+class ShortClients(Clients):
+    """Clients that send three bytes some time after they connected, and their end right behind them."""
+
+    def talk(self, client):
+        time.sleep(self.hold)
+        client.sendall(b"hi\n")
+        client.shutdown(socket.SHUT_WR)
+        return read_all(client)
+
+
+def limited(suite, limits):
+    """The command of the server under these limits of prlimit."""
+    return ["prlimit"] + ["--%s=%d" % limit for limit in limits] + suite.command
+
+
+def all_served(suite, name, limits, connections, clients, hold, **how):
+    """All of so many clients are served under these limits, however few at once."""
+    command = limited(suite, limits) if limits else suite.command
+    with suite.start(["-v", "-c", str(connections)] + server_runs.QUIET, [how.pop("program", shutil.which("cat"))], command=command, **how) as server:
+        for _ in range(2):
+            suite.expect("clients under " + name, Clients(server, clients, hold).all(), {b"hi\n": clients})
+        suite.expect("short clients under " + name, ShortClients(server, clients, hold).all(), {b"hi\n": clients})
+        server.idle()
+        faults = [line for line in server.lines() if line.startswith(("drop", "start", "out of", "retired"))]
+        suite.expect("lines of faults under " + name, faults, [])
+        suite.audit(name, server)
+
+
+def descriptors(suite):
+    """More clients than there are descriptors for."""
+    before = resource.getrlimit(resource.RLIMIT_NOFILE)
+    resource.setrlimit(resource.RLIMIT_NOFILE, (min(4096, before[1]), before[1]))
+    all_served(suite, "1024 descriptors", [("nofile", 1024)], 450, 420, 0.5)
+    for number in (14, 20, 33):
+        all_served(suite, "%d descriptors" % number, [("nofile", number)], 40, 30, 0.02)
+    resource.setrlimit(resource.RLIMIT_NOFILE, before)
+
+
+def memory(suite):
+    """Less memory, or less address space, than all clients take at once: the C library reserves 64 MiB for a thread where it can."""
+    little = [(kind, 10000000) for kind in ("data", "stack", "as")]
+    all_served(suite, "softlimit -m 10000000", little, 40, 20, 0.1, env={"PATH": os.environ["PATH"]})
+    for space in (20000000, 100000000, 200000000, 300000000):
+        all_served(suite, "softlimit -a %d" % space, [("as", space)], 40, 40, 0.1)
+
+
+def as_user(suite, limit):
+    """How a program is started as another user, with this limit of processes: its folder, and what makes it that user."""
+    # of its own for each process of the tests: the system counts the processes of a user, and groups run side by side
+    user = USERS + os.getpid() % 10000
+    os.chmod(suite.folder, 0o755)
+    program = shutil.copy(suite.program, suite.path("for_user"))
+    os.chmod(program, 0o755)
+
+    def change():
+        resource.setrlimit(resource.RLIMIT_NPROC, (limit, limit))
+        os.setgroups([])
+        os.setgid(user)
+        os.setuid(user)
+
+    return [program] + suite.command[1:], change
+
+
+def processes(suite):
+    """Fewer processes and threads than all clients take at once, for a user whom the system counts."""
+    if os.getuid() != 0:
+        return
+    for limit in (6, 12, 25):
+        command, change = as_user(suite, limit)
+        with suite.start(["-v", "-c", "40"] + server_runs.QUIET, [shutil.which("cat")], command=command, preexec_fn=change) as server:
+            for _ in range(2):
+                suite.expect("clients with %d processes" % limit, Clients(server, 30, 0.05).all(), {b"hi\n": 30})
+            server.idle()
+            suite.audit("%d processes" % limit, server)
+
+
+def nobody(suite):
+    """A server that could serve nobody says so at its start."""
+    words = suite.command[1:] + ["-v", "127.0.0.1", "0", "true"]
+    run = failed_calls.Library(suite.folder).run("pthread_create", "EAGAIN", 1, failed_calls.ALL)
+    ended = subprocess.run([suite.program] + words, stderr=subprocess.PIPE, env=dict(os.environ, **run.environment), timeout=server_runs.WAIT)
+    told = [line for line in ended.stderr.decode().splitlines() if "status" not in line]
+    suite.expect("a server without threads", (ended.returncode, told), (111, ["tcpserver: out of memory"]))
+    few = 9 if suite.handed else 10
+    ended = subprocess.run(["prlimit", "--nofile=%d" % (few - 1), suite.program] + words, stderr=subprocess.PIPE, timeout=server_runs.WAIT)
+    told = [line for line in ended.stderr.decode().splitlines() if "status" not in line and "cause" not in line]
+    suite.holds("a server without descriptors", ended.returncode == 111 and told in (["tcpserver: accept fault"], ["tcpserver: cannot listen"]), told)
+    if os.getuid() == 0:
+        command, change = as_user(suite, 1)
+        ended = subprocess.run(command + words[1:], stderr=subprocess.PIPE, preexec_fn=change, timeout=server_runs.WAIT)
+        told = [line for line in ended.stderr.decode().splitlines() if "status" not in line]
+        suite.expect("a server without processes", (ended.returncode, told), (111, ["tcpserver: out of memory"]))
+
+
+def kept_threads(suite):
+    """Threads are made when more connections come at once than there are threads for, and kept: one after another takes none; they end with
+    the server."""
+    each = 1 if suite.handed else 2
+    # the first thread, one that is a process in reserve, and one that begins connections
+    others = 3
+    with suite.start(["-v", "-c", "40", "-k", "231"] + server_runs.QUIET, [shutil.which("cat")]) as server:
+        server_runs.wait_until("the first threads", lambda: server.threads() == others + each)
+        for _ in range(200):
+            suite.expect("one after another", server.ask(b"a\n"), b"a\n")
+        # the next client may come before the last connection is told; eight begin connections where programs start slowly
+        suite.holds("threads after 200 connections", server.threads() <= others + 7 + 4 * each, server.threads())
+        clients = [server.connect() for _ in range(30)]
+        for client in clients:
+            client.sendall(b"x")
+            suite.expect("thirty at once", client.recv(1), b"x")
+        # there is one for the next connection; more begin connections where programs start slowly
+        most = others + 29 + 31 * each
+        server_runs.wait_until("threads of thirty at once", lambda: others + 31 * each <= server.threads() <= most)
+        kept = server.threads()
+        for client in clients:
+            client.close()
+        server_runs.wait_until("their ends", lambda: server.live() == 0)
+        suite.expect("threads after them", server.threads(), kept)
+        suite.expect("the last one", server.ask(b"a\n"), b"a\n")
+        suite.expect("its end", server.end(), 0)
+        suite.audit("kept threads", server)
+
+
+def no_trace(suite):
+    """A thread that is kept has nothing of the connection before: a chain of wrappers begins anew, and no byte stays in a buffer."""
+    if suite.handed:
+        return
+    with suite.start(["-v", "-c", "1", "-w", "addcr"] + server_runs.QUIET, [shutil.which("cat")]) as server:
+        for _ in range(3):
+            suite.expect("a text that ends in a carriage return", server.ask(b"text\r"), b"text\r")
+            suite.expect("a line feed after it", server.ask(b"\n"), b"\r\n")
+            with server.connect() as client:
+                client.sendall(b"x" * 200000)
+                server_runs.reset(client)
+            suite.expect("a client after one that was reset", server.ask(b"y\n"), b"y\r\n")
+
+
+CHECKS = [descriptors, memory, processes, nobody, kept_threads, no_trace]
+HANDED = [descriptors, memory, processes, nobody, kept_threads]
+COMMON = []

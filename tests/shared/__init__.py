@@ -1,0 +1,1 @@
+"""What several groups use: the harness, the server that runs, failures by force, plain definitions."""

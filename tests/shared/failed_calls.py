@@ -1,0 +1,89 @@
+"""Calls of a program that fail by force, through a library that is loaded before the C library (`failed_calls.c`), or through strace."""
+import concurrent.futures
+import errno
+import os
+import shutil
+import subprocess
+import tempfile
+
+from shared import small_programs
+from shared.checks import LIMIT
+
+# how many runs stand beside one another, and how many without a failure in succession end a series
+WORKERS = 2
+LAST = 3
+ALL = 2 ** 62
+
+
+class Library:
+    """The library, and what each run needs of it."""
+
+    def __init__(self, folder):
+        self.folder = folder
+        self.path = small_programs.library("shared/failed_calls.c", folder)
+
+    def run(self, call, error, first, last=None, step=1):
+        """A run in which the calls of this name from one number to another fail, or every second one and so on; by itself the first alone.
+        Without an error a read or a write takes one byte."""
+        return Run(self, call, error, {"FAILED_FIRST": str(first), "FAILED_LAST": str(first if last is None else last), "FAILED_STEP": str(step)})
+
+    def run_while(self, call, error):
+        """A run in which all calls of this name fail while its switch is on."""
+        run = Run(self, call, error, {})
+        run.environment["FAILED_WHILE"] = run.switch = run.mark + ".on"
+        return run
+
+
+class Run:
+    """One run: the environment that it needs, and what failed in it."""
+
+    def __init__(self, library, call, error, words):
+        self.mark = tempfile.mktemp(prefix="mark-", dir=library.folder)
+        self.environment = {"LD_PRELOAD": library.path, "FAILED_CALL": call, "FAILED_MARK": self.mark}
+        self.environment.update(words, FAILED_ERROR=str(getattr(errno, error) if error else 0))
+        self.switch = None
+
+    def turn(self, on):
+        """Turns failures on, or off."""
+        if on:
+            with open(self.switch, "w"):
+                pass
+        else:
+            os.unlink(self.switch)
+
+    def failed(self):
+        """What failed: the numbers of the calls, and their first descriptors."""
+        try:
+            with open(self.mark) as file:
+                return [tuple(map(int, line.split())) for line in file]
+        except FileNotFoundError:
+            return []
+
+    def end(self):
+        """Whether any call failed; the mark is taken away."""
+        failed = self.failed()
+        if failed:
+            os.unlink(self.mark)
+        return bool(failed)
+
+
+def one_after_another(most, try_one):
+    """Tries 1, 2 and so on, a few at a time, until so many in succession met no failure, or so many were tried: how many runs there were, and
+    whether all was tried. `try_one` tells whether a call failed."""
+    runs = 0
+    with concurrent.futures.ThreadPoolExecutor(WORKERS) as pool:
+        while runs < most:
+            numbers = range(runs + 1, runs + 1 + LAST * WORKERS)
+            met = list(pool.map(try_one, numbers))
+            runs += len(numbers)
+            if not any(met[-LAST:]):
+                return runs, True
+    return runs, False
+
+
+def can_trace():
+    """Whether strace is here, and may look at other processes."""
+    if not shutil.which("strace"):
+        return False
+    words = ["strace", "-qq", "-o", "/dev/null", "-e", "inject=getpid:error=EIO", "true"]
+    return subprocess.run(words, stdout=subprocess.DEVNULL, stderr=subprocess.DEVNULL, timeout=LIMIT).returncode == 0

@@ -1,0 +1,1 @@
+"""The stream tools, and what goes through tools as wholes."""
