@@ -8,6 +8,7 @@ use Rattle.dir_calls.specs.Images.{IsImage}
 use Rattle.dir_calls.specs.Calls.{Call, makes, without, after}
 use Rattle.dir_calls.specs.Outcomes.{Passes, LeftBy}
 use Rattle.dir_calls.specs.Moments.{Elapses, Includes}
+use Rattle.dir_calls.specs.Folder.{directory_of}
 use Rattle.dir_calls.specs.Past.{PastCall, past_call, LeftIn, LeftSince}
 
 -- the last of the calls, and those before it
@@ -73,6 +74,34 @@ module _ (calls : List PastCall) (kept : PastCall) (call : Call) (old new : Dire
 
   pub includes_push : Includes (length calls) (LeftSince (calls ++ kept ∷ []) new) (LeftBy call old new)
   includes_push moment image le left = ⊎_elim (λ within. inr (length calls, le, kept, at_last calls kept, within)) (λ now. inl now) (records.all image left)
+
+-- one change more, of names or files, within which a stop leaves what a stop before it or after it leaves
+module _ (calls : List PastCall) (old new : Directory) where
+  abbrev pub kept_step : PastCall
+  kept_step = record { before = old; made = None }
+
+  pub elapses_step : Elapses (length calls) (length (calls ++ kept_step ∷ [])) (LeftSince calls old) (LeftSince (calls ++ kept_step ∷ []) new) (λ image. IsImage old image ⊎ IsImage new image)
+  elapses_step = record { later = omega (arith, length-append calls (kept_step ∷ [])); nothing_else = nothing_else; keeps = keeps }
+    where
+      within : (image : Directory) → LeftIn kept_step image → IsImage old image
+      within image (inl is) = is
+      within image (inr (name, named, is)) = absurd (cc)
+
+      nothing_else : (moment : ℕ) (image : Directory) → moment ≤ length calls → LeftSince (calls ++ kept_step ∷ []) new moment image → LeftSince calls old moment image ⊎ (IsImage old image ⊎ IsImage new image)
+      nothing_else moment image le (inl now) = inr (inr now)
+      nothing_else moment image le (inr (place, late, past, there, left)) =
+          ⊎_elim (λ was. inl (inr (place, late, past, was, left))) (λ last. inr (inl (within image (subst (λ p. LeftIn p image) last left)))) (at_either calls kept_step past place there)
+
+      keeps : (moment : ℕ) (image : Directory) → moment ≤ length calls → LeftSince calls old moment image → LeftSince (calls ++ kept_step ∷ []) new moment image
+      keeps moment image le (inl now) = inr (length calls, le, kept_step, at_last calls kept_step, inl now)
+      keeps moment image le (inr (place, late, past, there, left)) = inr (place, late, past, at_earlier calls kept_step past place there, left)
+
+-- the same of the entries
+module _ (entries later : List (Folder × Option (List ℕ))) (folder : Folder) (new : Directory) (pushed : later ≡ entries ++ (folder, None) ∷ []) where
+  pub step_more : Elapses (length (map past_call entries)) (length (map past_call later)) (LeftSince (map past_call entries) (directory_of folder)) (LeftSince (map past_call later) new) (λ image. IsImage (directory_of folder) image ⊎ IsImage new image)
+  step_more =
+      subst (λ (l : List PastCall). Elapses (length (map past_call entries)) (length l) (LeftSince (map past_call entries) (directory_of folder)) (LeftSince l new) (λ image. IsImage (directory_of folder) image ⊎ IsImage new image))
+      (sym (ap (map past_call) pushed ∙ map-append past_call entries ((folder, None) ∷ []))) (elapses_step (map past_call entries) (directory_of folder) new)
 
 -- the same of the entries
 module _ (entries later : List (Folder × Option (List ℕ))) (entry : Folder × Option (List ℕ)) (call : Call) (old new : Directory) (pushed : later ≡ entries ++ entry ∷ []) (records : Records (past_call entry) call old new) where
