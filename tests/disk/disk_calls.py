@@ -339,6 +339,14 @@ def may_fault(mishap):
     return {"fails": (True,), "stop": (True,), "short": (False,)}.get(mishap, (True, False))
 
 
+def disk_in_memory(disks):
+    """A folder of a disk in memory, whose calls are proved to do what is said of a disk: it answers as one of a disk that has no mishap."""
+    commands = ["fresh t", "append abc", "sync", "settle", "open t", "rename t u", "open t", "open u", "rename w x", ALLOW, DENY, "open rules", "remove u", "open u"]
+    answers = disks.answers(["memory_disk"], commands)
+    disks.expect("a disk in memory: a file", answers[:9], ["done", "3", "done", "done", ABC, "done", "none", ABC, NO_NAME])
+    disks.expect("a disk in memory, beside a disk without a mishap", answers, disks.answers(["disk", "0", "fails"], commands))
+
+
 def single_calls(disks):
     """Names, reads of a file in memory and the texts of faults."""
     for given, wanted in NO_NAMES:
@@ -357,6 +365,6 @@ def check(program, failures):
     disks = Disks(program, "disk_calls", failures)
     for name, script in MEMORY:
         disks.script(name, ["memory"], script)
-    for part in (failing_calls, replacements, scratch_files, installations, single_calls):
+    for part in (failing_calls, replacements, scratch_files, installations, disk_in_memory, single_calls):
         part(disks)
     return disks.tests

@@ -187,7 +187,9 @@ class Killer:
         if b"tcpserver: status: " not in old.log():
             self.suite.expect("connections before its first status line", b" from " in old.log(), False)
             return None
-        events = log_events.Events(old.log())
+        # (a line that is being written as the process is killed may be cut where a page of the file ends)
+        log = old.log()
+        events = log_events.Events(log[:log.rfind(b"\n") + 1])
         return events if events.faults else self.replay(events)
 
     def start(self):
