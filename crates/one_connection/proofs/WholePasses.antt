@@ -34,16 +34,16 @@ pub undamaged : (honest sound : Bool) (bytes : Option (List ℕ)) (missing : Mis
     → DecisionFails (trust_in honest sound bytes) (decision_from (option_map reading bytes) missing peer) fault → IsUndamaged fault
 undamaged honest sound bytes missing peer (Find find.Short) is whole fails =
     ∥∥₁_elim whole (hlevel props) (λ (w : IsWholeFile bytes).
-      let decides = decides_whole bytes missing peer w in
-      let damaged = known honest sound bytes _ is fails in
-      absurd (cc))
+    let decides = decides_whole bytes missing peer w in
+    let damaged = known honest sound bytes _ is fails in
+    absurd (cc))
 undamaged honest sound bytes missing peer (Find find.Device) is whole fails = tt
 undamaged honest sound bytes missing peer (Find find.OutOfMemory) is whole fails = tt
 undamaged honest sound bytes missing peer (Code fault) is whole fails =
     ∥∥₁_elim whole (hlevel props) (λ (w : IsWholeFile bytes).
-      let decides = decides_whole bytes missing peer w in
-      let damaged = known honest sound bytes _ is fails in
-      absurd (cc))
+    let decides = decides_whole bytes missing peer w in
+    let damaged = known honest sound bytes _ is fails in
+    absurd (cc))
 undamaged honest sound bytes missing peer OutOfMemory is whole fails = tt
 
 -- of whatever was answered
