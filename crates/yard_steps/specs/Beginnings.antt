@@ -1,5 +1,5 @@
 -- The name of the rules file.
-use Rattle.std.specs.Prelude.{ℕ, List, codes◌}
+use Rattle.std.specs.Prelude.{ℕ, List, codes}
 use Rattle.rule_lookup.specs.declared.decision.Missing.{Missing}
 use Rattle.server_events.specs.Worlds.{RulesName}
 
