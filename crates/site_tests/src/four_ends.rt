@@ -119,7 +119,16 @@ fn by_site<L: Premises, N: Callers, R: Abort + Wait + AllocGlobal>(
     requires callers { (N.all ≡ 1) × (N.before ≡ 0) }
 {
     let alloc = rt.alloc();
-    let (site, mut callers) = new_site::<L, N, R>(rt, alloc, places, parts, MemDir::new(alloc), None, 1, 1);
+    let (site, mut callers) = new_site::<L, N, R>(
+        rt,
+        alloc,
+        places,
+        parts,
+        MemDir::new(alloc),
+        None,
+        1,
+        1,
+    );
     let mut receipts = Vec::new(alloc);
     four_by_caller(rt, alloc, &site, &mut callers, &mut receipts);
     let yard = close(rt, site, callers, &receipts);
