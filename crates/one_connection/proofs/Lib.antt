@@ -1,2 +1,4 @@
 -- Lemmas.
 pub mod Standings
+pub mod ServedByYards
+pub mod WholePasses

@@ -1,6 +1,6 @@
 -- Where a connection stands after it went on.
-use Rattle.std.proofs.Common.{ap, ◌∙◌}
-use Rattle.std.specs.Prelude.{◌≡◌, ◌↔◌, ℕ, Option, Some, None, option_map}
+use Rattle.std.proofs.Common.{ap, refl, ◌∙◌}
+use Rattle.std.specs.Prelude.{◌≡◌, ◌↔◌, ℕ, Option, Some, None, is_some, option_map}
 use Rattle.rule_lookup.specs.Peers.{Client}
 use Rattle.server_events.specs.ServerState.{ServerState, stage_of, with_stage}
 use Rattle.server_events.specs.Worlds.{peer_of}
@@ -31,3 +31,8 @@ seat_of (Some m) server n is = of_stage m n (stage_of m server.connections) is
 pub tells_serial : (seat : Option ℕ) (server : ServerState) (n : ℕ) (s : Stage) → seat ≡ Some n → stage_of n server.connections ≡ Some s → serial_at seat server ≡ Some n
 tells_serial seat server n s has alive =
     ap (λ (o : Option ℕ). serial_at o server) has ∙ ap (option_map (λ (t : Stage). n)) alive
+
+-- something is there, whatever is made of it
+pub is_some-map : {A B : Type 0} (f : A → B) (o : Option A) → is_some o ≡ is_some (option_map f o)
+is_some-map f None = refl
+is_some-map f (Some x) = refl

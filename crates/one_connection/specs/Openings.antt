@@ -1,14 +1,17 @@
 -- What a connection finds when it opens the rules.
-use Rattle.std.specs.Prelude.{◌≡◌, ◌<◌, ◌-◌, ◌^◌, ◌⊎◌, ℕ, Bool, IsTrue, List, Option, Some, Result, Ok, Err, option_map}
+use Rattle.std.specs.Prelude.{◌≡◌, ◌<◌, ◌-◌, ◌^◌, ◌⊎◌, ⊤, ℕ, Bool, IsTrue, List, Option, Some, Result, Ok, Err, option_map}
 use Rattle.std.specs.declared.snapshot.Snapshot.{Snapshot}
 use Rattle.cdb_read.specs.Reading.{reading}
 use Rattle.dir_calls.specs.declared.fault.DirFault.{DirFault}
 use Rattle.dir_calls.specs.declared.fault.DirFault.TheVariants as directory
 use Rattle.rule_lines.specs.Lookups.{Trust, WhereKnown}
+use Rattle.rule_lines.specs.declared.source.FindFault.TheVariants as find
 use Rattle.rule_lookup.specs.Decisions.{DecisionFails, decision_from}
 use Rattle.rule_lookup.specs.Peers.{Client}
 use Rattle.rule_lookup.specs.declared.decision.Decision.{Decision}
 use Rattle.rule_lookup.specs.declared.decision.DecideFault.{DecideFault}
+use Rattle.rule_lookup.specs.declared.decision.DecideFault.TheVariants.{Find, Code}
+use Rattle.rule_lookup.specs.declared.decision.DecideFault.TheVariants as decide
 use Rattle.rule_lookup.specs.declared.decision.Missing.{Missing}
 use Rattle.server_yard.specs.Passes.{pass_bytes, pass_missing, trust_in}
 use Rattle.server_yard.specs.declared.pass.Pass.{Pass}
@@ -46,6 +49,14 @@ Decides honest sound found peer decision =
 abbrev pub FailsToDecide : (honest sound : Bool) → Opening → Client → DecideFault → Type 0
 FailsToDecide honest sound found peer fault =
     DecisionFails (trust_in honest sound found.bytes) (decides found peer) fault
+
+-- a fault that is no damage of the file: its device failed, or there was no memory
+abbrev pub IsUndamaged : DecideFault → Type 0
+IsUndamaged (Find find.Short) = ⊥
+IsUndamaged (Find find.Device) = ⊤
+IsUndamaged (Find find.OutOfMemory) = ⊤
+IsUndamaged (Code fault) = ⊥
+IsUndamaged decide.OutOfMemory = ⊤
 
 -- a fault of a directory, as that of opening the rules
 abbrev pub open_fault : DirFault → OpenFault

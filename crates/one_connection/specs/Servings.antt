@@ -1,5 +1,5 @@
 -- How one connection is served.
-use Rattle.std.specs.Prelude.{◌≡◌, ◌≢◌, ◌⊎◌, ◌++◌, ◌∷◌, ⊤, ℕ, Bool, true, false, IsTrue, List, [], Option}
+use Rattle.std.specs.Prelude.{◌≡◌, ◌≢◌, ◌⊎◌, ◌++◌, ◌∷◌, ⊤, ℕ, Bool, true, false, IsTrue, List, [], Option, is_some}
 use Rattle.std.specs.Io.KnownBytes.{Appends}
 use Rattle.child_jobs.specs.Plans.{PlanText}
 use Rattle.child_jobs.specs.Programs.{ProgramText}
@@ -17,7 +17,7 @@ use Rattle.ucspi_env.specs.Child.{environment_of}
 use Rattle.ucspi_env.specs.Variables.{Variables}
 use Rattle.child_jobs.specs.declared.running.Running.{Running}
 use Rattle.server_events.specs.declared.event.Event.{Event}
-use Rattle.server_events.specs.declared.event.Event.TheVariants.{Started, StartFailed, Dropped}
+use Rattle.server_events.specs.declared.event.Event.TheVariants.{Opened, Decided, Started, StartFailed, Dropped}
 use Rattle.server_events.specs.declared.event.Stage.{Stage}
 use Rattle.server_events.specs.declared.event.Stage.TheVariants as stage
 use Rattle.one_connection.specs.Openings.{CountsFailure, Decides, FailsToDecide, Opening}
@@ -145,9 +145,28 @@ ComesAt Served.Denied at = at ≡ stage.Decided Deny
 ComesAt (Served.StartFailed fault) at = at ≡ stage.Decided Allow
 ComesAt (Served.Dropped why) at = IsUndenied at
 
--- this event is the last that a desk told, and it came in such a stage
-pub record IsLastTold {D : Type 0} (tells : D → Event → D → Type 0) (stands : D → Stage → Type 0) (comes_at : Stage → Type 0) (event : Event) (desk : D) : Type 0 where
+-- a desk told no event from one state to the next: it is the same one, or a call of it was refused
+abbrev pub IsStill : {D : Type 0} → (still : D → D → Type 0) → (old new : D) → Type 0
+IsStill still old new = (new ≡ old) ⊎ still old new
+
+-- The events that a desk told of a connection before its last one: none; or that it opened the rules; or that, and that it was decided by what
+-- it found there.
+pub data ComesBy {D : Type 0} (still : D → D → Type 0) (tells_by : D → Opening → Event → D → Type 0) (n : ℕ) : D → List Event → D → Type 0 where
+  unopened : {old new : D} → IsStill still old new → ComesBy still tells_by n old [] new
+  opened : {old mid new : D} {it : Opening} → tells_by old it (Opened n (is_some it.bytes)) mid → IsStill still mid new
+      → ComesBy still tells_by n old (Opened n (is_some it.bytes) ∷ []) new
+  decided : {old mid new : D} {it : Opening} {decision : Decision} → tells_by old it (Opened n (is_some it.bytes)) mid
+      → tells_by mid it (Decided n decision) new → ComesBy still tells_by n old (Opened n (is_some it.bytes) ∷ Decided n decision ∷ []) new
+
+-- it told such events, whichever
+pub record HasCome {D : Type 0} (still : D → D → Type 0) (tells_by : D → Opening → Event → D → Type 0) (n : ℕ) (old new : D) : Type 0 where
+  pub events : List Event
+  pub came : ComesBy still tells_by n old events new
+
+-- A desk has told this event last. Before it came such events, by which it had come that far, and it came in such a stage.
+pub record IsLastTold {D : Type 0} (comes_by : D → Type 0) (tells : D → Event → D → Type 0) (stands : D → Stage → Type 0) (comes_at : Stage → Type 0) (event : Event) (desk : D) : Type 0 where
   pub before : D
+  pub first : comes_by before
   pub stage : Stage
   pub stood : stands before stage
   pub comes : comes_at stage

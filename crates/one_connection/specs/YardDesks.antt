@@ -1,12 +1,18 @@
 -- A yard as the desk of a connection.
-use Rattle.std.specs.Prelude.{◌≡◌, ℕ, Bool, IsTrue, Some, None}
+use Rattle.std.specs.Prelude.{◌≡◌, ◌++◌, ◌∷◌, ℕ, Bool, IsTrue, List, [], Option, Some, None}
 use Rattle.dir_calls.specs.Directory.{Directory}
+use Rattle.event_journals.specs.declared.journal.Noted.{Noted}
 use Rattle.rule_lookup.specs.Peers.{Client}
 use Rattle.server_events.specs.ServerState.{stage_of}
 use Rattle.server_events.specs.Worlds.{missing_by, peer_of}
+use Rattle.server_events.specs.declared.event.Event.{Event}
+use Rattle.server_events.specs.declared.event.Event.TheVariants.{Opened, Decided}
 use Rattle.server_events.specs.declared.event.Stage.{Stage}
-use Rattle.server_yard.specs.Standing.{standing_of}
-use Rattle.server_yard.specs.Yards.{yard_rules, yard_seat, yard_server, yard_state}
+use Rattle.server_events.specs.declared.report.Report.{Report}
+use Rattle.server_yard.specs.Rolls.{IsQuiet, Notes}
+use Rattle.server_yard.specs.Serving.{IsReachedOn, Serves}
+use Rattle.server_yard.specs.Standing.{LeadsDecided, LeadsOn, LeadsOpened, YardState, standing_of}
+use Rattle.server_yard.specs.Yards.{yard_roll, yard_rules, yard_seat, yard_server, yard_state}
 use Rattle.server_yard.specs.declared.yard.Yard.{Yard}
 use Rattle.one_connection.specs.Openings.{Opening}
 
@@ -24,3 +30,29 @@ IsGoneFrom yard serial = stage_of serial (yard_server yard).connections ≡ None
 pub record FindsOf {L D J F : Type 0} {p : _} {l : _} {d : _} {j : _} (honest : Bool) (state : D → Directory) (yard : Yard L D J F p l d j) (found : Opening) : Type 0 where
   pub standing : IsTrue honest → found.bytes ≡ standing_of (yard_state state yard)
   pub missing : found.missing ≡ missing_by (yard_rules yard)
+
+-- By what a connection found an event leads on: it opened the rules, and keeps that from now on; or it is decided by that.
+abbrev pub LeadsBy : Opening → Event → (old new : YardState) → Type 0
+LeadsBy it (Opened n there) old new = LeadsOpened n it.bytes old new
+LeadsBy it (Decided n decision) old new = LeadsDecided n it.bytes decision old new
+LeadsBy it event old new = LeadsOn event old new
+
+-- a yard notes the event of a call, which leads on so over an honest directory
+pub record MakesEvent {L D J F : Type 0} {p : _} {l : _} {d : _} {j : _} (told : J → Report) (count : J → ℕ) (stored : J → Option (List Noted)) (honest : Bool) (state : D → Directory) (leads : YardState → YardState → Type 0) (event : Event) (old new : Yard L D J F p l d j) : Type 0 where
+  pub noted : Notes told count stored event (yard_roll old) (yard_roll new)
+  pub step : IsTrue honest → leads (yard_state state old) (yard_state state new)
+
+-- it notes none, and over an honest directory is as before for every world
+pub record MakesNone {L D J F : Type 0} {p : _} {l : _} {d : _} {j : _} (told : J → Report) (count : J → ℕ) (stored : J → Option (List Noted)) (honest : Bool) (state : D → Directory) (old new : Yard L D J F p l d j) : Type 0 where
+  pub quiet : IsQuiet told count stored (yard_roll old) (yard_roll new)
+  pub same : IsTrue honest → yard_state state new ≡ yard_state state old
+
+-- the calls that serve a connection lead from one yard to another, and this is the last of their events
+pub record ServesTo (n : ℕ) (last : Event) (old new : YardState) : Type 0 where
+  pub first : List Event
+  pub serves : Serves n old (first ++ last ∷ []) new
+
+-- and so a history of the headline goes on by their events
+pub record GoesOnTo (history : List Event) (last : Event) (new : YardState) : Type 0 where
+  pub first : List Event
+  pub reached : IsReachedOn (history ++ (first ++ last ∷ [])) new

@@ -1,6 +1,6 @@
 //! The decision of a connection by what it opened.
-ghost use Rattle.std.specs.Prelude.{IfOk, IfErr};
-ghost use Rattle.one_connection.specs.Openings.{Decides, FailsToDecide, opening_of};
+ghost use Rattle.std.specs.Prelude.{IfOk, IfErr, IsTrue};
+ghost use Rattle.one_connection.specs.Openings.{Decides, FailsToDecide, IsUndamaged, opening_of};
 
 use dir_calls::RulesFile;
 use rule_lookup::{DecideFault, Decision, Peer, decide};
@@ -19,6 +19,8 @@ pub fn decide_by_pass<L: Premises, F: RulesFile + Drop>(
 ) -> Result<Decision, DecideFault>
     ensures decided { IfOk result (Decides F.honest F.sound (opening_of F.bytes pass.now) peer.now) }
     ensures refused { IfErr result (FailsToDecide F.honest F.sound (opening_of F.bytes pass.now) peer.now) }
+    // where the yard's premises were met the file is compiled of rules, so that nothing in it is damaged
+    ensures undamaged { IsTrue L.met → IsTrue F.honest → IfErr result IsUndamaged }
 {
     decide(alloc, pass.source(), pass.missing(), peer)
 }

@@ -97,6 +97,12 @@ pub trait Desk<L: Premises> {
     /// Between these two states of the desk it told this event, and no other.
     ghost tells: { Self → EventOf → Self → Type 0 };
 
+    /// The same of an event that is by what was found: that the connection opened the rules, or was decided.
+    ghost tells_by: { Self → Opening → EventOf → Self → Type 0 };
+
+    /// Between these two it told none.
+    ghost still: { Self → Self → Type 0 };
+
     /// What is decided of a connection without a rules file.
     ghost is_missing: { Self → MissingFile → Type 0 };
 
@@ -122,9 +128,11 @@ pub trait Desk<L: Premises> {
         ensures its { IfOk result (λ pass. serial pass ≡ number) }
         ensures found { IfOk result (λ pass. finds self.old (opening pass)) }
         ensures keeps { IfOk result (λ pass. found self.new ≡ Some (opening pass)) }
-        ensures told { IfOk result (λ pass. tells self.old (Opened number (is_some (opening pass).bytes)) self.new) }
+        ensures told { IfOk result (λ pass.
+            tells_by self.old (opening pass) (Opened number (is_some (opening pass).bytes)) self.new) }
         ensures missing { IfOk result (λ pass. is_missing self.new (opening pass).missing) }
         ensures refused { OnErr result (stands self.new place.now number peer.now stage.Admitted) }
+        ensures quiet { OnErr result (still self.old self.new) }
         ensures cause { CanFail is_shared (failures self.old) (failures self.new) result };
 
     /// The decision for a peer by what its connection found: as `decide` decides by the bytes of that file, whatever stands under its name
@@ -153,8 +161,10 @@ pub trait Desk<L: Premises> {
         requires decides { Decides honest sound (opening pass) peer.now decision }
         ensures decided { OnOk result
             (stands self.new place.now (serial pass) peer.now (stage.Decided decision.verdict)) }
-        ensures told { OnOk result (tells self.old (Decided (serial pass) decision) self.new) }
+        ensures told { OnOk result
+            (tells_by self.old (opening pass) (Decided (serial pass) decision) self.new) }
         ensures refused { OnErr result (stands self.new place.now (serial pass) peer.now stage.Opened) }
+        ensures quiet { OnErr result (still self.old self.new) }
         ensures at_once { OnErr result (IsTrue is_shared) }
         ensures keeps { found self.new ≡ found self.old }
         ensures failures { failures self.new ≡ failures self.old };

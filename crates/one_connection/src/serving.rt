@@ -6,7 +6,7 @@ ghost use Rattle.rule_lookup.specs.declared.outcome.DropCause.TheVariants as cau
 ghost use Rattle.server_events.specs.declared.event.Event.TheVariants.{Dropped, StartFailed};
 ghost use Rattle.server_events.specs.declared.event.Stage.TheVariants as stage;
 ghost use Rattle.one_connection.specs.Openings.{WasFound};
-ghost use Rattle.one_connection.specs.Servings.{ComesAt, Drops, FailsFor, Greets, IfDropped, IfRunning, IfStartFailed, IsChild, IsDecidedAs, IsLastTold, IsPrepared, IsRefused, OnDenied, UnlessRunning, cause_of, cause_of_open, cause_of_undecided, is_cut_short, last_event};
+ghost use Rattle.one_connection.specs.Servings.{ComesAt, Drops, FailsFor, Greets, HasCome, IfDropped, IfRunning, IfStartFailed, IsChild, IsDecidedAs, IsLastTold, IsPrepared, IsRefused, OnDenied, UnlessRunning, cause_of, cause_of_open, cause_of_undecided, is_cut_short, last_event};
 ghost use Rattle.one_connection.specs.Unstarted.{IsUnstarted, StandsUndenied};
 
 use crate::desk::{Desk, OpenFault, Undecided};
@@ -99,6 +99,7 @@ fn prepare<L: Premises, D: Desk<L, Place = Place<L>>>(
     ensures dropped { IfErr result (Drops (FailsFor (WasFound (D.found desk.new) (D.finds desk.old)) D.honest D.sound peer.now)
         D.is_shared (D.failures desk.old) (D.failures desk.new) []) }
     ensures undenied { OnErr result (StandsUndenied (D.stands desk.new place.now serial peer.now)) }
+    ensures came { HasCome D.still D.tells_by serial desk.old desk.new }
 {
     let pass = match desk.open(alloc, place, serial, peer) {
         Ok(pass) => pass,
@@ -174,8 +175,8 @@ fn run<L: Premises, D: Desk<L, Place = Place<L>>, S: Launcher>(
     ensures started { IfRunning result (λ child. (place_of child ≡ place)
         × (D.is_shared ≡ false → D.stands desk.new place serial peer.now stage.Started)) }
     ensures refused { IfStartFailed result (S.refuses launcher plan.now.program environment.now) }
-    ensures told { IsLastTold D.tells (λ d. D.stands d place serial peer.now)
-        (ComesAt result) (last_event serial result) desk.new }
+    ensures told { D.tells desk.old (last_event serial result) desk.new }
+    ensures comes { ComesAt result (stage.Decided Allow) }
     ensures gone { UnlessRunning result (D.is_gone desk.new serial) }
     ensures keeps { D.found desk.new ≡ D.found desk.old }
     ensures neither { OnDenied result ⊥ × IfDropped result (λ why. ⊥) }
@@ -224,9 +225,9 @@ pub fn serve_one<L: Premises, D: Desk<L, Place = Place<L>>, S: Launcher + Drop, 
         peer.now plan.now (S.refuses launcher)) }
     ensures dropped { IfDropped result (Drops (FailsFor (WasFound (D.found desk.new) (D.finds desk.old)) D.honest D.sound peer.now)
         D.is_shared (D.failures desk.old) (D.failures desk.new) plan.now.banner) }
-    // the last event that was told, and the stage in which it came
-    ensures told { IsLastTold D.tells (λ d. D.stands d place serial peer.now)
-        (ComesAt result) (last_event serial result) desk.new }
+    // the events that were told, in order, the last of which is the answer, and the stage in which that came
+    ensures told { IsLastTold (HasCome D.still D.tells_by serial desk.old) D.tells
+        (λ d. D.stands d place serial peer.now) (ComesAt result) (last_event serial result) desk.new }
     ensures gone { UnlessRunning result (D.is_gone desk.new serial) }
     // the banner alone is written, and before all else
     ensures greeted { Greets (W.contents writer.old) (W.contents writer.new) plan.now.banner (is_cut_short result) }

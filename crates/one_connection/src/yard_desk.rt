@@ -64,13 +64,13 @@ impl<L: Premises, D: Dir + Drop, J: Journal> Desk<L> for YardDesk<L, D, J> {
     ghost use Rattle.rule_lines.specs.declared.instr.Verdict.TheVariants.{Allow};
     ghost use Rattle.server_events.specs.declared.event.Event.TheVariants.{Decided, Dropped, StartFailed};
     ghost use Rattle.server_events.specs.declared.event.Stage.TheVariants as stage;
-    ghost use Rattle.server_yard.specs.Passes.{IsDecidedBy, pass_missing, pass_serial};
-    ghost use Rattle.server_yard.specs.Rolls.{Notes};
-    ghost use Rattle.server_yard.specs.Yards.{yard_directory, yard_roll, yard_rules};
+    ghost use Rattle.server_yard.specs.Passes.{IsDecidedBy, pass_bytes, pass_missing, pass_serial};
+    ghost use Rattle.server_yard.specs.Standing.{LeadsDecided, LeadsOn};
+    ghost use Rattle.server_yard.specs.Yards.{yard_directory, yard_rules};
     ghost use Rattle.server_events.specs.Worlds.{missing_by};
     ghost use Rattle.one_connection.specs.Unstarted.{IsUnstarted};
     ghost use Rattle.one_connection.specs.Openings.{Decides, FailsToDecide, kept_opening, opening_of};
-    ghost use Rattle.one_connection.specs.YardDesks.{FindsOf, StandsAt, IsGoneFrom};
+    ghost use Rattle.one_connection.specs.YardDesks.{FindsOf, IsGoneFrom, LeadsBy, MakesEvent, MakesNone, StandsAt};
 
     type Place = Place<L>;
 
@@ -94,7 +94,13 @@ impl<L: Premises, D: Dir + Drop, J: Journal> Desk<L> for YardDesk<L, D, J> {
 
     ghost found = { λ desk. kept_opening D.File.bytes desk.found };
 
-    ghost tells = { λ desk event after. Notes J.told J.count J.stored event (yard_roll desk.yard) (yard_roll after.yard) };
+    ghost tells = { λ desk event after. MakesEvent J.told J.count J.stored D.honest D.state
+        (LeadsOn event) event desk.yard after.yard };
+
+    ghost tells_by = { λ desk it event after. MakesEvent J.told J.count J.stored D.honest D.state
+        (LeadsBy it event) event desk.yard after.yard };
+
+    ghost still = { λ desk after. MakesNone J.told J.count J.stored D.honest D.state desk.yard after.yard };
 
     ghost is_missing = { λ desk missing. missing ≡ missing_by (yard_rules desk.yard) };
 
@@ -139,10 +145,13 @@ impl<L: Premises, D: Dir + Drop, J: Journal> Desk<L> for YardDesk<L, D, J> {
         requires decides { IsDecidedBy D.File.honest D.File.sound D.File.bytes pass peer.now decision }
         ensures decided { OnOk result
             (StandsAt self.new.yard place.now (pass_serial pass) peer.now (stage.Decided decision.verdict)) }
-        ensures told { OnOk result (Notes J.told J.count J.stored
-            (Decided (pass_serial pass) decision) (yard_roll self.old.yard) (yard_roll self.new.yard)) }
+        ensures told { OnOk result (MakesEvent J.told J.count J.stored D.honest D.state
+            (LeadsDecided (pass_serial pass) (pass_bytes D.File.bytes pass) decision)
+            (Decided (pass_serial pass) decision) self.old.yard self.new.yard) }
         ensures refused { OnErr result
             (StandsAt self.new.yard place.now (pass_serial pass) peer.now stage.Opened) }
+        ensures quiet { OnErr result
+            (MakesNone J.told J.count J.stored D.honest D.state self.old.yard self.new.yard) }
         ensures at_once { OnErr result ⊥ }
         ensures keeps { kept_opening D.File.bytes self.new.found ≡ kept_opening D.File.bytes self.old.found }
         ensures failures { D.failed (yard_directory self.new.yard) ≡ D.failed (yard_directory self.old.yard) }
@@ -157,8 +166,8 @@ impl<L: Premises, D: Dir + Drop, J: Journal> Desk<L> for YardDesk<L, D, J> {
 
     fn start_failed(&mut self, place: Place<L>, serial: u64, peer: &Peer, fault: StartFault)
         requires stands { StandsAt self.old.yard place serial peer.now (stage.Decided Allow) }
-        ensures told { Notes J.told J.count J.stored
-            (StartFailed serial fault) (yard_roll self.old.yard) (yard_roll self.new.yard) }
+        ensures told { MakesEvent J.told J.count J.stored D.honest D.state
+            (LeadsOn (StartFailed serial fault)) (StartFailed serial fault) self.old.yard self.new.yard }
         ensures gone { IsGoneFrom self.new.yard serial }
         ensures keeps { kept_opening D.File.bytes self.new.found ≡ kept_opening D.File.bytes self.old.found }
     {
@@ -167,8 +176,8 @@ impl<L: Premises, D: Dir + Drop, J: Journal> Desk<L> for YardDesk<L, D, J> {
 
     fn dropped(&mut self, place: Place<L>, serial: u64, peer: &Peer, cause: DropCause)
         requires stands { IsUnstarted (StandsAt self.old.yard place serial peer.now) }
-        ensures told { Notes J.told J.count J.stored
-            (Dropped serial cause) (yard_roll self.old.yard) (yard_roll self.new.yard) }
+        ensures told { MakesEvent J.told J.count J.stored D.honest D.state
+            (LeadsOn (Dropped serial cause)) (Dropped serial cause) self.old.yard self.new.yard }
         ensures gone { IsGoneFrom self.new.yard serial }
         ensures keeps { kept_opening D.File.bytes self.new.found ≡ kept_opening D.File.bytes self.old.found }
         ensures failures { D.failed (yard_directory self.new.yard) ≡ D.failed (yard_directory self.old.yard) }

@@ -3,10 +3,12 @@
 #![tactic(auto)]
 
 pub mod caller;
+pub mod closing;
 mod guarded;
 pub mod laws;
 pub mod site;
 
 pub use caller::{Caller, Callers};
+pub use closing::{NotWhole, audit_whole, close_and_audit};
 pub use site::{Room, Site};
 pub use site_turns::{OutOfTurn, Receipt, audit, receipt, turns};

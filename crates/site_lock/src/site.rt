@@ -7,6 +7,7 @@ ghost use Rattle.server_yard.specs.Stepping.{HandsBack, begin_event, step_event}
 ghost use Rattle.server_yard.specs.Yards.{yard_roll};
 ghost use Rattle.site_lock.specs.Callers.{AreNew, IsCountedFor, caller_number, total_share};
 ghost use Rattle.site_turns.specs.Receipts.{IsReceiptOf, refused_event};
+ghost use Rattle.site_turns.specs.Turns.{IfHandedBack, IfOutOfTurn};
 
 use crate::caller::{Caller, Callers};
 use crate::guarded::Guarded;
@@ -17,7 +18,7 @@ use event_journals::Journal;
 use rule_lookup::{Decision, DropCause, Peer, StartFault, Status};
 use rules_install::{Install, InstallFault, Phase};
 use server_yard::{AdmitFault, Finding, Pass, Premises, Yard};
-use site_turns::turns::OpenFault;
+use site_turns::turns::{OpenFault, Undecided};
 use site_turns::{OutOfTurn, Receipt};
 use std::alloc::{AllocError, Global};
 use std::sync::ledger::{Blank, Share};
@@ -133,7 +134,7 @@ impl<L: Premises, N: Callers, D: Dir + Drop, J: Journal> Site<L, N, D, J> {
     /// A connection is decided: `turns::decided` under the lock.
     ///
     /// # Errors
-    /// Those of `turns::decided`: the pass and the decision are handed back.
+    /// Those of `turns::decided`. There is no receipt then.
     pub fn decided<R: Wait>(
         &self,
         rt: &R,
@@ -142,12 +143,14 @@ impl<L: Premises, N: Callers, D: Dir + Drop, J: Journal> Site<L, N, D, J> {
         pass: Pass<L, D::File>,
         peer: &Peer,
         decision: Decision,
-    ) -> Result<Option<Receipt>, (Pass<L, D::File>, Decision)>
+    ) -> Result<Receipt, Undecided<L, D::File>>
         requires decides { IsDecidedBy D.File.honest D.File.sound D.File.bytes pass peer.now decision }
-        ensures receipt { IfOk result (λ answer. IfSome answer
-            (IsReceiptOf (caller_number caller.old) (Decided (pass_serial pass) decision))) }
-        ensures counted { IfOk result (λ answer. IsCountedFor answer caller.old caller.new) }
-        ensures back { IfErr result (λ back. (back.0 ≡ pass) × (back.1 ≡ decision)) }
+        ensures receipt { IfOk result
+            (IsReceiptOf (caller_number caller.old) (Decided (pass_serial pass) decision)) }
+        ensures counted { IfOk result (λ r. IsCountedFor (Some r) caller.old caller.new) }
+        ensures asked { IfErr result (λ fault. IfOutOfTurn fault
+            (λ refusal. refused_event refusal ≡ Decided (pass_serial pass) decision)) }
+        ensures back { IfErr result (λ fault. IfHandedBack fault (λ its made. (its ≡ pass) × (made ≡ decision))) }
         ensures refused { OnErr result (IsCountedFor None caller.old caller.new) }
     {
         self.guarded

@@ -89,8 +89,8 @@ pub(crate) fn decided<L: Premises, N: Callers, R: Abort + Wait>(
     let decision = decide_by(alloc, &pass, peer).expect(rt, "the rules decide");
     let copy = decision.copy(alloc).expect(rt, "memory");
     match site.decided(rt, caller, alloc, pass, peer, decision) {
-        Ok(receipt) => keep(rt, receipts, receipt),
-        Err(_) => panic!(rt; "memory"),
+        Ok(receipt) => keep(rt, receipts, Some(receipt)),
+        Err(_) => panic!(rt; "it is decided"),
     }
     copy
 }

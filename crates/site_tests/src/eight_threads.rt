@@ -155,7 +155,16 @@ fn eight<
 {
     let alloc = rt.alloc();
     let rules = Some((rules_name(rt, alloc), Missing::Drop));
-    let (site, callers) = new_site::<L, N, R>(rt, alloc, places, parts, rules, LIMIT, CALLERS);
+    let (site, callers) = new_site::<L, N, R>(
+        rt,
+        alloc,
+        places,
+        parts,
+        MemDir::new(alloc),
+        rules,
+        LIMIT,
+        CALLERS,
+    );
     let (callers, receipts) = gathered(rt, alloc, &site, callers);
     let yard = close(rt, site, callers, &receipts);
     check_report(rt, alloc, &yard, receipts);

@@ -4,22 +4,23 @@ ghost use Rattle.std.specs.Prelude.{◌≡◌, false};
 use crate::calls::{decide_by, decided, keep, let_in, open, run_child};
 use crate::children::{end_child, start_child};
 use crate::peer_of;
-use crate::sites::{check, close, new_site};
+use crate::sites::{close, new_site};
 use child_table::Place;
 use dir_calls::MemDir;
 use event_journals::{Full, Journal};
 use rule_lookup::{DropCause, Peer, StartFault};
 use server_events::Report;
 use server_yard::{Premises, Yard};
-use site_lock::{Caller, Callers, Receipt, Room, Site, turns};
+use site_lock::turns::Undecided;
+use site_lock::{Caller, Callers, Receipt, Room, Site, audit_whole, turns};
 use std::alloc::Global;
 use std::marker::Brand;
 use std::process::Abort;
 use std::sync::Wait;
 use std::sync::ledger::Blank;
 
-/// Four, two, five and five events of the connections.
-const EVENTS: usize = 16;
+/// Four, three, five and five events of the connections.
+const EVENTS: usize = 17;
 
 const WANTED: Report = Report {
     admitted: 4,
@@ -43,6 +44,24 @@ fn allowed<L: Premises, N: Callers, R: Abort + Wait>(
     (serial, place)
 }
 
+// Lets a connection in that opens the rules and is given up; then it is too late to decide it.
+fn drop_undecided<L: Premises, N: Callers, R: Abort + Wait>(
+    rt: &R,
+    alloc: Global,
+    site: &Site<L, N, MemDir, Full>,
+    caller: &mut Caller<N>,
+    peer: &Peer,
+    receipts: &mut Vec<Receipt>,
+) {
+    let (serial, place) = let_in(rt, site, caller, peer, receipts);
+    let pass = open(rt, alloc, site, caller, serial, receipts);
+    let answer = site.dropped(rt, caller, serial, place, DropCause::Memory);
+    keep(rt, receipts, answer.ok());
+    let decision = decide_by(alloc, &pass, peer).expect(rt, "the rules decide");
+    let late = site.decided(rt, caller, alloc, pass, peer, decision);
+    assert!(rt; matches!(late, Err(Undecided::OutOfTurn(_))));
+}
+
 // Four connections, one after another.
 fn four_by_site<L: Premises, N: Callers, R: Abort + Wait>(
     rt: &R,
@@ -55,9 +74,7 @@ fn four_by_site<L: Premises, N: Callers, R: Abort + Wait>(
     let (serial, place) = allowed(rt, alloc, site, caller, &peer, receipts);
     let answer = site.start_failed(rt, caller, serial, place, StartFault::NotFound);
     keep(rt, receipts, answer.ok());
-    let (serial, place) = let_in(rt, site, caller, &peer, receipts);
-    let answer = site.dropped(rt, caller, serial, place, DropCause::Memory);
-    keep(rt, receipts, answer.ok());
+    drop_undecided(rt, alloc, site, caller, &peer, receipts);
     let served = allowed(rt, alloc, site, caller, &peer, receipts);
     run_child(rt, alloc, site, caller, served, receipts);
     let (serial, place) = allowed(rt, alloc, site, caller, &peer, receipts);
@@ -102,7 +119,16 @@ fn by_site<L: Premises, N: Callers, R: Abort + Wait + AllocGlobal>(
     requires callers { (N.all ≡ 1) × (N.before ≡ 0) }
 {
     let alloc = rt.alloc();
-    let (site, mut callers) = new_site::<L, N, R>(rt, alloc, places, parts, None, 1, 1);
+    let (site, mut callers) = new_site::<L, N, R>(
+        rt,
+        alloc,
+        places,
+        parts,
+        MemDir::new(alloc),
+        None,
+        1,
+        1,
+    );
     let mut receipts = Vec::new(alloc);
     four_by_caller(rt, alloc, &site, &mut callers, &mut receipts);
     let yard = close(rt, site, callers, &receipts);
@@ -146,10 +172,31 @@ fn allowed_in_turn<L: Premises, R: Abort>(
     keep(rt, receipts, Some(receipt));
     let decision = decide_by(alloc, &pass, peer).expect(rt, "the rules decide");
     match turns::decided(yard, 1, alloc, pass, peer, decision) {
-        Ok(receipt) => keep(rt, receipts, receipt),
-        Err(_) => panic!(rt; "memory"),
+        Ok(receipt) => keep(rt, receipts, Some(receipt)),
+        Err(_) => panic!(rt; "it is decided"),
     }
     (serial, place)
+}
+
+// The same connection that is given up undecided.
+fn drop_in_turn<L: Premises, R: Abort>(
+    rt: &R,
+    alloc: Global,
+    yard: &mut Yard<L, MemDir, Full>,
+    peer: &Peer,
+    receipts: &mut Vec<Receipt>,
+) {
+    let (serial, place) = admitted_in_turn(rt, yard, peer, receipts);
+    let opened = turns::open(yard, 1, alloc, serial);
+    let answer = turns::dropped(yard, 1, serial, place, DropCause::Memory);
+    let Ok((pass, receipt)) = opened else {
+        panic!(rt; "the rules open")
+    };
+    keep(rt, receipts, Some(receipt));
+    keep(rt, receipts, answer.ok());
+    let decision = decide_by(alloc, &pass, peer).expect(rt, "the rules decide");
+    let late = turns::decided(yard, 1, alloc, pass, peer, decision);
+    assert!(rt; matches!(late, Err(Undecided::OutOfTurn(_))));
 }
 
 // The same four connections.
@@ -163,9 +210,7 @@ fn four_in_turn<L: Premises, R: Abort>(
     let (serial, place) = allowed_in_turn(rt, alloc, yard, &peer, receipts);
     let answer = turns::start_failed(yard, 1, serial, place, StartFault::NotFound);
     keep(rt, receipts, answer.ok());
-    let (serial, place) = admitted_in_turn(rt, yard, &peer, receipts);
-    let answer = turns::dropped(yard, 1, serial, place, DropCause::Memory);
-    keep(rt, receipts, answer.ok());
+    drop_in_turn(rt, alloc, yard, &peer, receipts);
     let (serial, place) = allowed_in_turn(rt, alloc, yard, &peer, receipts);
     let running = start_child(rt, alloc, place);
     keep(rt, receipts, turns::started(yard, 1, serial, &running).ok());
@@ -195,7 +240,7 @@ fn in_turn<L: Premises, R: Abort + AllocGlobal>(rt: &R, places: Blank)
 fn check_four<L: Premises, R: Abort>(rt: &R, alloc: Global, yard: &mut Yard<L, MemDir, Full>) {
     let mut receipts = Vec::new(alloc);
     four_in_turn(rt, alloc, yard, &mut receipts);
-    check(rt, yard, &receipts);
+    assert_eq!(rt; audit_whole(yard, &receipts), Ok(()));
     check_report(rt, yard, &receipts);
 }
 

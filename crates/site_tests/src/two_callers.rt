@@ -83,7 +83,16 @@ fn two<L: Premises, N: Callers, R: Abort + Wait + AllocGlobal>(
     requires callers { (N.all ≡ 2) × (N.before ≡ 0) }
 {
     let alloc = rt.alloc();
-    let (site, mut callers) = new_site::<L, N, R>(rt, alloc, places, parts, None, 2, 2);
+    let (site, mut callers) = new_site::<L, N, R>(
+        rt,
+        alloc,
+        places,
+        parts,
+        MemDir::new(alloc),
+        None,
+        2,
+        2,
+    );
     let mut receipts = Vec::new(alloc);
     let_each_in(rt, alloc, &site, &mut callers, &mut receipts);
     let yard = close_at_last(rt, site, callers, &receipts);

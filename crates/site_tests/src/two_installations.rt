@@ -1,19 +1,26 @@
-//! Two callers that install rules and open them, and then decide by what they opened.
-ghost use Rattle.std.specs.Prelude.{◌≡◌, false};
+//! Two callers that install rules and open them, and then decide by what they opened, over a directory in which rules were installed before: the
+//! premises of the yard are met.
+ghost use Rattle.std.specs.Prelude.{◌≡◌, IfSome, IsTrue};
+ghost use Rattle.dir_calls.specs.MemDir.{mem_state};
+ghost use Rattle.server_yard.specs.Installed.{IsWholeFile};
+ghost use Rattle.server_yard.specs.Passes.{pass_bytes};
+ghost use Rattle.server_yard.specs.Readers.{ReadersFind};
+ghost use Rattle.server_yard.specs.Yards.{yard_books, yard_rules, yard_state};
 
-use crate::calls::{decided, install, installation, let_in, open, peer_for, rules_name};
+use crate::calls::{decided, install, installation, let_in, open, peer_for};
 use crate::sites::{close, new_site};
-use dir_calls::{MemDir, MemFile};
+use dir_calls::{MemDir, MemFile, RulesFile};
 use event_journals::Full;
 use rule_lines::Verdict;
 use rule_lookup::{Decision, Missing, Peer};
-use server_yard::{Pass, Premises};
+use server_yard::{Pass, Premises, Yard};
 use site_lock::{Caller, Callers, Receipt, Site};
 use std::alloc::Global;
 use std::marker::Brand;
 use std::process::Abort;
 use std::sync::Wait;
 use std::sync::ledger::Blank;
+use yard_steps::{rules_name, with_rules};
 
 /// What a caller has of its connection.
 #[derive(Drop)]
@@ -21,6 +28,12 @@ struct Opened<L: Premises> {
     peer: Peer,
     pass: Pass<L, MemFile>,
 }
+
+// A law of a pass of such a yard: it has a file that is compiled of rules, or there was none.
+fn has_whole<L: Premises>(pass: &Pass<L, MemFile>)
+    requires met { IsTrue L.met }
+    ensures { ∥ IsWholeFile (pass_bytes ⟦<MemFile as RulesFile>⟧.bytes pass.now) ∥₁ }
+{}
 
 // Installs a text, lets a connection in and opens the rules for it.
 fn install_and_open<L: Premises, N: Callers, R: Abort + Wait>(
@@ -30,7 +43,9 @@ fn install_and_open<L: Premises, N: Callers, R: Abort + Wait>(
     caller: &mut Caller<N>,
     text: &[u8],
     receipts: &mut Vec<Receipt>,
-) -> Opened<L> {
+) -> Opened<L>
+    requires met { IsTrue L.met }
+{
     let is_done = install(
         rt,
         alloc,
@@ -44,6 +59,7 @@ fn install_and_open<L: Premises, N: Callers, R: Abort + Wait>(
     let (serial, place) = let_in(rt, site, caller, &peer, receipts);
     place.strand();
     let pass = open(rt, alloc, site, caller, serial, receipts);
+    has_whole(&pass);
     Opened { peer, pass }
 }
 
@@ -64,7 +80,9 @@ fn decide_both<L: Premises, N: Callers, R: Abort + Wait>(
     one: &mut Caller<N>,
     two: &mut Caller<N>,
     receipts: &mut Vec<Receipt>,
-) {
+)
+    requires met { IsTrue L.met }
+{
     let first = install_and_open(rt, alloc, site, one, b":allow,T=\"1\"\n", receipts);
     let second = install_and_open(rt, alloc, site, two, b":deny\n", receipts);
     let is_allowed = is_allowed_with_t(&decide_opened(rt, alloc, site, one, first, receipts));
@@ -92,25 +110,39 @@ fn decide_by_callers<L: Premises, N: Callers, R: Abort + Wait>(
     site: &Site<L, N, MemDir, Full>,
     callers: &mut [Caller<N>],
     receipts: &mut Vec<Receipt>,
-) {
+)
+    requires met { IsTrue L.met }
+{
     match callers {
         [one, two] => decide_both(rt, alloc, site, one, two, receipts),
         _ => panic!(rt; "there are two callers"),
     }
 }
 
+// A law of a yard whose premises are met: whatever a stop leaves, its rules file is whole, and since an installation is done it is that of its
+// text or of a later one.
+fn keeps_whole<L: Premises>(yard: &Yard<L, MemDir, Full>)
+    requires met { IsTrue L.met }
+    ensures { IfSome (yard_rules yard.now) (λ rules.
+        ∥ ReadersFind (yard_books yard.now) (yard_state mem_state yard.now) rules ∥₁) }
+{
+    yard.consistent();
+}
+
 fn two<L: Premises, N: Callers, R: Abort + Wait + AllocGlobal>(rt: &R, places: Blank, parts: Blank)
     requires places { (places.name ≡ L.name) × (places.parts ≡ L.parts) × (places.parts ≡ 2) }
-    requires met { L.met ≡ false }
+    requires met { IsTrue L.met }
     requires parts { (parts.name ≡ N.name) × (parts.parts ≡ N.parts) × (parts.parts ≡ 2) }
     requires callers { (N.all ≡ 2) × (N.before ≡ 0) }
 {
     let alloc = rt.alloc();
-    let rules = Some((rules_name(rt, alloc), Missing::Drop));
-    let (site, mut callers) = new_site::<L, N, R>(rt, alloc, places, parts, rules, 2, 2);
+    let dir = with_rules(alloc, b":deny\n").expect(rt, "the rules are installed");
+    let rules = Some((rules_name(alloc).expect(rt, "a name"), Missing::Drop));
+    let (site, mut callers) = new_site::<L, N, R>(rt, alloc, places, parts, dir, rules, 2, 2);
     let mut receipts = Vec::new(alloc);
     decide_by_callers(rt, alloc, &site, &mut callers, &mut receipts);
-    let _yard = close(rt, site, callers, &receipts);
+    let yard = close(rt, site, callers, &receipts);
+    keeps_whole(&yard);
     // eight steps of each installation, and three calls for each connection
     assert_eq!(rt; receipts.len(), 22);
 }

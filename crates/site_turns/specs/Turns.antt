@@ -1,8 +1,9 @@
 -- What a turn does to a yard, and whose turn it is.
-use Rattle.std.specs.Prelude.{◌≡◌, ◌+◌, ◌-◌, ◌^◌, ◌⊎◌, ℕ, ⊤, Bool, true, List, Option, Some, Result, Ok, Err, IsSome}
+use Rattle.std.specs.Prelude.{◌≡◌, ◌+◌, ◌-◌, ◌^◌, ◌⊎◌, ℕ, ⊤, Bool, true, List, Option, Some, Result, Ok, Err}
 use Rattle.event_journals.specs.declared.journal.Noted.{Noted}
 use Rattle.rule_lines.specs.Pairs.{Rule}
 use Rattle.rule_lookup.specs.Peers.{Client}
+use Rattle.rule_lookup.specs.declared.decision.Decision.{Decision}
 use Rattle.server_events.specs.ServerState.{stage_of}
 use Rattle.server_events.specs.Worlds.{missing_by, peer_of}
 use Rattle.server_events.specs.declared.event.Event.{Event}
@@ -15,8 +16,11 @@ use Rattle.server_yard.specs.Seating.{KeepsSeats}
 use Rattle.server_yard.specs.Yards.{IsSameBeside, number_of, stage_of_place, yard_roll, yard_rules, yard_seat, yard_server}
 use Rattle.server_yard.specs.declared.pass.Pass.{Pass}
 use Rattle.server_yard.specs.declared.yard.Yard.{Yard}
+use Rattle.site_turns.specs.declared.receipt.OutOfTurn.{OutOfTurn}
+use Rattle.site_turns.specs.declared.receipt.Receipt.{Receipt}
 use Rattle.site_turns.specs.declared.turns.OpenFault.{OpenFault}
 use Rattle.site_turns.specs.declared.turns.OpenFault.TheVariants.{Device}
+use Rattle.site_turns.specs.declared.turns.Undecided.{Undecided}
 
 -- the same, where another speaks
 abbrev pub spoken_by : {J : Type 0} → ℕ → Roll J → Roll J
@@ -43,10 +47,20 @@ pub record IsAt {L D J F : Type 0} {p : _} {l : _} {d : _} {j : _} (passes : Opt
   pub has_serial : number_of yard place ≡ serial
   pub has_stage : passes (stage_of_place yard place) ≡ true
 
--- a call that answers a receipt, or hands back for want of memory, was in its turn
-abbrev pub IsInTurn : {R E : Type 0} → Result (Option R) E → Type 0
-IsInTurn (Ok answer) = IsSome answer
-IsInTurn (Err back) = ⊤
+-- of a connection that isn't decided: the event that was out of turn; and the pass and the decision that are handed back for want of memory
+abbrev pub IfOutOfTurn : {L F : Type 0} {p : _} {l : _} {f : _} → Undecided L F p l f → (OutOfTurn → Type 0) → Type 0
+IfOutOfTurn (Undecided.OutOfTurn refusal) P = P refusal
+IfOutOfTurn (Undecided.OutOfMemory pass decision) P = ⊤
+
+abbrev pub IfHandedBack : {L F : Type 0} {p : _} {l : _} {f : _} → Undecided L F p l f → (Pass L F p l f → Decision → Type 0) → Type 0
+IfHandedBack (Undecided.OutOfTurn refusal) P = ⊤
+IfHandedBack (Undecided.OutOfMemory pass decision) P = P pass decision
+
+-- it was its turn: it is decided, or only memory was wanted
+abbrev pub IsInTurn : {L F : Type 0} {p : _} {l : _} {f : _} → Result Receipt (Undecided L F p l f) → Type 0
+IsInTurn (Ok receipt) = ⊤
+IsInTurn (Err (Undecided.OutOfTurn refusal)) = ⊥
+IsInTurn (Err (Undecided.OutOfMemory pass decision)) = ⊤
 
 -- one failure more is counted where the device is blamed, unless the count is at its end, and else none
 abbrev pub CountsDevice : {T : Type 0} → ℕ → ℕ → Result T OpenFault → Type 0

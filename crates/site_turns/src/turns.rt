@@ -19,13 +19,13 @@ ghost use Rattle.server_yard.specs.Stepping.{GoesAsStep, HandsBack, IsRefusedAs,
 ghost use Rattle.server_yard.specs.Yards.{IsSameBeside, IsSameButDirectory, LeavesNothingElse, MayBegin, kept_number, kept_under, last_begun, number_of, stage_of_place, yard_directory, yard_installing, yard_roll, yard_rules, yard_seat, yard_server, yard_state};
 ghost use Rattle.server_yard.specs.declared.roster.AdmitFault.TheVariants.{Full, FullForAddress, OutOfMemory, Spent};
 ghost use Rattle.site_turns.specs.Receipts.{receipt_after, receipt_at, refused_event};
-ghost use Rattle.site_turns.specs.Turns.{CountsDevice, IsAt, IsInTurn, IsPassedOver, MayBeDecided, NotesBy, spoken_by};
+ghost use Rattle.site_turns.specs.Turns.{CountsDevice, IfHandedBack, IfOutOfTurn, IsAt, IsInTurn, IsPassedOver, MayBeDecided, NotesBy, spoken_by};
 ghost use Rattle.site_turns.specs.declared.turns.OpenFault.TheVariants as open_fault;
 
 use crate::receipt::{OutOfTurn, Receipt};
 use child_jobs::{Job, Running};
 use child_table::Place;
-use dir_calls::{Dir, DirFault};
+use dir_calls::{Dir, DirFault, RulesFile};
 use event_journals::Journal;
 use rule_lines::Verdict;
 use rule_lookup::{Decision, DropCause, Peer, StartFault, Status};
@@ -47,6 +47,15 @@ pub enum OpenFault {
     /// There was no memory.
     #[error("out of memory")]
     OutOfMemory,
+}
+
+/// Why a connection isn't decided. Nothing changed but who speaks.
+#[derive(Drop)]
+pub enum Undecided<L: Premises, F: RulesFile + Drop> {
+    /// It was not its turn.
+    OutOfTurn(OutOfTurn),
+    /// There was no memory. The pass and the decision are handed back.
+    OutOfMemory(Pass<L, F>, Decision),
 }
 
 /// Lets a connection in, as `Yard::admit` does.
@@ -165,11 +174,11 @@ pub fn opened<L: Premises, D: Dir + Drop, J: Journal>(
 }
 
 /// A connection is decided, as by `Yard::decided`: where it opened the rules, this is its peer, and the pass has what the yard decides
-/// where no file stands. Else there is no receipt.
+/// where no file stands.
 ///
 /// # Errors
-/// There was no memory for the receipt's copy of the decision. The pass and the decision are handed back, and nothing changed but who
-/// speaks.
+/// `OutOfTurn` where it was not its turn, as the other calls say; `OutOfMemory` where there was no memory for the receipt's copy of the decision:
+/// the pass and the decision are handed back. Nothing changed but who speaks.
 pub fn decided<L: Premises, D: Dir + Drop, J: Journal>(
     yard: &mut Yard<L, D, J>,
     caller: u64,
@@ -177,35 +186,37 @@ pub fn decided<L: Premises, D: Dir + Drop, J: Journal>(
     pass: Pass<L, D::File>,
     peer: &Peer,
     decision: Decision,
-) -> Result<Option<Receipt>, (Pass<L, D::File>, Decision)>
+) -> Result<Receipt, Undecided<L, D::File>>
     requires decides { IsDecidedBy D.File.honest D.File.sound D.File.bytes pass peer.now decision }
     ensures in_turn { IsInTurn result ↔ MayBeDecided yard.old pass peer.now }
-    ensures receipt { IfOk result (λ answer. IfSome answer (λ r. r
-        ≡ receipt_after (J.count (yard_roll yard.old).journal) caller (Decided (pass_serial pass) decision))) }
-    ensures noted { IfOk result (λ answer. OnSome answer (NotesBy J.told J.count J.stored
-        caller (Decided (pass_serial pass) decision) (yard_roll yard.old) (yard_roll yard.new))) }
-    ensures step { IsTrue D.honest → IfOk result (λ answer. OnSome answer (LeadsDecided (pass_serial pass)
-        (pass_bytes D.File.bytes pass) decision (yard_state D.state yard.old) (yard_state D.state yard.new))) }
-    ensures out { IfOk result (λ answer. IfNone answer (IsPassedOver J.lists caller yard.old yard.new)) }
-    ensures back { IfErr result (λ back. (back.0 ≡ pass) × (back.1 ≡ decision)) }
-    ensures refused { OnErr result (IsPassedOver J.lists caller yard.old yard.new) }
+    ensures receipt { IfOk result (λ r.
+        r ≡ receipt_after (J.count (yard_roll yard.old).journal) caller (Decided (pass_serial pass) decision)) }
+    ensures noted { OnOk result (NotesBy J.told J.count J.stored
+        caller (Decided (pass_serial pass) decision) (yard_roll yard.old) (yard_roll yard.new)) }
+    ensures step { IsTrue D.honest → OnOk result (LeadsDecided (pass_serial pass)
+        (pass_bytes D.File.bytes pass) decision (yard_state D.state yard.old) (yard_state D.state yard.new)) }
+    ensures asked { IfErr result (λ fault. IfOutOfTurn fault
+        (λ refusal. refused_event refusal ≡ Decided (pass_serial pass) decision)) }
+    ensures back { IfErr result (λ fault. IfHandedBack fault (λ its made. (its ≡ pass) × (made ≡ decision))) }
+    ensures out { OnErr result (IsPassedOver J.lists caller yard.old yard.new) }
     ensures same { IsSameBeside J.lists yard.old yard.new }
     ensures seats { KeepsSeats (yard_seat yard.old) (yard_seat yard.new) }
 {
     yard.speaker(caller);
+    let serial = pass.serial();
     if !may_be_decided(yard, &pass, peer) {
-        return Ok(None);
+        let event = Event::Decided { serial, decision };
+        return Err(Undecided::OutOfTurn(OutOfTurn::of(&event)));
     }
     let Ok(copy) = decision.copy(alloc) else {
-        return Err((pass, decision));
+        return Err(Undecided::OutOfMemory(pass, decision));
     };
-    let serial = pass.serial();
     yard.decided(pass, peer, decision);
     let event = Event::Decided {
         serial,
         decision: copy,
     };
-    Ok(Some(receipt(yard, caller, event)))
+    Ok(receipt(yard, caller, event))
 }
 
 /// The child of the connection with this serial runs, as by `Yard::started`: where it has the child's place and was allowed.

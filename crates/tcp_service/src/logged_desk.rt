@@ -133,6 +133,10 @@ impl<L: Premises, K: Desk<L> + Living, R: Wait, W: Write> Desk<L> for LoggedDesk
 
     ghost tells = { λ logged event after. K.tells logged.desk event after.desk };
 
+    ghost tells_by = { λ logged found event after. K.tells_by logged.desk found event after.desk };
+
+    ghost still = { λ logged after. K.still logged.desk after.desk };
+
     ghost is_missing = { λ logged. K.is_missing logged.desk };
 
     ghost failures = { λ logged. K.failures logged.desk };

@@ -10,7 +10,7 @@ use event_journals::Journal;
 use one_connection::{Desk, OpenFault, Undecided, decide_by_pass};
 use rule_lookup::{DecideFault, Decision, DropCause, Peer, StartFault, Status};
 use server_yard::{Finding, Pass, Premises};
-use site_lock::{Caller, Callers, OutOfTurn, Receipt, Site};
+use site_lock::{Caller, Callers, OutOfTurn, Receipt, Site, turns};
 use std::alloc::Global;
 use std::snapshot::Snapshot;
 use std::sync::{Mutex, Wait};
@@ -218,6 +218,10 @@ where
 
     ghost tells = { λ _ event after. asked after.last ≡ Some event };
 
+    ghost tells_by = { λ _ _ event after. asked after.last ≡ Some event };
+
+    ghost still = { λ desk after. after.last ≡ desk.last };
+
     ghost is_missing = { λ desk missing. IsMissingBy (kept_opening D.File.bytes desk.found) missing };
 
     ghost failures = { λ _. 2 ^ 64 - 1 };
@@ -265,6 +269,7 @@ where
             (StandsBy self.new.last self.new.serial (pass_serial pass) (stage.Decided decision.verdict)) }
         ensures told { OnOk result (asked self.new.last ≡ Some (Decided (pass_serial pass) decision)) }
         ensures refused { OnErr result (StandsBy self.new.last self.new.serial (pass_serial pass) stage.Opened) }
+        ensures quiet { OnErr result (self.new.last ≡ self.old.last) }
         ensures at_once { OnErr result (IsTrue true) }
         ensures keeps { kept_opening D.File.bytes self.new.found ≡ kept_opening D.File.bytes self.old.found }
         ensures failures { 2 ^ 64 - 1 ≡ 2 ^ 64 - 1 }
@@ -274,12 +279,12 @@ where
             .site
             .decided(self.rt, &mut caller, alloc, pass, peer, decision)
         {
-            Ok(Some(receipt)) => {
+            Ok(receipt) => {
                 self.last = Some(Ok(receipt));
                 Ok(())
             }
-            Ok(None) => Err(Undecided::OutOfTurn),
-            Err(_) => Err(Undecided::OutOfMemory),
+            Err(turns::Undecided::OutOfTurn(_)) => Err(Undecided::OutOfTurn),
+            Err(turns::Undecided::OutOfMemory(_, _)) => Err(Undecided::OutOfMemory),
         }
     }
 

@@ -1,5 +1,5 @@
 //! Connections one after the other, which end in five ways by turns.
-ghost use Rattle.std.specs.Prelude.{◌≡◌, false};
+ghost use Rattle.std.specs.Prelude.{◌≡◌};
 ghost use Rattle.server_yard.specs.Kept.{HasNoEvents};
 
 use crate::shown::{Lists, add_report, peer_of};
@@ -30,7 +30,6 @@ pub fn run_connections<L: Premises, J: Journal + Lists>(
 )
     requires name { blank.name ≡ L.name }
     requires parts { (blank.parts ≡ L.parts) × (blank.parts ≡ connections) }
-    requires unmet { L.met ≡ false }
     requires journal { HasNoEvents J.told J.count J.stored J.lists journal }
 {
     match yard_of::<L, J>(alloc, blank, journal, connections) {
@@ -51,7 +50,6 @@ fn yard_of<L: Premises, J: Journal>(
 ) -> io::Result<Yard<L, MemDir, J>>
     requires name { blank.name ≡ L.name }
     requires parts { (blank.parts ≡ L.parts) × (blank.parts ≡ limit) }
-    requires unmet { L.met ≡ false }
     requires journal { HasNoEvents J.told J.count J.stored J.lists journal }
 {
     let dir = with_rules(alloc, RULES)?;

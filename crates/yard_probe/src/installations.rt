@@ -1,5 +1,7 @@
 //! An installation through a yard, one call of whose directory fails, and what a stop leaves after each step.
-ghost use Rattle.std.specs.Prelude.{◌≡◌, false};
+ghost use Rattle.std.specs.Prelude.{◌≡◌, IfSome, IsTrue};
+ghost use Rattle.server_yard.specs.Readers.{ReadersFind};
+ghost use Rattle.server_yard.specs.Yards.{yard_books, yard_rules, yard_state};
 
 use crate::shown::{Lists, add_answer, add_decided_after};
 use dir_calls::{Choice, Dir, FuseDir, MemDir};
@@ -19,15 +21,16 @@ use yard_steps::{names, stuck, with_rules, yard_over};
 const STEPS: usize = 20;
 
 /// Installs `:deny` where `:allow` stands, and call `call` of the directory fails. Adds each answer with what stops then leave, and the
-/// events.
+/// events. The premises of the yard are met: its directory is honest, and has the rules file of a text that was installed.
 pub fn run_installation<L: Premises>(alloc: Global, blank: Blank, call: u64, out: &mut Answer)
     requires name { blank.name ≡ L.name }
     requires parts { (blank.parts ≡ L.parts) × (blank.parts ≡ 1) }
-    requires unmet { L.met ≡ false }
+    requires met { IsTrue L.met }
 {
     match yard_of::<L>(alloc, blank, call) {
         Ok(mut yard) => {
             install(alloc, &mut yard, out);
+            keeps_whole(&yard);
             drop(yard);
         }
         Err(_) => out.fail(),
@@ -42,10 +45,19 @@ fn yard_of<L: Premises>(
 ) -> io::Result<Yard<L, FuseDir<MemDir>, Full>>
     requires name { blank.name ≡ L.name }
     requires parts { (blank.parts ≡ L.parts) × (blank.parts ≡ 1) }
-    requires unmet { L.met ≡ false }
 {
     let dir = FuseDir::new(with_rules(alloc, b":allow\n")?, call);
     yard_over(alloc, blank, dir, Missing::Drop, 1, Full::new(alloc))
+}
+
+/// A law of such a yard, whatever was installed by it: whatever a stop leaves, its rules file is whole, and since an installation is done it is
+/// that of its text or of a later one.
+fn keeps_whole<L: Premises>(yard: &Yard<L, FuseDir<MemDir>, Full>)
+    requires met { IsTrue L.met }
+    ensures { IfSome (yard_rules yard.now) (λ rules.
+        ∥ ReadersFind (yard_books yard.now) (yard_state ⟦<FuseDir<MemDir> as Dir>⟧.state yard.now) rules ∥₁) }
+{
+    yard.consistent();
 }
 
 /// Installs `:deny` by a yard, and adds each answer and the events.

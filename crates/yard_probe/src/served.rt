@@ -9,7 +9,7 @@ use child_jobs::{Plan, Program};
 use child_table::Place;
 use dir_calls::{Dir, FuseDir, MemDir};
 use event_journals::Journal;
-use one_connection::{Served, YardDesk, is_admitted, serve_one};
+use one_connection::{Served, YardDesk, is_admitted, serve_by_yard};
 use probe_answers::Answer;
 use rule_lookup::{Missing, Peer, StartFault, Status};
 use server_yard::{Premises, Yard};
@@ -224,7 +224,7 @@ fn serve_by<L: Premises, D: Dir + Drop, J: Journal>(
         jobs: jobs_of(setting.case),
         starts: &starts,
     };
-    let served = serve_one(alloc, desk, place, serial, peer, plan, launcher, writer);
+    let served = serve_by_yard(alloc, desk, place, serial, peer, plan, launcher, writer);
     let live = desk.yard.live();
     end(&mut desk.yard, served, out);
     out.count(", ", starts.load(Ordering::SeqCst));

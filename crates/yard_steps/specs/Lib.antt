@@ -1,2 +1,3 @@
--- Jobs that run no program.
+-- Jobs that run no program, and directories with rules.
 pub mod EndedJobs
+pub mod Beginnings

@@ -1,6 +1,8 @@
-//! Yards over directories of which nothing is known beforehand.
-ghost use Rattle.std.specs.Prelude.{◌≡◌, false};
+//! Yards.
+ghost use Rattle.std.specs.Prelude.{◌≡◌, IsTrue, Some};
 ghost use Rattle.server_yard.specs.Kept.{HasNoEvents};
+ghost use Rattle.server_yard.specs.Standing.{BeginsWell};
+ghost use Rattle.yard_steps.specs.Beginnings.{rules_there};
 
 use crate::rules::{rules_name, stuck};
 use dir_calls::Dir;
@@ -22,7 +24,7 @@ pub fn yard_over<L: Premises, D: Dir + Drop, J: Journal>(
 ) -> io::Result<Yard<L, D, J>>
     requires name { blank.name ≡ L.name }
     requires parts { (blank.parts ≡ L.parts) × (blank.parts ≡ limit) }
-    requires unmet { L.met ≡ false }
+    requires begins { IsTrue L.met → BeginsWell D.honest (D.state dir) (Some (rules_there missing)) }
     requires journal { HasNoEvents J.told J.count J.stored J.lists journal }
 {
     let rules = Some((rules_name(alloc)?, missing));

@@ -1,4 +1,4 @@
-use Rattle.std.proofs.Common.{false}
+use Rattle.std.proofs.Common.{true, false}
 use Rattle.yard_probe.proofs.run_numbered.Given as goal
 
 abbrev pub ghosts-run_limit-L-Ledger : goal.ghosts-run_limit-L-Ledger
@@ -11,7 +11,7 @@ abbrev pub ghosts-run_installation-L-Ledger : goal.ghosts-run_installation-L-Led
 ghosts-run_installation-L-Ledger a = record { name = a.blank.name; parts = a.blank.parts }
 
 abbrev pub ghosts-run_installation-L-Premises : goal.ghosts-run_installation-L-Premises
-ghosts-run_installation-L-Premises a = record { met = false }
+ghosts-run_installation-L-Premises a = record { met = true }
 
 abbrev pub ghosts-run_job : goal.ghosts-run_job
 ghosts-run_job a = record { name = a.blank.name; parts = a.blank.parts }

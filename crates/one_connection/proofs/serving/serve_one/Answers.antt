@@ -1,12 +1,13 @@
 -- The banner is written before all else; a child is started only of an allowed connection.
 use Rattle.std.specs.Prelude.{ℕ, Bool, List, [], Option}
 use Rattle.std.specs.Io.KnownBytes.{Appends}
-use Rattle.std.proofs.Common.{refl, subst}
+use Rattle.std.proofs.Common.{inl, refl, rules, subst}
 use Rattle.rule_lookup.specs.declared.outcome.DropCause.{DropCause}
 use Rattle.rule_lookup.specs.declared.outcome.DropCause.TheVariants as cause
 use Rattle.server_events.specs.declared.event.Stage.TheVariants as stage
 use Rattle.one_connection.specs.Openings.{WasFound}
 use Rattle.one_connection.specs.Servings.{Drops, FailsFor, Greets, is_banner}
+use Rattle.one_connection.specs.Servings.ComesBy.{unopened}
 use Rattle.one_connection.proofs.serving.serve_one.Goals as goal
 
 -- a drop with no banner to write is for another cause
@@ -35,3 +36,13 @@ returns-in-Err-prepare-clause-greeted g c =
 pub run-requires-clause-stands : goal.run-requires-clause-stands
 run-requires-clause-stands g c =
     subst (λ verdict. g.D.Desk.stands c.prepare.new.desk c.args.place c.args.serial c.args.peer.now (stage.Decided verdict)) c.in-Allow.is c.in-Ok.ensures.decided
+
+pub returns-in-Err-clause-told : goal.returns-in-Err-clause-told
+returns-in-Err-clause-told g c = record {
+  before = c.args.desk.now;
+  first = record { events = []; came = unopened (inl refl) };
+  stage = stage.Admitted;
+  stood = c.requires.admitted;
+  comes = search rules;
+  told = c.give_up.ensures.told;
+}

@@ -1,11 +1,11 @@
-use Rattle.std.specs.Prelude.{false}
+use Rattle.std.specs.Prelude.{true}
 use Rattle.site_tests.proofs.two_installations.each_decides_by_the_rules_that_it_opened.Given as goal
 
 abbrev pub ghosts-two-L-Ledger : goal.ghosts-two-L-Ledger
 ghosts-two-L-Ledger g a = record { name = a.places.name; parts = a.places.parts }
 
 abbrev pub ghosts-two-L-Premises : goal.ghosts-two-L-Premises
-ghosts-two-L-Premises g a = record { met = false }
+ghosts-two-L-Premises g a = record { met = true }
 
 abbrev pub ghosts-two-N-Ledger : goal.ghosts-two-N-Ledger
 ghosts-two-N-Ledger g a = record { name = a.parts.name; parts = a.parts.parts }

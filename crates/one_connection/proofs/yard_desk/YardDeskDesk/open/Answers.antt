@@ -1,8 +1,12 @@
 -- Opening.
-use Rattle.std.proofs.Common.{◌∙◌}
+use Rattle.std.proofs.Common.{subst, ◌∙◌}
+use Rattle.std.specs.Prelude.{Bool, is_some}
+use Rattle.server_events.specs.declared.event.Event.TheVariants as event
+use Rattle.server_yard.specs.Passes.{pass_bytes, pass_file}
 use Rattle.server_events.specs.declared.event.Stage.TheVariants as stage
-use Rattle.server_yard.specs.Yards.{yard_server}
-use Rattle.one_connection.proofs.Standings.{peer_then, stage_then}
+use Rattle.server_yard.specs.Rolls.{Notes}
+use Rattle.server_yard.specs.Yards.{yard_roll, yard_server}
+use Rattle.one_connection.proofs.Standings.{is_some-map, peer_then, stage_then}
 use Rattle.one_connection.proofs.yard_desk.YardDeskDesk.open.Goals as goal
 
 pub returns-in-Ok-clause-opened : goal.returns-in-Ok-clause-opened
@@ -14,4 +18,15 @@ returns-in-Ok-clause-opened g c =
       seat = c.in-Ok.ensures.seats c.args._place.now ∙ before.seat;
       has_peer = peer_then old new c.args.serial stage.Opened c.args._peer.now happens before.has_peer;
       has_stage = stage_then old new c.args.serial stage.Opened stage.Admitted happens before.has_stage;
+    }
+
+pub returns-in-Ok-clause-told : goal.returns-in-Ok-clause-told
+returns-in-Ok-clause-told g c =
+    let j = g.J.Journal in
+    let file = g.D.File.RulesFile in
+    let pass = c.in-Ok.pass in record {
+      noted =
+          subst (λ (there : Bool). Notes j.told j.count j.stored (event.Opened c.args.serial there) (yard_roll c.args.self.now.yard) (yard_roll c.open.new.self))
+          (is_some-map file.bytes (pass_file pass)) c.in-Ok.ensures.noted;
+      step = c.in-Ok.ensures.step;
     }

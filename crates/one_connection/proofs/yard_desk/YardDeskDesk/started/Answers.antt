@@ -1,5 +1,5 @@
 -- Starting.
-use Rattle.std.proofs.Common.{ap, ◌∙◌}
+use Rattle.std.proofs.Common.{ap, subst, ◌∙◌}
 use Rattle.std.specs.Prelude.{◌≡◌, ℕ}
 use Rattle.child_jobs.specs.Runs.{place_of}
 use Rattle.rule_lines.specs.declared.instr.Verdict.TheVariants.{Allow}
@@ -8,6 +8,8 @@ use Rattle.server_events.specs.declared.event.Event.TheVariants.{Started}
 use Rattle.server_events.specs.declared.event.Stage.TheVariants as stage
 use Rattle.server_yard.specs.Rolls.{number_at}
 use Rattle.server_yard.specs.Yards.{yard_server}
+use Rattle.server_yard.specs.Standing.{LeadsOn}
+use Rattle.one_connection.specs.YardDesks.{MakesEvent}
 use Rattle.one_connection.proofs.Standings.{peer_then, stage_then}
 use Rattle.one_connection.proofs.yard_desk.YardDeskDesk.started.Goals as goal
 
@@ -21,3 +23,12 @@ returns-clause-started g c = λ alone.
       has_peer = peer_then old new c.args._serial stage.Started c.args._peer.now happens before.has_peer;
       has_stage = stage_then old new c.args._serial stage.Started (stage.Decided Allow) happens before.has_stage;
     }
+
+pub returns-clause-told : goal.returns-clause-told
+returns-clause-told g c =
+    let j = g.J.Journal in
+    let dir = g.D.Dir in
+    let old = c.args.self.now.yard in
+    let new = c.started.new.self in
+    subst (λ (n : ℕ). MakesEvent j.told j.count j.stored dir.honest dir.state (LeadsOn (Started n)) (Started n) old new)
+    (ap number_at c.requires.stands.seat) (record { noted = c.started.ensures.noted; step = c.started.ensures.step })

@@ -1,0 +1,46 @@
+//! One connection that a yard serves.
+ghost use Rattle.std.specs.Prelude.{◌≡◌, IsTrue, List};
+ghost use Rattle.child_jobs.specs.Runs.{place_of};
+ghost use Rattle.server_events.specs.Worlds.{KeptFile};
+ghost use Rattle.server_events.specs.declared.event.Event.{Event as EventOf};
+ghost use Rattle.server_events.specs.declared.event.Stage.TheVariants as stage;
+ghost use Rattle.server_yard.specs.Standing.{IsReachedBy};
+ghost use Rattle.server_yard.specs.Yards.{yard_state};
+ghost use Rattle.one_connection.specs.Servings.{IfRunning, UnlessRunning, last_event};
+ghost use Rattle.one_connection.specs.YardDesks.{GoesOnTo, IsGoneFrom, ServesTo, StandsAt};
+
+use crate::serving::{Served, serve_one};
+use crate::yard_desk::YardDesk;
+use child_jobs::{Launcher, Plan};
+use child_table::Place;
+use dir_calls::Dir;
+use event_journals::Journal;
+use rule_lookup::Peer;
+use server_yard::Premises;
+use std::alloc::Global;
+use std::io::Write;
+
+/// Serves a connection that a yard let in, up to the start of its child, as `serve_one` does. Over an honest directory its calls are those that
+/// serve one connection (`server_yard::laws::served`), the last of which is the answer: so whatever history of the headline led to the yard, with
+/// their events it is one that leads to the yard as it is then.
+pub fn serve_by_yard<L: Premises, D: Dir + Drop, J: Journal, S: Launcher + Drop, W: Write>(
+    alloc: Global,
+    desk: &mut YardDesk<L, D, J>,
+    place: Place<L>,
+    serial: u64,
+    peer: &Peer,
+    plan: &Plan,
+    launcher: S,
+    writer: &mut W,
+) -> Served<L, S::Job>
+    requires admitted { StandsAt desk.old.yard place serial peer.now stage.Admitted }
+    ensures serves { IsTrue D.honest → ServesTo serial (last_event serial result)
+        (yard_state D.state desk.old.yard) (yard_state D.state desk.new.yard) }
+    ensures headline { IsTrue D.honest → (history : List EventOf) (files : List KeptFile)
+        → IsReachedBy history (yard_state D.state desk.old.yard) files
+        → GoesOnTo history (last_event serial result) (yard_state D.state desk.new.yard) }
+    ensures started { IfRunning result (λ child. StandsAt desk.new.yard (place_of child) serial peer.now stage.Started) }
+    ensures gone { UnlessRunning result (IsGoneFrom desk.new.yard serial) }
+{
+    serve_one(alloc, desk, place, serial, peer, plan, launcher, writer)
+}
