@@ -22,6 +22,7 @@ pub mod Serials
 pub mod StandingTexts
 pub mod StartedAgain
 pub mod TableLemmas
+pub mod TwoProcesses
 pub mod TwoTexts
 pub mod WholeText
 pub mod WovenSteps

@@ -34,16 +34,16 @@ use Rattle.server_events.proofs.TableLemmas.{is_step}
 
 -- ---- the names, the decisions, and the states of the server
 
-abbrev the_rules : RulesName
+abbrev pub the_rules : RulesName
 the_rules = record { name = 99 ∷ []; missing = DropMissing }
 
-abbrev the_scratch : List ℕ
+abbrev pub the_scratch : List ℕ
 the_scratch = 99 ∷ 116 ∷ []
 
-other_name : the_scratch ≢ the_rules.name
+pub other_name : the_scratch ≢ the_rules.name
 other_name is = cc
 
-abbrev everybody : Verdict → Decision
+abbrev pub everybody : Verdict → Decision
 everybody verdict = by_rule [] (record { verdict = verdict; settings = [] })
 
 abbrev at_start : ServerState
@@ -79,24 +79,24 @@ started_2 = after_event decided_2 (Started 2)
 abbrev retired_2 : ServerState
 retired_2 = after_event started_2 (Retired 2)
 
-abbrev texts_0 : Accepted
+abbrev pub texts_0 : Accepted
 texts_0 = None ∷ []
 
-abbrev texts_1 : Accepted
+abbrev pub texts_1 : Accepted
 texts_1 = None ∷ Some (for_everybody Deny) ∷ []
 
-abbrev texts_2 : Accepted
+abbrev pub texts_2 : Accepted
 texts_2 = None ∷ Some (for_everybody Deny) ∷ Some (for_everybody Allow) ∷ []
 
 -- ---- a connection
 
 -- the rule for everybody decides this peer
-decides_somebody : (verdict : Verdict) → decision_in (for_everybody verdict) somebody ≡ everybody verdict
+pub decides_somebody : (verdict : Verdict) → decision_in (for_everybody verdict) somebody ≡ everybody verdict
 unfolding digits
 decides_somebody verdict = refl
 
 -- what a connection keeps decides it
-decides_kept : (rules : List Rule) (file : List ℕ) (bytes : Option (List ℕ)) (decision : Decision) → IsOf rules file → bytes ≡ Some file → decision_in rules somebody ≡ decision
+pub decides_kept : (rules : List Rule) (file : List ℕ) (bytes : Option (List ℕ)) (decision : Decision) → IsOf rules file → bytes ≡ Some file → decision_in rules somebody ≡ decision
     → decision_from (option_map reading bytes) DropMissing somebody ≡ Ok decision
 decides_kept rules file bytes decision is there told =
     ap (λ (o : Option (List ℕ)). decision_from (option_map reading o) DropMissing somebody) there ∙ decided_by_file rules file somebody is ∙ ap (λ (d : Decision). Ok d) told
@@ -161,7 +161,7 @@ stops d kept =
 
 -- ---- the whole history
 
-abbrev no_files : Directory
+abbrev pub no_files : Directory
 no_files = record { names = record { settled = empty; pending = [] }; files = []; scratch = None }
 
 abbrev first_world : World

@@ -1,5 +1,5 @@
--- A history in which texts are installed, the machine stops, and connections are decided by different texts.
-use Rattle.std.specs.Prelude.{true, List, [], ◌∷◌, Some, None}
+-- Histories in which texts are installed, the machine stops, an installer is killed, and connections are decided by different texts.
+use Rattle.std.specs.Prelude.{◌≡◌, ◌≢◌, ℕ, true, List, [], ◌∷◌, Some, None}
 use Rattle.rule_lines.specs.Pairs.{Rule}
 use Rattle.rule_lines.specs.declared.instr.Verdict.{Verdict}
 use Rattle.rule_lines.specs.declared.instr.Verdict.TheVariants.{Allow, Deny}
@@ -9,7 +9,9 @@ use Rattle.rule_lookup.specs.declared.outcome.DropCause.TheVariants.{Denied}
 use Rattle.rules_install.specs.declared.Phase.TheVariants.{Fresh, Filling, Synced, Named, Done}
 use Rattle.server_events.specs.declared.event.Event.{Event}
 use Rattle.server_events.specs.declared.event.Event.TheVariants.{Admitted, Opened, Decided, Started, Retired, Dropped, Stepped, StepFailed, Stop}
-use Rattle.server_events.specs.Worlds.{Accepted}
+use Rattle.server_events.specs.Processes.{Woven}
+use Rattle.server_events.specs.Steps.{Outside}
+use Rattle.server_events.specs.Worlds.{Accepted, IsStart, World}
 
 -- the rules of a text with one line, for everybody
 abbrev pub for_everybody : Verdict → List Rule
@@ -47,3 +49,35 @@ an_older_text =
 -- the texts that it accepts: the one at the start, the one that was given up, and the one that was named
 abbrev pub texts_of_that : Accepted
 texts_of_that = Some (for_everybody Allow) ∷ Some (for_everybody Deny) ∷ Some (for_everybody Deny) ∷ []
+
+-- A history of a server and of installers beside it. One installs a text that denies, and the first connection opens it. Another one installs a
+-- text that allows, and is killed within its rename.
+abbrev pub until_the_kill : List Event
+until_the_kill =
+    Stepped Fresh ∷ Stepped Filling ∷ Stepped Synced ∷ Stepped Named ∷ Stepped Done
+    ∷ Admitted 1 somebody ∷ Opened 1 true
+    ∷ Stepped Fresh ∷ Stepped Filling ∷ Stepped Synced ∷ StepFailed Named ∷ []
+
+-- The first connection is decided by the older text, which it opened, and a second one by the newer.
+abbrev pub behind_the_kill : List Event
+behind_the_kill =
+    Decided 1 (by_rule [] (record { verdict = Deny; settings = [] }))
+    ∷ Admitted 2 somebody ∷ Opened 2 true ∷ Decided 2 (by_rule [] (record { verdict = Allow; settings = [] })) ∷ []
+
+-- the texts that it accepts
+abbrev pub texts_of_both : Accepted
+texts_of_both = None ∷ Some (for_everybody Deny) ∷ Some (for_everybody Allow) ∷ []
+
+-- Steps of a server and of installers by themselves, from a start: some, then one of others that changes the directory, and then others still.
+pub record WovenAround (before behind : List Event) (accepted : Accepted) (acknowledged : ℕ) : Type 0 where
+  pub begin : World
+  pub starts : IsStart begin
+  pub u : World
+  pub woven : Woven begin before u
+  pub v : World
+  pub outside : Outside u v
+  pub changed : v.directory ≢ u.directory
+  pub w : World
+  pub on : Woven v behind w
+  pub accepts : w.accepted ≡ accepted
+  pub acknowledges : w.acknowledged ≡ acknowledged

@@ -18,7 +18,7 @@ ghost use Rattle.server_events.specs.ServerState.{AllowedHistory, IsLegalTo, Ser
 ghost use Rattle.server_events.specs.Steps.{IsWhole, Legal, Outside, Step};
 ghost use Rattle.server_events.specs.Table.{Happens, HasStage, IsFull, IsFullFor, Runs};
 ghost use Rattle.server_events.specs.Taken.{AddsText, CanBeChanged, CanStep, CanStepTo, CannotStep, HappensAfterStop, HaveOtherNames, HasShortScratch, IsDue, IsLeftWithin, IsOthers, LeadsTo, MayFail, is_there, with_others};
-ghost use Rattle.server_events.specs.Witness.{an_older_text, texts_of_it, texts_of_that, two_texts};
+ghost use Rattle.server_events.specs.Witness.{WovenAround, an_older_text, behind_the_kill, texts_of_both, texts_of_it, texts_of_that, two_texts, until_the_kill};
 ghost use Rattle.server_events.specs.Worlds.{IsStart, RulesName, UnderWay, World, standing};
 ghost use Rattle.server_events.specs.declared.event.Event.{Event};
 ghost use Rattle.server_events.specs.declared.event.Event.TheVariants.{Admitted, Decided, Opened, Stepped, StepFailed, Stop};
@@ -157,4 +157,11 @@ pub fn two_processes()
     ensures one { (w v : World) (history : List Event) → Woven w history v → Legal w history v }
     ensures parts { (w v : World) (history : List Event) → Legal w history v → Woven w history v }
     ensures headline { (w v : World) (history : List Event) → IsStart w → Woven w history v → IsKeptBy history v }
+{}
+
+/// A history of the two that happens: an installer makes a text lasting that denies, and a connection opens it; another installer is killed within the
+/// rename of a text that allows; somebody makes a file; and then that connection is decided by the text that it opened, and the next one by the
+/// newer text.
+pub fn witness_of_two()
+    ensures { WovenAround until_the_kill behind_the_kill texts_of_both 1 }
 {}
