@@ -7,7 +7,7 @@ ghost use Rattle.dir_calls.specs.Entries.{names_in, change_of};
 ghost use Rattle.dir_calls.specs.Same.{same_names-prop};
 
 use crate::MemFile;
-use crate::entries::{Entry, NameEdit, number_at, with_name};
+use crate::entries::{Entry, NameEdit, number_at, with_name, without_name};
 use crate::stored::{Stored, close};
 use std::alloc::{AllocError, Global};
 use std::sync::Arc;
@@ -40,7 +40,7 @@ fn keep_both(edits: &mut Vec<NameEdit>, first: Option<NameEdit>, last: NameEdit)
 }
 
 impl Folder {
-    ghost use Rattle.dir_calls.specs.Calls.{makes, appends, patches, renames, settles, syncs, after};
+    ghost use Rattle.dir_calls.specs.Calls.{makes, appends, patches, renames, settles, syncs, after, closed, without};
     ghost use Rattle.dir_calls.specs.Folder.{directory_of, empty_directory};
     ghost use Rattle.dir_calls.specs.Directory.{number_of, scratch_of, content};
     ghost use Rattle.dir_calls.specs.Methods.{IsInside};
@@ -140,6 +140,23 @@ impl Folder {
     {
         let file = &mut self.files[number];
         close(alloc, file)?;
+        self.scratch = None;
+        Ok(())
+    }
+
+    /// Takes a name away, if it stands. There is no scratch file then.
+    pub fn take_away(&mut self, alloc: Global, name: &[u8]) -> Result<(), AllocError>
+        ensures ok { OnOk result (directory_of self.new ≡ closed (without (directory_of self.old) name.now)) }
+        ensures err { OnErr result (directory_of self.new ≡ directory_of self.old) }
+    {
+        let Some(_number) = self.number(name) else {
+            self.scratch = None;
+            return Ok(());
+        };
+        let names = without_name(alloc, &self.names, name)?;
+        let edit = NameEdit::Taken(name.to_vec(alloc)?);
+        self.edits.push(edit)?;
+        self.names = names;
         self.scratch = None;
         Ok(())
     }

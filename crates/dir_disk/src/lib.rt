@@ -11,7 +11,7 @@ mod scratch;
 pub mod system_disk;
 
 pub use dir_calls::{
-    Choice, DeviceFault, Dir, DirFault, FuseDir, MemDir, MemFile, Name, NameFault, RulesFile,
+    Choice, ClearableDir, DeviceFault, Dir, DirFault, FuseDir, MemDir, MemFile, Name, NameFault, RulesFile,
     replace_file,
 };
 pub use disk::{Disk, DiskFile, Look};
