@@ -12,6 +12,7 @@ pub mod NamesOf
 pub mod OneName
 pub mod Pairs
 pub mod Passing
+pub mod Removals
 pub mod Renames
 pub mod Replacing
 pub mod Results

@@ -1,5 +1,6 @@
 -- What a directory of which one call fails is made of.
 use Rattle.std.specs.Prelude.{◌≡◌, ◌≢◌, ℕ, Bool, Result}
+use Rattle.dir_calls.specs.Directory.{Directory}
 use Rattle.dir_calls.specs.Fuse.{Burns, failures_with}
 use Rattle.dir_calls.specs.Moments.{CountsFault}
 use Rattle.dir_calls.specs.declared.fault.DirFault.{DirFault}
@@ -16,6 +17,16 @@ fuse_left fuse = fuse.left
 -- whether a call was made to fail
 abbrev pub fuse_burnt : {D : Type 0} {X : _} {g : _} {h : _} → FuseDir D X g h → Bool
 fuse_burnt fuse = fuse.burnt
+
+-- what stands in it, and what stops may have left of it, are those of the directory inside
+abbrev pub fuse_state : {D : Type 0} {X : _} {g : _} {h : _} → (state : D → Directory) → FuseDir D X g h → Directory
+fuse_state state fuse = state (fuse_inner fuse)
+
+abbrev pub fuse_moment : {D : Type 0} {X : _} {g : _} {h : _} → (moment : D → ℕ) → FuseDir D X g h → ℕ
+fuse_moment moment fuse = moment (fuse_inner fuse)
+
+abbrev pub fuse_left_since : {D : Type 0} {X : _} {g : _} {h : _} → (left_since : D → ℕ → Directory → Type 0) → FuseDir D X g h → ℕ → Directory → Type 0
+fuse_left_since left_since fuse = left_since (fuse_inner fuse)
 
 -- how often its device has failed, the call that was made to fail among them; `failed` says it of the directory inside
 abbrev pub fuse_failed : {D : Type 0} {X : _} {g : _} {h : _} → (failed : D → ℕ) → FuseDir D X g h → ℕ

@@ -1,13 +1,14 @@
 //! Directories of which one call fails.
-ghost use Rattle.std.specs.Prelude.{◌≡◌, ◌≢◌, ◌≤◌, ◌<◌, ◌-◌, [], ◌∷◌, IsTrue, None, IsSome, Contains, length, true, false, IfOk, IfErr, OnOk};
+ghost use Rattle.std.specs.Prelude.{◌≡◌, ◌≢◌, ◌≤◌, ◌<◌, ◌-◌, [], ◌∷◌, List, ℕ, IsTrue, None, IsSome, Contains, length, true, false, IfOk, IfErr, OnOk};
 ghost use Rattle.std.specs.Option.{option_map};
 ghost use Rattle.dir_calls.specs.Directory.{number_of, scratch_of, content};
 ghost use Rattle.dir_calls.specs.Calls.{makes, appends, patches, syncs, renames, settles};
 ghost use Rattle.dir_calls.specs.Methods.{DoesCall, AppendsSome, CallElapses, CallIncludes, OpenElapses, IsInside};
 ghost use Rattle.dir_calls.specs.Moments.{CountsFault};
 ghost use Rattle.dir_calls.specs.Fuse.{failures_with};
+ghost use Rattle.dir_calls.specs.Replacing.{KeepsWhatLasts};
 
-use crate::{Dir, DirFault, Name};
+use crate::{ClearableDir, Dir, DirFault, Name};
 use std::alloc::Global;
 
 /// A directory of which one call fails: it answers `Device` and does not reach the directory inside, and all others pass.
@@ -245,5 +246,26 @@ impl<D: Dir> Dir for FuseDir<D> {
         } else {
             self.inner.failures()
         }
+    }
+}
+
+#[tactic(auto, using(crate::proofs::FuseLemmas::burnt_counts, crate::proofs::FuseLemmas::burnt_more, crate::proofs::FuseLemmas::passed_counts))]
+impl<D: ClearableDir> ClearableDir for FuseDir<D> {
+    ghost use Rattle.dir_calls.specs.FuseParts.{fuse_inner, fuse_left, fuse_failed, fuse_state, fuse_moment, fuse_left_since, FuseBurns, FusePasses};
+
+    fn take_away(&mut self, alloc: Global, name: &Name) -> Result<(), DirFault>
+        ensures gone { IsTrue D.honest → OnOk result (number_of (D.state (fuse_inner self.new)) name.now ≡ None) }
+        ensures stays { IsTrue D.honest → (other : List ℕ) → name.now ≢ other → KeepsWhatLasts
+            (fuse_state D.state) (fuse_moment D.moment) (fuse_left_since D.left_since) other self.old self.new }
+        ensures faults { IfErr result (Contains (DirFault.Device ∷ DirFault.OutOfMemory ∷ [])) }
+        ensures counted { CountsFault (fuse_failed D.failed self.old) (fuse_failed D.failed self.new) result }
+        ensures counts { fuse_left self.new ≡ fuse_left self.old - 1 }
+        ensures burns { FuseBurns D.failed self.old self.new result }
+        ensures passes { FusePasses D.failed self.old self.new result }
+    {
+        if burns(&mut self.left, &mut self.burnt) {
+            return Err(DirFault::Device);
+        }
+        self.inner.take_away(alloc, name)
     }
 }

@@ -2,6 +2,7 @@
 #![tactic(auto)]
 
 mod choice;
+pub mod clearable;
 mod crash;
 pub mod dir;
 mod entries;
@@ -17,6 +18,7 @@ pub mod rules_file;
 mod stored;
 
 pub use choice::Choice;
+pub use clearable::ClearableDir;
 pub use dir::Dir;
 pub use fault::DirFault;
 pub use folder::Folder;

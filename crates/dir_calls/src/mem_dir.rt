@@ -1,17 +1,19 @@
 //! Directories in memory.
-ghost use Rattle.std.specs.Prelude.{◌≡◌, ◌≤◌, ◌<◌, [], ◌∷◌, map, length, true, None, IsSome, Contains, IfOk, IfErr, OnOk};
-ghost use Rattle.dir_calls.specs.Calls.{appends};
+ghost use Rattle.std.specs.Prelude.{◌≡◌, ◌≢◌, ◌≤◌, ◌<◌, [], ◌∷◌, List, ℕ, map, length, true, None, IsSome, Contains, IfOk, IfErr, OnOk, OnErr};
+ghost use Rattle.dir_calls.specs.Calls.{appends, closed, without};
+ghost use Rattle.dir_calls.specs.Directory.{number_of};
 ghost use Rattle.dir_calls.specs.Methods.{AppendsSome, CallElapses, CallIncludes};
 ghost use Rattle.dir_calls.specs.Moments.{CountsFault};
 ghost use Rattle.dir_calls.specs.Images.{IsImage};
 ghost use Rattle.dir_calls.specs.Folder.{directory_of, empty_directory};
 ghost use Rattle.dir_calls.specs.Stop.{stopped, torn};
 ghost use Rattle.dir_calls.specs.Past.{LeftSince, past_call, left_now};
+ghost use Rattle.dir_calls.specs.Replacing.{KeepsWhatLasts};
 ghost use Rattle.std.proofs.Common.{inl};
 
 use crate::crash::{stopped_folder, torn_folder};
 use crate::folder::Folder;
-use crate::{Choice, Dir, DirFault, MemFile, Name};
+use crate::{Choice, ClearableDir, Dir, DirFault, MemFile, Name};
 use http_server::Log;
 use std::alloc::{AllocError, Global};
 
@@ -164,5 +166,25 @@ impl Dir for MemDir {
 
     fn failures(&self) -> u64 {
         0
+    }
+}
+
+impl ClearableDir for MemDir {
+    ghost use Rattle.dir_calls.specs.MemDir.{mem_state, mem_moment, mem_left_since};
+
+    fn take_away(&mut self, alloc: Global, name: &Name) -> Result<(), DirFault>
+        // a change of names as the others, which is pending until it is settled
+        ensures does { OnOk result (mem_state self.new ≡ closed (without (mem_state self.old) name.now)) }
+        ensures untouched { OnErr result (mem_state self.new ≡ mem_state self.old) }
+        ensures gone { OnOk result (number_of (mem_state self.new) name.now ≡ None) }
+        ensures stays { (other : List ℕ) → name.now ≢ other
+            → KeepsWhatLasts mem_state mem_moment mem_left_since other self.old self.new }
+        ensures faults { IfErr result (Contains (DirFault.Device ∷ DirFault.OutOfMemory ∷ [])) }
+        ensures counted { CountsFault 0 0 result }
+    {
+        let past = self.past.and(&self.folder, &None);
+        self.folder.take_away(alloc, name.as_str().as_bytes())?;
+        self.past = past;
+        Ok(())
     }
 }

@@ -12,8 +12,8 @@ mod scratch;
 pub mod system_disk;
 
 pub use dir_calls::{
-    Choice, DeviceFault, Dir, DirFault, FuseDir, MemDir, MemFile, Name, NameFault, RulesFile,
-    replace_file,
+    Choice, ClearableDir, DeviceFault, Dir, DirFault, FuseDir, MemDir, MemFile, Name, NameFault,
+    RulesFile, replace_file,
 };
 pub use disk::{Disk, DiskFile, Look};
 pub use failure::{DiskFailure, FailedOn};

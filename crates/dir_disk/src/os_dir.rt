@@ -16,7 +16,7 @@ use crate::os_file::OsFile;
 use crate::patient::{TRIES, is_file, move_name, not_opened, opened, remove_name, settle};
 use crate::scratch::{BUFFER, give_up, make_room, overwrite, renew, sync_kept};
 use crate::system_disk::SystemDisk;
-use dir_calls::{Dir, DirFault, Name};
+use dir_calls::{ClearableDir, Dir, DirFault, Name};
 use std::alloc::{AllocError, Global};
 use std::fs::{File, Files};
 use std::io::{self, ErrorKind};
@@ -145,6 +145,12 @@ impl<D: Disk + Drop> DiskDir<D> {
         self.disk.put_path(&mut self.path, name);
         let outcome = remove_name(&mut self.disk, &mut self.folder, &self.path);
         told(&mut self.failures, outcome)
+    }
+}
+
+impl<D: Disk + Drop> ClearableDir for DiskDir<D> {
+    fn take_away(&mut self, _alloc: Global, name: &Name) -> Result<(), DirFault> {
+        self.remove(name)
     }
 }
 

@@ -11,9 +11,9 @@ ghost use Rattle.rules_install.specs.Steps.{BlamesFault};
 ghost use Rattle.rules_install.specs.Whole.{EndsRun, IsDeviceFault, RunKeeps, RunLasts};
 ghost use Rattle.rules_tools.specs.Turns.{IsFree, LacksTurn};
 
-use crate::clearable::{ClearableDir, clear_folder};
+use crate::clearing::clear_folder;
 use crate::turn::{NoTurn, Turns};
-use dir_calls::{DirFault, Name};
+use dir_calls::{ClearableDir, DirFault, Name};
 use rules_install::{Install, InstallFault, whole};
 use std::alloc::Global;
 

@@ -11,11 +11,10 @@ ghost use Rattle.rules_tools.specs.Installed.{CompilesTo, FailsInput, Installs, 
 ghost use Rattle.rules_tools.specs.Series.{MakesSeries, MakesSteps};
 ghost use Rattle.rules_tools.specs.Turns.{BlamesTurn, EndsOnDisk, IsAtFresh, IsFree};
 
-use crate::clearable::ClearableDir;
 use crate::folder::RulesFolder;
 use crate::tcprules::{TcprulesFault, read_places, read_text};
 use crate::turn::Turns;
-use dir_calls::{DirFault, Name};
+use dir_calls::{ClearableDir, DirFault, Name};
 use rule_lines::{Limits, parse_owned};
 use rules_install::laws::decides;
 use rules_install::{Install, InstallFault, Names, Phase};

@@ -2,7 +2,7 @@
 #![tactic(auto)]
 
 pub mod cause;
-pub mod clearable;
+mod clearing;
 pub mod folder;
 pub mod folders;
 pub mod installing;
@@ -15,7 +15,6 @@ pub mod turn;
 pub mod variables;
 
 pub use cause::{Cause, CauseOf};
-pub use clearable::ClearableDir;
 pub use folder::RulesFolder;
 pub use folders::{Folders, SystemFolders};
 pub use installing::{install_named, install_text};

@@ -8,8 +8,9 @@ use Rattle.dir_disk.specs.OsDir.{SparesOthers, kept_back}
 use Rattle.dir_disk.specs.OsParts.{os_left_since, os_moment, os_state}
 use Rattle.dir_disk.specs.DiskSteps.{AllOrNone, StepElapses}
 use Rattle.dir_disk.specs.KeptImages.{kept_image}
+use Rattle.dir_calls.proofs.Removals.{gone, removal_stays}
 use Rattle.dir_disk.proofs.KeptWrites.{closed_from, kept_nowhere}
-use Rattle.dir_disk.proofs.Removals.{gone, removal_closed, removal_fails, removal_spares, removal_stays, unlinked}
+use Rattle.dir_disk.proofs.Removals.{removal_closed, removal_fails, removal_spares, unlinked}
 use Rattle.dir_disk.proofs.Steps.{step_after}
 use Rattle.dir_disk.proofs.Told.{on_ok_then, told_ok, call_elapses}
 use Rattle.dir_disk.proofs.os_dir.DiskDir.remove.Goals as goal

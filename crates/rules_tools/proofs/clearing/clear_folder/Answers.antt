@@ -4,7 +4,7 @@ use Rattle.dir_calls.specs.Clearing.{IsClear}
 use Rattle.dir_calls.specs.Directory.{Directory}
 use Rattle.dir_calls.proofs.Lasting.{settles_keeps}
 use Rattle.dir_calls.proofs.Replacing.{on_ok, stays_on}
-use Rattle.rules_tools.proofs.clearable.clear_folder.Goals as goal
+use Rattle.rules_tools.proofs.clearing.clear_folder.Goals as goal
 
 pub returns-clause-clear : goal.returns-clause-clear
 returns-clause-clear g c = λ honest.

@@ -1,0 +1,46 @@
+use Rattle.std.proofs.Common.{rules, ◌≡◌, inl, length, sym, ◌∙◌, ap, subst, arith}
+use Rattle.std.specs.Prelude.{map}
+use Rattle.dir_calls.specs.Calls.{closed, without}
+use Rattle.dir_calls.specs.Directory.{Directory, number_of}
+use Rattle.dir_calls.specs.Folder.{directory_of}
+use Rattle.dir_calls.specs.Lasting.{LastsAmong}
+use Rattle.dir_calls.specs.MemDir.{mem_left_since, mem_moment, mem_state}
+use Rattle.dir_calls.specs.Past.{LeftSince, left_now, past_call}
+use Rattle.dir_calls.proofs.History.{elapses_taken}
+use Rattle.dir_calls.proofs.Lasting.{image_has}
+use Rattle.dir_calls.proofs.Removals.{gone, removal_stays, taken_fails}
+use Rattle.dir_calls.proofs.mem_dir.MemDirClearableDir.take_away.Goals as goal
+
+pub returns-in_err-take_away-clause-stays : goal.returns-in_err-take_away-clause-stays
+returns-in_err-take_away-clause-stays c = λ other differ contents lasts.
+    let m = c.args.self.now in
+    let calls = map past_call m.past.items in
+    let d = directory_of m.folder in
+    let same : directory_of c.take_away.new.self ≡ d = search rules in
+    record {
+      lasts = subst (λ (x : Directory). LastsAmong x other contents) (sym same) lasts;
+      any_moment = record {
+        later = omega arith;
+        each = λ image left. image_has d image other contents lasts (left_now calls d image (subst (λ (x : Directory). LeftSince calls x (length calls) image) same left));
+        before = λ earlier image le left. inl (subst (λ (x : Directory). LeftSince calls x earlier image) same left);
+      };
+    }
+
+pub returns-clause-gone : goal.returns-clause-gone
+returns-clause-gone c =
+    let m = c.args.self.now in
+    let name = c.args.name.now in
+    let does : directory_of c.take_away.new.self ≡ closed (without (directory_of m.folder) name) = search rules in
+    ap (λ (x : Directory). number_of x name) does ∙ gone (directory_of m.folder) name
+
+pub returns-clause-stays : goal.returns-clause-stays
+returns-clause-stays c = λ other differ contents lasts.
+    let m = c.args.self.now in
+    let name = c.args.name.now in
+    let d = directory_of m.folder in
+    let e = directory_of c.take_away.new.self in
+    let does : e ≡ closed (without d name) = search rules in
+    removal_stays mem_state mem_moment mem_left_since name other contents m _ differ lasts
+    (λ image left. left_now (map past_call m.past.items) d image left)
+    (elapses_taken m.past.items c.and-past.result.items m.folder name e c.and-past.ensures)
+    (taken_fails d e name does)
