@@ -1,7 +1,9 @@
 //! Processes of the system: started at a path of bytes, waited for until they have ended, and killed.
 ghost use Rattle.std.specs.Prelude.{◌≡◌, ◌↔◌, ◌⊎◌, ℕ, pos, IsSome, Some};
 ghost use Rattle.std.specs.Process.{exit_code, exit_signal};
+ghost use Rattle.std.specs.IoError.{error_kind, raw_os_error};
 ghost use Rattle.rule_lookup.specs.declared.outcome.Status.TheVariants.{Code, Signal};
+ghost use Rattle.stream_tools.specs.Starts.{told_of};
 
 use crate::search::{SearchPath, put_path};
 use child_jobs::{Program, WaitFault};
@@ -32,7 +34,10 @@ pub struct NotStarted {
 
 impl NotStarted {
     /// By an error of the system.
-    pub(crate) fn by(error: &Error) -> NotStarted {
+    pub(crate) fn by(error: &Error) -> NotStarted
+        ensures fault { result.fault ≡ told_of (error_kind error.now) }
+        ensures error { result.error ≡ raw_os_error error.now }
+    {
         NotStarted {
             fault: start_fault(error),
             error: error.raw_os_error(),
@@ -172,7 +177,9 @@ fn push_part(texts: &mut Vec<u8>, part: &[u8]) -> Result<(), StartFault> {
 }
 
 /// What the system's fault is for a program that should start.
-pub fn start_fault(error: &Error) -> StartFault {
+pub fn start_fault(error: &Error) -> StartFault
+    ensures { result ≡ told_of (error_kind error.now) }
+{
     match error.kind() {
         ErrorKind::NotFound => StartFault::NotFound,
         ErrorKind::PermissionDenied => StartFault::Refused,
