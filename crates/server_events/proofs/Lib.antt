@@ -25,4 +25,5 @@ pub mod TableLemmas
 pub mod TwoProcesses
 pub mod TwoTexts
 pub mod WholeText
+pub mod WithinLemmas
 pub mod WovenSteps

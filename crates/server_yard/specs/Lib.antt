@@ -8,6 +8,7 @@ pub mod Serving
 pub mod Stepping
 pub mod Installed
 pub mod Readers
+pub mod Openings
 pub mod Passes
 pub mod Kept
 pub mod Yards

@@ -1,11 +1,13 @@
 //! Laws over the definitions alone.
-ghost use Rattle.std.specs.Prelude.{◌≡◌, ◌++◌, ℕ, List, [], Some, length, true};
+ghost use Rattle.std.specs.Prelude.{◌≡◌, ◌++◌, ◌∷◌, ℕ, List, [], Option, Some, length, true};
 ghost use Rattle.rule_lines.specs.Pairs.{Rule};
 ghost use Rattle.server_events.specs.Processes.{is_connections};
 ghost use Rattle.server_events.specs.Table.{HasStage};
+ghost use Rattle.server_events.specs.Within.{FindsWithin, noting};
 ghost use Rattle.server_events.specs.Worlds.{KeptFile, World};
 ghost use Rattle.server_events.specs.declared.event.Event.{Event};
 ghost use Rattle.server_events.specs.declared.event.Stage.TheVariants as Stage;
+ghost use Rattle.server_yard.specs.Openings.{OpensBeside};
 ghost use Rattle.server_yard.specs.Readers.{IsAbsentOrCompiled, KeptYard, NamesStoredSinceDone, begun_in};
 ghost use Rattle.server_yard.specs.Serving.{IsReachedOn, IsServers, Serves, StepsByItself, over};
 ghost use Rattle.server_yard.specs.Standing.{IsNew, IsReachedBy, Leads, Series, YardState};
@@ -31,6 +33,15 @@ pub fn beside()
     ensures { (w : World) (y z : YardState) (files more : List KeptFile) (event : Event) → is_connections event ≡ true
         → IsServers y files w → Leads event (over y w.directory) files (over z w.directory) more
         → StepsByItself w event z more }
+{}
+
+/// An opening that takes some time. Others go on meanwhile, and it found what stood under the rules name at some moment of that. The yard notes it
+/// over the directory that others came to; what the server has then is its yard's again. By `server_events::laws::opened_within` that world is the
+/// one to which the steps of others lead with the opening at its moment.
+pub fn opened_within()
+    ensures { (w v : World) (y z : YardState) (files : List KeptFile) (n : ℕ) (bytes : Option (List ℕ))
+        → IsServers y files w → FindsWithin w v bytes → OpensBeside n bytes y z
+        → IsServers z (files ++ record { serial = n; bytes = bytes } ∷ []) (noting n bytes v) }
 {}
 
 /// What a reader finds, in each yard as its type keeps it where the premises were met when it was made. Whatever a stop leaves under it, the
