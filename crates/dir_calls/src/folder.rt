@@ -1,5 +1,5 @@
 //! What stands in a directory in memory.
-ghost use Rattle.std.specs.Prelude.{◌≡◌, ◌≤◌, ◌<◌, ◌+◌, ◌++◌, [], ◌∷◌, Some, None, length, map, IfOk, OnOk, OnErr, option_to_list, vec_len, vec_capacity};
+ghost use Rattle.std.specs.Prelude.{◌≡◌, ◌≤◌, ◌<◌, ◌+◌, ◌++◌, [], ◌∷◌, Some, None, length, map, IfOk, OnOk, OnErr, is_some, option_to_list, slice_get, vec_len, vec_capacity};
 ghost use Rattle.std.specs.Option.{ForSome, option_map};
 ghost use Rattle.std.specs.FinMap.{get};
 ghost use Rattle.dir_calls.specs.NameTable.{after_changes, takes};
@@ -15,12 +15,12 @@ use std::sync::Arc;
 /// A directory in memory. The names are those of `origin` after the edits, of which the first `settled` are settled.
 #[derive(Drop)]
 pub struct Folder {
-    pub origin: Vec<Entry>,
-    pub edits: Vec<NameEdit>,
-    pub settled: usize,
-    pub names: Vec<Entry>,
-    pub files: Vec<Stored>,
-    pub scratch: Option<usize>,
+    pub(crate) origin: Vec<Entry>,
+    pub(crate) edits: Vec<NameEdit>,
+    pub(crate) settled: usize,
+    pub(crate) names: Vec<Entry>,
+    pub(crate) files: Vec<Stored>,
+    pub(crate) scratch: Option<usize>,
     ghost standing: { names_in names.items
         ≡ after_changes (names_in origin.items) (map change_of edits.items) } by { same_names-prop _ _ },
     ghost settled_fits: { settled ≤ length edits.items },
@@ -40,7 +40,8 @@ fn keep_both(edits: &mut Vec<NameEdit>, first: Option<NameEdit>, last: NameEdit)
 }
 
 impl Folder {
-    ghost use Rattle.dir_calls.specs.Calls.{makes, appends, patches, renames, settles, syncs, after, closed, without};
+    ghost use Rattle.dir_calls.specs.Calls.{makes, appends, patches, renames, settles, syncs, after, closed, lasting, with_scratch, without};
+    ghost use Rattle.dir_calls.specs.Stored.{open_length};
     ghost use Rattle.dir_calls.specs.Folder.{directory_of, empty_directory};
     ghost use Rattle.dir_calls.specs.Directory.{number_of, scratch_of, content};
     ghost use Rattle.dir_calls.specs.Methods.{IsInside};
@@ -95,6 +96,48 @@ impl Folder {
         }
     }
 
+    /// Takes a name away, if it stands, and tells whether it did.
+    pub fn take(&mut self, alloc: Global, name: &[u8]) -> Result<bool, AllocError>
+        ensures stood { IfOk result (λ stood. stood ≡ is_some (number_of (directory_of self.old) name.now)) }
+        ensures ok { OnOk result (directory_of self.new ≡ without (directory_of self.old) name.now) }
+        ensures err { OnErr result (directory_of self.new ≡ directory_of self.old) }
+    {
+        let Some(taken) = self.taking(alloc, name)? else {
+            return Ok(false);
+        };
+        let names = without_name(alloc, &self.names, name)?;
+        self.edits.push(taken)?;
+        self.names = names;
+        Ok(true)
+    }
+
+    /// The number of the scratch file.
+    pub fn scratch(&self) -> Option<usize>
+        ensures { result ≡ (directory_of self.now).scratch }
+    {
+        self.scratch
+    }
+
+    /// How many bytes the file of a number has.
+    pub fn length(&self, number: usize) -> Option<usize>
+        ensures { result ≡ option_map (λ file. length file.bytes) (slice_get (directory_of self.now).files number) }
+    {
+        match self.files.get(number)? {
+            Stored::Open(bytes) => Some(bytes.len()),
+            Stored::Synced(bytes) => Some(bytes.len()),
+        }
+    }
+
+    /// How many bytes the file of a number has, where it is not synced.
+    pub fn open_length(&self, number: usize) -> Option<usize>
+        ensures { result ≡ open_length (slice_get (directory_of self.now).files number) }
+    {
+        match self.files.get(number)? {
+            Stored::Open(bytes) => Some(bytes.len()),
+            Stored::Synced(_) => None,
+        }
+    }
+
     /// The file that stands under a name, if any.
     pub fn open(&self, alloc: Global, name: &[u8]) -> Result<Option<MemFile>, AllocError>
         ensures { IfOk result (λ found. found ≡ content (directory_of self.now) name.now) }
@@ -132,31 +175,32 @@ impl Folder {
         }
     }
 
+    /// Makes the scratch file lasting. It stays the scratch file.
+    pub fn last(&mut self, alloc: Global, number: usize) -> Result<(), AllocError>
+        requires { self.old.scratch ≡ Some number }
+        ensures ok { OnOk result (directory_of self.new
+            ≡ with_scratch lasting (directory_of self.old).scratch (directory_of self.old)) }
+        ensures err { OnErr result (directory_of self.new ≡ directory_of self.old) }
+    {
+        let file = &mut self.files[number];
+        close(alloc, file)?;
+        Ok(())
+    }
+
+    /// There is no scratch file any more.
+    pub fn leave(&mut self)
+        ensures { directory_of self.new ≡ closed (directory_of self.old) }
+    {
+        self.scratch = None;
+    }
+
     /// Makes the scratch file lasting, and closes it.
     pub fn sync(&mut self, alloc: Global, number: usize) -> Result<(), AllocError>
         requires { self.old.scratch ≡ Some number }
         ensures ok { OnOk result (directory_of self.new ≡ after syncs (directory_of self.old)) }
         ensures err { OnErr result (directory_of self.new ≡ directory_of self.old) }
     {
-        let file = &mut self.files[number];
-        close(alloc, file)?;
-        self.scratch = None;
-        Ok(())
-    }
-
-    /// Takes a name away, if it stands. There is no scratch file then.
-    pub fn take_away(&mut self, alloc: Global, name: &[u8]) -> Result<(), AllocError>
-        ensures ok { OnOk result (directory_of self.new ≡ closed (without (directory_of self.old) name.now)) }
-        ensures err { OnErr result (directory_of self.new ≡ directory_of self.old) }
-    {
-        let Some(_number) = self.number(name) else {
-            self.scratch = None;
-            return Ok(());
-        };
-        let names = without_name(alloc, &self.names, name)?;
-        let edit = NameEdit::Taken(name.to_vec(alloc)?);
-        self.edits.push(edit)?;
-        self.names = names;
+        self.last(alloc, number)?;
         self.scratch = None;
         Ok(())
     }

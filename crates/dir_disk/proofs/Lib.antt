@@ -1,5 +1,6 @@
 pub mod DiskWrites
 pub mod KeptWrites
+pub mod MemWrites
 pub mod OsCalls
 pub mod Removals
 pub mod Steps

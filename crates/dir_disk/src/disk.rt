@@ -80,6 +80,9 @@ pub trait Disk {
     /// Whether it is a file, and no folder, pipe or device.
     ghost regular: { Self.Handle → Bool };
 
+    /// Whether a handle is of a file of this disk as it stands now, opened to be read.
+    ghost known: { Self → Self.Handle → Type 0 };
+
     /// The numbers of a file's device and of the file there.
     ghost identity: { ℕ → ℕ × ℕ };
 
@@ -206,6 +209,7 @@ pub trait Disk {
     fn open(&self, path: &Self::Path) -> io::Result<Self::Handle>
         ensures opened { IsTrue honest → IfOk result (λ file.
             number_of (state self.now) (named path.now) ≡ Some (number file)) }
+        ensures known { IsTrue honest → IfOk result (λ file. known self.now file) }
         ensures absent { IsTrue honest → OnNotFound result
             (number_of (state self.now) (named path.now) ≡ None) };
 
@@ -221,8 +225,9 @@ pub trait Disk {
         ensures identity { IsTrue honest → IfOk result (λ look.
             (look.device, look.inode) ≡ identity (number file.now)) };
 
-    /// The file of a handle, to be read. It must be a file that nobody writes any more.
+    /// The file of a handle, to be read. It must be a file of this disk that was opened to be read, and that nobody writes any more.
     fn reading(&self, file: Self::Handle) -> Self::File
+        requires known { IsTrue honest → known self.now file }
         requires regular { IsTrue honest → regular file ≡ true }
         requires unwritten { IsTrue honest → (state self.now).scratch ≢ Some (number file) }
         ensures { IsTrue honest → option_map (λ stands. stands.bytes) (slice_get (state self.now).files (number file))

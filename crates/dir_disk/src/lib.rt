@@ -4,6 +4,7 @@
 pub mod disk;
 pub mod failure;
 pub mod lock;
+pub mod mem_disk;
 pub mod os_dir;
 pub mod os_file;
 mod patient;
@@ -17,6 +18,7 @@ pub use dir_calls::{
 pub use disk::{Disk, DiskFile, Look};
 pub use failure::{DiskFailure, FailedOn};
 pub use lock::LockTry;
+pub use mem_disk::MemDisk;
 pub use os_dir::{DiskDir, FolderError, FolderFault, OsDir, find_folder};
 pub use os_file::OsFile;
 pub use system_disk::{SystemDisk, SystemFile, SystemPath};

@@ -186,6 +186,8 @@ where
 
     ghost regular = { λ _. true };
 
+    ghost known = { λ _ _. ⊤ };
+
     ghost identity = { λ _. (0, 0) };
 
     ghost counts_now = { λ _ _ _ honest. not_honest honest };

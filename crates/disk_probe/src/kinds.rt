@@ -3,7 +3,7 @@
 use crate::commands::{OwnCommands, Words, name_of, show_name};
 use crate::test_disk::TestDisk;
 use dir_calls::{Choice, Dir, DirFault, FuseDir, MemDir};
-use dir_disk::DiskDir;
+use dir_disk::{Disk, DiskDir, MemDisk};
 use probe_answers::Answer;
 use std::alloc::Global;
 
@@ -84,7 +84,7 @@ fn show_over(alloc: Global, disk: TestDisk, name: &str, out: &mut Answer) {
 }
 
 /// Takes a file away.
-fn remove(alloc: Global, dir: &mut DiskDir<TestDisk>, word: &str, out: &mut Answer) {
+fn remove<D: Disk + Drop>(alloc: Global, dir: &mut DiskDir<D>, word: &str, out: &mut Answer) {
     match name_of(alloc, word) {
         Some(name) => out.done(dir.remove(&name)),
         None => out.fail(),
@@ -96,6 +96,15 @@ impl OwnCommands for DiskDir<TestDisk> {
         match words.call {
             "crash" => show_left(alloc, self.disk(), words, out),
             "calls" => out.number_line(self.disk().calls()),
+            "remove" => remove(alloc, self, words.first, out),
+            _ => out.fail(),
+        }
+    }
+}
+
+impl OwnCommands for DiskDir<MemDisk> {
+    fn own(&mut self, alloc: Global, words: &Words<'_>, out: &mut Answer) {
+        match words.call {
             "remove" => remove(alloc, self, words.first, out),
             _ => out.fail(),
         }

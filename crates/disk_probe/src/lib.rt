@@ -1,8 +1,10 @@
 //! Runs commands on a directory in memory, and prints what each answers. The commands stand on standard input, one a line. The words say which
-//! directory: `memory`, `fuse CALL`, where that call fails, or `disk CALL MISHAP`, a folder of a disk whose call of that number has a mishap,
-//! counted from 1. `name`, `read PLACE ROOM` and `faults` are single calls without a directory; `folder` makes calls on a folder of the system,
+//! directory: `memory`, `fuse CALL`, where that call fails, `memory_disk`, a folder of a disk in memory, or `disk CALL MISHAP`, a folder of a disk
+//! whose call of that number has a mishap, counted from 1. `name`, `read PLACE ROOM` and `faults` are single calls without a directory; `folder` makes calls on a folder of the system,
 //! which stand among the words. With no words it does nothing.
 #![tactic(auto)]
+
+ghost use Rattle.std.specs.Prelude.{◌≡◌, IsTrue, None};
 
 mod commands;
 mod folder;
@@ -12,7 +14,7 @@ mod test_disk;
 
 use commands::{OwnCommands, Words, obey};
 use dir_calls::{Dir, FuseDir, MemDir};
-use dir_disk::DiskDir;
+use dir_disk::{Disk, DiskDir, MemDisk};
 use probe_answers::Answer;
 use std::alloc::{AllocError, Global};
 use std::env::Args;
@@ -113,7 +115,11 @@ fn run_disk(alloc: Global, words: &mut Args, given: &[u8], out: &mut Answer) {
 }
 
 /// Runs the commands on the folder of this disk.
-fn run_over(alloc: Global, disk: TestDisk, given: &[u8], out: &mut Answer) {
+fn run_over<D: Disk + Drop>(alloc: Global, disk: D, given: &[u8], out: &mut Answer)
+where
+    DiskDir<D>: OwnCommands,
+    requires { IsTrue D.honest → (D.state disk).scratch ≡ None }
+{
     match DiskDir::over(alloc, disk) {
         Ok(mut dir) => run_commands(alloc, &mut dir, given, out),
         Err(_) => out.fail(),
@@ -140,6 +146,7 @@ fn run_given(alloc: Global, first: &str, words: &mut Args, given: &[u8], out: &m
         "memory" => run_commands(alloc, &mut MemDir::new(alloc), given, out),
         "fuse" => run_fuse(alloc, words, given, out),
         "disk" => run_disk(alloc, words, given, out),
+        "memory_disk" => run_over(alloc, MemDisk::new(alloc), given, out),
         "name" => single::show_name(alloc, given, out),
         "read" => run_read(alloc, words, given, out),
         "faults" => single::show_faults(out),

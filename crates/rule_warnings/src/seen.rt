@@ -57,6 +57,9 @@ impl<'a> Seen<'a> {
     fn line_spanned(&self, alloc: Global, address: &[u8]) -> Result<Option<u64>, AllocError>
         ensures { IfOk result (λ line. line ≡ line_spanned (spans_under self.now) address.now) }
     {
+        if self.spans.is_empty() {
+            return Ok(None);
+        }
         let mut first = None;
         for start in 0..=address.len() {
             first = sooner(first, self.line_from(alloc, address, start)?);

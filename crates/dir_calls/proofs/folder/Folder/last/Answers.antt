@@ -1,9 +1,8 @@
-use Rattle.std.proofs.Common.{ap}
 use Rattle.std.proofs.lemmas.Result.{err_from_is_err_and}
-use Rattle.dir_calls.specs.Calls.{lasting, closed}
+use Rattle.dir_calls.specs.Calls.{lasting}
 use Rattle.dir_calls.specs.Folder.{directory_of}
 use Rattle.dir_calls.proofs.InMemory.{unchanged, scratch_set}
-use Rattle.dir_calls.proofs.folder.Folder.sync.Goals as goal
+use Rattle.dir_calls.proofs.folder.Folder.last.Goals as goal
 
 pub returns-in_err-close-clause-err : goal.returns-in_err-close-clause-err
 returns-in_err-close-clause-err c =
@@ -11,4 +10,4 @@ returns-in_err-close-clause-err c =
     rw p.1 (unchanged (directory_of c.args.self.now).names c.args.self.now.files.items _ c.args.number c.index_mut-file.result.now _ c.index_mut-file.ensures.value c.in_err-close.ensures.err)
 
 pub returns-clause-ok : goal.returns-clause-ok
-returns-clause-ok c = ap closed (scratch_set lasting (directory_of c.args.self.now).names c.args.self.now.files.items c.args.self.now.scratch c.args.number c.index_mut-file.result.now _ c.requires c.index_mut-file.ensures.value c.in_ok-close.ensures.ok)
+returns-clause-ok c = scratch_set lasting (directory_of c.args.self.now).names c.args.self.now.files.items c.args.self.now.scratch c.args.number c.index_mut-file.result.now _ c.requires c.index_mut-file.ensures.value c.in_ok-close.ensures.ok
