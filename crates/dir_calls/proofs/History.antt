@@ -58,24 +58,19 @@ records_makes name old new does = record { start = λ image is. inl is; only = o
     all image (inl (state, inr (inr last), is)) = inr (subst (λ s. IsImage s image) (last ∙ sym does) is)
     all image (inr now) = inr now
 
--- one call more, within which a stop leaves these
-module _ (calls : List PastCall) (kept : PastCall) (Left : Directory → Type 0) (old new : Directory) (start : (image : Directory) → IsImage old image → LeftIn kept image) (only : (image : Directory) → LeftIn kept image → IsImage old image ⊎ Left image) (end : (image : Directory) → IsImage new image → Left image) where
-  pub elapses_kept : Elapses (length calls) (length (calls ++ kept ∷ [])) (LeftSince calls old) (LeftSince (calls ++ kept ∷ []) new) Left
-  elapses_kept = record { later = omega (arith, length-append calls (kept ∷ [])); nothing_else = nothing_else; keeps = keeps }
-    where
-      nothing_else : (moment : ℕ) (image : Directory) → moment ≤ length calls → LeftSince (calls ++ kept ∷ []) new moment image → LeftSince calls old moment image ⊎ Left image
-      nothing_else moment image le (inl now) = inr (end image now)
-      nothing_else moment image le (inr (place, late, past, there, left)) =
-          ⊎_elim (λ was. inl (inr (place, late, past, was, left))) (λ last. ⊎_elim (λ first. inl (inl first)) (λ within. inr within) (only image (subst (λ p. LeftIn p image) last left))) (at_either calls kept past place there)
-
-      keeps : (moment : ℕ) (image : Directory) → moment ≤ length calls → LeftSince calls old moment image → LeftSince (calls ++ kept ∷ []) new moment image
-      keeps moment image le (inl now) = inr (length calls, le, kept, at_last calls kept, start image now)
-      keeps moment image le (inr (place, late, past, there, left)) = inr (place, late, past, at_earlier calls kept past place there, left)
-
--- what is kept of it stands for each stop within it
+-- one call more
 module _ (calls : List PastCall) (kept : PastCall) (call : Call) (old new : Directory) (records : Records kept call old new) where
   pub elapses_push : Elapses (length calls) (length (calls ++ kept ∷ [])) (LeftSince calls old) (LeftSince (calls ++ kept ∷ []) new) (LeftBy call old new)
-  elapses_push = elapses_kept calls kept (LeftBy call old new) old new records.start records.only (λ image is. inr is)
+  elapses_push = record { later = omega (arith, length-append calls (kept ∷ [])); nothing_else = nothing_else; keeps = keeps }
+    where
+      nothing_else : (moment : ℕ) (image : Directory) → moment ≤ length calls → LeftSince (calls ++ kept ∷ []) new moment image → LeftSince calls old moment image ⊎ LeftBy call old new image
+      nothing_else moment image le (inl now) = inr (inr now)
+      nothing_else moment image le (inr (place, late, past, there, left)) =
+          ⊎_elim (λ was. inl (inr (place, late, past, was, left))) (λ last. ⊎_elim (λ first. inl (inl first)) (λ within. inr within) (records.only image (subst (λ p. LeftIn p image) last left))) (at_either calls kept past place there)
+
+      keeps : (moment : ℕ) (image : Directory) → moment ≤ length calls → LeftSince calls old moment image → LeftSince (calls ++ kept ∷ []) new moment image
+      keeps moment image le (inl now) = inr (length calls, le, kept, at_last calls kept, records.start image now)
+      keeps moment image le (inr (place, late, past, there, left)) = inr (place, late, past, at_earlier calls kept past place there, left)
 
   pub includes_push : Includes (length calls) (LeftSince (calls ++ kept ∷ []) new) (LeftBy call old new)
   includes_push moment image le left = ⊎_elim (λ within. inr (length calls, le, kept, at_last calls kept, within)) (λ now. inl now) (records.all image left)
@@ -86,11 +81,20 @@ module _ (calls : List PastCall) (old new : Directory) where
   kept_step = record { before = old; made = None }
 
   pub elapses_step : Elapses (length calls) (length (calls ++ kept_step ∷ [])) (LeftSince calls old) (LeftSince (calls ++ kept_step ∷ []) new) (λ image. IsImage old image ⊎ IsImage new image)
-  elapses_step = elapses_kept calls kept_step (λ image. IsImage old image ⊎ IsImage new image) old new (λ image is. inl is) only (λ image is. inr is)
+  elapses_step = record { later = omega (arith, length-append calls (kept_step ∷ [])); nothing_else = nothing_else; keeps = keeps }
     where
-      only : (image : Directory) → LeftIn kept_step image → IsImage old image ⊎ (IsImage old image ⊎ IsImage new image)
-      only image (inl is) = inl is
-      only image (inr (name, named, is)) = absurd (cc)
+      within : (image : Directory) → LeftIn kept_step image → IsImage old image
+      within image (inl is) = is
+      within image (inr (name, named, is)) = absurd (cc)
+
+      nothing_else : (moment : ℕ) (image : Directory) → moment ≤ length calls → LeftSince (calls ++ kept_step ∷ []) new moment image → LeftSince calls old moment image ⊎ (IsImage old image ⊎ IsImage new image)
+      nothing_else moment image le (inl now) = inr (inr now)
+      nothing_else moment image le (inr (place, late, past, there, left)) =
+          ⊎_elim (λ was. inl (inr (place, late, past, was, left))) (λ last. inr (inl (within image (subst (λ p. LeftIn p image) last left)))) (at_either calls kept_step past place there)
+
+      keeps : (moment : ℕ) (image : Directory) → moment ≤ length calls → LeftSince calls old moment image → LeftSince (calls ++ kept_step ∷ []) new moment image
+      keeps moment image le (inl now) = inr (length calls, le, kept_step, at_last calls kept_step, inl now)
+      keeps moment image le (inr (place, late, past, there, left)) = inr (place, late, past, at_earlier calls kept_step past place there, left)
 
 -- the same of the entries
 module _ (entries later : List (Folder × Option (List ℕ))) (folder : Folder) (new : Directory) (pushed : later ≡ entries ++ (folder, None) ∷ []) where
@@ -114,10 +118,9 @@ module _ (entries later : List (Folder × Option (List ℕ))) (entry : Folder ×
 pub elapses_taken : (entries later : List (Folder × Option (List ℕ))) (folder : Folder) (name : List ℕ) (new : Directory) → later ≡ entries ++ (folder, None) ∷ []
     → Elapses (length (map past_call entries)) (length (map past_call later)) (LeftSince (map past_call entries) (directory_of folder)) (LeftSince (map past_call later) new) (LeftBy (makes name) (directory_of folder) new)
 elapses_taken entries later folder name new pushed =
-    subst (λ (l : List PastCall). Elapses (length (map past_call entries)) (length l) (LeftSince (map past_call entries) (directory_of folder)) (LeftSince l new) (LeftBy (makes name) (directory_of folder) new))
-    (sym (ap (map past_call) pushed ∙ map-append past_call entries ((folder, None) ∷ [])))
-    (elapses_kept (map past_call entries) (past_call (folder, None)) (LeftBy (makes name) (directory_of folder) new) (directory_of folder) new (λ image is. inl is) only (λ image is. inr is))
-  where
-    only : (image : Directory) → LeftIn (past_call (folder, None)) image → IsImage (directory_of folder) image ⊎ LeftBy (makes name) (directory_of folder) new image
-    only image (inl is) = inl is
-    only image (inr (made, named, is)) = absurd (cc)
+    let step = step_more entries later folder new pushed in
+    record {
+      later = step.later;
+      nothing_else = λ moment image le left. ⊎_elim (λ was. inl was) (λ one. inr (⊎_elim (λ before. inl (directory_of folder, inl refl, before)) (λ now. inr now) one)) (step.nothing_else moment image le left);
+      keeps = step.keeps;
+    }

@@ -205,16 +205,6 @@ impl Folder {
         Ok(())
     }
 
-    /// Takes a name away, if it stands. There is no scratch file then.
-    pub fn take_away(&mut self, alloc: Global, name: &[u8]) -> Result<(), AllocError>
-        ensures ok { OnOk result (directory_of self.new ≡ closed (without (directory_of self.old) name.now)) }
-        ensures err { OnErr result (directory_of self.new ≡ directory_of self.old) }
-    {
-        self.take(alloc, name)?;
-        self.leave();
-        Ok(())
-    }
-
     /// Makes all changes of names lasting.
     pub fn settle(&mut self)
         ensures { directory_of self.new ≡ after settles (directory_of self.old) }

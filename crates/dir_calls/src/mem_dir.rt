@@ -183,7 +183,8 @@ impl ClearableDir for MemDir {
         ensures counted { CountsFault 0 0 result }
     {
         let past = self.past.and(&self.folder, &None);
-        self.folder.take_away(alloc, name.as_str().as_bytes())?;
+        self.folder.take(alloc, name.as_str().as_bytes())?;
+        self.folder.leave();
         self.past = past;
         Ok(())
     }

@@ -196,12 +196,7 @@ impl Disk for MemDisk {
         Ok(())
     }
 
-    fn create(
-        &mut self,
-        folder: &MemFolder,
-        path: &MemPath,
-        mode: u32,
-    ) -> io::Result<MemHandle> {
+    fn create(&mut self, folder: &MemFolder, path: &MemPath, mode: u32) -> io::Result<MemHandle> {
         if self.folder.number(path.name()).is_some() {
             return Err(io::Error::from(ErrorKind::AlreadyExists));
         }

@@ -211,7 +211,9 @@ fn note_all<'a>(
         ≡ noted_all (line_under seen.old) (addresses_read addresses.entry) number other) }
 {
     match addresses {
-        ReadAddress::One(address) if !is_folding(address) => seen.note_lent(address, number),
+        ReadAddress::One(address) if !is_folding(address) => {
+            seen.note_lent(alloc, address, number)
+        }
         ReadAddress::Range {
             front,
             numbers,

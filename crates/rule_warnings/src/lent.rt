@@ -6,14 +6,14 @@ use crate::client::octets_of;
 use std::alloc::{AllocError, Global};
 use std::collections::HashMap;
 
-/// Addresses that stand in a text, each with the number of its line. One that is a whole IPv4 address is kept as its four numbers: so it takes half of
-/// the memory of any other.
+/// Addresses that stand in a text, each with the number of its line. One that is a whole IPv4 address is kept as its four numbers: so it takes little
+/// more than half of the memory of any other.
 #[derive(Drop)]
 pub struct Lent<'a> {
     /// Whole IPv4 addresses.
     whole: HashMap<[u8; 4], u32>,
-    /// The others, and those of lines whose number has no room there.
-    texts: HashMap<&'a [u8], u64>,
+    /// The others.
+    texts: HashMap<&'a [u8], u32>,
 }
 
 impl<'a> Lent<'a> {
@@ -32,7 +32,7 @@ impl<'a> Lent<'a> {
         ensures { result ≡ line_lent self.now address.now }
     {
         match self.texts.get(address) {
-            Some(line) => Some(*line),
+            Some(line) => Some(u64::from(*line)),
             None => self.line_whole(address),
         }
     }
@@ -49,13 +49,13 @@ impl<'a> Lent<'a> {
     }
 
     /// Notes the line of an address that has none. For want of memory nothing is noted.
-    pub fn insert(&mut self, address: &'a [u8], line: u64) -> Result<(), AllocError>
+    pub fn insert(&mut self, address: &'a [u8], line: u32) -> Result<(), AllocError>
         requires { line_lent self.old address.now ≡ None }
         ensures { OnOk result ((other : List ℕ) → line_lent self.new other
             ≡ (if bytes_eq address.now other then Some line else line_lent self.old other)) }
     {
-        if let (Some(octets), Ok(short)) = (octets_of(address), u32::try_from(line)) {
-            self.whole.insert(octets, short)?;
+        if let Some(octets) = octets_of(address) {
+            self.whole.insert(octets, line)?;
         } else {
             self.texts.insert(address, line)?;
         }

@@ -15,7 +15,7 @@ use std::collections::HashMap;
 pub struct Seen<'a> {
     /// Those that stand in the text as they are.
     lent: Lent<'a>,
-    /// Those that were made: of capital letters.
+    /// Those that were made: of capital letters, and of lines whose number has no room there.
     made: HashMap<Vec<u8>, u64>,
     /// Those of ranges, by what stands before and behind their numbers, with a `-` between.
     spans: HashMap<Vec<u8>, Vec<Span>>,
@@ -110,13 +110,20 @@ impl<'a> Seen<'a> {
 
     /// Notes that a line has an address that stands in the text, and that none had before. For want of memory nothing is
     /// noted.
-    pub fn note_lent(&mut self, address: &'a [u8], line: u64) -> Result<(), AllocError>
+    pub fn note_lent(
+        &mut self,
+        alloc: Global,
+        address: &'a [u8],
+        line: u64,
+    ) -> Result<(), AllocError>
         requires { line_under self.old address.now ≡ None }
         ensures { OnOk result ((other : List ℕ) → line_under self.new other
             ≡ noted (line_under self.old) address.now line other) }
     {
-        self.lent.insert(address, line)?;
-        Ok(())
+        match u32::try_from(line) {
+            Ok(short) => self.lent.insert(address, short),
+            Err(_) => self.note_made(alloc, address, line),
+        }
     }
 
     /// Notes that a line has the addresses of a range, and that no line noted so far comes after it. For want of memory the

@@ -11,12 +11,12 @@ use Rattle.dir_calls.proofs.Lasting.{image_has}
 use Rattle.dir_calls.proofs.Removals.{gone, removal_stays, taken_fails}
 use Rattle.dir_calls.proofs.mem_dir.MemDirClearableDir.take_away.Goals as goal
 
-pub returns-in_err-take_away-clause-stays : goal.returns-in_err-take_away-clause-stays
-returns-in_err-take_away-clause-stays c = λ other differ contents lasts.
+pub returns-in_err-take-clause-stays : goal.returns-in_err-take-clause-stays
+returns-in_err-take-clause-stays c = λ other differ contents lasts.
     let m = c.args.self.now in
     let calls = map past_call m.past.items in
     let d = directory_of m.folder in
-    let same : directory_of c.take_away.new.self ≡ d = search rules in
+    let same : directory_of c.take.new.self ≡ d = search rules in
     record {
       lasts = subst (λ (x : Directory). LastsAmong x other contents) (sym same) lasts;
       any_moment = record {
@@ -30,7 +30,7 @@ pub returns-clause-gone : goal.returns-clause-gone
 returns-clause-gone c =
     let m = c.args.self.now in
     let name = c.args.name.now in
-    let does : directory_of c.take_away.new.self ≡ closed (without (directory_of m.folder) name) = search rules in
+    let does : directory_of c.leave.new.self ≡ closed (without (directory_of m.folder) name) = search rules in
     ap (λ (x : Directory). number_of x name) does ∙ gone (directory_of m.folder) name
 
 pub returns-clause-stays : goal.returns-clause-stays
@@ -38,7 +38,7 @@ returns-clause-stays c = λ other differ contents lasts.
     let m = c.args.self.now in
     let name = c.args.name.now in
     let d = directory_of m.folder in
-    let e = directory_of c.take_away.new.self in
+    let e = directory_of c.leave.new.self in
     let does : e ≡ closed (without d name) = search rules in
     removal_stays mem_state mem_moment mem_left_since name other contents m _ differ lasts
     (λ image left. left_now (map past_call m.past.items) d image left)
