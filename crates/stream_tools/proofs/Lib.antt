@@ -1,2 +1,3 @@
+pub mod FilterLemmas
 pub mod SearchLemmas
 pub mod WordLemmas
