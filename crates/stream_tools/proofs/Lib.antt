@@ -1,2 +1,4 @@
+pub mod FilterLemmas
+pub mod LaneLemmas
 pub mod SearchLemmas
 pub mod WordLemmas

@@ -1,4 +1,7 @@
--- What a program is told when it is started, the number of a recorder, where programs are looked for, and what is told of one that was not started.
+-- What filters do and tell, the two ways of a program that stands between streams, what a program is told when it is started, the number of a recorder,
+-- where programs are looked for, and what is told of one that was not started.
+pub mod Filters
+pub mod Lanes
 pub mod Programs
 pub mod Searches
 pub mod Starts

@@ -1,15 +1,21 @@
 //! `fixcrio` and `recordio`: a program between two pumps.
-ghost use Rattle.std.specs.Prelude.{◌≡◌, IfOk};
+ghost use Rattle.std.specs.Prelude.{◌≡◌, ◌≢◌, ◌+◌, ◌-◌, ◌^◌, ◌<◌, false, IfOk};
+ghost use Rattle.wrapper_chain.specs.Chains.{has_failed};
+ghost use Rattle.byte_pump.specs.Pumps.{Pumped, ends_of};
+ghost use Rattle.byte_pump.specs.Taps.{shown_to};
+ghost use Rattle.stream_tools.specs.Lanes.{Ran};
 ghost use Rattle.stream_tools.specs.declared.between.BetweenFault.TheVariants.{OutOfMemory};
 
 use crate::filter::TURNS;
-use byte_pump::{Tap, pump};
+use byte_pump::{PumpEnd, Steps, Tap, Why, pump_counted};
 use child_jobs::{Job, Launcher, Program, WaitFault};
 use patient_streams::{Watch, Watched};
 use rule_lookup::{StartFault, Status};
 use std::alloc::{AllocError, Global};
 use std::io::{Read, Write};
+use std::marker::Brand;
 use std::sync::Wait;
+use std::sync::ledger::{Blank, Ledger};
 use std::thread;
 use std::thread::Threads;
 use thiserror::Error;
@@ -181,49 +187,147 @@ where
     T: Tap + Send + Drop,
 {
     thread::scope(thread::scope_env(), rt, move |scope| -> bool {
-        let feeder = scope.spawn(move || pump_in(alloc, input, to));
+        let feeder = scope.spawn(move || feed(alloc, input, to));
         if feeder.is_err() {
             return false;
         }
-        pump_out(alloc, from, output);
+        drain(alloc, from, output);
         true
     })
 }
 
-/// Pumps what a lane reads into a program.
-fn pump_in<I: Read, P: Write, S: LineStage, T: Tap>(alloc: Global, input: Lane<I, S, T>, to: P)
+/// Pumps what a lane reads into a program, and closes both.
+fn feed<I: Read, P: Write, S: LineStage, T: Tap>(
+    alloc: Global,
+    input: Lane<I, S, T>,
+    to: P,
+) -> PumpEnd
 where
     I: Drop,
     P: Drop,
     S: Drop,
     T: Drop,
+    ensures ran { (lane : Lane I S T) × (end : P)
+        × Ran (ends_of I.remaining P.contents S.rest input.stream to input.chain)
+        (ends_of I.remaining P.contents S.rest lane.stream end lane.chain)
+        (shown_to T.watches T.sees T.ends input.tap lane.tap) result }
 {
-    let (mut input, mut to) = (input, to);
-    pump(
-        alloc,
-        &mut input.stream,
-        &mut to,
-        &mut input.chain,
-        &mut input.tap,
-        TURNS,
-    );
+    feed_from::<I, P, S, T, Brand>(alloc, input, to, Blank::new(1))
 }
 
-/// Pumps what a program writes into a lane.
-fn pump_out<F: Read, O: Write, S: LineStage, T: Tap>(alloc: Global, from: F, output: Lane<O, S, T>)
+/// `feed` with a ledger that counts the reads.
+fn feed_from<I: Read, P: Write, S: LineStage, T: Tap, L: Ledger>(
+    alloc: Global,
+    input: Lane<I, S, T>,
+    to: P,
+    blank: Blank,
+) -> PumpEnd
+where
+    I: Drop,
+    P: Drop,
+    S: Drop,
+    T: Drop,
+    requires name { blank.name ≡ L.name }
+    requires parts { (blank.parts ≡ L.parts) × (0 < blank.parts) }
+    ensures ran { (lane : Lane I S T) × (end : P)
+        × Ran (ends_of I.remaining P.contents S.rest input.stream to input.chain)
+        (ends_of I.remaining P.contents S.rest lane.stream end lane.chain)
+        (shown_to T.watches T.sees T.ends input.tap lane.tap) result }
+{
+    let (mut input, mut to) = (input, to);
+    let mut reads = Steps::<L>::new(blank);
+    pump_in(alloc, &mut input, &mut to, &mut reads)
+}
+
+/// Pumps what a program writes into a lane, and closes both.
+fn drain<F: Read, O: Write, S: LineStage, T: Tap>(
+    alloc: Global,
+    from: F,
+    output: Lane<O, S, T>,
+) -> PumpEnd
 where
     F: Drop,
     O: Drop,
     S: Drop,
     T: Drop,
+    ensures ran { (end : F) × (lane : Lane O S T)
+        × Ran (ends_of F.remaining O.contents S.rest from output.stream output.chain)
+        (ends_of F.remaining O.contents S.rest end lane.stream lane.chain)
+        (shown_to T.watches T.sees T.ends output.tap lane.tap) result }
+{
+    drain_from::<F, O, S, T, Brand>(alloc, from, output, Blank::new(1))
+}
+
+/// `drain` with a ledger that counts the reads.
+fn drain_from<F: Read, O: Write, S: LineStage, T: Tap, L: Ledger>(
+    alloc: Global,
+    from: F,
+    output: Lane<O, S, T>,
+    blank: Blank,
+) -> PumpEnd
+where
+    F: Drop,
+    O: Drop,
+    S: Drop,
+    T: Drop,
+    requires name { blank.name ≡ L.name }
+    requires parts { (blank.parts ≡ L.parts) × (0 < blank.parts) }
+    ensures ran { (end : F) × (lane : Lane O S T)
+        × Ran (ends_of F.remaining O.contents S.rest from output.stream output.chain)
+        (ends_of F.remaining O.contents S.rest end lane.stream lane.chain)
+        (shown_to T.watches T.sees T.ends output.tap lane.tap) result }
 {
     let (mut from, mut output) = (from, output);
-    pump(
+    let mut reads = Steps::<L>::new(blank);
+    pump_out(alloc, &mut from, &mut output, &mut reads)
+}
+
+/// Passes what a lane reads through its chain into a program's input, under the eyes of its tap, to the end of one of them; the reads are
+/// counted.
+pub fn pump_in<I: Read, P: Write, S: LineStage, T: Tap, L: Ledger>(
+    alloc: Global,
+    input: &mut Lane<I, S, T>,
+    to: &mut P,
+    reads: &mut Steps<L>,
+) -> PumpEnd
+    ensures pumped { Pumped (ends_of I.remaining P.contents S.rest input.old.stream to.old input.old.chain)
+        (ends_of I.remaining P.contents S.rest input.new.stream to.new input.new.chain)
+        (shown_to T.watches T.sees T.ends input.old.tap input.new.tap) (reads.new - reads.old) result }
+    ensures over { result.why ≡ Why.TurnsOver → reads.new ≡ reads.old + 2 ^ 40 }
+    ensures ready { has_failed input.old.chain ≡ false → result.why ≢ Why.Failed }
+{
+    pump_counted(
         alloc,
-        &mut from,
+        &mut input.stream,
+        to,
+        &mut input.chain,
+        &mut input.tap,
+        TURNS,
+        reads,
+    )
+}
+
+/// Passes a program's output through the chain of a lane to where it goes, under the eyes of its tap, to the end of one of them; the reads
+/// are counted.
+pub fn pump_out<F: Read, O: Write, S: LineStage, T: Tap, L: Ledger>(
+    alloc: Global,
+    from: &mut F,
+    output: &mut Lane<O, S, T>,
+    reads: &mut Steps<L>,
+) -> PumpEnd
+    ensures pumped { Pumped (ends_of F.remaining O.contents S.rest from.old output.old.stream output.old.chain)
+        (ends_of F.remaining O.contents S.rest from.new output.new.stream output.new.chain)
+        (shown_to T.watches T.sees T.ends output.old.tap output.new.tap) (reads.new - reads.old) result }
+    ensures over { result.why ≡ Why.TurnsOver → reads.new ≡ reads.old + 2 ^ 40 }
+    ensures ready { has_failed output.old.chain ≡ false → result.why ≢ Why.Failed }
+{
+    pump_counted(
+        alloc,
+        from,
         &mut output.stream,
         &mut output.chain,
         &mut output.tap,
         TURNS,
-    );
+        reads,
+    )
 }

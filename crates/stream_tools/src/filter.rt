@@ -1,15 +1,17 @@
 //! `addcr` and `delcr`: one stream through a chain.
-ghost use Rattle.std.specs.Prelude.{◌≡◌, IfSome, OnOk};
+ghost use Rattle.std.specs.Prelude.{◌≡◌, [], ◌∷◌, IfOk, IfSome, OnOk};
 ghost use Rattle.std.specs.Io.KnownBytes.{Appends};
 ghost use Rattle.wrapper_chain.specs.Chains.{stages_of};
 ghost use Rattle.wrapper_chain.specs.Stages.{through};
+ghost use Rattle.wrapper_chain.specs.Wrapped.{added, deleted};
+ghost use Rattle.stream_tools.specs.Filters.{Came, EndWithNothing, answer_of};
 ghost use Rattle.stream_tools.specs.declared.filter.FilterFault.TheVariants.{OutOfMemory};
 
 use byte_pump::{NoTap, Why, pump};
 use std::alloc::{AllocError, Global};
 use std::io::{Read, Write};
 use thiserror::Error;
-use wrapper_chain::{Chain, LineStage};
+use wrapper_chain::{AddCr, Chain, DelCr, LineStage};
 
 /// How many reads a pump of a tool makes at most.
 pub const TURNS: u64 = 1 << 40;
@@ -51,11 +53,66 @@ pub fn run_filter<R: Read, W: Write, S: LineStage>(
     ensures passed { OnOk result (IfSome (R.remaining reader.old) (λ text.
         Appends (W.contents writer.old) (W.contents writer.new)
         (through S.rest (stages_of chain.old) text))) }
+    ensures came { EndWithNothing S.rest → Came (through S.rest (stages_of chain.old)) (R.remaining reader.old)
+        (R.remaining reader.new) (W.contents writer.old) (W.contents writer.new) result }
 {
-    match pump(alloc, reader, writer, chain, &mut NoTap, TURNS).why {
+    let end = pump(alloc, reader, writer, chain, &mut NoTap, TURNS);
+    answer_of(end.why)
+}
+
+/// What the end of a pump is for such a tool.
+fn answer_of(why: Why) -> Result<(), FilterFault>
+    ensures { result ≡ answer_of why }
+{
+    match why {
         Why::End => Ok(()),
         Why::ReadFault | Why::TurnsOver => Err(FilterFault::ReadFault),
         Why::WriteFault | Why::ZeroWrite => Err(FilterFault::WriteFault),
         Why::OutOfMemory | Why::Failed => Err(FilterFault::OutOfMemory),
     }
+}
+
+/// `addcr`: passes a text on with a carriage return before each line feed, to its end.
+///
+/// # Errors
+/// As of `FilterFault`. All that is made of what was read is written before a read fault; at another fault a front of it.
+pub fn add_returns<R: Read, W: Write>(
+    alloc: Global,
+    reader: &mut R,
+    writer: &mut W,
+) -> Result<(), FilterFault>
+    ensures passed { OnOk result (IfSome (R.remaining reader.old) (λ text.
+        Appends (W.contents writer.old) (W.contents writer.new) (added text))) }
+    ensures came { Came added (R.remaining reader.old) (R.remaining reader.new)
+        (W.contents writer.old) (W.contents writer.new) result }
+{
+    let mut chain = chain_of(alloc, AddCr)?;
+    run_filter(alloc, reader, writer, &mut chain)
+}
+
+/// `delcr`: passes a text on without one carriage return at the end of each line and of the last part, to its end.
+///
+/// # Errors
+/// Those of `add_returns`.
+pub fn delete_returns<R: Read, W: Write>(
+    alloc: Global,
+    reader: &mut R,
+    writer: &mut W,
+) -> Result<(), FilterFault>
+    ensures passed { OnOk result (IfSome (R.remaining reader.old) (λ text.
+        Appends (W.contents writer.old) (W.contents writer.new) (deleted text))) }
+    ensures came { Came deleted (R.remaining reader.old) (R.remaining reader.new)
+        (W.contents writer.old) (W.contents writer.new) result }
+{
+    let mut chain = chain_of(alloc, DelCr::new())?;
+    run_filter(alloc, reader, writer, &mut chain)
+}
+
+/// A chain of one stage.
+pub(crate) fn chain_of<S: LineStage + Drop>(alloc: Global, stage: S) -> Result<Chain<S>, AllocError>
+    ensures { IfOk result (λ chain. stages_of chain ≡ stage ∷ []) }
+{
+    let mut stages = Vec::new(alloc);
+    stages.push(stage)?;
+    Ok(Chain::new(alloc, stages))
 }

@@ -11,7 +11,7 @@ pub mod started;
 pub mod tools;
 
 pub use between::{BetweenFault, Lane, run_between};
-pub use filter::{FilterFault, run_filter};
+pub use filter::{FilterFault, add_returns, delete_returns, run_filter};
 pub use launcher::{OsJob, OsLauncher};
 pub use process::NotStarted;
 pub use search::SearchPath;

@@ -5,7 +5,7 @@ ghost use Rattle.stream_tools.specs.Programs.{recorder_number};
 ghost use Rattle.wrapper_chain.specs.Chains.{stages_of};
 
 use crate::between::{BetweenFault, Lane, run_between};
-use crate::filter::{FilterFault, run_filter};
+use crate::filter::{FilterFault, add_returns, chain_of, delete_returns};
 use crate::launcher::OsLauncher;
 use crate::search::SearchPath;
 use crate::shared::SharedWriter;
@@ -27,7 +27,7 @@ use std::thread::Threads;
 use std::time::Clock;
 use ucspi_env::Environment;
 use ucspi_words::number_in;
-use wrapper_chain::{AddCr, Chain, DelCr, FixCr, LineStage, Way};
+use wrapper_chain::{Chain, FixCr, LineStage, Way};
 
 /// The descriptor of standard input.
 const STANDARD_INPUT: RawFd = 0;
@@ -35,39 +35,21 @@ const STANDARD_INPUT: RawFd = 0;
 /// Passes standard input to standard output with a carriage return before each line feed.
 ///
 /// # Errors
-/// As of `run_filter`.
+/// As of `filter::add_returns`.
 pub fn run_addcr<R: Input + Print + AllocGlobal + Clock>(rt: &R) -> Result<(), FilterFault> {
-    filter(rt, AddCr)
+    let mut reader = Patient::new(rt, rt.reader());
+    let mut writer = Patient::new(rt, io::writer(rt));
+    add_returns(rt.alloc(), &mut reader, &mut writer)
 }
 
 /// Passes standard input to standard output without one carriage return at the end of each line.
 ///
 /// # Errors
-/// As of `run_filter`.
+/// As of `filter::delete_returns`.
 pub fn run_delcr<R: Input + Print + AllocGlobal + Clock>(rt: &R) -> Result<(), FilterFault> {
-    filter(rt, DelCr::new())
-}
-
-/// Passes standard input through a stage to standard output.
-fn filter<R, S>(rt: &R, stage: S) -> Result<(), FilterFault>
-where
-    R: Input + Print + AllocGlobal + Clock,
-    S: LineStage + Drop,
-{
-    let alloc = rt.alloc();
-    let mut chain = chain_of(alloc, stage)?;
     let mut reader = Patient::new(rt, rt.reader());
     let mut writer = Patient::new(rt, io::writer(rt));
-    run_filter(alloc, &mut reader, &mut writer, &mut chain)
-}
-
-/// A chain of one stage.
-fn chain_of<S: LineStage + Drop>(alloc: Global, stage: S) -> Result<Chain<S>, AllocError>
-    ensures { IfOk result (λ chain. stages_of chain ≡ stage ∷ []) }
-{
-    let mut stages = Vec::new(alloc);
-    stages.push(stage)?;
-    Ok(Chain::new(alloc, stages))
+    delete_returns(rt.alloc(), &mut reader, &mut writer)
 }
 
 /// Runs a program whose lines get a carriage return where they have none, both ways.

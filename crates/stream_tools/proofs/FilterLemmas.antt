@@ -1,0 +1,119 @@
+-- How far a tool came that passes one stream on, by the end of its pump.
+use Rattle.std.proofs.Common.{◌≡◌, ◌≢◌, ◌⊎◌, inl, inr, ℕ, Bool, true, false, List, [], ◌∷◌, ◌++◌, Option, None, Some, Result, Ok, Err, OnOk, IfSome, refl, sym, ap, subst, ◌∙◌, append-nil}
+use Rattle.std.specs.Io.KnownBytes.{Appends, Consumes, IsAtEnd}
+use Rattle.wrapper_chain.specs.Stages.{Gives, deleted_from, through}
+use Rattle.byte_pump.specs.Pumps.{Ends, Gave, GivesFirst, IsWritten, Pumped}
+use Rattle.byte_pump.specs.Taps.{Shown}
+use Rattle.byte_pump.specs.declared.pumping.PumpEnd.{PumpEnd}
+use Rattle.byte_pump.specs.declared.pumping.Why.{Why}
+use Rattle.byte_pump.specs.declared.pumping.Why.TheVariants as why
+use Rattle.stream_tools.specs.declared.filter.FilterFault.{FilterFault}
+use Rattle.stream_tools.specs.Filters.{Came, EndWithNothing, Leaves, answer_of}
+
+-- a chain of such stages writes nothing more at the end either
+pub through_nothing : {S : Type 0} (rest : S → List ℕ → List ℕ) → EndWithNothing rest → (stages : List S) → through rest stages [] ≡ []
+through_nothing rest ends [] = refl
+through_nothing rest ends (stage ∷ stages) = ap (through rest stages) (ends stage) ∙ through_nothing rest ends stages
+
+-- ---- all of it at the end
+
+passed_by : (why : Why) (old new : List ℕ → List ℕ) (r r' w w' : Option (List ℕ)) (text given written : List ℕ)
+    → Consumes r r' text → Appends w w' written → Gave why r' old new text given → IsWritten why given written
+    → OnOk (answer_of why) (IfSome r (λ all. Appends w w' (old all)))
+passed_by why.End old new None r' w w' text given written reads writes gave all = tt
+passed_by why.End old new (Some xs) None w w' text given written reads writes gave all = absurd reads
+passed_by why.End old new (Some xs) (Some ys) w w' text given written reads writes gave all =
+    let whole : xs ≡ text = reads ∙ ap (λ l. text ++ l) gave.0 ∙ append-nil text in
+    subst (λ bytes. Appends w w' bytes) (sym all ∙ gave.1 ∙ ap old (sym whole)) writes
+passed_by why.ReadFault old new r r' w w' text given written reads writes gave all = tt
+passed_by why.WriteFault old new r r' w w' text given written reads writes gave all = tt
+passed_by why.ZeroWrite old new r r' w w' text given written reads writes gave all = tt
+passed_by why.TurnsOver old new r r' w w' text given written reads writes gave all = tt
+passed_by why.Failed old new r r' w w' text given written reads writes gave all = tt
+passed_by why.OutOfMemory old new r r' w w' text given written reads writes gave all = tt
+
+pub passed : {old new : Ends} {tap : Shown} {steps : ℕ} {end : PumpEnd} {answer : Result (Unit {0}) FilterFault} → answer ≡ answer_of end.why → Pumped old new tap steps end
+    → OnOk answer (IfSome old.reader (λ all. Appends old.writer new.writer (old.chain all)))
+passed {old} {new} {tap} {steps} {end} is p =
+    subst (λ a. OnOk a (IfSome old.reader (λ all. Appends old.writer new.writer (old.chain all)))) (sym is)
+    (passed_by end.why old.chain new.chain old.reader new.reader old.writer new.writer p.text p.given p.written p.reads p.writes p.gave p.all)
+
+-- ---- how far it came
+
+-- what the chain gave before its last call, and what it gives after
+module _ (old new : List ℕ → List ℕ) (nothing : new [] ≡ []) (text given : List ℕ) where
+  all_given : Gives old new text given → old text ≡ given
+  all_given gives = ap old (sym (append-nil text)) ∙ gives [] ∙ ap (λ l. given ++ l) nothing ∙ append-nil given
+
+  all_at_fault : (left : Option (List ℕ)) → Gives old new text given ⊎ (IsAtEnd left × (given ≡ old text)) → old text ≡ given
+  all_at_fault left (inl gives) = all_given gives
+  all_at_fault left (inr whole) = sym whole.1
+
+IsMore : List ℕ → Type 0
+IsMore [] = ⊥
+IsMore (b ∷ more) = Unit {0}
+
+some_left : (b : ℕ) (more : List ℕ) → b ∷ more ≢ []
+unfolding IsMore
+some_left b more none = subst IsMore none tt
+
+-- what is left of what is made of the text, and what the answer tells of it
+record Left (why : Why) (old : List ℕ → List ℕ) (unread : Option (List ℕ)) (text written : List ℕ) : Type 0 where
+  left : List ℕ
+  makes : old text ≡ written ++ left
+  leaves : Leaves unread (answer_of why) left
+
+none_left : (old : List ℕ → List ℕ) (text given written : List ℕ) → old text ≡ given → given ≡ written → old text ≡ written ++ []
+none_left old text given written gave all = gave ∙ all ∙ sym (append-nil written)
+
+front_left : (old : List ℕ → List ℕ) (text given written : List ℕ) → (gave : GivesFirst old text given) → given ≡ written → old text ≡ written ++ gave.0 []
+front_left old text given written gave all = ap old (sym (append-nil text)) ∙ gave.1 [] ∙ ap (λ l. l ++ gave.0 []) all
+
+left_by : (why : Why) (old new : List ℕ → List ℕ) → new [] ≡ [] → (r' : Option (List ℕ)) (text given written : List ℕ)
+    → Gave why r' old new text given → IsWritten why given written → Left why old r' text written
+left_by why.End old new nothing r' text given written gave all =
+    record { left = []; makes = none_left old text given written (sym gave.1) all; leaves = (gave.0, refl) }
+left_by why.ReadFault old new nothing r' text given written gave all =
+    record { left = []; makes = none_left old text given written (all_given old new nothing text given gave) all; leaves = refl }
+left_by why.TurnsOver old new nothing r' text given written gave all =
+    record { left = []; makes = none_left old text given written (all_given old new nothing text given gave) all; leaves = refl }
+left_by why.WriteFault old new nothing r' text given written gave all =
+    record { left = all.0 ∷ all.1; makes = all_at_fault old new nothing text given r' gave ∙ all.2; leaves = some_left all.0 all.1 }
+left_by why.ZeroWrite old new nothing r' text given written gave all =
+    record { left = all.0 ∷ all.1; makes = all_at_fault old new nothing text given r' gave ∙ all.2; leaves = some_left all.0 all.1 }
+left_by why.Failed old new nothing r' text given written gave all =
+    record { left = gave.0 []; makes = front_left old text given written gave all; leaves = tt }
+left_by why.OutOfMemory old new nothing r' text given written gave all =
+    record { left = gave.0 []; makes = front_left old text given written gave all; leaves = tt }
+
+pub came : {old new : Ends} {tap : Shown} {steps : ℕ} {end : PumpEnd} {answer : Result (Unit {0}) FilterFault} → answer ≡ answer_of end.why → Pumped old new tap steps end → new.chain [] ≡ []
+    → Came old.chain old.reader new.reader old.writer new.writer answer
+came {old} {new} {tap} {steps} {end} is p nothing =
+    let l : Left end.why old.chain new.reader p.text p.written = left_by end.why old.chain new.chain nothing new.reader p.text p.given p.written p.gave p.all in
+    subst (λ a. Came old.chain old.reader new.reader old.writer new.writer a) (sym is)
+    (record { text = p.text; written = p.written; left = l.left; reads = p.reads; writes = p.writes; makes = l.makes; leaves = l.leaves })
+
+pub came_by : {make does : List ℕ → List ℕ} {r r' w w' : Option (List ℕ)} {answer : Result (Unit {0}) FilterFault} → make ≡ does → Came make r r' w w' answer → Came does r r' w w' answer
+came_by {make} {does} {r} {r'} {w} {w'} {answer} is came = subst (λ m. Came m r r' w w' answer) is came
+
+-- where it came to the end, all was passed on
+whole_by : (answer : Result (Unit {0}) FilterFault) (make : List ℕ → List ℕ) (r r' w w' : Option (List ℕ)) (text written left : List ℕ)
+    → Consumes r r' text → Appends w w' written → make text ≡ written ++ left → Leaves r' answer left → OnOk answer (IfSome r (λ all. Appends w w' (make all)))
+whole_by (Err fault) make r r' w w' text written left reads writes makes leaves = tt
+whole_by (Ok done) make None r' w w' text written left reads writes makes leaves = tt
+whole_by (Ok done) make (Some xs) None w w' text written left reads writes makes leaves = absurd reads
+whole_by (Ok done) make (Some xs) (Some ys) w w' text written left reads writes makes leaves =
+    let whole : xs ≡ text = reads ∙ ap (λ l. text ++ l) leaves.0 ∙ append-nil text in
+    subst (λ bytes. Appends w w' bytes) (sym (ap make whole ∙ makes ∙ ap (λ l. written ++ l) leaves.1 ∙ append-nil written)) writes
+
+pub whole : {make : List ℕ → List ℕ} {r r' w w' : Option (List ℕ)} {answer : Result (Unit {0}) FilterFault} → Came make r r' w w' answer → OnOk answer (IfSome r (λ all. Appends w w' (make all)))
+whole {make} {r} {r'} {w} {w'} {answer} c = whole_by answer make r r' w w' c.text c.written c.left c.reads c.writes c.makes c.leaves
+
+-- ---- the chain of `delcr`
+
+pub deleted_nothing : (held : Bool) → deleted_from held [] ≡ []
+deleted_nothing false = refl
+deleted_nothing true = refl
+
+pub one_stage : {S : Type 0} (rest : S → List ℕ → List ℕ) (stages : List S) (stage : S) (make : List ℕ → List ℕ) → stages ≡ stage ∷ [] → rest stage ≡ make → through rest stages ≡ make
+one_stage rest stages stage make is does = ap (through rest) is ∙ does

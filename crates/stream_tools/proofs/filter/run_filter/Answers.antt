@@ -1,0 +1,10 @@
+use Rattle.wrapper_chain.specs.Chains.{stages_of}
+use Rattle.stream_tools.proofs.FilterLemmas.{came, passed, through_nothing}
+use Rattle.stream_tools.proofs.filter.run_filter.Goals as goal
+
+pub returns-clause-passed : goal.returns-clause-passed
+returns-clause-passed g c = passed c.answer_of.ensures c.pump-end.ensures.pumped
+
+pub returns-clause-came : goal.returns-clause-came
+returns-clause-came g c = λ ends.
+    came c.answer_of.ensures c.pump-end.ensures.pumped (through_nothing g.S.LineStage.rest ends (stages_of c.pump-end.new.chain))
