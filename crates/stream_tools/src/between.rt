@@ -1,10 +1,10 @@
 //! `fixcrio` and `recordio`: a program between two pumps.
-ghost use Rattle.std.specs.Prelude.{◌≡◌, ◌≢◌, ◌+◌, ◌-◌, ◌^◌, ◌<◌, false, IfOk};
+ghost use Rattle.std.specs.Prelude.{◌≡◌, ◌≢◌, ◌+◌, ◌-◌, ◌^◌, ◌<◌, false, Err, IfOk, IfSome};
 ghost use Rattle.wrapper_chain.specs.Chains.{has_failed};
 ghost use Rattle.byte_pump.specs.Pumps.{Pumped, ends_of};
 ghost use Rattle.byte_pump.specs.Taps.{shown_to};
 ghost use Rattle.stream_tools.specs.Lanes.{Ran};
-ghost use Rattle.stream_tools.specs.declared.between.BetweenFault.TheVariants.{OutOfMemory};
+ghost use Rattle.stream_tools.specs.declared.between.BetweenFault.TheVariants.{CannotStart, OutOfMemory};
 
 use crate::filter::TURNS;
 use byte_pump::{PumpEnd, Steps, Tap, Why, pump_counted};
@@ -85,7 +85,7 @@ where
     T: Tap + Send + Drop,
     requires { F.IsAlwaysCallable watch }
 {
-    let mut job = start_job(alloc, launcher, run)?;
+    let mut job = start_job(alloc, launcher, run.0, run.1)?;
     let served = serve(rt, alloc, &mut job, lanes, watch);
     end_of(job, served)
 }
@@ -94,8 +94,12 @@ where
 fn start_job<L: Launcher>(
     alloc: Global,
     launcher: L,
-    (program, environment): (&Program, &Environment),
-) -> Result<L::Job, BetweenFault> {
+    program: &Program,
+    environment: &Environment,
+) -> Result<L::Job, BetweenFault>
+    ensures program { IfOk result (λ job. L.Job.program job ≡ program.now) }
+    ensures environment { IfOk result (λ job. L.Job.environment job ≡ environment.now) }
+{
     match launcher.start(alloc, program, environment) {
         Ok(job) => Ok(job),
         Err(StartFault::OutOfMemory) => Err(BetweenFault::OutOfMemory),
@@ -133,12 +137,15 @@ where
         chain: input.chain,
         tap: input.tap,
     };
-    pump_both(rt, alloc, (input, to), (from, output))
+    pump_both(rt, alloc, (input, to), (from, output)).is_some()
 }
 
 /// The end of a program, which is waited for once, and abandoned where that fails. One that was not served, since its input got no thread, is
 /// given up.
-pub fn end_of<J: Job>(job: J, served: bool) -> Result<Status, BetweenFault> {
+pub fn end_of<J: Job>(job: J, served: bool) -> Result<Status, BetweenFault>
+    ensures ended { IfOk result (J.ended job) }
+    ensures served { served ≡ false → result ≡ Err CannotStart }
+{
     if !served {
         return Err(give_up(job));
     }
@@ -163,20 +170,22 @@ fn wait_once<J: Job>(job: J) -> Result<Status, WaitFault>
 }
 
 /// Ends a program that can't be served, whatever the system answers.
-fn give_up<J: Job>(mut job: J) -> BetweenFault {
+fn give_up<J: Job>(mut job: J) -> BetweenFault
+    ensures { result ≡ CannotStart }
+{
     let _ = job.kill();
     let _ = wait_once(job);
     BetweenFault::CannotStart
 }
 
 /// Pumps input to a program in a thread of its own, and its output in this one. Each of the program's pipe ends is closed when its pump
-/// ends. It answers whether the thread could be had; without it nothing was pumped and both ends are closed.
+/// ends. It answers how the pump of the output ended; `None` where no thread could be had: nothing was pumped then, and both ends are closed.
 fn pump_both<H, I, P, F, O, S, T>(
     rt: &H,
     alloc: Global,
-    (input, to): (Lane<I, S, T>, P),
-    (from, output): (F, Lane<O, S, T>),
-) -> bool
+    feeding: (Lane<I, S, T>, P),
+    draining: (F, Lane<O, S, T>),
+) -> Option<PumpEnd>
 where
     H: Threads + Wait + Sync,
     I: Read + Send + Drop,
@@ -185,14 +194,19 @@ where
     O: Write + Drop,
     S: LineStage + Send + Drop,
     T: Tap + Send + Drop,
+    ensures ran { IfSome result (λ pump. (end : F) × (lane : Lane O S T)
+        × Ran (ends_of F.remaining O.contents S.rest draining.0 draining.1.stream draining.1.chain)
+        (ends_of F.remaining O.contents S.rest end lane.stream lane.chain)
+        (shown_to T.watches T.sees T.ends draining.1.tap lane.tap) pump) }
 {
-    thread::scope(thread::scope_env(), rt, move |scope| -> bool {
+    let (input, to) = feeding;
+    let (from, output) = draining;
+    thread::scope(thread::scope_env(), rt, move |scope| -> Option<PumpEnd> {
         let feeder = scope.spawn(move || feed(alloc, input, to));
         if feeder.is_err() {
-            return false;
+            return None;
         }
-        drain(alloc, from, output);
-        true
+        Some(drain(alloc, from, output))
     })
 }
 
