@@ -16,6 +16,7 @@ pub mod LiveLemmas
 pub mod Marks
 pub mod OlderText
 pub mod Others
+pub mod OpenedBefore
 pub mod Openings
 pub mod Peers
 pub mod Serials
