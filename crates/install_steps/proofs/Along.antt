@@ -1,9 +1,10 @@
 -- A series of steps, one step longer.
 use Rattle.std.proofs.Common.{◌≡◌, List, [], ◌∷◌, ◌++◌, refl, sym, ap, subst, append-nil}
-use Rattle.std.specs.Prelude.{Ok, Err}
+use Rattle.std.specs.Prelude.{Result, Ok, Err}
 use Rattle.dir_calls.specs.Directory.{Directory}
 use Rattle.dir_calls.specs.declared.fault.DirFault.TheVariants.{NoScratch, NoName, Device, OutOfMemory as NoMemory}
-use Rattle.rules_install.specs.Installing.{Installing}
+use Rattle.rules_install.specs.Installing.{Installing, next_phase}
+use Rattle.rules_install.specs.Series.{ComesTo, IsSeries, further, none as no_steps}
 use Rattle.rules_install.specs.Steps.{Goes, IsOfDevice}
 use Rattle.rules_install.specs.declared.Phase.{Phase}
 use Rattle.rules_install.specs.declared.fault.InstallFault.{InstallFault}
@@ -15,6 +16,7 @@ use Rattle.server_events.specs.declared.event.Event.TheVariants.{Stepped}
 use Rattle.server_events.proofs.InstalledRuns.{legal_then}
 use Rattle.install_steps.specs.Series.{LeadsAlong, stepped_to}
 use Rattle.install_steps.specs.UnderWay.{IsUnderWay, LeadsOn}
+use Rattle.install_steps.proofs.Leading.{arrives}
 
 -- steps that came to some phases
 pub record ComesAlong (w : World) (t : Installing) (e : Directory) : Type 0 where
@@ -69,3 +71,14 @@ ends_along w t e far = record {
   legal = subst (λ (es : List Event). Legal w es far.v) (sym (append-nil (stepped_to far.phases))) far.legal;
   there = far.there;
 }
+
+-- ---- the steps of a run
+
+along : {s t : Installing} {d e : Directory} → ComesTo s d t e → (w : World) → IsUnderWay w s d → ComesAlong w t e
+along no_steps w at = no_step w _ _ at
+along (further far makes) w at = comes_further w _ _ _ _ (along far w at) _ (arrives _ _ _ _ _ makes)
+
+pub leads_along : (s t : Installing) (d e : Directory) (result : Result (Unit {0}) InstallFault) → IsSeries s t d e result → (w : World) → IsUnderWay w s d → LeadsAlong w t e result
+leads_along s t d e (Ok done) far w at = ends_along w t e (along far w at)
+leads_along s t d e (Err fault) (u, f, far, makes) w at =
+    ends_failed w u t f e (along far w at) (next_phase u) fault makes.goes makes.device (arrives u t f e (Err fault) makes)

@@ -19,7 +19,8 @@ use Rattle.server_events.specs.Steps.{IsCallTo, IsWhole, Step}
 use Rattle.server_events.specs.Table.{Follows, stepped, failed}
 use Rattle.server_events.specs.Worlds.{RulesName, UnderWay, World}
 use Rattle.server_events.specs.declared.event.Event.TheVariants.{Stepped, StepFailed}
-use Rattle.install_steps.specs.UnderWay.{Arrives, HasReached, IsAsFar, IsUnderWay, MakesStep, MayStepFrom, as_under_way, rules_named}
+use Rattle.rules_install.specs.Series.{MakesStep, MayStepFrom}
+use Rattle.install_steps.specs.UnderWay.{Arrives, HasReached, IsAsFar, IsUnderWay, as_under_way, rules_named}
 use Rattle.install_steps.proofs.Meeting.{calls, follows, scratch_name}
 
 -- what a world has under way it has at each phase

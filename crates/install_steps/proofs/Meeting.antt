@@ -11,7 +11,8 @@ use Rattle.rules_install.specs.declared.Phase.TheVariants.{Fresh, Filling, Synce
 use Rattle.server_events.specs.Steps.{IsCallTo, IsScratchName}
 use Rattle.server_events.specs.Table.{Follows, fresh, filling, filling_on, synced, named, done}
 use Rattle.server_events.specs.Worlds.{RulesName, UnderWay, World}
-use Rattle.install_steps.specs.UnderWay.{HasReached, IsUnderWay, MayStepFrom, rules_named}
+use Rattle.rules_install.specs.Series.{MayStepFrom}
+use Rattle.install_steps.specs.UnderWay.{HasReached, IsUnderWay, rules_named}
 
 -- the phase may come next
 follows_at : (w : World) (s : Installing) (reached : Option Phase) (patched : Bool) → (reached ≡ Some Fresh → patched ≡ false) → reached ≢ Some Done → s.reached ≡ reached → HasReached w s reached → Follows w.server.phase (next_of reached patched)

@@ -8,7 +8,8 @@ use Rattle.rules_install.specs.Installing.{Installing, next_phase}
 use Rattle.rules_install.specs.Steps.{IsCallOf, StepStops}
 use Rattle.server_events.specs.Steps.{MayBeAt}
 use Rattle.server_events.specs.Worlds.{World}
-use Rattle.install_steps.specs.UnderWay.{IsUnderWay, Leaves, MayStepFrom}
+use Rattle.rules_install.specs.Series.{MayStepFrom}
+use Rattle.install_steps.specs.UnderWay.{IsUnderWay, Leaves}
 use Rattle.install_steps.proofs.Meeting.{calls, follows}
 
 -- a moment within the call of its next step

@@ -46,21 +46,6 @@ pub record IsUnderWay (w : World) (s : Installing) (d : Directory) : Type 0 wher
   pub rules : w.rules ≡ Some (rules_named s.names missing)
   pub reached : s.over ≡ false → HasReached w s s.reached
 
--- it may make a step that is an event
-pub record MayStepFrom (s : Installing) : Type 0 where
-  pub consistent : IsConsistent s
-  pub is_open : s.over ≡ false
-  pub undone : s.reached ≢ Some Done
-
--- it makes one, and answers this
-pub record MakesStep (s t : Installing) (d e : Directory) (result : Result Phase InstallFault) : Type 0 where
-  pub may : MayStepFrom s
-  pub fits : Fits s d
-  pub same : IsSame s t
-  pub goes : Goes (next_phase s) s t result
-  pub changes : Changes s (next_phase s) d e result
-  pub device : IsOfDevice result
-
 -- the world after it, by its answer
 abbrev pub Arrives : World → Installing → Directory → Result Phase InstallFault → Type 0
 Arrives w t e (Ok phase) = (v : World) × Step w (Stepped phase) v × IsUnderWay v t e

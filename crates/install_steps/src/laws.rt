@@ -3,11 +3,13 @@ ghost use Rattle.std.specs.Prelude.{◌≡◌, List, Some, Result};
 ghost use Rattle.dir_calls.specs.Calls.{Call};
 ghost use Rattle.dir_calls.specs.Directory.{Directory};
 ghost use Rattle.dir_calls.specs.Outcomes.{Passes};
-ghost use Rattle.install_steps.specs.UnderWay.{IsUnderWay, LeadsOn, MakesStep, MayStepFrom, rules_named};
+ghost use Rattle.install_steps.specs.Series.{LeadsAlong};
+ghost use Rattle.install_steps.specs.UnderWay.{IsUnderWay, LeadsOn, rules_named};
 ghost use Rattle.rule_lines.specs.Pairs.{Rule};
 ghost use Rattle.rule_lookup.specs.declared.decision.Missing.{Missing};
 ghost use Rattle.rules_install.specs.Installing.{Installing, begun, next_phase};
 ghost use Rattle.rules_install.specs.NamePair.{NamePair};
+ghost use Rattle.rules_install.specs.Series.{IsSeries, MakesStep, MayStepFrom};
 ghost use Rattle.rules_install.specs.Steps.{IsCallOf};
 ghost use Rattle.rules_install.specs.declared.Phase.{Phase};
 ghost use Rattle.rules_install.specs.declared.fault.InstallFault.{InstallFault};
@@ -31,4 +33,14 @@ pub fn leads_on()
 pub fn leaves()
     ensures { (w : World) (s : Installing) (d : Directory) (call : Call) (state : Directory) → IsUnderWay w s d
         → MayStepFrom s → IsCallOf s (next_phase s) call → Passes call d state → MayBeAt w state }
+{}
+
+/// The steps of a run, as `rules_install::whole::finish` makes them, are a series of events: in each world in which the installation is under way
+/// they lead to one in which it is under way as far as it has come, and so they do in each one in which it may begin.
+pub fn series()
+    ensures from_there { (s t : Installing) (d e : Directory) (result : Result (Unit {0}) InstallFault) (w : World)
+        → IsSeries s t d e result → IsUnderWay w s d → LeadsAlong w t e result }
+    ensures from_begin { (w : World) (rules : List Rule) (names : NamePair) (missing : Missing) (t : Installing)
+        (e : Directory) (result : Result (Unit {0}) InstallFault) → w.rules ≡ Some (rules_named names missing)
+        → IsSeries (begun rules names) t w.directory e result → LeadsAlong w t e result }
 {}

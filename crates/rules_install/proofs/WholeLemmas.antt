@@ -18,10 +18,11 @@ use Rattle.dir_calls.proofs.Lasting.{image_has, lasts_more}
 use Rattle.dir_calls.proofs.Moments.{started}
 use Rattle.dir_calls.proofs.NameTables.{left_current}
 use Rattle.dir_calls.proofs.Replacing.{stays_then, stays_more}
+use Rattle.rule_lines.specs.Texts.{AreOfText}
 use Rattle.rule_lines.specs.declared.limits.Limits.{Limits}
 use Rattle.rules_install.specs.NamePair.{NamePair}
-use Rattle.rules_install.specs.Filled.{whole_file, fillings_left}
-use Rattle.rules_install.specs.Installing.{Installing, FitsPhase, next_of, next_phase, synced_file}
+use Rattle.rules_install.specs.Filled.{IsWritten, whole_file, fillings_left}
+use Rattle.rules_install.specs.Installing.{Installing, FitsPhase, IsConsistent, IsUnfilled, next_of, next_phase, synced_file}
 use Rattle.rules_install.specs.Steps.{BlamesFault, Changes, Goes, HasFilled, IsOfDevice, IsSame, StepKeeps, answer_of, may_stand}
 use Rattle.rules_install.specs.Whole.{Ends, EndsRun, FailsAt, IsRefused, MayBeInstalled, RefusesText, StandsAtDone, TellsWhere, may_have}
 use Rattle.rules_install.specs.declared.Phase.{Phase}
@@ -55,6 +56,15 @@ falls (Some Done) patched before now undone more kept = absurd (undone refl)
 -- a step answered as it would for the other
 abbrev IsAnswer : Result Phase InstallFault → Result Phase InstallFault → Type 0
 IsAnswer result other = result ≡ other
+
+-- what is true of each installation stays true of the same one further on
+pub stays_consistent : (s t : Installing) → IsConsistent s → IsSame s t → (t.reached ≡ Some Fresh → IsUnfilled t) → IsConsistent t
+stays_consistent s t is same unfilled = record {
+  of_text = subst AreOfText (sym same.rules) is.of_text;
+  names = subst (λ (names : NamePair). names.cdb ≢ names.tmp) (sym same.names) is.names;
+  written = subst IsWritten (sym same.rules) is.written;
+  unfilled = unfilled;
+}
 
 -- what is left falls with each step that answers a phase other than `Done`
 pub smaller : (s s' : Installing) (phase : Phase) → IsSame s s' → Goes (next_phase s) s s' (Ok phase) → phase ≢ Done

@@ -7,5 +7,6 @@ pub mod ParseFaults
 pub mod PhaseWords
 pub mod Pieces
 pub mod Places
+pub mod Series
 pub mod Steps
 pub mod Whole

@@ -5,7 +5,8 @@ ghost use Rattle.cdb_read.specs.Compiled.{Compiled};
 ghost use Rattle.rule_lines.specs.Pairs.{pairs_of};
 ghost use Rattle.rules_install.specs.Filled.{IsWritten, whole_file};
 ghost use Rattle.rules_install.specs.Installing.{begun, Fits, HasForGood};
-ghost use Rattle.rules_install.specs.Installs.{installing};
+ghost use Rattle.rules_install.specs.Installs.{installing, IsUndone};
+ghost use Rattle.rules_install.specs.Series.{IsSeries};
 ghost use Rattle.rules_install.specs.Steps.{BlamesFault, IsSame};
 ghost use Rattle.rules_install.specs.Whole.{Begins, DecidesAs, Ends, EndsRun, IsDeviceFault, IsRefused, RunKeeps, RunLasts, StandsAtDone, TellsWhere, begun_of};
 
@@ -44,6 +45,9 @@ pub fn finish<D: Dir>(alloc: Global, dir: &mut D, install: &mut Install) -> Resu
     ensures same { IsSame (installing install.old) (installing install.new) }
     ensures ends { EndsRun (installing install.new) result }
     ensures fits { IsTrue D.honest → Fits (installing install.new) (D.state dir.new) }
+    // what it did is steps of this installation, one after another, and nothing else
+    ensures series { IsTrue D.honest → IsUndone install.old
+        → IsSeries (installing install.old) (installing install.new) (D.state dir.old) (D.state dir.new) result }
     // a fault of the directory tells on the way to which phase it came
     ensures tells { IsTrue D.honest
         → IfErr result (TellsWhere (installing install.old) (D.state dir.old) (D.state dir.new)) }
@@ -58,6 +62,7 @@ pub fn finish<D: Dir>(alloc: Global, dir: &mut D, install: &mut Install) -> Resu
     ensures device { IsTrue D.honest → IfErr result IsDeviceFault }
     ensures blames { IfErr result (BlamesFault (D.failed dir.old) (D.failed dir.new)) }
 {
+    install.consistent();
     while install.step(alloc, dir)? != Phase::Done {}
     Ok(())
 }

@@ -35,6 +35,7 @@ use Rattle.rules_tools.specs.Installed.{Answers, Blames, CompilesTo, FailsInput,
 use Rattle.rules_tools.specs.Paths.{IsPlaced, paths_fault}
 use Rattle.rules_tools.specs.Reviews.{profile}
 use Rattle.rules_tools.specs.Rules.{line_fault, told_fault}
+use Rattle.rules_tools.specs.Series.{MakesSeries, TellsSeries}
 use Rattle.rules_tools.specs.Turns.{BlamesTurn, EndsOnDisk, IsFree}
 use Rattle.rules_tools.specs.declared.tcprules.TcprulesFault.{TcprulesFault}
 use Rattle.rules_tools.specs.declared.tcprules.TcprulesFault.TheVariants.{BadName, OtherFolder, SameName, ReadFault, Line, LongText, TooLarge, Device, OutOfMemory}
@@ -141,6 +142,17 @@ blames_none text TooLarge before now refused fails = tt
 blames_none text (Device phase) before now refused fails = absurd fails
 blames_none text OutOfMemory before now refused fails = tt
 
+makes_none : (text : List ℕ) (s : Installing) (new : Directory) (fault : TcprulesFault) → FailsText text fault → TellsSeries s new (Err fault)
+makes_none text s new BadName fails = tt
+makes_none text s new OtherFolder fails = tt
+makes_none text s new SameName fails = tt
+makes_none text s new ReadFault fails = tt
+makes_none text s new (Line fault) fails = tt
+makes_none text s new LongText fails = tt
+makes_none text s new TooLarge fails = tt
+makes_none text s new (Device phase) fails = absurd fails
+makes_none text s new OutOfMemory fails = tt
+
 -- ---- an installation
 
 same_stands : (fault : DirFault) (phase : Phase) (file : List ℕ) (olds : List (Option (List ℕ))) → may_have (Err (install.Disk fault phase)) file olds ≡ may_stand (Err (Device phase)) file olds
@@ -182,12 +194,14 @@ module _ {D : Type 0} (honest : Bool) (state : D → Directory) (moment : D → 
     done = λ is. tt;
     compiled = tt;
     decides = λ is. tt;
+    series = λ is. makes_none fails.text (begun_of fails.text names) (state d) fault fails.fails;
     blames = λ is. blames_none fails.text fault (failed d) (failed d) refused fails.fails;
   }
 
   -- what an installation that was begun comes to
   pub record OnDisk (s : Installing) (old new : D) (result : Result (Unit {0}) InstallFault) : Type 0 where
     pub ends : EndsOnDisk result
+    pub series : IsTrue honest → MakesSeries s (state new) result
     pub any_moment : IsTrue honest → IsFree lock s.names.cdb → RunKeeps state moment left_since s old new
     pub lasts : IsTrue honest → IsFree lock s.names.cdb → RunLasts s (state old) (state new) result
     pub done : IsTrue honest → OnOk result (HasForGood s (state new))
@@ -206,6 +220,7 @@ module _ {D : Type 0} (honest : Bool) (state : D → Directory) (moment : D → 
     done = facts.done;
     compiled = facts.written.cdb;
     decides = λ is. (whole_file (pairs_of text), stands_now (state new) names.cdb (whole_file (pairs_of text)) (facts.done is), λ peer. law profile (whole_file (pairs_of text)) text peer may.0 facts.written.cdb);
+    series = facts.series;
     blames = λ is. tt;
   }
   by_answer law text old new (Err (install.Disk fault phase)) read may facts = record {
@@ -217,6 +232,7 @@ module _ {D : Type 0} (honest : Bool) (state : D → Directory) (moment : D → 
     done = λ is. tt;
     compiled = tt;
     decides = λ is. tt;
+    series = λ is. subst (λ (f : DirFault). MakesSeries (begun_of text names) (state new) (Err (install.Disk f phase))) (facts.device is) (facts.series is);
     blames = λ is. blamed fault phase (failed old) (failed new) refused (facts.device is) facts.blames;
   }
   by_answer law text old new (Err install.OutOfMemory) read may facts = record {
@@ -228,6 +244,7 @@ module _ {D : Type 0} (honest : Bool) (state : D → Directory) (moment : D → 
     done = λ is. tt;
     compiled = tt;
     decides = λ is. tt;
+    series = λ is. tt;
     blames = λ is. tt;
   }
   by_answer law text old new (Err (install.Line fault)) read may facts = absurd facts.ends

@@ -14,6 +14,7 @@ use Rattle.rules_install.specs.Whole.{EndsRun, IsDeviceFault, RunKeeps, RunLasts
 use Rattle.rules_install.specs.declared.Phase.TheVariants.{Fresh, Filling, Synced, Named, Done}
 use Rattle.rules_install.specs.declared.fault.InstallFault.{InstallFault}
 use Rattle.rules_install.specs.declared.fault.InstallFault.TheVariants.{Line, TooLarge, Disk, Over, OutOfMemory}
+use Rattle.rules_tools.specs.Series.{MakesSeries, MakesSteps}
 use Rattle.rules_tools.specs.Turns.{BlamesTurn, EndsOnDisk, HasFailed, IsAtFresh}
 
 -- what may stand there at the end may stand there at any moment
@@ -63,6 +64,30 @@ fresh_device OutOfMemory at = tt
 fresh_device (Line fault) at = tt
 fresh_device TooLarge at = tt
 fresh_device Over at = tt
+
+-- a folder that is not made ready has no steps, and one that is has them
+pub unready_series : (s : Installing) (new : Directory) (fault : InstallFault) → IsAtFresh fault → MakesSeries s new (Err fault)
+unready_series s new (Disk fault Fresh) at = tt
+unready_series s new (Disk fault Filling) at = let same = at.1 in absurd (cc)
+unready_series s new (Disk fault Synced) at = let same = at.1 in absurd (cc)
+unready_series s new (Disk fault Named) at = let same = at.1 in absurd (cc)
+unready_series s new (Disk fault Done) at = let same = at.1 in absurd (cc)
+unready_series s new (Line fault) at = absurd at
+unready_series s new TooLarge at = absurd at
+unready_series s new Over at = absurd at
+unready_series s new OutOfMemory at = tt
+
+pub ready_series : (s : Installing) (new : Directory) (result : Result (Unit {0}) InstallFault) → MakesSteps s new result → MakesSeries s new result
+ready_series s new (Ok done) makes = makes
+ready_series s new (Err (Disk fault Fresh)) makes = tt
+ready_series s new (Err (Disk fault Filling)) makes = makes
+ready_series s new (Err (Disk fault Synced)) makes = makes
+ready_series s new (Err (Disk fault Named)) makes = makes
+ready_series s new (Err (Disk fault Done)) makes = makes
+ready_series s new (Err (Line fault)) makes = makes
+ready_series s new (Err TooLarge) makes = makes
+ready_series s new (Err Over) makes = makes
+ready_series s new (Err OutOfMemory) makes = tt
 
 -- a failure that was counted is counted later
 later : (before mid now : ℕ) → mid ≤ now → (before < mid) ⊎ (mid ≡ 2 ^ 64 - 1) → HasFailed before now

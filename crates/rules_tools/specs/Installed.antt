@@ -15,6 +15,7 @@ use Rattle.rules_install.specs.Whole.{DecidesAs, MayBeInstalled, RunKeeps, begun
 use Rattle.rules_install.specs.declared.Phase.TheVariants.{Fresh, Named, Done}
 use Rattle.rules_tools.specs.Paths.{IsSplit, paths_fault}
 use Rattle.rules_tools.specs.Reviews.{profile}
+use Rattle.rules_tools.specs.Series.{TellsSeries}
 use Rattle.rules_tools.specs.Turns.{HasFailed, IsFree, LacksTurn}
 use Rattle.rules_tools.specs.declared.tcprules.TcprulesFault.{TcprulesFault}
 use Rattle.rules_tools.specs.declared.tcprules.TcprulesFault.TheVariants.{BadName, OtherFolder, SameName, ReadFault, Line, LongText, TooLarge, Device, OutOfMemory}
@@ -79,6 +80,8 @@ pub record Installs {D : Type 0} (honest : Bool) (state : D → Directory) (mome
   pub done : IsTrue honest → OnOk result (HasForGood (begun_of text names) (state new))
   pub compiled : OnOk result (Compiled (whole_file (pairs_of text)) text)
   pub decides : IsTrue honest → OnOk result (DecidesAs (content (state new) names.cdb) text)
+  -- and it makes the steps of this installation, so that it is a series of events in each world in which the installation may begin
+  pub series : IsTrue honest → TellsSeries (begun_of text names) (state new) result
   pub blames : IsTrue honest → IfErr result (Blames (failed old) (failed new) refused)
 
 -- what is told of two paths, and then of a text: nothing is wrong with the paths where the text is told of

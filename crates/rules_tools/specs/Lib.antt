@@ -7,5 +7,6 @@ pub mod Installed
 pub mod Paths
 pub mod Reviews
 pub mod Rules
+pub mod Series
 pub mod Told
 pub mod Turns

@@ -6,6 +6,7 @@ ghost use Rattle.dir_calls.specs.Replacing.{KeepsWhatLasts};
 ghost use Rattle.rules_install.specs.Filled.{IsWritten};
 ghost use Rattle.rules_install.specs.Installing.{HasForGood};
 ghost use Rattle.rules_install.specs.Installs.{installing};
+ghost use Rattle.rules_install.specs.Series.{IsSeries};
 ghost use Rattle.rules_install.specs.Steps.{BlamesFault};
 ghost use Rattle.rules_install.specs.Whole.{EndsRun, IsDeviceFault, RunKeeps, RunLasts};
 ghost use Rattle.rules_tools.specs.Turns.{IsFree, LacksTurn};
@@ -104,6 +105,8 @@ impl<D: ClearableDir, T: Turns<D>> RulesFolder<D, T> {
             → IsClear (installing install.old).names.tmp (D.state (folder_dir self.old)) }
         ensures turn { IsInTurn self.new }
         ensures ends { EndsRun (installing install.new) result }
+        ensures series { IsTrue D.honest → IsSeries (installing install.old) (installing install.new)
+            (D.state (folder_dir self.old)) (D.state (folder_dir self.new)) result }
         ensures any_moment { IsTrue D.honest → RunKeeps D.state D.moment D.left_since
             (installing install.old) (folder_dir self.old) (folder_dir self.new) }
         ensures lasts { IsTrue D.honest → RunLasts (installing install.old)

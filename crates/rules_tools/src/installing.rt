@@ -8,6 +8,7 @@ ghost use Rattle.rules_install.specs.Installs.{installing};
 ghost use Rattle.rules_install.specs.Whole.{IsDeviceFault, RunKeeps, RunLasts};
 ghost use Rattle.rules_tools.specs.FolderParts.{IsInTurn, folder_dir, folder_turns};
 ghost use Rattle.rules_tools.specs.Installed.{CompilesTo, FailsInput, Installs, IsRefusal, PassesPaths, Runs};
+ghost use Rattle.rules_tools.specs.Series.{MakesSeries, MakesSteps};
 ghost use Rattle.rules_tools.specs.Turns.{BlamesTurn, EndsOnDisk, IsAtFresh, IsFree};
 
 use crate::clearable::ClearableDir;
@@ -85,6 +86,8 @@ fn install_begun<D: ClearableDir, T: Turns<D>>(
     requires unbegun { (installing install.old).reached ≡ None }
     requires scratch { scratch.now ≡ (installing install.old).names.tmp }
     ensures ends { EndsOnDisk result }
+    ensures series { IsTrue D.honest
+        → MakesSeries (installing install.old) (D.state (folder_dir folder.new)) result }
     ensures any_moment { IsTrue D.honest → IsFree T.lock_name (installing install.old).names.cdb → RunKeeps
         D.state D.moment D.left_since (installing install.old) (folder_dir folder.old) (folder_dir folder.new) }
     ensures lasts { IsTrue D.honest → IsFree T.lock_name (installing install.old).names.cdb → RunLasts
@@ -143,6 +146,8 @@ fn install_ready<D: ClearableDir, T: Turns<D>>(
     requires scratch { scratch.now ≡ (installing install.old).names.tmp }
     requires clear { IsTrue D.honest → IsClear scratch.now (D.state (folder_dir folder.old)) }
     ensures ends { EndsOnDisk result }
+    ensures series { IsTrue D.honest
+        → MakesSteps (installing install.old) (D.state (folder_dir folder.new)) result }
     ensures any_moment { IsTrue D.honest → RunKeeps
         D.state D.moment D.left_since (installing install.old) (folder_dir folder.old) (folder_dir folder.new) }
     ensures lasts { IsTrue D.honest → RunLasts

@@ -1,5 +1,5 @@
 use Rattle.rules_install.specs.Installs.{installing}
-use Rattle.install_steps.specs.UnderWay.{MayStepFrom}
+use Rattle.rules_install.specs.Series.{MayStepFrom}
 use Rattle.install_steps.proofs.Stopping.{leaves}
 use Rattle.install_steps.proofs.step.make_step.Goals as goal
 

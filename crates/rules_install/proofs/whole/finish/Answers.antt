@@ -9,8 +9,9 @@ use Rattle.rules_install.specs.Filled.{whole_file}
 use Rattle.rules_install.specs.Installing.{next_phase}
 use Rattle.rules_install.specs.Installs.{installing}
 use Rattle.rules_install.specs.contracts.Phase.{the_type}
+use Rattle.rules_install.specs.Series.{further, none}
 use Rattle.rules_install.specs.declared.Phase.TheVariants.{Done}
-use Rattle.rules_install.proofs.WholeLemmas.{Progress, blames_run, done_lasts, ends_done, ends_run, failed_lasts, progress_more, progress_none, same_self, same_then, smaller, so_far, stands_at_done, tells_where}
+use Rattle.rules_install.proofs.WholeLemmas.{Progress, blames_run, done_lasts, ends_done, ends_run, failed_lasts, progress_more, progress_none, same_self, same_then, smaller, so_far, stays_consistent, stands_at_done, tells_where}
 use Rattle.rules_install.proofs.whole.finish.Given.{Over}
 use Rattle.rules_install.proofs.whole.finish.Goals as goal
 use Rattle.rules_install.proofs.whole.finish.Goals.{After-step}
@@ -25,6 +26,9 @@ stepped g c honest =
 pub loop-init : goal.loop-init
 loop-init g c = record {
   is_open = c.requires.is_open;
+  consistent = c.consistent.ensures;
+  undone = λ undone. undone;
+  series = λ honest undone. none;
   same = same_self (installing c.args.install.now);
   fits = c.requires.fits;
   progress = λ honest. progress_none g.D.Dir.state g.D.Dir.moment g.D.Dir.left_since (installing c.args.install.now) c.args.dir.now (λ image left. g.met.D.Dir.only_now c.args.dir.now image honest left);
@@ -82,6 +86,23 @@ returns-in_err-step-clause-blames g c =
     let p = err_from_is_err_and c.from_residual.result c.from_residual.ensures.1 in
     rw (p.1, p.2) (blames_run (g.D.Dir.failed c.args.dir.now) (g.D.Dir.failed c.loop.dir) (g.D.Dir.failed c.step.new.dir) c.in_err-step.field-0.0 c.loop.invariant.failures c.in_err-step.ensures.blames)
 
+pub returns-in_err-step-clause-series : goal.returns-in_err-step-clause-series
+returns-in_err-step-clause-series g c = λ honest undone.
+    let p = err_from_is_err_and c.from_residual.result c.from_residual.ensures.1 in
+    rw (p.1, p.2) (
+      installing c.loop.install,
+      g.D.Dir.state c.loop.dir,
+      c.loop.invariant.series honest undone,
+      record {
+        may = record { consistent = c.loop.invariant.consistent; is_open = c.loop.invariant.is_open; undone = c.loop.invariant.undone undone };
+        fits = c.loop.invariant.fits honest;
+        same = c.step.ensures.same;
+        goes = c.in_err-step.ensures.goes c.loop.invariant.is_open;
+        changes = c.in_err-step.ensures.changes honest c.loop.invariant.is_open (c.loop.invariant.undone undone);
+        device = c.in_err-step.ensures.device honest;
+      },
+    )
+
 pub loop-smaller : goal.loop-smaller
 loop-smaller g c =
     smaller (installing c.loop.install) (installing c.step.new.self) c.in_ok-step.field-0 c.step.ensures.same (c.in_ok-step.ensures.goes c.loop.invariant.is_open)
@@ -89,8 +110,20 @@ loop-smaller g c =
 
 pub loop-preserved : goal.loop-preserved
 loop-preserved g c =
-    let goes = c.in_ok-step.ensures.goes c.loop.invariant.is_open in record {
+    let goes = c.in_ok-step.ensures.goes c.loop.invariant.is_open in
+    let other = differs_true the_type c.in_ok-step.field-0 Done (sym c.if-ne.ensures) in
+    record {
       is_open = goes.2;
+      consistent = stays_consistent (installing c.loop.install) (installing c.step.new.self) c.loop.invariant.consistent c.step.ensures.same c.step.new.self.unfilled;
+      undone = λ undone done. other (let is = goes.0 in let at = goes.1 in cc);
+      series = λ honest undone. further (c.loop.invariant.series honest undone) (record {
+        may = record { consistent = c.loop.invariant.consistent; is_open = c.loop.invariant.is_open; undone = c.loop.invariant.undone undone };
+        fits = c.loop.invariant.fits honest;
+        same = c.step.ensures.same;
+        goes = goes;
+        changes = c.in_ok-step.ensures.changes honest c.loop.invariant.is_open (c.loop.invariant.undone undone);
+        device = c.in_ok-step.ensures.device honest;
+      });
       same = same_then (installing c.args.install.now) (installing c.loop.install) (installing c.step.new.self) c.loop.invariant.same c.step.ensures.same;
       fits = c.step.ensures.fits;
       progress = λ honest.
@@ -108,6 +141,17 @@ pub returns-clause-ends : goal.returns-clause-ends
 returns-clause-ends g c =
     ends_done (installing c.loop.install) (installing c.step.new.self) c.in_ok-step.field-0
     (differs_false the_type (search rules) c.in_ok-step.field-0 Done (sym c.if-ne.ensures)) (c.in_ok-step.ensures.goes c.loop.invariant.is_open)
+
+pub returns-clause-series : goal.returns-clause-series
+returns-clause-series g c = λ honest undone.
+    further (c.loop.invariant.series honest undone) (record {
+      may = record { consistent = c.loop.invariant.consistent; is_open = c.loop.invariant.is_open; undone = c.loop.invariant.undone undone };
+      fits = c.loop.invariant.fits honest;
+      same = c.step.ensures.same;
+      goes = c.in_ok-step.ensures.goes c.loop.invariant.is_open;
+      changes = c.in_ok-step.ensures.changes honest c.loop.invariant.is_open (c.loop.invariant.undone undone);
+      device = c.in_ok-step.ensures.device honest;
+    })
 
 pub returns-clause-any_moment : goal.returns-clause-any_moment
 returns-clause-any_moment g c = λ honest olds lasts. (stepped g (goal.at.returns-clause-any_moment g c).After-step honest).any_moment olds lasts

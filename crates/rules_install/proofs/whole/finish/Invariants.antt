@@ -1,15 +1,21 @@
-use Rattle.std.proofs.Common.{◌≡◌, IsTrue, false, ◌+◌, ◌≤◌}
-use Rattle.std.specs.Prelude.{None}
+use Rattle.std.proofs.Common.{◌≡◌, ◌≢◌, IsTrue, false, ◌+◌, ◌≤◌}
+use Rattle.std.specs.Prelude.{None, Some}
 use Rattle.rules_install.specs.Filled.{fillings_left}
-use Rattle.rules_install.specs.Installing.{Fits}
+use Rattle.rules_install.specs.Installing.{Fits, IsConsistent}
 use Rattle.rules_install.specs.Installs.{installing}
+use Rattle.rules_install.specs.Series.{ComesTo}
 use Rattle.rules_install.specs.Steps.{IsSame}
+use Rattle.rules_install.specs.declared.Phase.TheVariants.{Done}
 use Rattle.rules_install.proofs.WholeLemmas.{Progress, phases_left}
 use Rattle.rules_install.proofs.whole.finish.Given as goal
 
 abbrev pub invariant-loop : goal.invariant-loop
 invariant-loop g l = record {
   is_open : (installing l.install).over ≡ false;
+  consistent : IsConsistent (installing l.install);
+  undone : (installing l.initial.install).reached ≢ Some Done → (installing l.install).reached ≢ Some Done;
+  series : IsTrue g.D.Dir.honest → (installing l.initial.install).reached ≢ Some Done
+      → ComesTo (installing l.initial.install) (g.D.Dir.state l.initial.dir) (installing l.install) (g.D.Dir.state l.dir);
   same : IsSame (installing l.initial.install) (installing l.install);
   fits : IsTrue g.D.Dir.honest → Fits (installing l.install) (g.D.Dir.state l.dir);
   progress : IsTrue g.D.Dir.honest

@@ -4,13 +4,23 @@ use Rattle.std.proofs.lemmas.Result.{err_from_is_err_and}
 use Rattle.rules_install.specs.Installs.{installing}
 use Rattle.rules_tools.specs.FolderParts.{folder_dir, folder_turns}
 use Rattle.rules_tools.specs.Turns.{BlamesTurn}
-use Rattle.rules_tools.proofs.RunLemmas.{after_keeps, after_lasts, fresh_device, fresh_ends, unready_keeps, unready_lasts}
+use Rattle.rules_tools.proofs.RunLemmas.{after_keeps, after_lasts, fresh_device, fresh_ends, ready_series, unready_keeps, unready_lasts, unready_series}
 use Rattle.rules_tools.proofs.installing.install_begun.Goals as goal
 
 pub returns-in_err-make_ready-clause-ends : goal.returns-in_err-make_ready-clause-ends
 returns-in_err-make_ready-clause-ends g c =
     let p = err_from_is_err_and c.from_residual.result c.from_residual.ensures.1 in
     rw (p.1, p.2) (fresh_ends c.in_err-make_ready.field-0.0 c.in_err-make_ready.ensures.faults)
+
+pub returns-in_err-make_ready-clause-series : goal.returns-in_err-make_ready-clause-series
+returns-in_err-make_ready-clause-series g c = λ honest.
+    let p = err_from_is_err_and c.from_residual.result c.from_residual.ensures.1 in
+    let s = installing c.args.install.now in
+    rw (p.1, p.2) (unready_series s (g.D.Dir.state (folder_dir c.make_ready.new.folder)) c.in_err-make_ready.field-0.0 c.in_err-make_ready.ensures.faults)
+
+pub returns-clause-series : goal.returns-clause-series
+returns-clause-series g c = λ honest.
+    ready_series (installing c.args.install.now) (g.D.Dir.state (folder_dir c.install_ready.new.folder)) c.install_ready.result (c.install_ready.ensures.series honest)
 
 pub returns-in_err-make_ready-clause-any_moment : goal.returns-in_err-make_ready-clause-any_moment
 returns-in_err-make_ready-clause-any_moment g c = λ honest free.

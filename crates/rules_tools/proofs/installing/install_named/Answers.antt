@@ -47,7 +47,7 @@ returns-in_err-install_begun-clause-installs g c =
     rw (p.1, p.2)
     (installs g.D.Dir.honest g.D.Dir.state g.D.Dir.moment g.D.Dir.left_since g.D.Dir.failed g.T.Turns.lock_name (g.T.Turns.refused (folder_turns c.install_begun.new.folder)) (g.R.Read.remaining c.args.reader.now) c.args.names
     c.decides.ensures (installing c.in_ok-install.install) (folder_dir c.args.folder.now) (folder_dir c.install_begun.new.folder) (Err c.in_err-install_begun.field-0.0) c.in_ok-install.ensures.compiled
-    (record { ends = e.ends; any_moment = e.any_moment; lasts = e.lasts; done = e.done; written = e.written; device = e.device; blames = e.blames }))
+    (record { ends = e.ends; series = e.series; any_moment = e.any_moment; lasts = e.lasts; done = e.done; written = e.written; device = e.device; blames = e.blames }))
 
 pub returns-in_err-install_begun-clause-untouched : goal.returns-in_err-install_begun-clause-untouched
 returns-in_err-install_begun-clause-untouched g c = λ refusal.
@@ -64,4 +64,4 @@ returns-clause-installs g c =
     let e = c.in_ok-install_begun.ensures in
     installs g.D.Dir.honest g.D.Dir.state g.D.Dir.moment g.D.Dir.left_since g.D.Dir.failed g.T.Turns.lock_name (g.T.Turns.refused (folder_turns c.install_begun.new.folder)) (g.R.Read.remaining c.args.reader.now) c.args.names
     c.decides.ensures (installing c.in_ok-install.install) (folder_dir c.args.folder.now) (folder_dir c.install_begun.new.folder) (Ok c.in_ok-install_begun.field-0) c.in_ok-install.ensures.compiled
-    (record { ends = e.ends; any_moment = e.any_moment; lasts = e.lasts; done = e.done; written = e.written; device = e.device; blames = e.blames })
+    (record { ends = e.ends; series = e.series; any_moment = e.any_moment; lasts = e.lasts; done = e.done; written = e.written; device = e.device; blames = e.blames })

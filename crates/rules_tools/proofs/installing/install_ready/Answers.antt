@@ -1,19 +1,44 @@
-use Rattle.std.proofs.Common.{List, ℕ, sym, subst, ◌∙◌}
-use Rattle.std.specs.Prelude.{Err, IsTrue}
+use Rattle.std.proofs.Common.{◌≡◌, List, ℕ, refl, sym, subst, ◌∙◌}
+use Rattle.std.specs.Prelude.{Err, IsTrue, OnOk, Result}
+use Rattle.dir_calls.specs.Directory.{Directory}
 use Rattle.dir_calls.specs.Clearing.{IsClear}
 use Rattle.dir_calls.specs.Replacing.{KeepsWhatLasts}
 use Rattle.rules_install.specs.Installs.{installing}
+use Rattle.rules_install.specs.Series.{IsSeries}
 use Rattle.rules_install.specs.Whole.{RunLasts}
 use Rattle.rules_install.specs.declared.fault.InstallFault.{InstallFault}
 use Rattle.rules_tools.specs.FolderParts.{folder_dir, folder_turns}
+use Rattle.rules_tools.specs.Series.{MakesSteps}
 use Rattle.rules_tools.proofs.RunLemmas.{blames_turn, ends_on_disk, then_keeps, then_lasts}
 use Rattle.rules_tools.proofs.installing.install_ready.Given.{Over}
 use Rattle.rules_tools.proofs.installing.install_ready.Goals as goal
-use Rattle.rules_tools.proofs.installing.install_ready.Goals.{After-remove_scratch}
+use Rattle.rules_tools.proofs.installing.install_ready.Goals.{After-finish, After-remove_scratch}
 
 pub finish-requires-clause-clear : goal.finish-requires-clause-clear
 finish-requires-clause-clear g c = λ honest.
     subst (λ (name : List ℕ). IsClear name (g.D.Dir.state (folder_dir c.args.folder.now))) c.requires.scratch (c.requires.clear honest)
+
+-- the steps were made from a clear directory on
+steps : (g : Over) (c : After-finish g) → IsTrue g.D.Dir.honest → (result : Result (Unit {0}) InstallFault) (new : Directory)
+    → IsSeries (installing c.args.install.now) (installing c.finish.new.install) (g.D.Dir.state (folder_dir c.args.folder.now)) (g.D.Dir.state (folder_dir c.finish.new.self)) result
+    → OnOk result (new ≡ g.D.Dir.state (folder_dir c.finish.new.self)) → MakesSteps (installing c.args.install.now) new result
+steps g c honest result new series last = record {
+  begin = g.D.Dir.state (folder_dir c.args.folder.now);
+  clear = subst (λ (name : List ℕ). IsClear name (g.D.Dir.state (folder_dir c.args.folder.now))) c.requires.scratch (c.requires.clear honest);
+  t = installing c.finish.new.install;
+  end = g.D.Dir.state (folder_dir c.finish.new.self);
+  series = series;
+  last = last;
+}
+
+pub returns-in-Ok-clause-series : goal.returns-in-Ok-clause-series
+returns-in-Ok-clause-series g c = λ honest. steps g (goal.at.returns-in-Ok-clause-series g c).After-finish honest _ _ (c.in-Ok.ensures.series honest) refl
+
+pub returns-in-Err-OutOfMemory-clause-series : goal.returns-in-Err-OutOfMemory-clause-series
+returns-in-Err-OutOfMemory-clause-series g c = λ honest.
+    let is = g.D.Dir.state (folder_dir c.finish.new.self) in
+    subst (λ (f : InstallFault). MakesSteps (installing c.args.install.now) is (Err f)) c.in-Err-OutOfMemory.field-0-is
+    (steps g (goal.at.returns-in-Err-OutOfMemory-clause-series g c).After-finish honest _ _ (c.in-Err-OutOfMemory.ensures.series honest) tt)
 
 pub returns-in-Ok-clause-lasts : goal.returns-in-Ok-clause-lasts
 returns-in-Ok-clause-lasts g c = λ honest. c.in-Ok.ensures.lasts honest
@@ -39,6 +64,7 @@ returns-in-Err g c =
     let mid = folder_dir c.finish.new.self in
     let new = folder_dir c.remove_scratch.new.self in
     record {
+      series = λ honest. steps g (goal.at.returns-in-Err g c).After-finish honest (Err c.in-Err.fault) (g.D.Dir.state new) (c.in-Err.ensures.series honest) tt;
       ends = ends_on_disk (installing c.finish.new.install) (Err c.in-Err.fault) c.in-Err.ensures.ends;
       any_moment = λ honest. then_keeps g.D.Dir.state g.D.Dir.moment g.D.Dir.left_since s old mid new (Err c.in-Err.fault) (c.in-Err.ensures.any_moment honest) (c.in-Err.ensures.lasts honest)
           (taken g (goal.at.returns-in-Err g c).After-remove_scratch honest);
