@@ -18,4 +18,5 @@ pub mod Noting
 pub mod Going
 pub mod Beginning
 pub mod Besides
+pub mod Told
 pub mod ReadersLemmas
