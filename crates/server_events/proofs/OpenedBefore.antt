@@ -15,7 +15,7 @@ use Rattle.server_events.specs.ServerState.{ServerState, after, count_from, is_a
 use Rattle.server_events.specs.Steps.{Advances, Legal, Moves, Outside, Step, none, more, beside}
 use Rattle.server_events.specs.Table.{Happens}
 use Rattle.server_events.specs.Taken.{is_there}
-use Rattle.server_events.specs.Within.{AreApart, OpensAtOnce, is_apart}
+use Rattle.server_events.specs.Meanwhile.{AreApart, OpensAtOnce, is_apart}
 use Rattle.server_events.specs.Worlds.{KeptFile, World, kept_by, standing}
 use Rattle.server_events.proofs.Limits.{count_from-with_stage, length-with_stage}
 use Rattle.server_events.proofs.Openings.{kept_after, kept_by-push_found, kept_by-push_own, kept_by-push_other, moves_same, waiting_keeps}

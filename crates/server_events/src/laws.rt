@@ -18,7 +18,7 @@ ghost use Rattle.server_events.specs.ServerState.{AllowedHistory, IsLegalTo, Ser
 ghost use Rattle.server_events.specs.Steps.{IsWhole, Legal, Outside, Step};
 ghost use Rattle.server_events.specs.Table.{Happens, HasStage, IsFull, IsFullFor, Runs};
 ghost use Rattle.server_events.specs.Taken.{AddsText, CanBeChanged, CanStep, CanStepTo, CannotStep, HappensAfterStop, HaveOtherNames, HasShortScratch, IsDue, IsLeftWithin, IsOthers, LeadsTo, MayFail, is_there, with_others};
-ghost use Rattle.server_events.specs.Within.{AreApart, OpensAtOnce};
+ghost use Rattle.server_events.specs.Meanwhile.{AreApart, OpensAtOnce};
 ghost use Rattle.server_events.specs.Witness.{WovenAround, an_older_text, behind_the_kill, texts_of_both, texts_of_it, texts_of_that, two_texts, until_the_kill};
 ghost use Rattle.server_events.specs.Worlds.{IsStart, RulesName, UnderWay, World, standing};
 ghost use Rattle.server_events.specs.declared.event.Event.{Event};
@@ -162,7 +162,7 @@ pub fn two_processes()
 
 /// An opening takes its time. A connection opens the rules by itself, and the server tells of it only later; meanwhile installers, others and the
 /// server's other connections go on. Where it found what stood at a moment meanwhile, all is as if it had opened them at this moment, at once.
-pub fn opens_within()
+pub fn opened_meanwhile()
     ensures { (history events : List Event) (u w : World) (n : ℕ) → Reaches history u → HasStage u.server n Stage.Admitted
         → Woven u events w → AreApart n events → OpensAtOnce n u events w }
 {}

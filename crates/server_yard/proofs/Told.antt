@@ -7,7 +7,7 @@ use Rattle.server_events.specs.Headline.{Reaches}
 use Rattle.server_events.specs.Processes.{Woven, of_server}
 use Rattle.server_events.specs.ServerState.{ServerState, stage_of}
 use Rattle.server_events.specs.Steps.{Legal, none, more, beside}
-use Rattle.server_events.specs.Within.{AreApart}
+use Rattle.server_events.specs.Meanwhile.{AreApart}
 use Rattle.server_events.specs.Worlds.{KeptFile, RulesName, World, kept_by, standing}
 use Rattle.server_events.specs.declared.event.Event.{Event}
 use Rattle.server_events.specs.declared.event.Event.TheVariants.{Opened}

@@ -4,7 +4,7 @@ ghost use Rattle.rule_lines.specs.Pairs.{Rule};
 ghost use Rattle.server_events.specs.Headline.{Reaches};
 ghost use Rattle.server_events.specs.Processes.{Woven, is_connections};
 ghost use Rattle.server_events.specs.Table.{HasStage};
-ghost use Rattle.server_events.specs.Within.{AreApart};
+ghost use Rattle.server_events.specs.Meanwhile.{AreApart};
 ghost use Rattle.server_events.specs.Worlds.{KeptFile, World};
 ghost use Rattle.server_events.specs.declared.event.Event.{Event};
 ghost use Rattle.server_events.specs.declared.event.Stage.TheVariants as Stage;
