@@ -16,7 +16,6 @@ pub mod LiveLemmas
 pub mod Marks
 pub mod OlderText
 pub mod Others
-pub mod OpenedBefore
 pub mod Openings
 pub mod Peers
 pub mod Serials
@@ -26,4 +25,5 @@ pub mod TableLemmas
 pub mod TwoProcesses
 pub mod TwoTexts
 pub mod WholeText
+pub mod WithinLemmas
 pub mod WovenSteps

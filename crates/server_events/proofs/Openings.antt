@@ -29,7 +29,7 @@ use Rattle.server_events.proofs.WholeText.{reached_standing}
 
 -- ---- what connections keep
 
-pub kept_by-push_found : (n : ℕ) (bytes : Option (List ℕ)) (ks : List KeptFile) (k : KeptFile) → kept_by n ks ≡ Some bytes → kept_by n (ks ++ k ∷ []) ≡ Some bytes
+kept_by-push_found : (n : ℕ) (bytes : Option (List ℕ)) (ks : List KeptFile) (k : KeptFile) → kept_by n ks ≡ Some bytes → kept_by n (ks ++ k ∷ []) ≡ Some bytes
 kept_by-push_found n bytes [] k e = absurd (cc)
 kept_by-push_found n bytes (x ∷ ks) k e =
     elim (x.serial == n) as (λ b. (if b then Some x.bytes else kept_by n ks) ≡ Some bytes → (if b then Some x.bytes else kept_by n (ks ++ k ∷ [])) ≡ Some bytes) [
@@ -37,7 +37,7 @@ kept_by-push_found n bytes (x ∷ ks) k e =
       | false ↦ λ later. kept_by-push_found n bytes ks k later
     ] e
 
-pub kept_by-push_other : (n : ℕ) (ks : List KeptFile) (k : KeptFile) → (k.serial == n) ≡ false → kept_by n (ks ++ k ∷ []) ≡ kept_by n ks
+kept_by-push_other : (n : ℕ) (ks : List KeptFile) (k : KeptFile) → (k.serial == n) ≡ false → kept_by n (ks ++ k ∷ []) ≡ kept_by n ks
 kept_by-push_other n [] k other = rw other
 kept_by-push_other n (x ∷ ks) k other =
     ap (λ (o : Option (Option (List ℕ))). if x.serial == n then Some x.bytes else o) (kept_by-push_other n ks k other)

@@ -11,7 +11,7 @@ pub mod Worlds
 pub mod Steps
 pub mod Headline
 pub mod Taken
-pub mod Meanwhile
+pub mod Within
 pub mod Witness
 pub use Rattle.rule_lookup.specs.Decisions
 pub use Rattle.rule_lookup.specs.Peers

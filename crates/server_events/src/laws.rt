@@ -1,5 +1,5 @@
 //! Laws over the definitions alone.
-ghost use Rattle.std.specs.Prelude.{◌≡◌, ◌≢◌, ◌↔◌, ℕ, ◌+◌, ◌≤◌, ◌<◌, Bool, List, length, true, None, Some, IsSomeAnd};
+ghost use Rattle.std.specs.Prelude.{◌≡◌, ◌≢◌, ◌↔◌, ℕ, ◌+◌, ◌≤◌, ◌<◌, Bool, List, Option, length, true, None, Some, IsSomeAnd};
 ghost use Rattle.std.specs.List.Sorted.{IsStrictlyIncreasing};
 ghost use Rattle.dir_calls.specs.Directory.{Directory, FileState};
 ghost use Rattle.dir_calls.specs.Calls.{settles, without};
@@ -18,7 +18,7 @@ ghost use Rattle.server_events.specs.ServerState.{AllowedHistory, IsLegalTo, Ser
 ghost use Rattle.server_events.specs.Steps.{IsWhole, Legal, Outside, Step};
 ghost use Rattle.server_events.specs.Table.{Happens, HasStage, IsFull, IsFullFor, Runs};
 ghost use Rattle.server_events.specs.Taken.{AddsText, CanBeChanged, CanStep, CanStepTo, CannotStep, HappensAfterStop, HaveOtherNames, HasShortScratch, IsDue, IsLeftWithin, IsOthers, LeadsTo, MayFail, is_there, with_others};
-ghost use Rattle.server_events.specs.Meanwhile.{AreApart, OpensAtOnce};
+ghost use Rattle.server_events.specs.Within.{FindsWithin, noting, with_opening};
 ghost use Rattle.server_events.specs.Witness.{WovenAround, an_older_text, behind_the_kill, texts_of_both, texts_of_it, texts_of_that, two_texts, until_the_kill};
 ghost use Rattle.server_events.specs.Worlds.{IsStart, RulesName, UnderWay, World, standing};
 ghost use Rattle.server_events.specs.declared.event.Event.{Event};
@@ -160,16 +160,17 @@ pub fn two_processes()
     ensures headline { (w v : World) (history : List Event) → IsStart w → Woven w history v → IsKeptBy history v }
 {}
 
-/// An opening takes its time. A connection opens the rules by itself, and the server tells of it only later; meanwhile installers, others and the
-/// server's other connections go on. Where it found what stood at a moment meanwhile, all is as if it had opened them at this moment, at once.
-pub fn opened_meanwhile()
-    ensures { (history events : List Event) (u w : World) (n : ℕ) → Reaches history u → HasStage u.server n Stage.Admitted
-        → Woven u events w → AreApart n events → OpensAtOnce n u events w }
-{}
-
 /// A history of the two that happens: an installer makes a text lasting that denies, and a connection opens it; another installer is killed within the
 /// rename of a text that allows; somebody makes a file; and then that connection is decided by the text that it opened, and the next one by the
 /// newer text.
 pub fn witness_of_two()
     ensures { WovenAround until_the_kill behind_the_kill texts_of_both 1 }
+{}
+
+/// An opening that takes some time. It finds what stood under the rules name at some moment of its call, and the server notes it when the call
+/// ends, in the world that others came to meanwhile. That is the world to which the steps of others lead with the opening at its moment among
+/// them: so it is one history of the two, and the decision is by the text that stood there then.
+pub fn opened_within()
+    ensures { (w v : World) (n : ℕ) (bytes : Option (List ℕ)) (finds : FindsWithin w v bytes)
+        → HasStage w.server n Stage.Admitted → Woven w (with_opening n finds) (noting n bytes v) }
 {}

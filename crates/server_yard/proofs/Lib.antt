@@ -9,6 +9,7 @@ pub mod Stepped
 pub mod Reached
 pub mod Installs
 pub mod Opened
+pub mod OpenedWithin
 pub mod Outcomes
 pub mod Leaving
 pub mod Living
@@ -18,5 +19,6 @@ pub mod Noting
 pub mod Going
 pub mod Beginning
 pub mod Besides
+pub mod OpenedBefore
 pub mod Told
 pub mod ReadersLemmas

@@ -7,18 +7,17 @@ use Rattle.server_events.specs.Headline.{Reaches}
 use Rattle.server_events.specs.Processes.{Woven, of_server}
 use Rattle.server_events.specs.ServerState.{ServerState, stage_of}
 use Rattle.server_events.specs.Steps.{Legal, none, more, beside}
-use Rattle.server_events.specs.Meanwhile.{AreApart}
 use Rattle.server_events.specs.Worlds.{KeptFile, RulesName, World, kept_by, standing}
 use Rattle.server_events.specs.declared.event.Event.{Event}
 use Rattle.server_events.specs.declared.event.Event.TheVariants.{Opened}
 use Rattle.server_events.specs.declared.event.Stage.TheVariants as stage
-use Rattle.server_events.proofs.OpenedBefore.{opens_at_once}
+use Rattle.server_yard.proofs.OpenedBefore.{opens_at_once}
 use Rattle.server_events.proofs.Openings.{moves_same}
 use Rattle.server_events.proofs.TableLemmas.{step_is}
 use Rattle.server_events.proofs.WovenSteps.{one_history}
 use Rattle.server_yard.specs.Serving.{IsServers, over}
 use Rattle.server_yard.specs.Standing.{HasUnderWay, LeadsOpened, Matches, YardState, standing_of}
-use Rattle.server_yard.specs.Telling.{ToldLater}
+use Rattle.server_yard.specs.Telling.{AreApart, ToldLater}
 
 -- the rules name stays
 rules_stay : {u w : World} {events : List Event} → Legal u events w → w.rules ≡ u.rules

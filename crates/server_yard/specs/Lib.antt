@@ -9,6 +9,7 @@ pub mod Telling
 pub mod Stepping
 pub mod Installed
 pub mod Readers
+pub mod Openings
 pub mod Passes
 pub mod Kept
 pub mod Yards

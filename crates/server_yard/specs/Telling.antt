@@ -1,11 +1,22 @@
 -- A connection that opened the rules by a handle of its own, beside its yard, which is told of it later.
-use Rattle.std.specs.Prelude.{◌≡◌, ◌≢◌, ℕ, List, ◌∷◌, Option, Some, is_some}
+use Rattle.std.specs.Prelude.{◌≡◌, ◌≢◌, ⊤, ℕ, Bool, true, false, not, List, [], ◌∷◌, Option, Some, is_some}
+use Rattle.server_events.specs.Live.{concerns}
 use Rattle.server_events.specs.Processes.{Woven}
 use Rattle.server_events.specs.Worlds.{KeptFile, World, kept_by}
 use Rattle.server_events.specs.declared.event.Event.{Event}
-use Rattle.server_events.specs.declared.event.Event.TheVariants.{Opened}
+use Rattle.server_events.specs.declared.event.Event.TheVariants.{Opened, Stop}
 use Rattle.server_yard.specs.Serving.{IsServers}
 use Rattle.server_yard.specs.Standing.{YardState}
+
+-- an event that neither happens to this connection nor ends all
+abbrev pub is_apart : ℕ → Event → Bool
+is_apart n Stop = false
+is_apart n event = not (concerns n event)
+
+-- so each of these
+abbrev pub AreApart : ℕ → List Event → Type 0
+AreApart n [] = ⊤
+AreApart n (event ∷ events) = (is_apart n event ≡ true) × AreApart n events
 
 -- What the connection found in the world u is told some events later, and the yard is as it is then: all is as if the connection had opened the rules
 -- in u, at once. It keeps what it found, and each other connection what it kept.

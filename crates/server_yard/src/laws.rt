@@ -1,17 +1,18 @@
 //! Laws over the definitions alone.
-ghost use Rattle.std.specs.Prelude.{◌≡◌, ◌++◌, ℕ, List, [], Option, Some, length, true};
+ghost use Rattle.std.specs.Prelude.{◌≡◌, ◌++◌, ◌∷◌, ℕ, List, [], Option, Some, length, true};
 ghost use Rattle.rule_lines.specs.Pairs.{Rule};
 ghost use Rattle.server_events.specs.Headline.{Reaches};
 ghost use Rattle.server_events.specs.Processes.{Woven, is_connections};
 ghost use Rattle.server_events.specs.Table.{HasStage};
-ghost use Rattle.server_events.specs.Meanwhile.{AreApart};
+ghost use Rattle.server_events.specs.Within.{FindsWithin, noting};
 ghost use Rattle.server_events.specs.Worlds.{KeptFile, World};
 ghost use Rattle.server_events.specs.declared.event.Event.{Event};
 ghost use Rattle.server_events.specs.declared.event.Stage.TheVariants as Stage;
+ghost use Rattle.server_yard.specs.Openings.{OpensBeside};
 ghost use Rattle.server_yard.specs.Readers.{IsAbsentOrCompiled, KeptYard, NamesStoredSinceDone, begun_in};
 ghost use Rattle.server_yard.specs.Serving.{IsReachedOn, IsServers, Serves, StepsByItself, over};
 ghost use Rattle.server_yard.specs.Standing.{IsNew, IsReachedBy, Leads, LeadsOpened, Series, YardState, standing_of};
-ghost use Rattle.server_yard.specs.Telling.{ToldLater};
+ghost use Rattle.server_yard.specs.Telling.{AreApart, ToldLater};
 
 /// From a yard that was just made, over a directory that began as it has to, each series of calls is a history of the headline: it leads
 /// from a start to a world that is the yard's. So all that the headline says of histories is true of the running yard.
@@ -36,8 +37,17 @@ pub fn beside()
         → StepsByItself w event z more }
 {}
 
-/// A connection that opens the rules by a handle of its own, while installers, others and the yard's other connections go on: where it found what
-/// stood at a moment meanwhile, and the yard is told of it at its end (`Yard::opened`, clause `beside`), all is as if it had opened them at that moment. So
+/// An opening that takes some time. Others go on meanwhile, and it found what stood under the rules name at some moment of that. The yard notes it
+/// over the directory that others came to; what the server has then is its yard's again. By `server_events::laws::opened_within` that world is the
+/// one to which the steps of others lead with the opening at its moment.
+pub fn opened_within()
+    ensures { (w v : World) (y z : YardState) (files : List KeptFile) (n : ℕ) (bytes : Option (List ℕ))
+        → IsServers y files w → FindsWithin w v bytes → OpensBeside n bytes y z
+        → IsServers z (files ++ record { serial = n; bytes = bytes } ∷ []) (noting n bytes v) }
+{}
+
+/// The same of an opening by a handle of the connection's own, while the yard's other connections go on too: where it found what stood at a moment
+/// meanwhile, and the yard is told of it at its end (`Yard::opened`, clause `beside`), all is as if it had opened them at that moment. So
 /// the headline says that its decision is by the text that stood then.
 pub fn told_later()
     ensures { (history events : List Event) (u w : World) (y z : YardState) (files : List KeptFile) (n : ℕ) (bytes : Option (List ℕ))

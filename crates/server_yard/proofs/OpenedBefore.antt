@@ -15,13 +15,13 @@ use Rattle.server_events.specs.ServerState.{ServerState, after, count_from, is_a
 use Rattle.server_events.specs.Steps.{Advances, Legal, Moves, Outside, Step, none, more, beside}
 use Rattle.server_events.specs.Table.{Happens}
 use Rattle.server_events.specs.Taken.{is_there}
-use Rattle.server_events.specs.Meanwhile.{AreApart, OpensAtOnce, is_apart}
 use Rattle.server_events.specs.Worlds.{KeptFile, World, kept_by, standing}
 use Rattle.server_events.proofs.Limits.{count_from-with_stage, length-with_stage}
-use Rattle.server_events.proofs.Openings.{kept_after, kept_by-push_found, kept_by-push_own, kept_by-push_other, moves_same, waiting_keeps}
+use Rattle.server_events.proofs.Openings.{kept_by-push_own, moves_same, waiting_keeps}
 use Rattle.server_events.proofs.Peers.{peer_of-with_stage, stage_of-with_stage_other, stage_of-without_other}
 use Rattle.server_events.proofs.TableLemmas.{is_step, step_is}
 use Rattle.server_events.proofs.WovenSteps.{its_parts, one_history}
+use Rattle.server_yard.specs.Telling.{AreApart, is_apart}
 
 -- ---- changes of two connections, in either order
 
@@ -135,6 +135,25 @@ record Keeps (n : ℕ) (bytes : Option (List ℕ)) (old new : List KeptFile) : T
   own : kept_by n new ≡ Some bytes
   others : (m : ℕ) → m ≢ n → kept_by m new ≡ kept_by m old
 
+kept_by-push_found : (n : ℕ) (bytes : Option (List ℕ)) (ks : List KeptFile) (k : KeptFile) → kept_by n ks ≡ Some bytes → kept_by n (ks ++ k ∷ []) ≡ Some bytes
+kept_by-push_found n bytes [] k e = absurd (cc)
+kept_by-push_found n bytes (x ∷ ks) k e =
+    elim (x.serial == n) as (λ b. (if b then Some x.bytes else kept_by n ks) ≡ Some bytes → (if b then Some x.bytes else kept_by n (ks ++ k ∷ [])) ≡ Some bytes) [
+      | true ↦ λ here. here
+      | false ↦ λ later. kept_by-push_found n bytes ks k later
+    ] e
+
+kept_by-push_other : (n : ℕ) (ks : List KeptFile) (k : KeptFile) → (k.serial == n) ≡ false → kept_by n (ks ++ k ∷ []) ≡ kept_by n ks
+kept_by-push_other n [] k other = rw other
+kept_by-push_other n (x ∷ ks) k other =
+    ap (λ (o : Option (Option (List ℕ))). if x.serial == n then Some x.bytes else o) (kept_by-push_other n ks k other)
+
+-- what is kept after an event
+abbrev kept_after : World → Event → List KeptFile
+kept_after w (Opened n there) = w.kept ++ record { serial = n; bytes = standing w } ∷ []
+kept_after w Stop = []
+kept_after w event = w.kept
+
 kept_by-push_same : (m : ℕ) (xs ys : List KeptFile) (k : KeptFile) → kept_by m xs ≡ kept_by m ys → kept_by m (xs ++ k ∷ []) ≡ kept_by m (ys ++ k ∷ [])
 kept_by-push_same m xs ys k same = at_end xs ∙ ap (λ o. first_of o (kept_by m (k ∷ []))) same ∙ sym (at_end ys)
   where
@@ -209,19 +228,24 @@ module _ (n : ℕ) (bytes : Option (List ℕ)) (w x : World) (kept : List KeptFi
         moves = moves_there event apart keeps step.moves;
       }
 
+  keeps_as : {old : List KeptFile} (new : List KeptFile) → x.kept ≡ old → Keeps n bytes old new → Keeps n bytes x.kept new
+  keeps_as new is keeps = subst (λ (ks : List KeptFile). Keeps n bytes ks new) (sym is) keeps
+
   -- and what is kept after it
-  keeps_there : (event : Event) → is_apart n event ≡ true → Keeps n bytes w.kept kept → Keeps n bytes (kept_after w event) (kept_after (already n kept w) event)
-  keeps_there (Admitted m peer) apart keeps = keeps
-  keeps_there (Opened m there) apart keeps = keeps_more n bytes w.kept kept (record { serial = m; bytes = standing w }) keeps
-  keeps_there (Decided m decision) apart keeps = keeps
-  keeps_there (Started m) apart keeps = keeps
-  keeps_there (StartFailed m fault) apart keeps = keeps
-  keeps_there (Ended m status) apart keeps = keeps
-  keeps_there (Retired m) apart keeps = keeps
-  keeps_there (Dropped m cause) apart keeps = keeps
-  keeps_there (Stepped phase) apart keeps = keeps
-  keeps_there (StepFailed phase) apart keeps = keeps
-  keeps_there Stop apart keeps = absurd (cc)
+  keeps_there : (event : Event) → is_apart n event ≡ true → Keeps n bytes w.kept kept → Moves event w x → Keeps n bytes x.kept (kept_after (already n kept w) event)
+  keeps_there (Admitted m peer) apart keeps moves = keeps_as kept (moves_same (Admitted m peer) w x moves).0 keeps
+  keeps_there (Opened m there) apart keeps moves =
+      let found : KeptFile = record { serial = m; bytes = standing w } in
+      keeps_as (kept ++ found ∷ []) (moves_same (Opened m there) w x moves).0 (keeps_more n bytes w.kept kept found keeps)
+  keeps_there (Decided m decision) apart keeps moves = keeps_as kept (moves_same (Decided m decision) w x moves).0 keeps
+  keeps_there (Started m) apart keeps moves = keeps_as kept (moves_same (Started m) w x moves).0 keeps
+  keeps_there (StartFailed m fault) apart keeps moves = keeps_as kept (moves_same (StartFailed m fault) w x moves).0 keeps
+  keeps_there (Ended m status) apart keeps moves = keeps_as kept (moves_same (Ended m status) w x moves).0 keeps
+  keeps_there (Retired m) apart keeps moves = keeps_as kept (moves_same (Retired m) w x moves).0 keeps
+  keeps_there (Dropped m cause) apart keeps moves = keeps_as kept (moves_same (Dropped m cause) w x moves).0 keeps
+  keeps_there (Stepped phase) apart keeps moves = keeps_as kept (moves_same (Stepped phase) w x moves).0 keeps
+  keeps_there (StepFailed phase) apart keeps moves = keeps_as kept (moves_same (StepFailed phase) w x moves).0 keeps
+  keeps_there Stop apart keeps moves = absurd (cc)
 
 -- ---- the whole way
 
@@ -239,7 +263,7 @@ goes_there n bytes kept (more {u} {v} {w} {event} {events} step rest) waits apar
     let waits_still : stage_of n v.server.connections ≡ Some stage.Admitted =
     ap (λ (s : ServerState). stage_of n s.connections) (step_is step.table).1 ∙ waits_on n u.server event waits apart.0 in
     let keeps_still : Keeps n bytes v.kept after_it =
-    subst (λ (ks : List KeptFile). Keeps n bytes ks after_it) (sym (moves_same event u v step.moves).0) (keeps_there n bytes u v kept event apart.0 keeps) in
+    keeps_there n bytes u v kept event apart.0 keeps step.moves in
     let on = goes_there n bytes after_it rest waits_still apart.1 keeps_still in
     record { last = on.last; legal = more (step_there n bytes u v kept event apart.0 waits keeps step) on.legal; keeps = on.keeps; waits = on.waits }
 goes_there n bytes kept (beside {u} {v} {w} {events} out rest) waits apart keeps =
@@ -249,6 +273,16 @@ goes_there n bytes kept (beside {u} {v} {w} {events} out rest) waits apart keeps
     let keeps_still = subst (λ (ks : List KeptFile). Keeps n bytes ks kept) (sym (ap (λ (x : World). x.kept) out.moves)) keeps in
     let on = goes_there n bytes kept rest waits_still apart keeps_still in
     record { last = on.last; legal = beside out_there on.legal; keeps = on.keeps; waits = on.waits }
+
+-- what an opening comes to that is moved to its moment
+pub record OpensAtOnce (n : ℕ) (u : World) (events : List Event) (w : World) : Type 0 where
+  pub waits : stage_of n w.server.connections ≡ Some stage.Admitted
+  pub v : World
+  pub woven : Woven u (Opened n (is_there u) ∷ events) v
+  pub server : v.server ≡ after w.server (Opened n (is_there u))
+  pub same : v ≡ record w { server = v.server; kept = v.kept }
+  pub keeps : kept_by n v.kept ≡ Some (standing u)
+  pub others : (m : ℕ) → m ≢ n → kept_by m v.kept ≡ kept_by m w.kept
 
 another : (n m : ℕ) → m ≢ n → (n == m) ≡ false
 another n m other = elim (n == m) as (λ b. (n == m) ≡ b → b ≡ false) [

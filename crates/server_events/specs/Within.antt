@@ -1,0 +1,32 @@
+-- Openings that take some time, while others change the directory.
+use Rattle.std.specs.Prelude.{◌≡◌, ◌++◌, ℕ, List, [], ◌∷◌, Option, is_some}
+use Rattle.server_events.specs.declared.event.Event.{Event}
+use Rattle.server_events.specs.declared.event.Event.TheVariants.{Opened}
+use Rattle.server_events.specs.Processes.{InstallerSteps}
+use Rattle.server_events.specs.ServerState.{after}
+use Rattle.server_events.specs.Steps.{Outside}
+use Rattle.server_events.specs.Worlds.{World, standing}
+
+-- others than the server go on, one step after another: installers, and whoever leaves the two names alone
+pub data OthersGo : World → List Event → World → Type 0 where
+  none : {w : World} → OthersGo w [] w
+  installs : {u v w : World} {event : Event} {events : List Event} → InstallerSteps u event v → OthersGo v events w → OthersGo u (event ∷ events) w
+  outside : {u v w : World} {events : List Event} → Outside u v → OthersGo v events w → OthersGo u events w
+
+-- While an opening was made others went on from one world to another, and it found what stood under the rules name at some moment of that.
+pub record FindsWithin (w v : World) (bytes : Option (List ℕ)) : Type 0 where
+  pub before : List Event
+  pub u : World
+  pub first : OthersGo w before u
+  pub found : bytes ≡ standing u
+  pub behind : List Event
+  pub rest : OthersGo u behind v
+
+-- the history of that, with the opening at its moment
+abbrev pub with_opening : {w v : World} {bytes : Option (List ℕ)} → ℕ → FindsWithin w v bytes → List Event
+with_opening {w} {v} {bytes} n finds = finds.before ++ Opened n (is_some bytes) ∷ finds.behind
+
+-- the world once the server has noted that connection n opened the rules and keeps this
+abbrev pub noting : ℕ → Option (List ℕ) → World → World
+noting n bytes v =
+    record v { server = after v.server (Opened n (is_some bytes)); kept = v.kept ++ record { serial = n; bytes = bytes } ∷ [] }
