@@ -1,12 +1,11 @@
 -- Installations that are under way in a world, and what their steps do there.
-use Rattle.std.specs.Prelude.{◌≡◌, ◌≢◌, ◌⊎◌, ⊤, ℕ, false, Option, None, Some, Result, Ok, Err}
+use Rattle.std.specs.Prelude.{◌≡◌, ◌⊎◌, ⊤, ℕ, false, Option, None, Some, Result, Ok, Err}
 use Rattle.dir_calls.specs.Directory.{Directory}
 use Rattle.dir_calls.specs.Images.{IsImage}
 use Rattle.dir_calls.specs.declared.fault.DirFault.TheVariants.{Device}
 use Rattle.rule_lookup.specs.declared.decision.Missing.{Missing}
-use Rattle.rules_install.specs.Installing.{Installing, IsConsistent, Fits, next_phase}
+use Rattle.rules_install.specs.Installing.{Installing}
 use Rattle.rules_install.specs.NamePair.{NamePair}
-use Rattle.rules_install.specs.Steps.{Changes, Goes, IsOfDevice, IsSame}
 use Rattle.rules_install.specs.declared.Phase.{Phase}
 use Rattle.rules_install.specs.declared.Phase.TheVariants.{Fresh, Filling, Synced, Named, Done}
 use Rattle.rules_install.specs.declared.fault.InstallFault.{InstallFault}
