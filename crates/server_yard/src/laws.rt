@@ -51,7 +51,8 @@ pub fn opened_within()
 /// the headline says that its decision is by the text that stood then.
 pub fn told_later()
     ensures { (history events : List Event) (u w : World) (y z : YardState) (files : List KeptFile)
-        (n : ℕ) (bytes : Option (List ℕ)) → Reaches history u → HasStage u.server n Stage.Admitted → Woven u events w → AreApart n events
+        (n : ℕ) (bytes : Option (List ℕ)) → Reaches history u
+        → HasStage u.server n Stage.Admitted → Woven u events w → AreApart n events
         → IsServers y files w → bytes ≡ standing_of (over y u.directory)
         → LeadsOpened n bytes (over y u.directory) (over z u.directory) → ToldLater n bytes u events files z }
 {}
