@@ -1,15 +1,15 @@
 -- The history of two processes happens.
-use Rattle.std.proofs.Common.{◌≡◌, ◌≢◌, inl, inr, true, false, ℕ, List, [], ◌∷◌, ◌++◌, length, refl, sym, ◌∙◌, ap, subst}
+use Rattle.std.proofs.Common.{◌≡◌, ◌≢◌, inl, inr, true, false, ℕ, List, [], ◌∷◌, ◌++◌, refl, sym, ◌∙◌, ap, subst}
 use Rattle.std.specs.Prelude.{Option, None, Some, is_some}
 use Rattle.std.specs.Cmp.Lexicographic.{slice_cmp}
 use Rattle.std.specs.FinMap.{get-empty}
 use Rattle.std.specs.Ordering.{nat_cmp}
 use Rattle.dir_calls.specs.Directory.{Directory, FileState, content}
-use Rattle.dir_calls.specs.Calls.{Call, makes, appends, syncs, renames, settles, after}
+use Rattle.dir_calls.specs.Calls.{Call, makes, appends, renames, settles, after}
 use Rattle.dir_calls.specs.Outcomes.{Fails}
 use Rattle.dir_calls.proofs.Lasting.{after_keeps}
 use Rattle.rule_lines.specs.declared.instr.Verdict.TheVariants.{Allow, Deny}
-use Rattle.rules_install.specs.declared.Phase.TheVariants.{Fresh, Filling, Synced, Named, Done}
+use Rattle.rules_install.specs.declared.Phase.TheVariants.{Fresh, Filling, Synced, Named}
 use Rattle.server_events.specs.declared.event.Event.TheVariants.{Admitted, Opened, Decided, Stepped, StepFailed}
 use Rattle.server_events.specs.ServerState.{ServerState, start, after as after_event}
 use Rattle.server_events.specs.Steps.{Legal, Outside, Step, none, more}

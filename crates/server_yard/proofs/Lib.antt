@@ -19,4 +19,6 @@ pub mod Noting
 pub mod Going
 pub mod Beginning
 pub mod Besides
+pub mod OpenedBefore
+pub mod Told
 pub mod ReadersLemmas

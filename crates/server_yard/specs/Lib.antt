@@ -5,6 +5,7 @@ pub mod Seating
 pub mod Rosters
 pub mod Standing
 pub mod Serving
+pub mod Telling
 pub mod Stepping
 pub mod Installed
 pub mod Readers

@@ -1,7 +1,8 @@
 //! Laws over the definitions alone.
 ghost use Rattle.std.specs.Prelude.{◌≡◌, ◌++◌, ◌∷◌, ℕ, List, [], Option, Some, length, true};
 ghost use Rattle.rule_lines.specs.Pairs.{Rule};
-ghost use Rattle.server_events.specs.Processes.{is_connections};
+ghost use Rattle.server_events.specs.Headline.{Reaches};
+ghost use Rattle.server_events.specs.Processes.{Woven, is_connections};
 ghost use Rattle.server_events.specs.Table.{HasStage};
 ghost use Rattle.server_events.specs.Within.{FindsWithin, noting};
 ghost use Rattle.server_events.specs.Worlds.{KeptFile, World};
@@ -10,7 +11,8 @@ ghost use Rattle.server_events.specs.declared.event.Stage.TheVariants as Stage;
 ghost use Rattle.server_yard.specs.Openings.{OpensBeside};
 ghost use Rattle.server_yard.specs.Readers.{IsAbsentOrCompiled, KeptYard, NamesStoredSinceDone, begun_in};
 ghost use Rattle.server_yard.specs.Serving.{IsReachedOn, IsServers, Serves, StepsByItself, over};
-ghost use Rattle.server_yard.specs.Standing.{IsNew, IsReachedBy, Leads, Series, YardState};
+ghost use Rattle.server_yard.specs.Standing.{IsNew, IsReachedBy, Leads, LeadsOpened, Series, YardState, standing_of};
+ghost use Rattle.server_yard.specs.Telling.{AreApart, ToldLater};
 
 /// From a yard that was just made, over a directory that began as it has to, each series of calls is a history of the headline: it leads
 /// from a start to a world that is the yard's. So all that the headline says of histories is true of the running yard.
@@ -42,6 +44,17 @@ pub fn opened_within()
     ensures { (w v : World) (y z : YardState) (files : List KeptFile) (n : ℕ) (bytes : Option (List ℕ))
         → IsServers y files w → FindsWithin w v bytes → OpensBeside n bytes y z
         → IsServers z (files ++ record { serial = n; bytes = bytes } ∷ []) (noting n bytes v) }
+{}
+
+/// The same of an opening by a handle of the connection's own, while the yard's other connections go on too: where it found what stood at a moment
+/// meanwhile, and the yard is told of it at its end (`Yard::opened`, clause `beside`), all is as if it had opened them at that moment. So
+/// the headline says that its decision is by the text that stood then.
+pub fn told_later()
+    ensures { (history events : List Event) (u w : World) (y z : YardState) (files : List KeptFile)
+        (n : ℕ) (bytes : Option (List ℕ)) → Reaches history u
+        → HasStage u.server n Stage.Admitted → Woven u events w → AreApart n events
+        → IsServers y files w → bytes ≡ standing_of (over y u.directory)
+        → LeadsOpened n bytes (over y u.directory) (over z u.directory) → ToldLater n bytes u events files z }
 {}
 
 /// What a reader finds, in each yard as its type keeps it where the premises were met when it was made. Whatever a stop leaves under it, the

@@ -1,0 +1,29 @@
+-- A connection that opened the rules by a handle of its own, beside its yard, which is told of it later.
+use Rattle.std.specs.Prelude.{◌≡◌, ◌≢◌, ⊤, ℕ, Bool, true, false, not, List, [], ◌∷◌, Option, Some, is_some}
+use Rattle.server_events.specs.Live.{concerns}
+use Rattle.server_events.specs.Processes.{Woven}
+use Rattle.server_events.specs.Worlds.{KeptFile, World, kept_by}
+use Rattle.server_events.specs.declared.event.Event.{Event}
+use Rattle.server_events.specs.declared.event.Event.TheVariants.{Opened, Stop}
+use Rattle.server_yard.specs.Serving.{IsServers}
+use Rattle.server_yard.specs.Standing.{YardState}
+
+-- an event that neither happens to this connection nor ends all
+abbrev pub is_apart : ℕ → Event → Bool
+is_apart n Stop = false
+is_apart n event = not (concerns n event)
+
+-- so each of these
+abbrev pub AreApart : ℕ → List Event → Type 0
+AreApart n [] = ⊤
+AreApart n (event ∷ events) = (is_apart n event ≡ true) × AreApart n events
+
+-- What the connection found in the world u is told some events later, and the yard is as it is then: all is as if the connection had opened the rules
+-- in u, at once. It keeps what it found, and each other connection what it kept.
+pub record ToldLater (n : ℕ) (bytes : Option (List ℕ)) (u : World) (events : List Event) (files : List KeptFile) (z : YardState) : Type 0 where
+  pub v : World
+  pub woven : Woven u (Opened n (is_some bytes) ∷ events) v
+  pub more : List KeptFile
+  pub its : IsServers z more v
+  pub keeps : kept_by n more ≡ Some bytes
+  pub others : (m : ℕ) → m ≢ n → kept_by m more ≡ kept_by m files
