@@ -5,7 +5,6 @@ use Rattle.std.specs.Borrow.{Bor}
 use Rattle.std.specs.Cmp.Lexicographic.{pointwise, nat_list_eq_equiv}
 use Rattle.std.specs.HashMap.{HashMap, UpdatesBy, get_by}
 use Rattle.std.specs.Map.{KeepsOthers, IsKeyTest, AreApart, lookup}
-use Rattle.std.specs.Net.Grammar.{IsDotted}
 use Rattle.std.specs.Net.Text.{dotted_text}
 use Rattle.std.proofs.lemmas.Bool.{cases_Bool, cond-true, cond-false, false_from_ne_true}
 use Rattle.std.proofs.lemmas.Slice.Eq.{bytes_eq-Decides}
