@@ -299,7 +299,7 @@ def no_process(suite):
 def no_places(suite):
     """Programs that can't be waited for keep their places for good; once all places are so, the server ends."""
     library = failed_calls.Library(suite.folder)
-    for error, retired in (("ECHILD", "retired 1"), ("EIO", "retired 1")):
+    for error in ("ECHILD", "EIO"):
         run = library.run("waitpid", error, 1, failed_calls.ALL)
         variables = dict(os.environ, **run.environment)
         with suite.start(["-v", "-c", "2"], [shutil.which("cat")], env=variables) as server:
@@ -307,10 +307,10 @@ def no_places(suite):
             wanted = (b"a\n", b"") if suite.handed else (b"a\n",)
             answers = [server.ask(b"a\n") for _ in range(2)]
             suite.holds("programs that can't be waited for", set(answers) <= set(wanted), answers)
-            wanted = [[retired, "status: 1/2"], ["retired 2", "status: 2/2"], ["no places left"]]
             suite.expect("the end without places under %s" % error, server.end(), 111)
             lines = [line for line in server.lines() if line.startswith(("retired", "no places"))]
-            suite.expect("the lines without places under %s" % error, lines, [part[0] for part in wanted])
+            # (each has a thread of its own, so that on a busy machine the second may be the first to fail)
+            suite.expect("the lines without places under %s" % error, sorted(lines[:2]) + lines[2:], ["retired 1", "retired 2", "no places left"])
             suite.audit("without places", server)
         run.end()
     # one lost place of two: the other one goes on
