@@ -13,8 +13,8 @@ PREFIX ?= /usr/local
 PROGRAM := crates/ucspi/out/ucspi
 TRIED := out/try/ucspi
 # the small programs of the tests and of the benchmarks: one program, which looks at the name by which it is called
-PROBE := crates/probes/out/probes
-PROBES := $(foreach name,call_probe disk_probe service_probe text_probe ucspi_bench yard_probe,crates/probes/out/$(name))
+PROBE := crates/test_programs/out/test_programs
+PROBES := $(foreach name,test_calls test_disks test_server test_texts ucspi_bench test_yards,crates/test_programs/out/$(name))
 # how many checks stand side by side, each on one processor (one that is given several takes a third more of them in all): one for each
 # processor, and for each 4 GB of free memory, twice what the largest takes
 RT_JOBS ?= $(shell awk -v most=$$(nproc) '/^MemAvailable/ { room = int($$2 / 4000000); print room < 1 ? 1 : room < most ? room : most }' /proc/meminfo)
@@ -29,7 +29,7 @@ $(PROGRAM): $(SOURCES)
 	@touch $@
 
 $(PROBE): $(SOURCES)
-	@RT_JOBS=$(RT_JOBS) scripts/prove probes
+	@RT_JOBS=$(RT_JOBS) scripts/prove test_programs
 	@touch $@
 
 $(PROBES): $(PROBE)

@@ -1,4 +1,4 @@
-"""Connections served over yards of both journals, by the program yard_probe: without a rules file, by rules that allow and deny, by a
+"""Connections served over yards of both journals, by the program test_yards: without a rules file, by rules that allow and deny, by a
 cut file, a file that cannot be read, a directory that fails, a client that takes a part of the banner; and each with one request for memory
 refused."""
 import os

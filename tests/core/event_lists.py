@@ -1,4 +1,4 @@
-"""Lists of events: which may happen and what they come to, by `rulesim`; and by the program yard_probe what `rulesim` cannot say: limits of 0, what
+"""Lists of events: which may happen and what they come to, by `rulesim`; and by the program test_yards what `rulesim` cannot say: limits of 0, what
 journals tell and store, and children whose wait fails or that do not start."""
 import os
 import tempfile

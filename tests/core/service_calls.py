@@ -1,5 +1,8 @@
 """A server of connections and jobs that answer as they are told to, such jobs between two pumps, and the lines of the log, by the program
-service_probe."""
+test_server."""
+import re
+
+import log_events
 from shared import probes
 
 # before the first connection, of its admission, and of its decision
@@ -106,6 +109,52 @@ def check_longer(program, calls):
     calls.holds("after the last connection", log.endswith(b"tcpserver: end 3 status 7\ntcpserver: status: 0/1\n"), log)
 
 
+# the lines of the log that tell an event of one connection, and the event
+TELLS = [
+    ("admitted", re.compile(rb"tcpserver: pid (\d+) from .*")),
+    ("allowed", re.compile(rb"tcpserver: ok (\d+) .*")),
+    ("ended", re.compile(rb"tcpserver: end (\d+) status .*")),
+    ("retired", re.compile(rb"tcpserver: retired (\d+)")),
+    ("dropped", re.compile(rb"tcpserver: drop (\d+) [a-z ]+")),
+    ("failed", re.compile(rb"tcpserver: start (\d+) (?!no pipe ends)[a-z ]+")),
+]
+# the lives that a connection of a server without rules may have
+LIVES = [["admitted", "opened", "allowed", "started", end] for end in ("ended", "retired")] + [["admitted", "opened", "allowed", "failed"]]
+
+
+def told_by(log):
+    """The events of connections that the lines of a log tell, each with its serial, in order."""
+    events = []
+    for line in log.splitlines():
+        for name, form in TELLS:
+            match = form.fullmatch(line)
+            if match:
+                events.append((name, int(match.group(1))))
+    return events
+
+
+def check_history(program, calls):
+    """Two thousand connections of forty at once and three from an address: the log tells the very events of the server's history, in their order."""
+    scripts = ["ek=%d" % (n % 10) for n in range(90)] + ["n", "m", "k=s", "ek=fs", "ek=ff3", "r", "ek", "k", "ek"] + ["ek=7"]
+    words = ["history", "40", "0", "10000000", "2000", "3", "30"] + scripts * 3
+    code, printed = probes.run([program] + words)
+    end, _, rest = printed.partition(b"\n")
+    history, _, log = rest.partition(b"\n\n")
+    calls.holds("two thousand connections end", (code, end.split(b", ")[:2]) == (0, [b"Count", b"9 alive"]), (code, end))
+    events = [line.split() for line in history.decode().splitlines()]
+    first = [(name, int(serial)) for caller, name, serial in events if caller == "1"]
+    calls.holds("one caller lets them in, and no more", first == [("admitted", n) for n in range(1, 2001)], first[-1:])
+    all_told = [(name, int(serial)) for _, name, serial in events]
+    told = [event for event in all_told if event[0] not in ("opened", "started")]
+    calls.holds("the log tells each event in its order", told_by(log) == told, "%d of %d" % (len(told_by(log)), len(told)))
+    lives = {}
+    for name, serial in all_told:
+        lives.setdefault(serial, []).append(name)
+    calls.holds("each connection has one life", all(life in LIVES for life in lives.values()) and len(lives) == 2000, len(lives))
+    read = log_events.Events(log, 3)
+    calls.holds("its lines fit", (read.faults, read.admitted, read.last_live) == ([], 2000, 9), (read.faults[:3], read.admitted, read.last_live))
+
+
 def check_logs(program, calls):
     """The lines of each event at each level."""
     for level, lines in (("all", ALL), ("errors", ERRORS), ("quiet", b"")):
@@ -123,5 +172,6 @@ def check(program, failures):
     for name, call, script, answer in PROGRAMS:
         calls.call(name, [call, script], b"", answer.encode())
     check_longer(program, calls)
+    check_history(program, calls)
     check_logs(program, calls)
     return calls.tests

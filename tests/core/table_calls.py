@@ -1,4 +1,4 @@
-"""Commands on tables of places, by the program call_probe: limits, full tables, places that are given back, retired and stranded, and ten
+"""Commands on tables of places, by the program test_calls: limits, full tables, places that are given back, retired and stranded, and ten
 thousand places in a mixed order beside a plain list."""
 import collections
 

@@ -1,4 +1,4 @@
-"""Calls of a yard over directories in memory, by the program yard_probe: limits, a thousand connections over each journal, and installations
+"""Calls of a yard over directories in memory, by the program test_yards: limits, a thousand connections over each journal, and installations
 each call of whose directory fails in turn."""
 from shared import probes
 from shared.checks import Checks

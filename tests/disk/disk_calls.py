@@ -1,4 +1,4 @@
-"""Calls of directories, by the program disk_probe: in memory with stops, with a call that fails, and over a disk in memory whose calls have
+"""Calls of directories, by the program test_disks: in memory with stops, with a call that fails, and over a disk in memory whose calls have
 mishaps in turn; installations there; names, files in memory and the texts of faults."""
 from shared import probes
 

@@ -1,4 +1,4 @@
-"""Calls that write compiled files, look keys up in them and install rules in a directory in memory, by the program call_probe. Files are compared
+"""Calls that write compiled files, look keys up in them and install rules in a directory in memory, by the program test_calls. Files are compared
 byte for byte with worked ones, and with those of a plain writer."""
 import struct
 

@@ -1,4 +1,4 @@
-"""Calls of a directory on a real folder, by the program disk_probe: what they answer, what they leave, and which system calls they make."""
+"""Calls of a directory on a real folder, by the program test_disks: what they answer, what they leave, and which system calls they make."""
 import os
 import pwd
 import re

@@ -226,7 +226,7 @@ def usages():
 
 def letters():
     """The options of tcpserver: `plain`, `valued` or `refused`."""
-    text = re.search(r'TCPSERVER_LETTERS: &str = "([^"]*)"', read("ucspi_words/src/letter.rt")).group(1)
+    text = re.search(r'TCPSERVER_LETTERS: &str = "([^"]*)"', read("server_words/src/letter.rt")).group(1)
     kinds = {"": "plain", ":": "valued", "!": "refused"}
     return {letter: kinds[mark] for letter, mark in re.findall(r"([^:!])([:!]?)", text)}
 
@@ -306,7 +306,7 @@ def check_variables(checks):
     source = read("rules_tools/src/variables.rt")
     asked = set(re.findall(r'read_variable\(\w+, \w+, "(\w+)"\)', source))
     checks.same("tcprulescheck: variables", Page("tcprulescheck").variables(), asked)
-    asked = set(re.findall(r'variables\.get\("(\w+)"\)', read("stream_tools/src/tools.rt")))
+    asked = set(re.findall(r'variables\.get\("(\w+)"\)', read("stream_tools/src/recordio.rt")))
     checks.same("recordio: variables", Page("recordio").variables(), asked | {"PATH"})
     checks.same("fixcrio: variables", Page("fixcrio").variables(), {"PATH"})
 
@@ -331,7 +331,7 @@ def check_program(checks):
     if "tcpserver" not in tools:
         listed = {item for item in listed if not item.startswith("tcpserver ")}
     checks.same("ucspi: tools", listed, set(tools.values()))
-    usage = re.search(r'const USAGE: &str = "([^"]*)"', read("ucspi_tools/src/program.rt")).group(1)
+    usage = re.search(r'#\[error\("usage: ([^"{]*)"\)\]', read("ucspi_tools/src/fault.rt")).group(1)
     checks.same("ucspi: texts", page.texts(), {"ucspi: usage: " + usage: 100, "ucspi: write fault": 111, "ucspi: out of memory": 111})
     words = set(re.findall(r'const \w+: &str = "(--\w+)"', read("ucspi_tools/src/choice.rt")))
     checks.same("ucspi: words of its own", set(re.findall(r"--\w+", " ".join(page.section("DESCRIPTION")))), words)
@@ -359,12 +359,12 @@ def check_server_texts(checks):
 
 
 def check_log_lines(checks):
-    page, source = Page("tcpserver"), read("status_lines/src/lines.rt")
+    page, source = Page("tcpserver"), read("server_log/src/texts.rt")
     begins = {text.rstrip() for text in re.findall(r'"(tcpserver: [^"]*)"', source)}
     verdicts = {"tcpserver: " + word.strip() for word in words_of(source, "verdict_word").values()}
     begins = begins - {"tcpserver:"} | verdicts
     # the line of a cause is made for each tool
-    begins |= {"tcpserver" + text.rstrip() for text in re.findall(r'"(: cause: )"', read("fault_causes/src/line.rt"))}
+    begins |= {"tcpserver" + text.rstrip() for text in re.findall(r'"(: cause: )"', read("byte_text/src/line.rt"))}
     # a warning is one whole text
     warnings = {text for text in re.findall(r'b"(tcpserver: [a-z, ]*)\\n"', read("server_log/src/log.rt"))} & set(page.log_lines())
     heads = {re.match(r"tcpserver: [a-z]+:?", line).group(0) for line in set(page.log_lines()) - warnings}

@@ -1,4 +1,4 @@
-"""Rule texts, lists and codes, and peers, lookup forms and decisions, by the program text_probe: each list, instruction and decision is shown
+"""Rule texts, lists and codes, and peers, lookup forms and decisions, by the program test_texts: each list, instruction and decision is shown
 and then its copy."""
 from shared.probes import Calls
 

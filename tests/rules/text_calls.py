@@ -1,4 +1,4 @@
-"""Wholes that are appended, environments, servers' ends, host tables, lines of the log and option words, by the program text_probe."""
+"""Wholes that are appended, environments, servers' ends, host tables, lines of the log and option words, by the program test_texts."""
 from shared.probes import Calls
 
 # what a child of a connection inherits and is told: how the connection came, the rules, and all variables in the order of their names

@@ -216,11 +216,7 @@ def slow_clients(suite):
             suite.expect("others beside slow clients", [server.ask(b"quick\n") for _ in range(5)], [b"quick\n"] * 5)
             suite.expect("a byte comes back", [client.recv(9) for client in slow], [bytes([byte])] * 20)
             time.sleep(1)
-        for client in slow:
-            client.shutdown(socket.SHUT_WR)
-        suite.expect("the end of slow clients", [read_all(client) for client in slow], [b""] * 20)
-        for client in slow:
-            client.close()
+        suite.expect("the end of slow clients", server_runs.finish(slow), [b""] * 20)
         server.idle()
         suite.audit("slow clients", server)
 

@@ -230,11 +230,7 @@ def many_at_once(suite):
         clients = [server.connect("127.2.%d.%d" % (n // 200, n % 200 + 1)) for n in range(400)]
         suite.expect("400 clients", [client.recv(3) for client in clients], [b"hi\n"] * 400)
         suite.expect("400 programs at once", counted(table)[:2], (400, 400))
-        for client in clients:
-            client.shutdown(socket.SHUT_WR)
-        suite.expect("400 ends", [read_all(client) for client in clients], [b""] * 400)
-        for client in clients:
-            client.close()
+        suite.expect("400 ends", server_runs.finish(clients), [b""] * 400)
         server.idle()
         events = suite.audit("400 at once", server)
         if events:

@@ -1,4 +1,4 @@
-"""Calls by a small program of the tests (`crates/probes`): one run of it is one call."""
+"""Calls by a small program of the tests (`crates/test_programs`): one run of it is one call."""
 import subprocess
 
 from shared.checks import LIMIT, Checks

@@ -60,6 +60,16 @@ def read_all(connection):
         pieces.append(piece)
 
 
+def finish(clients):
+    """Ends what each of these clients sends, and closes them: what each gets until then."""
+    for client in clients:
+        client.shutdown(socket.SHUT_WR)
+    rest = [read_all(client) for client in clients]
+    for client in clients:
+        client.close()
+    return rest
+
+
 def reset(connection):
     """Lets a connection vanish: the other end gets a reset, and no end of a stream."""
     connection.setsockopt(socket.SOL_SOCKET, socket.SO_LINGER, struct.pack("ii", 1, 0))

@@ -1,4 +1,4 @@
-"""Calls of stages, chains, pumps and records, by the program call_probe: texts in every cutting, readers and writers that stop at each call,
+"""Calls of stages, chains, pumps and records, by the program test_calls: texts in every cutting, readers and writers that stop at each call,
 and what taps are shown."""
 import collections
 import json

@@ -1,2 +1,4 @@
 -- Lemmas on what a call that appends leaves.
 pub mod Appends
+pub mod CutParts
+pub mod FieldTexts

@@ -1,11 +1,9 @@
 -- What a server does with each connection that it lets in.
 use Rattle.std.specs.Prelude.{ℕ, List}
-use Rattle.ucspi_env.specs.Ends.{LocalEnd}
 use Rattle.ucspi_env.specs.Variables.{Variables}
 use Rattle.child_jobs.specs.Programs.{ProgramText}
 
 pub record PlanText : Type 0 where
   pub program : ProgramText
   pub inherited : Variables
-  pub local : LocalEnd
   pub banner : List ℕ

@@ -1,12 +1,12 @@
 //! Programs, and jobs that run them.
 ghost use Rattle.std.specs.Prelude.{◌≡◌, true, false, Bool, Result, map, string_bytes, IfOk, IfErr, OnOk};
-ghost use Rattle.rule_lookup.specs.declared.outcome.StartFault.{StartFault as Fault};
-ghost use Rattle.rule_lookup.specs.declared.outcome.Status.{Status as StatusOf};
+ghost use Rattle.connection_facts.specs.declared.outcome.StartFault.{StartFault as Fault};
+ghost use Rattle.connection_facts.specs.declared.outcome.Status.{Status as StatusOf};
 ghost use Rattle.child_jobs.specs.declared.launch.WaitFault.{WaitFault};
 ghost use Rattle.ucspi_env.specs.Variables.{Variables};
 ghost use Rattle.child_jobs.specs.Programs.{ProgramText};
 
-use rule_lookup::{StartFault, Status};
+use connection_facts::{StartFault, Status};
 use std::alloc::{AllocError, Global};
 use std::io::{Read, Write};
 use std::marker::Model;

@@ -1,18 +1,17 @@
-//! What a connection needs beside its peer and its place.
+//! What a server does with its connections.
 ghost use Rattle.std.specs.Prelude.{◌≡◌, IfOk};
 
 use crate::launch::Program;
 use std::alloc::{AllocError, Global};
 use std::marker::Model;
-use ucspi_env::{Environment, Local};
+use ucspi_env::Environment;
 
-/// What a server does with each connection that it lets in: the program that is run, the variables that it inherits, the server's end of the
-/// connection, and the banner that is written to it first.
+/// What a server does with each connection that it lets in: the program that is run, the variables that it inherits, and the banner that is
+/// written to it first. All connections share it: what is a connection's own, as its two ends, stands beside it.
 #[derive(Debug, Drop)]
 pub struct Plan {
     program: Program,
     inherited: Environment,
-    local: Local,
     banner: Vec<u8>,
 }
 
@@ -24,25 +23,22 @@ impl Model for Plan {
     ghost view = { λ p. record {
       program = p.program;
       inherited = p.inherited;
-      local = p.local;
       banner = p.banner.items;
     } };
 }
 
 impl Plan {
     /// A plan of these. It takes no memory.
-    pub fn new(program: Program, inherited: Environment, local: Local, banner: Vec<u8>) -> Plan
+    pub fn new(program: Program, inherited: Environment, banner: Vec<u8>) -> Plan
         ensures { result ≡ record {
           program = program;
           inherited = inherited;
-          local = local;
           banner = banner.items;
         } }
     {
         Plan {
             program,
             inherited,
-            local,
             banner,
         }
     }
@@ -61,13 +57,6 @@ impl Plan {
         &self.inherited
     }
 
-    /// The server's end of the connection.
-    pub fn local(&self) -> &Local
-        ensures { result.now ≡ self.now.local }
-    {
-        &self.local
-    }
-
     /// What is written to the connection first.
     pub fn banner(&self) -> &[u8]
         ensures { result.now ≡ self.now.banner }
@@ -82,7 +71,6 @@ impl Plan {
         Ok(Plan {
             program: self.program.copy(alloc)?,
             inherited: self.inherited.copy(alloc)?,
-            local: self.local.copy(alloc)?,
             banner: self.banner.to_vec(alloc)?,
         })
     }

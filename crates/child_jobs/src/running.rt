@@ -1,11 +1,11 @@
 //! A child and its place, from start to end.
 ghost use Rattle.std.specs.Prelude.{◌≡◌, ◌+◌, IfOk, IfErr, OnOk, true, false};
-ghost use Rattle.child_table.specs.Seats.{is_used};
+ghost use Rattle.child_jobs.specs.Seats.{is_used};
 ghost use Rattle.child_jobs.specs.Runs.{IsSameRun, job_of, place_of};
 
 use crate::launch::{Job, Launcher, NoEnds, Program, WaitFault};
-use child_table::{Place, Table};
-use rule_lookup::{StartFault, Status};
+use crate::{Place, Table};
+use connection_facts::{StartFault, Status};
 use std::alloc::Global;
 use std::sync::ledger::Ledger;
 use ucspi_env::Environment;

@@ -1,3 +1,4 @@
+pub mod ChangedFiles
 pub mod Counting
 pub mod EntryLists
 pub mod FuseLemmas

@@ -12,6 +12,7 @@ use Rattle.dir_calls.specs.Lasting.{LastsAmong, HasAmong}
 use Rattle.dir_calls.specs.Moments.{Elapses}
 use Rattle.dir_calls.specs.Replacing.{Stays}
 use Rattle.dir_calls.specs.declared.fault.DirFault.TheVariants.{Device}
+use Rattle.dir_calls.specs.declared.dir.Dir.{Ghosts}
 use Rattle.dir_calls.proofs.Lasting.{image_has, makes_keeps}
 use Rattle.dir_calls.proofs.Moments.{started}
 use Rattle.dir_calls.proofs.NamesOf.{get-remove_other, same_name-self}
@@ -41,29 +42,20 @@ taken_fails d e name taken = record {
 }
 
 -- what lasts under another name
-pub removal_stays : {D : Type 0} (state : D → Directory) (moment : D → ℕ) (left_since : D → ℕ → Directory → Type 0) (name other : List ℕ) (contents : List (Option (List ℕ))) (old new : D) → name ≢ other → LastsAmong (state old) other contents
-    → ((image : Directory) → left_since old (moment old) image → IsImage (state old) image)
-    → Elapses (moment old) (moment new) (left_since old) (left_since new) (LeftBy (makes name) (state old) (state new))
-    → Fails (makes name) (state old) (state new)
-    → Stays state moment left_since other contents old new
-removal_stays state moment left_since name other contents old new differ lasts only time fails =
-    let keeps = makes_keeps (state old) other contents lasts name (λ same. differ (sym same)) in
-    stays_call state moment left_since other contents old new (λ (_ : ⊤). makes name) (makes name) (Err Device) only time fails keeps (λ _. keeps)
+pub removal_stays : {D F : Type 0} (tells : Ghosts D F) (name other : List ℕ) (contents : List (Option (List ℕ))) (old new : D) → name ≢ other → LastsAmong (tells.state old) other contents
+    → ((image : Directory) → tells.left_since old (tells.moment old) image → IsImage (tells.state old) image)
+    → Elapses (tells.moment old) (tells.moment new) (tells.left_since old) (tells.left_since new) (LeftBy (makes name) (tells.state old) (tells.state new))
+    → Fails (makes name) (tells.state old) (tells.state new)
+    → Stays tells other contents old new
+removal_stays tells name other contents old new differ lasts only time fails =
+    let keeps = makes_keeps (tells.state old) other contents lasts name (λ same. differ (sym same)) in
+    stays_call tells other contents old new (λ (_ : ⊤). makes name) (makes name) (Err Device) only time fails keeps (λ _. keeps)
 
 -- where nothing is done
-pub idle_stays : {D : Type 0} (state : D → Directory) (moment : D → ℕ) (left_since : D → ℕ → Directory → Type 0) (other : List ℕ) (contents : List (Option (List ℕ))) (dir : D) → LastsAmong (state dir) other contents
-    → ((image : Directory) → left_since dir (moment dir) image → IsImage (state dir) image)
-    → Stays state moment left_since other contents dir dir
-idle_stays state moment left_since other contents dir lasts only = record {
+pub idle_stays : {D F : Type 0} (tells : Ghosts D F) (other : List ℕ) (contents : List (Option (List ℕ))) (dir : D) → LastsAmong (tells.state dir) other contents
+    → ((image : Directory) → tells.left_since dir (tells.moment dir) image → IsImage (tells.state dir) image)
+    → Stays tells other contents dir dir
+idle_stays tells other contents dir lasts only = record {
   lasts = lasts;
-  any_moment = started moment left_since dir (HasAmong other contents) (λ image left. image_has (state dir) image other contents lasts (only image left));
-}
-
--- of a directory that holds another
-pub inside_stays : {D E : Type 0} (state : E → Directory) (moment : E → ℕ) (left_since : E → ℕ → Directory → Type 0) (inner : D → E) (other : List ℕ) (contents : List (Option (List ℕ))) (old new : D)
-    → Stays state moment left_since other contents (inner old) (inner new)
-    → Stays (λ dir. state (inner dir)) (λ dir. moment (inner dir)) (λ dir. left_since (inner dir)) other contents old new
-inside_stays state moment left_since inner other contents old new stays = record {
-  lasts = stays.lasts;
-  any_moment = record { later = stays.any_moment.later; each = stays.any_moment.each; before = stays.any_moment.before };
+  any_moment = started tells.moment tells.left_since dir (HasAmong other contents) (λ image left. image_has (tells.state dir) image other contents lasts (only image left));
 }

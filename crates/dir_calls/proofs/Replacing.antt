@@ -12,6 +12,7 @@ use Rattle.dir_calls.specs.Outcomes.{Does, LeftBy}
 use Rattle.dir_calls.specs.Lasting.{IsAmong, StandsFor, LastsAmong, HasAmong}
 use Rattle.dir_calls.specs.Moments.{Elapses}
 use Rattle.dir_calls.specs.Replacing.{Stays, HasSynced}
+use Rattle.dir_calls.specs.declared.dir.Dir.{Ghosts}
 use Rattle.dir_calls.proofs.Lasting.{CallKeeps, image_has, left_has, does_lasts, passes_lasts, lasts_more, renames_keeps, settled_lasts}
 use Rattle.dir_calls.proofs.Moments.{one_call}
 use Rattle.dir_calls.proofs.NamesOf.{get-insert_same}
@@ -26,49 +27,49 @@ pub on_ok : {T : Type 0} (P : Directory → Type 0) (call : Call) (d e : Directo
 on_ok P call d e (Ok x) does has = subst P (sym does) has
 on_ok P call d e (Err fault) does has = tt
 
-module _ {D : Type 0} (state : D → Directory) (moment : D → ℕ) (left_since : D → ℕ → Directory → Type 0) (name : List ℕ) (contents : List (Option (List ℕ))) where
+module _ {D F : Type 0} (tells : Ghosts D F) (name : List ℕ) (contents : List (Option (List ℕ))) where
   -- one call, whatever it answers
   pub stays_call : {T : Type 0} (old new : D) (done : T → Call) (whole : Call) (outcome : Result T DirFault)
-      → ((image : Directory) → left_since old (moment old) image → IsImage (state old) image)
-      → Elapses (moment old) (moment new) (left_since old) (left_since new) (LeftBy whole (state old) (state new))
-      → Does done whole (state old) (state new) outcome
-      → CallKeeps whole (state old) name contents → ((x : T) → CallKeeps (done x) (state old) name contents)
-      → Stays state moment left_since name contents old new
+      → ((image : Directory) → tells.left_since old (tells.moment old) image → IsImage (tells.state old) image)
+      → Elapses (tells.moment old) (tells.moment new) (tells.left_since old) (tells.left_since new) (LeftBy whole (tells.state old) (tells.state new))
+      → Does done whole (tells.state old) (tells.state new) outcome
+      → CallKeeps whole (tells.state old) name contents → ((x : T) → CallKeeps (done x) (tells.state old) name contents)
+      → Stays tells name contents old new
   stays_call old new done whole outcome only time does keeps part = record {
     lasts = lasts;
-    any_moment = one_call moment left_since old new (HasAmong name contents) (LeftBy whole (state old) (state new)) (IsImage (state old)) only
-        (λ image is. image_has (state old) image name contents (passes_lasts whole (state old) (state old) name contents keeps (passes_start whole (state old))) is)
-        time (λ image left. left_has whole (state old) (state new) image name contents keeps lasts left);
+    any_moment = one_call tells.moment tells.left_since old new (HasAmong name contents) (LeftBy whole (tells.state old) (tells.state new)) (IsImage (tells.state old)) only
+        (λ image is. image_has (tells.state old) image name contents (passes_lasts whole (tells.state old) (tells.state old) name contents keeps (passes_start whole (tells.state old))) is)
+        time (λ image left. left_has whole (tells.state old) (tells.state new) image name contents keeps lasts left);
   }
     where
-      lasts : LastsAmong (state new) name contents
-      lasts = does_lasts done whole (state old) (state new) outcome name contents does keeps part
+      lasts : LastsAmong (tells.state new) name contents
+      lasts = does_lasts done whole (tells.state old) (tells.state new) outcome name contents does keeps part
 
   -- one run and then another
-  pub stays_then : (old mid new : D) → Stays state moment left_since name contents old mid → Stays state moment left_since name contents mid new → Stays state moment left_since name contents old new
+  pub stays_then : (old mid new : D) → Stays tells name contents old mid → Stays tells name contents mid new → Stays tells name contents old new
   stays_then old mid new first second = record {
     lasts = second.lasts;
     any_moment = record {
       later = omega (arith, first.any_moment.later, second.any_moment.later);
-      each = λ image left. ⊎_elim (first.any_moment.each image) (λ has. has) (second.any_moment.before (moment old) image first.any_moment.later left);
+      each = λ image left. ⊎_elim (first.any_moment.each image) (λ has. has) (second.any_moment.before (tells.moment old) image first.any_moment.later left);
       before = λ earlier image le left. ⊎_elim (first.any_moment.before earlier image le) (λ has. inr has) (second.any_moment.before earlier image (omega (arith, le, first.any_moment.later)) left);
     };
   }
 
   -- a run and then one call
   pub stays_on : {T : Type 0} (old mid new : D) (done : T → Call) (whole : Call) (outcome : Result T DirFault)
-      → Stays state moment left_since name contents old mid
-      → ((image : Directory) → left_since mid (moment mid) image → IsImage (state mid) image)
-      → Elapses (moment mid) (moment new) (left_since mid) (left_since new) (LeftBy whole (state mid) (state new))
-      → Does done whole (state mid) (state new) outcome
-      → CallKeeps whole (state mid) name contents → ((x : T) → CallKeeps (done x) (state mid) name contents)
-      → Stays state moment left_since name contents old new
+      → Stays tells name contents old mid
+      → ((image : Directory) → tells.left_since mid (tells.moment mid) image → IsImage (tells.state mid) image)
+      → Elapses (tells.moment mid) (tells.moment new) (tells.left_since mid) (tells.left_since new) (LeftBy whole (tells.state mid) (tells.state new))
+      → Does done whole (tells.state mid) (tells.state new) outcome
+      → CallKeeps whole (tells.state mid) name contents → ((x : T) → CallKeeps (done x) (tells.state mid) name contents)
+      → Stays tells name contents old new
   stays_on old mid new done whole outcome so_far only time does keeps part = stays_then old mid new so_far (stays_call mid new done whole outcome only time does keeps part)
 
   -- more may stand there
-  pub stays_more : (more : List (Option (List ℕ))) (old new : D) → ((w : Option (List ℕ)) → IsAmong contents w → IsAmong more w) → Stays state moment left_since name contents old new → Stays state moment left_since name more old new
+  pub stays_more : (more : List (Option (List ℕ))) (old new : D) → ((w : Option (List ℕ)) → IsAmong contents w → IsAmong more w) → Stays tells name contents old new → Stays tells name more old new
   stays_more more old new to stays = record {
-    lasts = lasts_more (state new) name contents more to stays.lasts;
+    lasts = lasts_more (tells.state new) name contents more to stays.lasts;
     any_moment = record {
       later = stays.any_moment.later;
       each = λ image left. to (content image name) (stays.any_moment.each image left);
@@ -154,17 +155,17 @@ synced_at d name bytes has = by (number_of d name) refl has
     by (Some n) is file = record { n = n; number = is; file = file }
 
 -- a synced file is moved onto the name, whatever is answered
-pub stays_moved : {D : Type 0} {T : Type 0} (state : D → Directory) (moment : D → ℕ) (left_since : D → ℕ → Directory → Type 0) (from to bytes : List ℕ) (olds : List (Option (List ℕ))) (old mid new : D) (outcome : Result T DirFault)
-    → Stays state moment left_since to olds old mid → HasSynced from bytes (state mid)
-    → ((image : Directory) → left_since mid (moment mid) image → IsImage (state mid) image)
-    → Elapses (moment mid) (moment new) (left_since mid) (left_since new) (LeftBy (renames from to) (state mid) (state new))
-    → Does (λ _. renames from to) (renames from to) (state mid) (state new) outcome
-    → Stays state moment left_since to (Some bytes ∷ olds) old new
-stays_moved state moment left_since from to bytes olds old mid new outcome so_far has only time does =
-    let at = synced_at (state mid) from bytes has in
-    let keeps = renames_keeps (state mid) from to at.n bytes at.number at.file olds so_far.lasts in
-    stays_on state moment left_since to (Some bytes ∷ olds) old mid new (λ _. renames from to) (renames from to) outcome
-    (stays_more state moment left_since to olds (Some bytes ∷ olds) old mid (λ w among. inr among) so_far) only time does keeps (λ _. keeps)
+pub stays_moved : {D F : Type 0} {T : Type 0} (tells : Ghosts D F) (from to bytes : List ℕ) (olds : List (Option (List ℕ))) (old mid new : D) (outcome : Result T DirFault)
+    → Stays tells to olds old mid → HasSynced from bytes (tells.state mid)
+    → ((image : Directory) → tells.left_since mid (tells.moment mid) image → IsImage (tells.state mid) image)
+    → Elapses (tells.moment mid) (tells.moment new) (tells.left_since mid) (tells.left_since new) (LeftBy (renames from to) (tells.state mid) (tells.state new))
+    → Does (λ _. renames from to) (renames from to) (tells.state mid) (tells.state new) outcome
+    → Stays tells to (Some bytes ∷ olds) old new
+stays_moved tells from to bytes olds old mid new outcome so_far has only time does =
+    let at = synced_at (tells.state mid) from bytes has in
+    let keeps = renames_keeps (tells.state mid) from to at.n bytes at.number at.file olds so_far.lasts in
+    stays_on tells to (Some bytes ∷ olds) old mid new (λ _. renames from to) (renames from to) outcome
+    (stays_more tells to olds (Some bytes ∷ olds) old mid (λ w among. inr among) so_far) only time does keeps (λ _. keeps)
 
 -- once it is moved and settled, it alone stands there
 pub replaced : (d : Directory) (from to bytes : List ℕ) → HasSynced from bytes d → LastsAmong (after settles (after (renames from to) d)) to (Some bytes ∷ [])

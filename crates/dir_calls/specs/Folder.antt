@@ -12,7 +12,11 @@ abbrev pub table_of : Names → ℕ → List NameChange → NameTable
 table_of origin settled changes = record { settled = after_changes origin (take settled changes); pending = drop settled changes }
 
 abbrev pub directory_of : Folder → Directory
-directory_of f = record { names = table_of (names_in f.origin.items) f.settled (map change_of f.edits.items); files = map file_of f.files.items; scratch = f.scratch }
+directory_of f = record {
+  names = table_of (names_in f.origin.items) f.settled (map change_of f.edits.items);
+  files = map file_of f.files.items;
+  scratch = f.scratch;
+}
 
 -- with these names, all of them settled, and no scratch file
 abbrev pub settled_directory : Names → List FileState → Directory

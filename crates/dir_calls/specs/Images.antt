@@ -27,5 +27,6 @@ pub record IsImage (d image : Directory) : Type 0 where
   pub names : LeftByName d.names (names_of image)
   pub none_pending : image.names.pending ≡ []
   pub count : length image.files ≡ length d.files
-  pub files : (number : ℕ) (file : FileState) → slice_get d.files number ≡ Some file → (left : FileState) × (slice_get image.files number ≡ Some left) × IsLeftOf d.names number file left
+  pub files : (number : ℕ) (file : FileState) → slice_get d.files number ≡ Some file → (left : FileState)
+      × (slice_get image.files number ≡ Some left) × IsLeftOf d.names number file left
   pub no_scratch : image.scratch ≡ None

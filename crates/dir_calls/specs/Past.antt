@@ -22,7 +22,8 @@ LeftIn call image = IsImage call.before image ⊎ ((name : List ℕ) × (call.ma
 
 -- a stop now, or within one of these calls from the one on whose number the moment is
 abbrev pub LeftSince : List PastCall → Directory → ℕ → Directory → Type 0
-LeftSince calls now moment image = IsImage now image ⊎ ((place : ℕ) × (moment ≤ place) × (call : PastCall) × (slice_get calls place ≡ Some call) × LeftIn call image)
+LeftSince calls now moment image = IsImage now image
+    ⊎ ((place : ℕ) × (moment ≤ place) × (call : PastCall) × (slice_get calls place ≡ Some call) × LeftIn call image)
 
 -- since the last of them there is only now
 pub left_now : (calls : List PastCall) (now image : Directory) → LeftSince calls now (length calls) image → IsImage now image

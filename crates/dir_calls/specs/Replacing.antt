@@ -3,22 +3,23 @@ use Rattle.std.specs.Prelude.{◌≡◌, ℕ, true, List, ◌∷◌, Option, Som
 use Rattle.dir_calls.specs.Directory.{Directory, file_at}
 use Rattle.dir_calls.specs.Lasting.{LastsAmong, HasAmong}
 use Rattle.dir_calls.specs.Moments.{LeavesOnly}
+use Rattle.dir_calls.specs.declared.dir.Dir.{Ghosts}
 
 -- From the old directory to the new one, one of these contents stands under the name: for good at the end, and whenever the machine
 -- stops since the old one's moment.
-pub record Stays {D : Type 0} (state : D → Directory) (moment : D → ℕ) (left_since : D → ℕ → Directory → Type 0) (name : List ℕ) (contents : List (Option (List ℕ))) (old new : D) : Type 0 where
-  pub lasts : LastsAmong (state new) name contents
-  pub any_moment : LeavesOnly moment left_since old new (HasAmong name contents)
+pub record Stays {D F : Type 0} (tells : Ghosts D F) (name : List ℕ) (contents : List (Option (List ℕ))) (old new : D) : Type 0 where
+  pub lasts : LastsAmong (tells.state new) name contents
+  pub any_moment : LeavesOnly tells.moment tells.left_since old new (HasAmong name contents)
 
 -- what lasts under the name lasts there, and stands there whenever the machine stops meanwhile
-abbrev pub KeepsWhatLasts : {D : Type 0} → (state : D → Directory) → (moment : D → ℕ) → (left_since : D → ℕ → Directory → Type 0) → (name : List ℕ) → (old new : D) → Type 0
-KeepsWhatLasts state moment left_since name old new =
-    (contents : List (Option (List ℕ))) → LastsAmong (state old) name contents → Stays state moment left_since name contents old new
+abbrev pub KeepsWhatLasts : {D F : Type 0} → Ghosts D F → (name : List ℕ) → (old new : D) → Type 0
+KeepsWhatLasts tells name old new =
+    (contents : List (Option (List ℕ))) → LastsAmong (tells.state old) name contents → Stays tells name contents old new
 
 -- what lasts under the name, or a file with these bytes, lasts there, and stands there whenever the machine stops meanwhile
-abbrev pub KeepsOrPuts : {D : Type 0} → (state : D → Directory) → (moment : D → ℕ) → (left_since : D → ℕ → Directory → Type 0) → (name bytes : List ℕ) → (old new : D) → Type 0
-KeepsOrPuts state moment left_since name bytes old new =
-    (contents : List (Option (List ℕ))) → LastsAmong (state old) name contents → Stays state moment left_since name (Some bytes ∷ contents) old new
+abbrev pub KeepsOrPuts : {D F : Type 0} → Ghosts D F → (name bytes : List ℕ) → (old new : D) → Type 0
+KeepsOrPuts tells name bytes old new =
+    (contents : List (Option (List ℕ))) → LastsAmong (tells.state old) name contents → Stays tells name (Some bytes ∷ contents) old new
 
 -- a synced file with these bytes stands under a name
 abbrev pub HasSynced : List ℕ → List ℕ → Directory → Type 0

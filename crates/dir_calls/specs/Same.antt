@@ -36,10 +36,14 @@ coded_change : Coded NameChange
 coded_change = code_by Parts (coded× coded_ℕ (coded× (coded_list coded_ℕ) (coded× (coded_list coded_ℕ) coded_ℕ))) parts_of of_parts whole
 
 coded_table : Coded NameTable
-coded_table = code_by (Names × List NameChange) (coded× coded_names (coded_list coded_change)) (λ t. (t.settled, t.pending)) (λ p. record { settled = p.0; pending = p.1 }) (λ _. refl)
+coded_table =
+    code_by (Names × List NameChange) (coded× coded_names (coded_list coded_change)) (λ t. (t.settled, t.pending))
+    (λ p. record { settled = p.0; pending = p.1 }) (λ _. refl)
 
 coded_file : Coded FileState
-coded_file = code_by (List ℕ × Bool) (coded× (coded_list coded_ℕ) coded_bool) (λ f. (f.bytes, f.synced)) (λ p. record { bytes = p.0; synced = p.1 }) (λ _. refl)
+coded_file =
+    code_by (List ℕ × Bool) (coded× (coded_list coded_ℕ) coded_bool) (λ f. (f.bytes, f.synced))
+    (λ p. record { bytes = p.0; synced = p.1 }) (λ _. refl)
 
 coded_directory : Coded Directory
 coded_directory =

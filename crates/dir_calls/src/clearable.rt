@@ -17,7 +17,7 @@ pub trait ClearableDir: Dir {
     fn take_away(&mut self, alloc: Global, name: &Name) -> Result<(), DirFault>
         ensures gone { IsTrue Self.honest → OnOk result (number_of (Self.state self.new) name.now ≡ None) }
         ensures stays { IsTrue Self.honest → (other : List ℕ) → name.now ≢ other
-            → KeepsWhatLasts Self.state Self.moment Self.left_since other self.old self.new }
+            → KeepsWhatLasts Self.Dir other self.old self.new }
         ensures faults { IfErr result (Contains (DirFault.Device ∷ DirFault.OutOfMemory ∷ [])) }
         ensures counted { CountsFault (Self.failed self.old) (Self.failed self.new) result };
 }

@@ -68,6 +68,9 @@ impl Folder {
     }
 
     /// Takes away what stands under a name, and makes a new empty file there, the scratch file.
+    ///
+    /// # Errors
+    /// Want of memory. Nothing has changed.
     pub fn make(&mut self, alloc: Global, name: &[u8]) -> Result<(), AllocError>
         ensures ok { OnOk result (directory_of self.new ≡ after (makes name.now) (directory_of self.old)) }
         ensures err { OnErr result (directory_of self.new ≡ directory_of self.old) }
@@ -97,6 +100,9 @@ impl Folder {
     }
 
     /// Takes a name away, if it stands, and tells whether it did.
+    ///
+    /// # Errors
+    /// Want of memory. Nothing has changed.
     pub fn take(&mut self, alloc: Global, name: &[u8]) -> Result<bool, AllocError>
         ensures stood { IfOk result (λ stood. stood ≡ is_some (number_of (directory_of self.old) name.now)) }
         ensures ok { OnOk result (directory_of self.new ≡ without (directory_of self.old) name.now) }
@@ -139,6 +145,9 @@ impl Folder {
     }
 
     /// The file that stands under a name, if any.
+    ///
+    /// # Errors
+    /// Want of memory for a copy of its bytes, where they are not synced.
     pub fn open(&self, alloc: Global, name: &[u8]) -> Result<Option<MemFile>, AllocError>
         ensures { IfOk result (λ found. found ≡ content (directory_of self.now) name.now) }
     {
@@ -153,6 +162,9 @@ impl Folder {
     }
 
     /// Puts bytes at the end of the scratch file.
+    ///
+    /// # Errors
+    /// Want of memory. Nothing has changed.
     pub fn append(&mut self, number: usize, piece: &[u8]) -> Result<(), AllocError>
         requires { self.old.scratch ≡ Some number }
         ensures ok { OnOk result (directory_of self.new ≡ after (appends piece.now) (directory_of self.old)) }
@@ -176,6 +188,9 @@ impl Folder {
     }
 
     /// Makes the scratch file lasting. It stays the scratch file.
+    ///
+    /// # Errors
+    /// Want of memory. Nothing has changed.
     pub fn last(&mut self, alloc: Global, number: usize) -> Result<(), AllocError>
         requires { self.old.scratch ≡ Some number }
         ensures ok { OnOk result (directory_of self.new
@@ -195,13 +210,16 @@ impl Folder {
     }
 
     /// Makes the scratch file lasting, and closes it.
+    ///
+    /// # Errors
+    /// Want of memory. Nothing has changed.
     pub fn sync(&mut self, alloc: Global, number: usize) -> Result<(), AllocError>
         requires { self.old.scratch ≡ Some number }
         ensures ok { OnOk result (directory_of self.new ≡ after syncs (directory_of self.old)) }
         ensures err { OnErr result (directory_of self.new ≡ directory_of self.old) }
     {
         self.last(alloc, number)?;
-        self.scratch = None;
+        self.leave();
         Ok(())
     }
 
@@ -213,6 +231,9 @@ impl Folder {
     }
 
     /// Moves a name that stands for this number onto another, unless that stands for it too.
+    ///
+    /// # Errors
+    /// Want of memory. Nothing has changed.
     pub fn rename(
         &mut self,
         alloc: Global,

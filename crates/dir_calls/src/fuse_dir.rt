@@ -3,7 +3,7 @@ ghost use Rattle.std.specs.Prelude.{◌≡◌, ◌≢◌, ◌≤◌, ◌<◌, �
 ghost use Rattle.std.specs.Option.{option_map};
 ghost use Rattle.dir_calls.specs.Directory.{number_of, scratch_of, content};
 ghost use Rattle.dir_calls.specs.Calls.{makes, appends, patches, syncs, renames, settles};
-ghost use Rattle.dir_calls.specs.Methods.{DoesCall, AppendsSome, CallElapses, CallIncludes, OpenElapses, IsInside};
+ghost use Rattle.dir_calls.specs.Methods.{AppendsSome, DoesCall, IsInside};
 ghost use Rattle.dir_calls.specs.Moments.{CountsFault};
 ghost use Rattle.dir_calls.specs.Fuse.{failures_with};
 ghost use Rattle.dir_calls.specs.Replacing.{KeepsWhatLasts};
@@ -65,7 +65,7 @@ impl<D: Dir> FuseDir<D> {
 
 #[tactic(auto, using(crate::proofs::FuseLemmas::burnt_counts, crate::proofs::FuseLemmas::burnt_more, crate::proofs::FuseLemmas::passed_counts))]
 impl<D: Dir> Dir for FuseDir<D> {
-    ghost use Rattle.dir_calls.specs.FuseParts.{fuse_inner, fuse_left, fuse_failed, FuseBurns, FusePasses};
+    ghost use Rattle.dir_calls.specs.FuseParts.{FuseBurns, FuseElapses, FuseIncludes, FuseOpens, FusePasses, fuse_failed, fuse_inner, fuse_left, fuse_state};
 
     type File = D::File;
 
@@ -86,17 +86,14 @@ impl<D: Dir> Dir for FuseDir<D> {
     ghost honest_files = { D.honest_files };
 
     fn fresh(&mut self, alloc: Global, name: &Name) -> Result<(), DirFault>
-        ensures does { IsTrue D.honest
-            → DoesCall D.state (makes name.now) (fuse_inner self.old) (fuse_inner self.new) result }
+        ensures does { IsTrue D.honest → DoesCall fuse_state (makes name.now) self.old self.new result }
         ensures faults { IfErr result (Contains (DirFault.Device ∷ DirFault.OutOfMemory ∷ [])) }
-        ensures counted { CountsFault (fuse_failed D.failed self.old) (fuse_failed D.failed self.new) result }
+        ensures counted { CountsFault (fuse_failed self.old) (fuse_failed self.new) result }
         ensures counts { fuse_left self.new ≡ fuse_left self.old - 1 }
-        ensures burns { FuseBurns D.failed self.old self.new result }
-        ensures passes { FusePasses D.failed self.old self.new result }
-        ensures time { IsTrue D.honest
-            → CallElapses D.state D.moment D.left_since (makes name.now) (fuse_inner self.old) (fuse_inner self.new) }
-        ensures within { IsTrue D.honest → OnOk result
-            (CallIncludes D.state D.moment D.left_since (makes name.now) (fuse_inner self.old) (fuse_inner self.new)) }
+        ensures burns { FuseBurns self.old self.new result }
+        ensures passes { FusePasses self.old self.new result }
+        ensures time { IsTrue D.honest → FuseElapses (makes name.now) self.old self.new }
+        ensures within { IsTrue D.honest → OnOk result (FuseIncludes (makes name.now) self.old self.new) }
     {
         if burns(&mut self.left, &mut self.burnt) {
             return Err(DirFault::Device);
@@ -107,22 +104,19 @@ impl<D: Dir> Dir for FuseDir<D> {
     fn append(&mut self, alloc: Global, piece: &[u8]) -> Result<usize, DirFault>
         ensures taken { IfOk result (λ count. count ≤ length piece.now) }
         ensures some { IfOk result (λ count. 0 < length piece.now → 0 < count) }
-        ensures does { IsTrue D.honest
-            → AppendsSome D.state piece.now (fuse_inner self.old) (fuse_inner self.new) result }
-        ensures scratch { IsTrue D.honest → OnOk result (IsSome (D.state (fuse_inner self.old)).scratch) }
+        ensures does { IsTrue D.honest → AppendsSome fuse_state piece.now self.old self.new result }
+        ensures scratch { IsTrue D.honest → OnOk result (IsSome (fuse_state self.old).scratch) }
         ensures no_scratch { IsTrue D.honest → result ≡ Err DirFault.NoScratch
-            → (D.state (fuse_inner self.old)).scratch ≡ None }
+            → (fuse_state self.old).scratch ≡ None }
         ensures no_memory { IsTrue D.honest → result ≡ Err DirFault.OutOfMemory
-            → IsSome (D.state (fuse_inner self.old)).scratch }
+            → IsSome (fuse_state self.old).scratch }
         ensures faults { IfErr result (Contains (DirFault.NoScratch ∷ DirFault.Device ∷ DirFault.OutOfMemory ∷ [])) }
-        ensures counted { CountsFault (fuse_failed D.failed self.old) (fuse_failed D.failed self.new) result }
+        ensures counted { CountsFault (fuse_failed self.old) (fuse_failed self.new) result }
         ensures counts { fuse_left self.new ≡ fuse_left self.old - 1 }
-        ensures burns { FuseBurns D.failed self.old self.new result }
-        ensures passes { FusePasses D.failed self.old self.new result }
-        ensures time { IsTrue D.honest
-            → CallElapses D.state D.moment D.left_since (appends piece.now) (fuse_inner self.old) (fuse_inner self.new) }
-        ensures within { IsTrue D.honest → OnOk result
-            (CallIncludes D.state D.moment D.left_since (appends piece.now) (fuse_inner self.old) (fuse_inner self.new)) }
+        ensures burns { FuseBurns self.old self.new result }
+        ensures passes { FusePasses self.old self.new result }
+        ensures time { IsTrue D.honest → FuseElapses (appends piece.now) self.old self.new }
+        ensures within { IsTrue D.honest → OnOk result (FuseIncludes (appends piece.now) self.old self.new) }
     {
         if burns(&mut self.left, &mut self.burnt) {
             return Err(DirFault::Device);
@@ -131,23 +125,20 @@ impl<D: Dir> Dir for FuseDir<D> {
     }
 
     fn patch(&mut self, alloc: Global, place: u64, bytes: &[u8]) -> Result<(), DirFault>
-        requires inside { IsTrue D.honest → IsInside place bytes.now (scratch_of (D.state (fuse_inner self.old))) }
-        ensures does { IsTrue D.honest
-            → DoesCall D.state (patches place bytes.now) (fuse_inner self.old) (fuse_inner self.new) result }
-        ensures scratch { IsTrue D.honest → OnOk result (IsSome (D.state (fuse_inner self.old)).scratch) }
+        requires inside { IsTrue D.honest → IsInside place bytes.now (scratch_of (fuse_state self.old)) }
+        ensures does { IsTrue D.honest → DoesCall fuse_state (patches place bytes.now) self.old self.new result }
+        ensures scratch { IsTrue D.honest → OnOk result (IsSome (fuse_state self.old).scratch) }
         ensures no_scratch { IsTrue D.honest → result ≡ Err DirFault.NoScratch
-            → (D.state (fuse_inner self.old)).scratch ≡ None }
+            → (fuse_state self.old).scratch ≡ None }
         ensures no_memory { IsTrue D.honest → result ≡ Err DirFault.OutOfMemory
-            → IsSome (D.state (fuse_inner self.old)).scratch }
+            → IsSome (fuse_state self.old).scratch }
         ensures faults { IfErr result (Contains (DirFault.NoScratch ∷ DirFault.Device ∷ DirFault.OutOfMemory ∷ [])) }
-        ensures counted { CountsFault (fuse_failed D.failed self.old) (fuse_failed D.failed self.new) result }
+        ensures counted { CountsFault (fuse_failed self.old) (fuse_failed self.new) result }
         ensures counts { fuse_left self.new ≡ fuse_left self.old - 1 }
-        ensures burns { FuseBurns D.failed self.old self.new result }
-        ensures passes { FusePasses D.failed self.old self.new result }
-        ensures time { IsTrue D.honest
-            → CallElapses D.state D.moment D.left_since (patches place bytes.now) (fuse_inner self.old) (fuse_inner self.new) }
-        ensures within { IsTrue D.honest → OnOk result
-            (CallIncludes D.state D.moment D.left_since (patches place bytes.now) (fuse_inner self.old) (fuse_inner self.new)) }
+        ensures burns { FuseBurns self.old self.new result }
+        ensures passes { FusePasses self.old self.new result }
+        ensures time { IsTrue D.honest → FuseElapses (patches place bytes.now) self.old self.new }
+        ensures within { IsTrue D.honest → OnOk result (FuseIncludes (patches place bytes.now) self.old self.new) }
     {
         if burns(&mut self.left, &mut self.burnt) {
             return Err(DirFault::Device);
@@ -156,22 +147,19 @@ impl<D: Dir> Dir for FuseDir<D> {
     }
 
     fn sync(&mut self, alloc: Global) -> Result<(), DirFault>
-        ensures does { IsTrue D.honest
-            → DoesCall D.state syncs (fuse_inner self.old) (fuse_inner self.new) result }
-        ensures scratch { IsTrue D.honest → OnOk result (IsSome (D.state (fuse_inner self.old)).scratch) }
+        ensures does { IsTrue D.honest → DoesCall fuse_state syncs self.old self.new result }
+        ensures scratch { IsTrue D.honest → OnOk result (IsSome (fuse_state self.old).scratch) }
         ensures no_scratch { IsTrue D.honest → result ≡ Err DirFault.NoScratch
-            → (D.state (fuse_inner self.old)).scratch ≡ None }
+            → (fuse_state self.old).scratch ≡ None }
         ensures no_memory { IsTrue D.honest → result ≡ Err DirFault.OutOfMemory
-            → IsSome (D.state (fuse_inner self.old)).scratch }
+            → IsSome (fuse_state self.old).scratch }
         ensures faults { IfErr result (Contains (DirFault.NoScratch ∷ DirFault.Device ∷ DirFault.OutOfMemory ∷ [])) }
-        ensures counted { CountsFault (fuse_failed D.failed self.old) (fuse_failed D.failed self.new) result }
+        ensures counted { CountsFault (fuse_failed self.old) (fuse_failed self.new) result }
         ensures counts { fuse_left self.new ≡ fuse_left self.old - 1 }
-        ensures burns { FuseBurns D.failed self.old self.new result }
-        ensures passes { FusePasses D.failed self.old self.new result }
-        ensures time { IsTrue D.honest
-            → CallElapses D.state D.moment D.left_since syncs (fuse_inner self.old) (fuse_inner self.new) }
-        ensures within { IsTrue D.honest → OnOk result
-            (CallIncludes D.state D.moment D.left_since syncs (fuse_inner self.old) (fuse_inner self.new)) }
+        ensures burns { FuseBurns self.old self.new result }
+        ensures passes { FusePasses self.old self.new result }
+        ensures time { IsTrue D.honest → FuseElapses syncs self.old self.new }
+        ensures within { IsTrue D.honest → OnOk result (FuseIncludes syncs self.old self.new) }
     {
         if burns(&mut self.left, &mut self.burnt) {
             return Err(DirFault::Device);
@@ -180,22 +168,19 @@ impl<D: Dir> Dir for FuseDir<D> {
     }
 
     fn rename(&mut self, alloc: Global, from: &Name, to: &Name) -> Result<(), DirFault>
-        ensures does { IsTrue D.honest
-            → DoesCall D.state (renames from.now to.now) (fuse_inner self.old) (fuse_inner self.new) result }
-        ensures found { IsTrue D.honest → OnOk result (IsSome (number_of (D.state (fuse_inner self.old)) from.now)) }
+        ensures does { IsTrue D.honest → DoesCall fuse_state (renames from.now to.now) self.old self.new result }
+        ensures found { IsTrue D.honest → OnOk result (IsSome (number_of (fuse_state self.old) from.now)) }
         ensures no_name { IsTrue D.honest → result ≡ Err DirFault.NoName
-            → number_of (D.state (fuse_inner self.old)) from.now ≡ None }
+            → number_of (fuse_state self.old) from.now ≡ None }
         ensures no_memory { IsTrue D.honest → result ≡ Err DirFault.OutOfMemory
-            → IsSome (number_of (D.state (fuse_inner self.old)) from.now) }
+            → IsSome (number_of (fuse_state self.old) from.now) }
         ensures faults { IfErr result (Contains (DirFault.NoName ∷ DirFault.Device ∷ DirFault.OutOfMemory ∷ [])) }
-        ensures counted { CountsFault (fuse_failed D.failed self.old) (fuse_failed D.failed self.new) result }
+        ensures counted { CountsFault (fuse_failed self.old) (fuse_failed self.new) result }
         ensures counts { fuse_left self.new ≡ fuse_left self.old - 1 }
-        ensures burns { FuseBurns D.failed self.old self.new result }
-        ensures passes { FusePasses D.failed self.old self.new result }
-        ensures time { IsTrue D.honest
-            → CallElapses D.state D.moment D.left_since (renames from.now to.now) (fuse_inner self.old) (fuse_inner self.new) }
-        ensures within { IsTrue D.honest → OnOk result
-            (CallIncludes D.state D.moment D.left_since (renames from.now to.now) (fuse_inner self.old) (fuse_inner self.new)) }
+        ensures burns { FuseBurns self.old self.new result }
+        ensures passes { FusePasses self.old self.new result }
+        ensures time { IsTrue D.honest → FuseElapses (renames from.now to.now) self.old self.new }
+        ensures within { IsTrue D.honest → OnOk result (FuseIncludes (renames from.now to.now) self.old self.new) }
     {
         if burns(&mut self.left, &mut self.burnt) {
             return Err(DirFault::Device);
@@ -204,17 +189,14 @@ impl<D: Dir> Dir for FuseDir<D> {
     }
 
     fn settle(&mut self) -> Result<(), DirFault>
-        ensures does { IsTrue D.honest
-            → DoesCall D.state settles (fuse_inner self.old) (fuse_inner self.new) result }
+        ensures does { IsTrue D.honest → DoesCall fuse_state settles self.old self.new result }
         ensures faults { IfErr result (λ fault. fault ≡ DirFault.Device) }
-        ensures counted { CountsFault (fuse_failed D.failed self.old) (fuse_failed D.failed self.new) result }
+        ensures counted { CountsFault (fuse_failed self.old) (fuse_failed self.new) result }
         ensures counts { fuse_left self.new ≡ fuse_left self.old - 1 }
-        ensures burns { FuseBurns D.failed self.old self.new result }
-        ensures passes { FusePasses D.failed self.old self.new result }
-        ensures time { IsTrue D.honest
-            → CallElapses D.state D.moment D.left_since settles (fuse_inner self.old) (fuse_inner self.new) }
-        ensures within { IsTrue D.honest → OnOk result
-            (CallIncludes D.state D.moment D.left_since settles (fuse_inner self.old) (fuse_inner self.new)) }
+        ensures burns { FuseBurns self.old self.new result }
+        ensures passes { FusePasses self.old self.new result }
+        ensures time { IsTrue D.honest → FuseElapses settles self.old self.new }
+        ensures within { IsTrue D.honest → OnOk result (FuseIncludes settles self.old self.new) }
     {
         if burns(&mut self.left, &mut self.burnt) {
             return Err(DirFault::Device);
@@ -224,15 +206,14 @@ impl<D: Dir> Dir for FuseDir<D> {
 
     fn open(&mut self, alloc: Global, name: &Name) -> Result<Option<D::File>, DirFault>
         ensures opened { IsTrue D.honest → IfOk result (λ found.
-            option_map D.File.bytes found ≡ content (D.state (fuse_inner self.old)) name.now) }
-        ensures same { IsTrue D.honest → D.state (fuse_inner self.new) ≡ D.state (fuse_inner self.old) }
+            option_map D.File.bytes found ≡ content (fuse_state self.old) name.now) }
+        ensures same { IsTrue D.honest → fuse_state self.new ≡ fuse_state self.old }
         ensures faults { IfErr result (Contains (DirFault.Device ∷ DirFault.OutOfMemory ∷ [])) }
-        ensures counted { CountsFault (fuse_failed D.failed self.old) (fuse_failed D.failed self.new) result }
+        ensures counted { CountsFault (fuse_failed self.old) (fuse_failed self.new) result }
         ensures counts { fuse_left self.new ≡ fuse_left self.old - 1 }
-        ensures burns { FuseBurns D.failed self.old self.new result }
-        ensures passes { FusePasses D.failed self.old self.new result }
-        ensures time { IsTrue D.honest
-            → OpenElapses D.state D.moment D.left_since (fuse_inner self.old) (fuse_inner self.new) }
+        ensures burns { FuseBurns self.old self.new result }
+        ensures passes { FusePasses self.old self.new result }
+        ensures time { IsTrue D.honest → FuseOpens self.old self.new }
     {
         if burns(&mut self.left, &mut self.burnt) {
             return Err(DirFault::Device);
@@ -251,17 +232,17 @@ impl<D: Dir> Dir for FuseDir<D> {
 
 #[tactic(auto, using(crate::proofs::FuseLemmas::burnt_counts, crate::proofs::FuseLemmas::burnt_more, crate::proofs::FuseLemmas::passed_counts))]
 impl<D: ClearableDir> ClearableDir for FuseDir<D> {
-    ghost use Rattle.dir_calls.specs.FuseParts.{fuse_inner, fuse_left, fuse_failed, fuse_state, fuse_moment, fuse_left_since, FuseBurns, FusePasses};
+    ghost use Rattle.dir_calls.specs.FuseParts.{FuseBurns, FusePasses, fuse_failed, fuse_inner, fuse_left, fuse_state};
 
     fn take_away(&mut self, alloc: Global, name: &Name) -> Result<(), DirFault>
-        ensures gone { IsTrue D.honest → OnOk result (number_of (D.state (fuse_inner self.new)) name.now ≡ None) }
+        ensures gone { IsTrue D.honest → OnOk result (number_of (fuse_state self.new) name.now ≡ None) }
         ensures stays { IsTrue D.honest → (other : List ℕ) → name.now ≢ other → KeepsWhatLasts
-            (fuse_state D.state) (fuse_moment D.moment) (fuse_left_since D.left_since) other self.old self.new }
+            ⟦<FuseDir<D> as Dir>⟧ other self.old self.new }
         ensures faults { IfErr result (Contains (DirFault.Device ∷ DirFault.OutOfMemory ∷ [])) }
-        ensures counted { CountsFault (fuse_failed D.failed self.old) (fuse_failed D.failed self.new) result }
+        ensures counted { CountsFault (fuse_failed self.old) (fuse_failed self.new) result }
         ensures counts { fuse_left self.new ≡ fuse_left self.old - 1 }
-        ensures burns { FuseBurns D.failed self.old self.new result }
-        ensures passes { FusePasses D.failed self.old self.new result }
+        ensures burns { FuseBurns self.old self.new result }
+        ensures passes { FusePasses self.old self.new result }
     {
         if burns(&mut self.left, &mut self.burnt) {
             return Err(DirFault::Device);

@@ -170,7 +170,7 @@ impl Dir for MemDir {
 }
 
 impl ClearableDir for MemDir {
-    ghost use Rattle.dir_calls.specs.MemDir.{mem_state, mem_moment, mem_left_since};
+    ghost use Rattle.dir_calls.specs.MemDir.{mem_state};
 
     fn take_away(&mut self, alloc: Global, name: &Name) -> Result<(), DirFault>
         // a change of names as the others, which is pending until it is settled
@@ -178,7 +178,7 @@ impl ClearableDir for MemDir {
         ensures untouched { OnErr result (mem_state self.new ≡ mem_state self.old) }
         ensures gone { OnOk result (number_of (mem_state self.new) name.now ≡ None) }
         ensures stays { (other : List ℕ) → name.now ≢ other
-            → KeepsWhatLasts mem_state mem_moment mem_left_since other self.old self.new }
+            → KeepsWhatLasts ⟦<MemDir as Dir>⟧ other self.old self.new }
         ensures faults { IfErr result (Contains (DirFault.Device ∷ DirFault.OutOfMemory ∷ [])) }
         ensures counted { CountsFault 0 0 result }
     {

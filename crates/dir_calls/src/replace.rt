@@ -14,7 +14,7 @@ fn append_all<D: Dir>(alloc: Global, dir: &mut D, bytes: &[u8]) -> Result<(), Di
         D.state dir.new ≡ after (appends bytes.now) (D.state dir.old)) }
     // no name is touched
     ensures stays { IsTrue D.honest → (name : List ℕ)
-        → KeepsWhatLasts D.state D.moment D.left_since name dir.old dir.new }
+        → KeepsWhatLasts D.Dir name dir.old dir.new }
     ensures counted { CountsFault (D.failed dir.old) (D.failed dir.new) result }
 {
     let mut rest = bytes;
@@ -35,7 +35,7 @@ fn write_scratch<D: Dir>(
     ensures written { IsTrue D.honest → OnOk result (HasSynced scratch.now bytes.now (D.state dir.new)) }
     // no other name is touched
     ensures stays { IsTrue D.honest → (name : List ℕ) → scratch.now ≢ name
-        → KeepsWhatLasts D.state D.moment D.left_since name dir.old dir.new }
+        → KeepsWhatLasts D.Dir name dir.old dir.new }
     ensures counted { CountsFault (D.failed dir.old) (D.failed dir.new) result }
 {
     dir.fresh(alloc, scratch)?;
@@ -58,7 +58,7 @@ pub fn replace_file<D: Dir>(
     // whenever the machine stops since the call began, what stood there stands under the name, or the new file, whole, and so it is
     // afterwards, also after a fault
     ensures stays { IsTrue D.honest
-        → KeepsOrPuts D.state D.moment D.left_since name.now bytes.now dir.old dir.new }
+        → KeepsOrPuts D.Dir name.now bytes.now dir.old dir.new }
     // at the end the new file stands there for good
     ensures done { IsTrue D.honest → OnOk result (LastsAmong (D.state dir.new) name.now (Some bytes.now ∷ [])) }
     ensures counted { CountsFault (D.failed dir.old) (D.failed dir.new) result }

@@ -8,7 +8,7 @@ use Rattle.dir_calls.specs.Directory.{Directory, FileState, KeepsSynced, scratch
 use Rattle.dir_calls.specs.Images.{IsImage}
 use Rattle.dir_calls.specs.Calls.{with_scratch}
 use Rattle.dir_disk.specs.DiskSteps.{rewritten_at, after_write, MayWrite, Spoils}
-use Rattle.dir_disk.specs.KeptImages.{file_is, image_with, image_without}
+use Rattle.dir_calls.proofs.ChangedFiles.{file_is, image_with, image_without}
 use Rattle.dir_calls.proofs.WithFiles.{twice, idle, changed, changed_some, scratch_kept, names_kept}
 
 -- two writes, the second from the end of the first on

@@ -9,7 +9,8 @@ use Rattle.dir_calls.specs.Calls.{Call, makes, appends, renames, settles, after,
 use Rattle.dir_calls.specs.Outcomes.{Fails, LeavesNames, LeftBy}
 use Rattle.dir_disk.specs.OsDir.{GivesUp, Holds, IsWritable, kept_back, shape}
 use Rattle.dir_disk.specs.DiskSteps.{AllOrNone}
-use Rattle.dir_disk.specs.KeptImages.{file_was, shape_of}
+use Rattle.dir_calls.proofs.ChangedFiles.{file_was}
+use Rattle.dir_disk.specs.KeptImages.{shape_of}
 use Rattle.dir_calls.proofs.FuseLemmas.{fails_idle}
 use Rattle.dir_calls.proofs.Renames.{moved_files}
 use Rattle.dir_calls.proofs.WithFiles.{changed, twice, names_kept}

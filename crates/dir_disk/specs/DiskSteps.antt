@@ -1,5 +1,5 @@
--- What the calls of a disk do. Its state is a directory: the names, the files with all that was written to them and whether that was synced since, and the
--- file that may be written: the last one that was made.
+-- What the calls of a disk do. Its state is a directory: the names, the files with all that was written to them and whether that was synced
+-- since, and the file that may be written: the last one that was made.
 use Rattle.std.specs.Prelude.{◌≡◌, ◌⊎◌, ◌≤◌, ◌+◌, ℕ, false, List, [], ◌∷◌, ◌++◌, length, take, drop, None, Some}
 use Rattle.std.specs.Option.{ForSome}
 use Rattle.dir_calls.specs.NameTable.{SettlesSome, puts, push}
@@ -63,6 +63,7 @@ pub record MayWrite (d : Directory) (number place : ℕ) : Type 0 where
 
 -- time goes on by one call of a disk: a stop since an earlier moment may have left what it may have left before, or what a stop
 -- before the call or after it leaves, and nothing else
-abbrev pub StepElapses : {D : Type 0} → (state : D → Directory) → (moment : D → ℕ) → (left_since : D → ℕ → Directory → Type 0) → (old new : D) → Type 0
+abbrev pub StepElapses : {D : Type 0} → (state : D → Directory) → (moment : D → ℕ) → (left_since : D → ℕ → Directory → Type 0)
+    → (old new : D) → Type 0
 StepElapses state moment left_since old new =
     Elapses (moment old) (moment new) (left_since old) (left_since new) (λ image. IsImage (state old) image ⊎ IsImage (state new) image)

@@ -26,17 +26,20 @@ pub Holds-prop : {H : Type 0} (number : H → ℕ) (d : Directory) (scratch : Op
 Holds-prop number d None written = hlevel props
 Holds-prop number d (Some file) written = hlevel props
 
-pub Holds_honest-prop : {H : Type 0} (honest : Bool) (number : H → ℕ) (d : Directory) (scratch : Option H) (written : ℕ) → IsProp (IsTrue honest → Holds number d scratch written)
+pub Holds_honest-prop : {H : Type 0} (honest : Bool) (number : H → ℕ) (d : Directory) (scratch : Option H) (written : ℕ)
+    → IsProp (IsTrue honest → Holds number d scratch written)
 Holds_honest-prop honest number d scratch written = hlevel (props, Holds-prop)
 
 -- time goes on by one call over a disk of whose bytes the last are kept back until then: a stop since an earlier moment may have left what it
 -- may have left before, or what a stop within the call or right after it leaves, and nothing else
-abbrev pub KeptElapses : {D : Type 0} → (state : D → Directory) → (moment : D → ℕ) → (left_since : D → ℕ → Directory → Type 0) → Call → List ℕ → (old new : D) → Type 0
+abbrev pub KeptElapses : {D : Type 0} → (state : D → Directory) → (moment : D → ℕ) → (left_since : D → ℕ → Directory → Type 0) → Call
+    → List ℕ → (old new : D) → Type 0
 KeptElapses state moment left_since call pending old new =
     Elapses (moment old) (moment new) (left_since old) (left_since new) (LeftBy call (kept_back pending (state old)) (state new))
 
 -- a stop since an earlier moment may have left all that a stop within such a call or right after it leaves
-abbrev pub KeptIncludes : {D : Type 0} → (state : D → Directory) → (moment : D → ℕ) → (left_since : D → ℕ → Directory → Type 0) → Call → List ℕ → (old new : D) → Type 0
+abbrev pub KeptIncludes : {D : Type 0} → (state : D → Directory) → (moment : D → ℕ) → (left_since : D → ℕ → Directory → Type 0) → Call
+    → List ℕ → (old new : D) → Type 0
 KeptIncludes state moment left_since call pending old new =
     Includes (moment old) (left_since new) (LeftBy call (kept_back pending (state old)) (state new))
 

@@ -16,13 +16,6 @@ os_pending dir = dir.pending.items
 abbrev pub os_state : {D F H P Q : Type 0} {d : _} {f : _} → (D → Directory) → DiskDir D F H P Q d f → Directory
 os_state state dir = kept_back (os_pending dir) (state (os_disk dir))
 
--- its moment, and what a stop since a moment may have left, are those of the disk
-abbrev pub os_moment : {D F H P Q : Type 0} {d : _} {f : _} → (D → ℕ) → DiskDir D F H P Q d f → ℕ
-os_moment moment dir = moment (os_disk dir)
-
-abbrev pub os_left_since : {D F H P Q : Type 0} {d : _} {f : _} → (D → ℕ → Directory → Type 0) → DiskDir D F H P Q d f → ℕ → Directory → Type 0
-os_left_since left_since dir = left_since (os_disk dir)
-
 -- how often its device has failed
 abbrev pub os_failed : {D F H P Q : Type 0} {d : _} {f : _} → DiskDir D F H P Q d f → ℕ
 os_failed dir = dir.failures

@@ -18,8 +18,8 @@ use std::io::{self, ErrorKind};
 /// How many bytes a name has at most.
 const LONGEST: usize = 255;
 
-/// A disk in memory, for tests: each call does what is said of it, and none fails but for want of memory. So it is a witness that all that is
-/// said of a disk can be true of one.
+/// A disk in memory, for tests. Each call does what is said of it, and succeeds where one of a real disk would, but for want of memory; a file that
+/// was synced is written no more. So it is a witness that all that is said of a disk can be true of one.
 #[derive(Drop)]
 pub struct MemDisk {
     alloc: Global,
@@ -95,7 +95,8 @@ fn write(
     requires inside { place ≤ size }
     ensures count { IfOk result (λ n. n ≤ length bytes.now) }
     ensures fits { IfOk result (λ n. place + n < 2 ^ 63) }
-    ensures done { IfOk result (λ n. directory_of folder.new ≡ after_write place (take n bytes.now) (directory_of folder.old)) }
+    ensures done { IfOk result (λ n.
+        directory_of folder.new ≡ after_write place (take n bytes.now) (directory_of folder.old)) }
     ensures failed { OnErr result (directory_of folder.new ≡ directory_of folder.old) }
     ensures fault { IfErr result (λ error. error_kind error ≢ ErrorKind.Interrupted) }
 {

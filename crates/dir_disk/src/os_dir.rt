@@ -93,7 +93,7 @@ pub struct DiskDir<D: Disk + Drop> {
 pub type OsDir<R> = DiskDir<SystemDisk<R>>;
 
 impl<D: Disk + Drop> DiskDir<D> {
-    ghost use Rattle.dir_disk.specs.OsParts.{os_disk, os_failed, os_left_since, os_moment, os_state};
+    ghost use Rattle.dir_disk.specs.OsParts.{os_disk, os_failed, os_state};
 
     /// The folder of a disk. None of its files may be open to be written.
     ///
@@ -135,7 +135,7 @@ impl<D: Disk + Drop> DiskDir<D> {
             → SparesOthers name.now (os_state D.state self.old) (os_state D.state self.new) }
         // what lasts under another name lasts there, and stands there whenever the machine stops since the call began
         ensures stays { IsTrue D.honest → (other : List ℕ) → name.now ≢ other
-            → KeepsWhatLasts (os_state D.state) (os_moment D.moment) (os_left_since D.left_since) other self.old self.new }
+            → KeepsWhatLasts ⟦<DiskDir<D> as Dir>⟧ other self.old self.new }
         ensures faults { IfErr result (λ fault. fault ≡ DirFault.Device) }
         ensures counted { CountsFault (os_failed self.old) (os_failed self.new) result }
     {

@@ -37,7 +37,8 @@ some_same x y e = cc
 abbrev pub weight : Stage → ℕ
 weight s = cond (is_retired s) 1 0
 
-pub retired_in-with_stage : (n : ℕ) (s t : Stage) (cs : List Connection) → stage_of n cs ≡ Some t → retired_in (with_stage n s cs) + weight t ≡ retired_in cs + weight s
+pub retired_in-with_stage : (n : ℕ) (s t : Stage) (cs : List Connection) → stage_of n cs ≡ Some t
+    → retired_in (with_stage n s cs) + weight t ≡ retired_in cs + weight s
 retired_in-with_stage n s t [] e = cc
 retired_in-with_stage n s t (c ∷ cs) e =
     elim (c.serial == n) as (λ b. (if b then Some c.stage else stage_of n cs) ≡ Some t → retired_in (if b then ((record c { stage = s }) ∷ cs) else (c ∷ with_stage n s cs)) + weight t ≡ retired_in (c ∷ cs) + weight s) [
@@ -103,14 +104,17 @@ pub record Moves (w : ServerState) (e : Event) : Type 0 where
   pub live : length (after w e).connections ≡ next_live (length w.connections) e
   pub retired : retired_in (after w e).connections ≡ next_retired (retired_in w.connections) e
 
-staged : (w : ServerState) (n : ℕ) (s t : Stage) → is_retired t ≡ false → is_retired s ≡ false → stage_of n w.connections ≡ Some t → (length (with_stage n s w.connections) ≡ length w.connections) × (retired_in (with_stage n s w.connections) ≡ retired_in w.connections)
+staged : (w : ServerState) (n : ℕ) (s t : Stage) → is_retired t ≡ false → is_retired s ≡ false → stage_of n w.connections ≡ Some t
+    → (length (with_stage n s w.connections) ≡ length w.connections)
+    × (retired_in (with_stage n s w.connections) ≡ retired_in w.connections)
 staged w n s t not_t not_s is =
     let sums = retired_in-with_stage n s t w.connections is in
     let of_t : weight t ≡ 0 = ap (λ (b : Bool). cond b 1 0) not_t in
     let of_s : weight s ≡ 0 = ap (λ (b : Bool). cond b 1 0) not_s in
     (length-with_stage n s w.connections, omega arith)
 
-gone : (w : ServerState) (n : ℕ) (t : Stage) → is_retired t ≡ false → stage_of n w.connections ≡ Some t → (length (without n w.connections) ≡ length w.connections - 1) × (retired_in (without n w.connections) ≡ retired_in w.connections)
+gone : (w : ServerState) (n : ℕ) (t : Stage) → is_retired t ≡ false → stage_of n w.connections ≡ Some t
+    → (length (without n w.connections) ≡ length w.connections - 1) × (retired_in (without n w.connections) ≡ retired_in w.connections)
 gone w n t not_t is =
     let sums = retired_in-without n t w.connections is in
     let of_t : weight t ≡ 0 = ap (λ (b : Bool). cond b 1 0) not_t in

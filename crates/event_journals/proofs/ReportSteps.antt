@@ -5,7 +5,7 @@ use Rattle.std.specs.List.{count_by}
 use Rattle.std.proofs.lemmas.List.{take-append-le}
 use Rattle.std.proofs.Math.Seq.{take-append_seam}
 use Rattle.std.proofs.lemmas.List.Sums.{count_by-le-length}
-use Rattle.rule_lookup.specs.Peers.{Client}
+use Rattle.connection_facts.specs.Peers.{Client}
 use Rattle.server_events.specs.declared.event.Event.{Event}
 use Rattle.server_events.specs.declared.event.Event.TheVariants.{Admitted, Opened, Decided, Started, StartFailed, Ended, Retired, Dropped, Stepped, StepFailed, Stop}
 use Rattle.server_events.specs.declared.report.Report.{Report}
@@ -16,7 +16,7 @@ use Rattle.server_events.specs.ServerState.{ServerState, start, is_legal, state_
 use Rattle.server_events.proofs.History.{is_legal-snoc, is_legal-take, state_after-snoc, last_after, last_state_after, room_for}
 use Rattle.server_events.proofs.LiveLemmas.{live_len, live_count, retired_count, most_up_to, most_next}
 use Rattle.server_events.proofs.Limits.{limit_world_after, within}
-use Rattle.event_journals.specs.Journals.{one_more, next_report, FitsSerial, GoesOn}
+use Rattle.event_journals.specs.Journals.{Books, FitsSerial, GoesOn, next_report, one_more}
 use Rattle.event_journals.proofs.Countings.{retired_in, next_live, next_retired, moves}
 
 -- two reports with the same numbers
@@ -94,7 +94,8 @@ next limit per_address h e legal =
     }
 
 -- the serial of a connection that is let in is one above the number of those before it
-admitted_serial : (limit per_address : ℕ) (h : List Event) (n : ℕ) (peer : Client) → is_legal (start limit per_address) (h ++ Admitted n peer ∷ []) ≡ true → n ≡ count_by is_admission h + 1
+admitted_serial : (limit per_address : ℕ) (h : List Event) (n : ℕ) (peer : Client)
+    → is_legal (start limit per_address) (h ++ Admitted n peer ∷ []) ≡ true → n ≡ count_by is_admission h + 1
 admitted_serial limit per_address h n peer legal =
     let w = start limit per_address in
     let legal_before : is_legal w h ≡ true = sym (ap (is_legal w) (take-append_seam h (Admitted n peer ∷ []))) ∙ is_legal-take w (h ++ Admitted n peer ∷ []) (length h) legal in
@@ -105,43 +106,58 @@ admitted_serial limit per_address h n peer legal =
     omega arith
 
 -- by an event that changes no number
-unchanged : (h : List Event) (e : Event) → count_by is_admission (h ++ e ∷ []) ≡ 0 + count_by is_admission h → live_len (h ++ e ∷ []) ≡ live_len h → length (retired_of (h ++ e ∷ [])) ≡ length (retired_of h) → most_of (h ++ e ∷ []) ≡ max (live_len (h ++ e ∷ [])) (most_of h) → live_len h ≤ most_of h → report_of h ≡ report_of (h ++ e ∷ [])
+unchanged : (h : List Event) (e : Event) → count_by is_admission (h ++ e ∷ []) ≡ 0 + count_by is_admission h
+    → live_len (h ++ e ∷ []) ≡ live_len h → length (retired_of (h ++ e ∷ [])) ≡ length (retired_of h)
+    → most_of (h ++ e ∷ []) ≡ max (live_len (h ++ e ∷ [])) (most_of h) → live_len h ≤ most_of h → report_of h ≡ report_of (h ++ e ∷ [])
 unchanged h e a l r m b = reports _ _ (omega arith) (sym l) (sym r) (omega arith)
 
 -- by an event that ends a connection
-fewer : (h : List Event) (e : Event) → count_by is_admission (h ++ e ∷ []) ≡ 0 + count_by is_admission h → live_len (h ++ e ∷ []) ≡ live_len h - 1 → length (retired_of (h ++ e ∷ [])) ≡ length (retired_of h) → most_of (h ++ e ∷ []) ≡ max (live_len (h ++ e ∷ [])) (most_of h) → live_len h ≤ most_of h → record (report_of h) { live = live_len h - 1 } ≡ report_of (h ++ e ∷ [])
+fewer : (h : List Event) (e : Event) → count_by is_admission (h ++ e ∷ []) ≡ 0 + count_by is_admission h
+    → live_len (h ++ e ∷ []) ≡ live_len h - 1 → length (retired_of (h ++ e ∷ [])) ≡ length (retired_of h)
+    → most_of (h ++ e ∷ []) ≡ max (live_len (h ++ e ∷ [])) (most_of h) → live_len h ≤ most_of h
+    → record (report_of h) { live = live_len h - 1 } ≡ report_of (h ++ e ∷ [])
 fewer h e a l r m b = reports _ _ (omega arith) (sym l) (sym r) (omega arith)
 
 -- the report of a history, by an event more
-same_report : (limit per_address : ℕ) (h : List Event) (e : Event) → limit < 2 ^ 64 → FitsSerial e → is_legal (start limit per_address) (h ++ e ∷ []) ≡ true → Next limit h e → next_report (report_of h) e ≡ report_of (h ++ e ∷ [])
+same_report : (limit per_address : ℕ) (h : List Event) (e : Event) → limit < 2 ^ 64 → FitsSerial e
+    → is_legal (start limit per_address) (h ++ e ∷ []) ≡ true → Next limit h e → next_report (report_of h) e ≡ report_of (h ++ e ∷ [])
 same_report limit per_address h (Admitted n peer) small fits legal found =
     let serial = admitted_serial limit per_address h n peer legal in
     let a = found.admitted in let l = found.live in let w = found.within in let m = found.most in
     let live : one_more (live_len h) ≡ live_len (h ++ Admitted n peer ∷ []) = omega arith in
     reports _ _ (omega arith) live (sym found.retired) (ap (λ (k : ℕ). max k (most_of h)) live ∙ sym m)
-same_report limit per_address h (Opened n there) small fits legal found = unchanged h (Opened n there) (found.admitted) found.live found.retired found.most found.before
-same_report limit per_address h (Decided n decision) small fits legal found = unchanged h (Decided n decision) (found.admitted) found.live found.retired found.most found.before
-same_report limit per_address h (Started n) small fits legal found = unchanged h (Started n) (found.admitted) found.live found.retired found.most found.before
-same_report limit per_address h (StartFailed n fault) small fits legal found = fewer h (StartFailed n fault) (found.admitted) found.live found.retired found.most found.before
-same_report limit per_address h (Ended n status) small fits legal found = fewer h (Ended n status) (found.admitted) found.live found.retired found.most found.before
+same_report limit per_address h (Opened n there) small fits legal found =
+    unchanged h (Opened n there) (found.admitted) found.live found.retired found.most found.before
+same_report limit per_address h (Decided n decision) small fits legal found =
+    unchanged h (Decided n decision) (found.admitted) found.live found.retired found.most found.before
+same_report limit per_address h (Started n) small fits legal found =
+    unchanged h (Started n) (found.admitted) found.live found.retired found.most found.before
+same_report limit per_address h (StartFailed n fault) small fits legal found =
+    fewer h (StartFailed n fault) (found.admitted) found.live found.retired found.most found.before
+same_report limit per_address h (Ended n status) small fits legal found =
+    fewer h (Ended n status) (found.admitted) found.live found.retired found.most found.before
 same_report limit per_address h (Retired n) small fits legal found =
     let a = found.admitted in let l = found.live in let r = found.retired in let m = found.most in let b = found.before in
     let w = found.within in let s = found.some in
     reports _ _ (omega arith) (sym l) (omega arith) (omega arith)
-same_report limit per_address h (Dropped n cause) small fits legal found = fewer h (Dropped n cause) (found.admitted) found.live found.retired found.most found.before
-same_report limit per_address h (Stepped phase) small fits legal found = unchanged h (Stepped phase) (found.admitted) found.live found.retired found.most found.before
-same_report limit per_address h (StepFailed phase) small fits legal found = unchanged h (StepFailed phase) (found.admitted) found.live found.retired found.most found.before
+same_report limit per_address h (Dropped n cause) small fits legal found =
+    fewer h (Dropped n cause) (found.admitted) found.live found.retired found.most found.before
+same_report limit per_address h (Stepped phase) small fits legal found =
+    unchanged h (Stepped phase) (found.admitted) found.live found.retired found.most found.before
+same_report limit per_address h (StepFailed phase) small fits legal found =
+    unchanged h (StepFailed phase) (found.admitted) found.live found.retired found.most found.before
 same_report limit per_address h Stop small fits legal found =
     let a = found.admitted in let l = found.live in let r = found.retired in let m = found.most in
     reports _ _ (omega arith) (sym l) (sym r) (omega arith)
 
 -- the report and the number go on by an event
-pub goes_on : (told : Report) (count : ℕ) (e : Event) → GoesOn told count e (next_report told e) (one_more count)
-goes_on told count e limit per_address h small fits tells legal =
+pub goes_on : (books books' : Books) (e : Event) → books'.report ≡ next_report books.report e → books'.count ≡ one_more books.count
+    → GoesOn books e books'
+goes_on books books' e report count limit per_address h small fits tells legal =
     let found = next limit per_address h e legal in
     let n = found.number in
     let m = tells.number in
     record {
-      report = ap (λ (r : Report). next_report r e) tells.report ∙ same_report limit per_address h e small fits legal found;
-      number = omega arith;
+      report = report ∙ ap (λ (r : Report). next_report r e) tells.report ∙ same_report limit per_address h e small fits legal found;
+      number = omega (arith, count, n, m);
     }

@@ -1,10 +1,20 @@
 -- What a journal tells: the report and the number of the events that were noted, and what it stores of them.
 use Rattle.std.specs.Prelude.{◌≡◌, ◌<◌, ◌+◌, ◌-◌, ◌^◌, ℕ, List, [], ◌∷◌, ◌++◌, length, take, max, min, Bool, true, Option, ⊤}
+use Rattle.rule_lines.specs.Pairs.{Rule}
 use Rattle.server_events.specs.declared.event.Event.{Event}
 use Rattle.server_events.specs.declared.event.Event.TheVariants.{Admitted, Opened, Decided, Started, StartFailed, Ended, Retired, Dropped, Stepped, StepFailed, Stop}
 use Rattle.server_events.specs.declared.report.Report.{Report}
 use Rattle.server_events.specs.Reports.{report_of}
 use Rattle.server_events.specs.ServerState.{is_legal, start}
+use Rattle.event_journals.specs.declared.journal.Noted.{Noted}
+
+-- What a journal tells: the report of the events that were noted, and their number, as far as a u64 counts; and where it stores them, the
+-- events with their callers and the rules of the installations, both in order.
+pub record Books : Type 0 where
+  pub report : Report
+  pub count : ℕ
+  pub notes : Option (List Noted)
+  pub lists : Option (List (List Rule))
 
 -- one more, as far as a u64 counts
 abbrev pub one_more : ℕ → ℕ
@@ -33,38 +43,31 @@ next_report r (Stepped phase) = r
 next_report r (StepFailed phase) = r
 next_report r Stop = record r { live = 0; retired = 0 }
 
--- this report and this number are those of a list of events, the number as far as a u64 counts
-pub record TellsOf (told : Report) (count : ℕ) (history : List Event) : Type 0 where
-  pub report : told ≡ report_of history
-  pub number : count ≡ min (length history) (2 ^ 64 - 1)
+-- the report and the number are those of a list of events, the number as far as a u64 counts
+pub record TellsOf (books : Books) (history : List Event) : Type 0 where
+  pub report : books.report ≡ report_of history
+  pub number : books.count ≡ min (length history) (2 ^ 64 - 1)
 
 -- the serial of a connection that is let in fits into 64 bits
 abbrev pub FitsSerial : Event → Type 0
 FitsSerial (Admitted n peer) = n < 2 ^ 64
 FitsSerial _ = ⊤
 
--- where these are the report and the number of a list of events that the table allows, with a limit that fits into 64 bits, and this event is
--- allowed after it, then those are the report and the number of the list with the event
-abbrev pub GoesOn : (told : Report) (count : ℕ) → Event → (told' : Report) (count' : ℕ) → Type 0
-GoesOn told count event told' count' =
-    (limit per_address : ℕ) (history : List Event) → limit < 2 ^ 64 → FitsSerial event → TellsOf told count history
-    → is_legal (start limit per_address) (history ++ event ∷ []) ≡ true → TellsOf told' count' (history ++ event ∷ [])
+-- where the first tell of a list of events that the table allows, with a limit that fits into 64 bits, and this event is allowed after it,
+-- the second tell of the list with the event
+abbrev pub GoesOn : Books → Event → Books → Type 0
+GoesOn books event books' =
+    (limit per_address : ℕ) (history : List Event) → limit < 2 ^ 64 → FitsSerial event → TellsOf books history
+    → is_legal (start limit per_address) (history ++ event ∷ []) ≡ true → TellsOf books' (history ++ event ∷ [])
 
 -- there is room for as many events as before
-abbrev pub HasSameRoom : {J : Type 0} → (J → ℕ → Bool) → (old new : J) → Type 0
-HasSameRoom has_room old new = (events : ℕ) → has_room new events ≡ has_room old events
+abbrev pub HasSameRoom : (old new : ℕ → Bool) → Type 0
+HasSameRoom old new = (events : ℕ) → new events ≡ old events
 
 -- there is room for one event more
-abbrev pub HasOneMore : {J : Type 0} → (J → ℕ → Bool) → (old new : J) → Type 0
-HasOneMore has_room old new = (events : ℕ) → has_room new (events + 1) ≡ has_room old events
+abbrev pub HasOneMore : (old new : ℕ → Bool) → Type 0
+HasOneMore old new = (events : ℕ) → new (events + 1) ≡ old events
 
 -- a list but for its last
 abbrev pub without_last : {X : Type 0} → List X → List X
 without_last xs = take (length xs - 1) xs
-
--- a journal tells and stores the same
-pub record IsSameTold {J N L : Type 0} (told : J → Report) (count : J → ℕ) (stored : J → Option N) (lists : J → Option L) (old new : J) : Type 0 where
-  pub same_report : told new ≡ told old
-  pub same_count : count new ≡ count old
-  pub same_notes : stored new ≡ stored old
-  pub same_lists : lists new ≡ lists old

@@ -1,5 +1,5 @@
 //! A journal that only counts.
-ghost use Rattle.std.specs.Prelude.{◌≡◌, [], None, true, refl};
+ghost use Rattle.std.specs.Prelude.{◌≡◌, [], true, refl};
 ghost use Rattle.event_journals.specs.Journals.{TellsOf, next_report, one_more};
 
 use crate::journal::Journal;
@@ -15,11 +15,11 @@ pub struct Counts {
 }
 
 impl Counts {
-    ghost use Rattle.event_journals.specs.Counts.{counts_report, counts_events};
+    ghost use Rattle.event_journals.specs.Counts.{counts_books};
 
     /// No event yet.
     pub fn new() -> Counts
-        ensures { TellsOf (counts_report result) (counts_events result) [] }
+        ensures { TellsOf (counts_books result) [] }
     {
         Counts {
             report: Report {
@@ -82,15 +82,9 @@ fn next(report: Report, event: &Event) -> Report
 }
 
 impl Journal for Counts {
-    ghost use Rattle.event_journals.specs.Counts.{counts_report, counts_events};
+    ghost use Rattle.event_journals.specs.Counts.{counts_books};
 
-    ghost told = { counts_report };
-
-    ghost count = { counts_events };
-
-    ghost stored = { λ _. None };
-
-    ghost lists = { λ _. None };
+    ghost books = { counts_books };
 
     ghost has_room = { λ _ _. true };
 

@@ -1,5 +1,5 @@
 //! A journal that stores each event.
-ghost use Rattle.std.specs.Prelude.{◌≡◌, ◌≤◌, ◌+◌, ◌-◌, ◌==◌, [], None, Some, length, nat_le, slice_get, option_copied, if◌then◌else◌, vec_len, vec_capacity};
+ghost use Rattle.std.specs.Prelude.{◌≡◌, ◌≤◌, ◌+◌, ◌-◌, ◌==◌, [], None, length, nat_le, slice_get, option_copied, if◌then◌else◌, vec_len, vec_capacity};
 ghost use Rattle.event_journals.specs.Journals.{TellsOf};
 
 use crate::counts::Counts;
@@ -20,11 +20,11 @@ pub struct Full {
 }
 
 impl Full {
-    ghost use Rattle.event_journals.specs.Full.{full_events, full_lists, full_notes, full_report};
+    ghost use Rattle.event_journals.specs.Full.{full_books, full_lists, full_notes};
 
     /// No event yet. It takes no memory.
     pub fn new(alloc: Global) -> Full
-        ensures told { TellsOf (full_report result) (full_events result) [] }
+        ensures told { TellsOf (full_books result) [] }
         ensures notes { full_notes result ≡ [] }
         ensures lists { full_lists result ≡ [] }
     {
@@ -65,15 +65,9 @@ impl Full {
 }
 
 impl Journal for Full {
-    ghost use Rattle.event_journals.specs.Full.{full_credit, full_events, full_lists, full_notes, full_report, less_room, no_room_needed};
+    ghost use Rattle.event_journals.specs.Full.{full_books, full_credit, less_room, no_room_needed};
 
-    ghost told = { full_report };
-
-    ghost count = { full_events };
-
-    ghost stored = { λ full. Some (full_notes full) };
-
-    ghost lists = { λ full. Some (full_lists full) };
+    ghost books = { full_books };
 
     ghost has_room = { λ full events. nat_le events (full_credit full) };
 

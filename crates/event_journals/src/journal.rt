@@ -1,9 +1,6 @@
 //! Journals: where the events of a server are kept, or only counted.
-ghost use Rattle.std.specs.Prelude.{◌≡◌, ◌≤◌, ℕ, ◌+◌, List, [], ◌∷◌, ◌++◌, Bool, true, Option, option_map, OnOk, OnErr};
-ghost use Rattle.rule_lines.specs.Pairs.{Rule};
-ghost use Rattle.server_events.specs.declared.report.Report.{Report};
-ghost use Rattle.event_journals.specs.Journals.{GoesOn, HasSameRoom, IsSameTold, next_report, one_more, without_last};
-ghost use Rattle.event_journals.specs.declared.journal.Noted.{Noted};
+ghost use Rattle.std.specs.Prelude.{◌≡◌, ◌≤◌, ℕ, ◌+◌, [], ◌∷◌, ◌++◌, Bool, true, option_map, OnOk, OnErr};
+ghost use Rattle.event_journals.specs.Journals.{Books, GoesOn, HasSameRoom, next_report, one_more, without_last};
 
 use rule_lines::RuleList;
 use server_events::{Event, Report};
@@ -21,28 +18,19 @@ pub struct Noted {
 /// What is kept of the events of a server. Noting an event takes no memory: its room is taken before, by `reserve`. No call takes or gives
 /// other room than it says.
 pub trait Journal: Drop {
-    /// The report of the events that were noted.
-    ghost told: { Self → Report };
-
-    /// How many they are, as far as a u64 counts.
-    ghost count: { Self → ℕ };
-
-    /// The events with their callers, in order, where it stores them.
-    ghost stored: { Self → Option (List Noted) };
-
-    /// The rules of the installations that it stores, in order, where it stores them.
-    ghost lists: { Self → Option (List (List Rule)) };
+    /// What it tells of the events that were noted: their report and their number, and what it stores of them.
+    ghost books: { Self → Books };
 
     /// Whether there is room for so many events.
     ghost has_room: { Self → ℕ → Bool };
 
     /// The report of the events: how many connections were let in, are alive, are retired, and the most ever alive.
     fn report(&self) -> Report
-        ensures { result ≡ told self.now };
+        ensures { result ≡ (books self.now).report };
 
     /// How many events were noted. At 2^64 - 1 the number stays.
     fn events(&self) -> u64
-        ensures { result ≡ count self.now };
+        ensures { result ≡ (books self.now).count };
 
     /// Takes the room for more events, as for the five that a connection may have.
     ///
@@ -50,47 +38,43 @@ pub trait Journal: Drop {
     /// There was no memory. All is as before.
     fn reserve(&mut self, events: usize) -> Result<(), AllocError>
         ensures room { OnOk result ((n : ℕ) → has_room self.new (n + events) ≡ has_room self.old n) }
-        ensures err { OnErr result (HasSameRoom has_room self.old self.new) }
-        ensures same { IsSameTold told count stored lists self.old self.new };
+        ensures err { OnErr result (HasSameRoom (has_room self.old) (has_room self.new)) }
+        ensures same { books self.new ≡ books self.old };
 
     /// Gives room back that is not needed.
     fn release(&mut self, events: usize)
         requires { has_room self.old events ≡ true }
         ensures room { (n : ℕ) → has_room self.new n ≡ has_room self.old (n + events) }
-        ensures same { IsSameTold told count stored lists self.old self.new };
+        ensures same { books self.new ≡ books self.old };
 
     /// Notes an event and who called it, into room that was taken.
     fn note(&mut self, event: Event, caller: u64)
         requires { has_room self.old 1 ≡ true }
-        ensures told { told self.new ≡ next_report (told self.old) event }
-        ensures count { count self.new ≡ one_more (count self.old) }
-        ensures stored { stored self.new
-            ≡ option_map (λ notes. notes ++ record { event = event; caller = caller } ∷ []) (stored self.old) }
-        ensures lists { lists self.new ≡ lists self.old }
+        ensures report { (books self.new).report ≡ next_report (books self.old).report event }
+        ensures count { (books self.new).count ≡ one_more (books self.old).count }
+        ensures notes { (books self.new).notes
+            ≡ option_map (λ notes. notes ++ record { event = event; caller = caller } ∷ []) (books self.old).notes }
+        ensures lists { (books self.new).lists ≡ (books self.old).lists }
         ensures room { (n : ℕ) → has_room self.new n ≡ has_room self.old (n + 1) }
 
         // so the report and the number stay those of the history, as far as the table allows it
-        ensures goes_on { GoesOn (told self.old) (count self.old) event (told self.new) (count self.new) };
+        ensures goes_on { GoesOn (books self.old) event (books self.new) };
 
     /// Keeps the rules of an installation that begins.
     ///
     /// # Errors
     /// There was no memory. All is as before.
     fn keep_list(&mut self, list: &RuleList) -> Result<(), AllocError>
-        ensures kept { OnOk result (lists self.new ≡ option_map (λ all. all ++ list.now ∷ []) (lists self.old)) }
-        ensures err { OnErr result (lists self.new ≡ lists self.old) }
-        ensures room { HasSameRoom has_room self.old self.new }
-        ensures told { told self.new ≡ told self.old }
-        ensures count { count self.new ≡ count self.old }
-        ensures stored { stored self.new ≡ stored self.old };
+        ensures kept { OnOk result (books self.new ≡ record (books self.old) {
+          lists = option_map (λ all. all ++ list.now ∷ []) (books self.old).lists;
+        }) }
+        ensures err { OnErr result (books self.new ≡ books self.old) }
+        ensures room { HasSameRoom (has_room self.old) (has_room self.new) };
 
     /// Takes the last list of rules back, where an installation's first step was not made. It takes no memory.
     fn forget_list(&mut self)
-        ensures forgotten { lists self.new ≡ option_map without_last (lists self.old) }
-        ensures room { HasSameRoom has_room self.old self.new }
-        ensures told { told self.new ≡ told self.old }
-        ensures count { count self.new ≡ count self.old }
-        ensures stored { stored self.new ≡ stored self.old };
+        ensures forgotten { books self.new ≡ record (books self.old) { lists = option_map without_last (books self.old).lists } }
+        ensures room { HasSameRoom (has_room self.old) (has_room self.new) };
 
     /// There is room for no event.
     ghost none_needed: { (journal : Self) → has_room journal 0 ≡ true };

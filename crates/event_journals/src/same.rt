@@ -2,8 +2,9 @@
 ghost use Rattle.std.specs.Prelude.{◌≡◌, ◌↔◌, IsTrue};
 ghost use Rattle.server_events.specs.declared.event.Event.TheVariants.{Admitted, Opened, Decided, Started, StartFailed, Ended, Retired, Dropped, Stepped, StepFailed, Stop};
 
+use connection_facts::{DropCause, Peer, StartFault, Status};
 use rule_lines::{Setting, Settings};
-use rule_lookup::{Decision, DropCause, Found, Peer, StartFault, Status};
+use rule_lookup::{Decision, Found};
 use rules_install::Phase;
 use server_events::Event;
 

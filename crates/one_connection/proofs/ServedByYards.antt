@@ -1,4 +1,4 @@
--- The calls by which a desk serves a connection, as those of its yard.
+-- The calls by which an agent serves a connection, as those of its yard.
 use Rattle.std.proofs.Common.{ap, subst, ◌∙◌}
 use Rattle.std.specs.Prelude.{◌≡◌, ◌++◌, ◌∷◌, ℕ, List, []}
 use Rattle.std.proofs.Common.{inl, inr}
@@ -9,9 +9,9 @@ use Rattle.server_yard.specs.Standing.{LeadsOn, YardState}
 use Rattle.one_connection.specs.Openings.{Opening}
 use Rattle.one_connection.specs.Servings.{ComesBy, IsStill}
 use Rattle.one_connection.specs.Servings.ComesBy.{unopened, opened, decided}
-use Rattle.one_connection.specs.YardDesks.{LeadsBy}
+use Rattle.one_connection.specs.YardAgents.{LeadsBy}
 
--- a desk that told nothing has its yard as before
+-- an agent that told nothing has its yard as before
 pub same_state : {D : Type 0} (state : D → YardState) (still : D → D → Type 0) → ((x y : D) → still x y → state y ≡ state x)
     → (x y : D) → IsStill still x y → state y ≡ state x
 same_state state still of_still x y (inl same) = ap state same

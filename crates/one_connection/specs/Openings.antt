@@ -1,22 +1,22 @@
 -- What a connection finds when it opens the rules.
-use Rattle.std.specs.Prelude.{◌≡◌, ◌<◌, ◌-◌, ◌^◌, ◌⊎◌, ⊤, ℕ, Bool, IsTrue, List, Option, Some, Result, Ok, Err, option_map}
+use Rattle.std.specs.Prelude.{◌≡◌, ◌<◌, ◌-◌, ◌^◌, ◌⊎◌, ⊤, ℕ, Bool, IsTrue, List, Option, Some, Result, Ok, option_map}
 use Rattle.std.specs.declared.snapshot.Snapshot.{Snapshot}
 use Rattle.cdb_read.specs.Reading.{reading}
 use Rattle.dir_calls.specs.declared.fault.DirFault.{DirFault}
 use Rattle.dir_calls.specs.declared.fault.DirFault.TheVariants as directory
-use Rattle.rule_lines.specs.Lookups.{Trust, WhereKnown}
+use Rattle.rule_lines.specs.Lookups.{WhereKnown}
 use Rattle.rule_lines.specs.declared.source.FindFault.TheVariants as find
 use Rattle.rule_lookup.specs.Decisions.{DecisionFails, decision_from}
-use Rattle.rule_lookup.specs.Peers.{Client}
+use Rattle.connection_facts.specs.Peers.{Client}
 use Rattle.rule_lookup.specs.declared.decision.Decision.{Decision}
 use Rattle.rule_lookup.specs.declared.decision.DecideFault.{DecideFault}
 use Rattle.rule_lookup.specs.declared.decision.DecideFault.TheVariants.{Find, Code}
 use Rattle.rule_lookup.specs.declared.decision.DecideFault.TheVariants as decide
 use Rattle.rule_lookup.specs.declared.decision.Missing.{Missing}
+use Rattle.connection_facts.specs.declared.outcome.DropCause.{DropCause}
+use Rattle.connection_facts.specs.declared.outcome.DropCause.TheVariants as cause
 use Rattle.server_yard.specs.Passes.{pass_bytes, pass_missing, trust_in}
 use Rattle.server_yard.specs.declared.pass.Pass.{Pass}
-use Rattle.one_connection.specs.declared.desk.OpenFault.{OpenFault}
-use Rattle.one_connection.specs.declared.desk.OpenFault.TheVariants.{Directory, OutOfTurn, OutOfMemory}
 
 -- the bytes of the rules file, or that there is none, and what is decided then
 pub record Opening : Type 0 where
@@ -27,7 +27,7 @@ pub record Opening : Type 0 where
 abbrev pub opening_of : {L F : Type 0} {p : _} {l : _} {f : _} → (F → List ℕ) → Pass L F p l f → Opening
 opening_of bytes pass = record { bytes = pass_bytes bytes pass; missing = pass_missing pass }
 
--- what was found, as a desk keeps it by a snapshot of its pass
+-- what was found, as an agent keeps it by a snapshot of its pass
 abbrev pub kept_opening : {L F : Type 0} {p : _} {l : _} {f : _} → (F → List ℕ) → Option (Snapshot (Pass L F p l f)) → Option Opening
 kept_opening bytes kept = option_map (λ s. opening_of bytes s.value) kept
 
@@ -58,18 +58,25 @@ IsUndamaged (Find find.OutOfMemory) = ⊤
 IsUndamaged (Code fault) = ⊥
 IsUndamaged decide.OutOfMemory = ⊤
 
--- a fault of a directory, as that of opening the rules
-abbrev pub open_fault : DirFault → OpenFault
-open_fault directory.OutOfMemory = OutOfMemory
-open_fault directory.Device = Directory
-open_fault directory.NoScratch = Directory
-open_fault directory.NoName = Directory
+-- the cause of a drop where a fault of the directory kept the rules from being opened
+abbrev pub cause_of_open : DirFault → DropCause
+cause_of_open directory.OutOfMemory = cause.Memory
+cause_of_open directory.Device = cause.Directory
+cause_of_open directory.NoScratch = cause.Directory
+cause_of_open directory.NoName = cause.Directory
 
 -- a call of the directory failed only where a failure was counted since, or where no more can be
 abbrev pub CountsFailure : (before now : ℕ) → Type 0
 CountsFailure before now = (before < now) ⊎ (now ≡ 2 ^ 64 - 1)
 
--- opening answers `Directory` only so, and `OutOfTurn` only where others may call too
-pub record CanFail {T : Type 0} (is_shared : Bool) (before now : ℕ) (answer : Result T OpenFault) : Type 0 where
-  pub counted : answer ≡ Err Directory → CountsFailure before now
-  pub in_turn : answer ≡ Err OutOfTurn → IsTrue is_shared
+-- the rules may be unopened for this cause: `Directory` only so, or where others may call too, so that a call is out of turn; or want of memory
+abbrev pub FailsToOpen : (is_shared : Bool) → (before now : ℕ) → DropCause → Type 0
+FailsToOpen is_shared before now cause.Directory = CountsFailure before now ⊎ IsTrue is_shared
+FailsToOpen is_shared before now cause.Memory = ⊤
+FailsToOpen is_shared before now other = ⊥
+
+-- an agent that others use too may refuse a decision for this cause: it is out of turn, or there is no memory
+abbrev pub RefusesDecision : (is_shared : Bool) → DropCause → Type 0
+RefusesDecision is_shared cause.Directory = IsTrue is_shared
+RefusesDecision is_shared cause.Memory = IsTrue is_shared
+RefusesDecision is_shared other = ⊥

@@ -6,14 +6,15 @@ use Rattle.child_jobs.specs.Programs.{ProgramText}
 use Rattle.rule_lines.specs.declared.instr.Verdict.{Verdict}
 use Rattle.rule_lines.specs.declared.instr.Verdict.TheVariants.{Allow, Deny}
 use Rattle.rule_lines.specs.declared.source.FindFault.TheVariants as find
-use Rattle.rule_lookup.specs.Peers.{Client}
+use Rattle.connection_facts.specs.Peers.{Client}
 use Rattle.rule_lookup.specs.declared.decision.Decision.{Decision}
 use Rattle.rule_lookup.specs.declared.decision.DecideFault.{DecideFault}
 use Rattle.rule_lookup.specs.declared.decision.DecideFault.TheVariants.{Find, Code, OutOfMemory}
-use Rattle.rule_lookup.specs.declared.outcome.DropCause.{DropCause}
-use Rattle.rule_lookup.specs.declared.outcome.DropCause.TheVariants as cause
-use Rattle.rule_lookup.specs.declared.outcome.StartFault.{StartFault}
+use Rattle.connection_facts.specs.declared.outcome.DropCause.{DropCause}
+use Rattle.connection_facts.specs.declared.outcome.DropCause.TheVariants as cause
+use Rattle.connection_facts.specs.declared.outcome.StartFault.{StartFault}
 use Rattle.ucspi_env.specs.Child.{environment_of}
+use Rattle.ucspi_env.specs.Ends.{LocalEnd}
 use Rattle.ucspi_env.specs.Variables.{Variables}
 use Rattle.child_jobs.specs.declared.running.Running.{Running}
 use Rattle.server_events.specs.declared.event.Event.{Event}
@@ -21,10 +22,6 @@ use Rattle.server_events.specs.declared.event.Event.TheVariants.{Opened, Decided
 use Rattle.server_events.specs.declared.event.Stage.{Stage}
 use Rattle.server_events.specs.declared.event.Stage.TheVariants as stage
 use Rattle.one_connection.specs.Openings.{CountsFailure, Decides, FailsToDecide, Opening}
-use Rattle.one_connection.specs.declared.desk.OpenFault.{OpenFault}
-use Rattle.one_connection.specs.declared.desk.OpenFault.TheVariants as fault
-use Rattle.one_connection.specs.declared.desk.Undecided.{Undecided}
-use Rattle.one_connection.specs.declared.desk.Undecided.TheVariants as undecided
 use Rattle.one_connection.specs.declared.serving.Served.{Served}
 use Rattle.one_connection.specs.Unstarted.{IsUndenied}
 
@@ -40,22 +37,25 @@ pub record IsDecidedAs (finds : Opening → Type 0) (honest sound : Bool) (peer 
   pub decided : IsDecision finds honest sound peer decision
   pub same : verdict ≡ decision.verdict
 
--- such a decision, with its verdict and the environment that it gives
-pub record IsPrepared (finds : Opening → Type 0) (honest sound : Bool) (peer : Client) (plan : PlanText) (verdict : Verdict) (environment : Variables) : Type 0 where
+-- such a decision, with its verdict and the environment that it gives at this end of the connection
+pub record IsPrepared (finds : Opening → Type 0) (honest sound : Bool) (peer : Client) (local : LocalEnd) (plan : PlanText)
+    (verdict : Verdict) (environment : Variables) : Type 0 where
   pub decision : Decision
   pub decided : IsDecision finds honest sound peer decision
   pub same : verdict ≡ decision.verdict
-  pub given : environment ≡ environment_of plan.inherited plan.local peer decision
+  pub given : environment ≡ environment_of plan.inherited local peer decision
 
 -- A child of an allowed connection: its program is the plan's, and its environment is that of the decision.
-pub record IsChild (finds : Opening → Type 0) (honest sound : Bool) (peer : Client) (plan : PlanText) (program : ProgramText) (environment : Variables) : Type 0 where
-  pub allowed : IsPrepared finds honest sound peer plan Allow environment
+pub record IsChild (finds : Opening → Type 0) (honest sound : Bool) (peer : Client) (local : LocalEnd) (plan : PlanText)
+    (program : ProgramText) (environment : Variables) : Type 0 where
+  pub allowed : IsPrepared finds honest sound peer local plan Allow environment
   pub planned : program ≡ plan.program
 
 -- A child of an allowed connection was to be started, and the launcher refused the plan's program with the variables of the decision.
-pub record IsRefused (finds : Opening → Type 0) (honest sound : Bool) (peer : Client) (plan : PlanText) (refuses : ProgramText → Variables → StartFault → Type 0) (fault : StartFault) : Type 0 where
+pub record IsRefused (finds : Opening → Type 0) (honest sound : Bool) (peer : Client) (local : LocalEnd) (plan : PlanText)
+    (refuses : ProgramText → Variables → StartFault → Type 0) (fault : StartFault) : Type 0 where
   pub environment : Variables
-  pub allowed : IsPrepared finds honest sound peer plan Allow environment
+  pub allowed : IsPrepared finds honest sound peer local plan Allow environment
   pub refused : refuses plan.program environment fault
 
 -- the cause of a drop where a decision fails
@@ -66,17 +66,6 @@ cause_of (Find find.OutOfMemory) = cause.Memory
 cause_of (Code fault) = cause.Damaged
 cause_of OutOfMemory = cause.Memory
 
--- the same where the rules could not be opened
-abbrev pub cause_of_open : OpenFault → DropCause
-cause_of_open fault.Directory = cause.Directory
-cause_of_open fault.OutOfTurn = cause.Directory
-cause_of_open fault.OutOfMemory = cause.Memory
-
--- the same where it could not be decided
-abbrev pub cause_of_undecided : Undecided → DropCause
-cause_of_undecided undecided.OutOfTurn = cause.Directory
-cause_of_undecided undecided.OutOfMemory = cause.Memory
-
 -- the decision by something that may be found fails, for this cause
 pub record FailsFor (finds : Opening → Type 0) (honest sound : Bool) (peer : Client) (why : DropCause) : Type 0 where
   pub found : Opening
@@ -85,7 +74,7 @@ pub record FailsFor (finds : Opening → Type 0) (honest sound : Bool) (peer : C
   pub fails : FailsToDecide honest sound found peer fault
   pub for_it : cause_of fault ≡ why
 
--- a connection was dropped for a cause: a banner that there is; a failure of the directory, or a desk that others use; a file that is
+-- a connection was dropped for a cause: a banner that there is; a failure of the directory, or an agent that others use; a file that is
 -- damaged or could not be read; want of memory
 abbrev pub Drops : (decides : DropCause → Type 0) → (is_shared : Bool) → (before now : ℕ) → (banner : List ℕ) → DropCause → Type 0
 Drops fails is_shared before now banner cause.Denied = ⊥
@@ -145,11 +134,11 @@ ComesAt Served.Denied at = at ≡ stage.Decided Deny
 ComesAt (Served.StartFailed fault) at = at ≡ stage.Decided Allow
 ComesAt (Served.Dropped why) at = IsUndenied at
 
--- a desk told no event from one state to the next: it is the same one, or a call of it was refused
+-- an agent told no event from one state to the next: it is the same one, or a call of it was refused
 abbrev pub IsStill : {D : Type 0} → (still : D → D → Type 0) → (old new : D) → Type 0
 IsStill still old new = (new ≡ old) ⊎ still old new
 
--- The events that a desk told of a connection before its last one: none; or that it opened the rules; or that, and that it was decided by what
+-- The events that an agent told of a connection before its last one: none; or that it opened the rules; or that, and that it was decided by what
 -- it found there.
 pub data ComesBy {D : Type 0} (still : D → D → Type 0) (tells_by : D → Opening → Event → D → Type 0) (n : ℕ) : D → List Event → D → Type 0 where
   unopened : {old new : D} → IsStill still old new → ComesBy still tells_by n old [] new
@@ -163,11 +152,11 @@ pub record HasCome {D : Type 0} (still : D → D → Type 0) (tells_by : D → O
   pub events : List Event
   pub came : ComesBy still tells_by n old events new
 
--- A desk has told this event last. Before it came such events, by which it had come that far, and it came in such a stage.
-pub record IsLastTold {D : Type 0} (comes_by : D → Type 0) (tells : D → Event → D → Type 0) (stands : D → Stage → Type 0) (comes_at : Stage → Type 0) (event : Event) (desk : D) : Type 0 where
+-- An agent has told this event last. Before it came such events, by which it had come that far, and it came in such a stage.
+pub record IsLastTold {D : Type 0} (comes_by : D → Type 0) (tells : D → Event → D → Type 0) (stands : D → Stage → Type 0) (comes_at : Stage → Type 0) (event : Event) (agent : D) : Type 0 where
   pub before : D
   pub first : comes_by before
   pub stage : Stage
   pub stood : stands before stage
   pub comes : comes_at stage
-  pub told : tells before event desk
+  pub told : tells before event agent

@@ -2,9 +2,10 @@
 ghost use Rattle.std.specs.Prelude.{IfOk, IfErr, IsTrue};
 ghost use Rattle.one_connection.specs.Openings.{Decides, FailsToDecide, IsUndamaged, opening_of};
 
+use connection_facts::Peer;
 use dir_calls::RulesFile;
-use rule_lookup::{DecideFault, Decision, Peer, decide};
-use server_yard::{Pass, Premises};
+use rule_lookup::{DecideFault, Decision, decide};
+use server_yard::{Assumptions, Pass};
 use std::alloc::Global;
 
 /// The decision for a peer by the rules file that its connection opened, or by what is decided without one: as `decide` decides by the bytes
@@ -12,14 +13,14 @@ use std::alloc::Global;
 ///
 /// # Errors
 /// Those of `decide`.
-pub fn decide_by_pass<L: Premises, F: RulesFile + Drop>(
+pub fn decide_by_pass<L: Assumptions, F: RulesFile + Drop>(
     alloc: Global,
     pass: &Pass<L, F>,
     peer: &Peer,
 ) -> Result<Decision, DecideFault>
     ensures decided { IfOk result (Decides F.honest F.sound (opening_of F.bytes pass.now) peer.now) }
     ensures refused { IfErr result (FailsToDecide F.honest F.sound (opening_of F.bytes pass.now) peer.now) }
-    // where the yard's premises were met the file is compiled of rules, so that nothing in it is damaged
+    // where the yard's assumptions were met the file is compiled of rules, so that nothing in it is damaged
     ensures undamaged { IsTrue L.met → IsTrue F.honest → IfErr result IsUndamaged }
 {
     decide(alloc, pass.source(), pass.missing(), peer)

@@ -7,40 +7,43 @@ ghost use Rattle.server_events.specs.declared.event.Stage.TheVariants as stage;
 ghost use Rattle.server_yard.specs.Standing.{IsReachedBy};
 ghost use Rattle.server_yard.specs.Yards.{yard_state};
 ghost use Rattle.one_connection.specs.Servings.{IfRunning, UnlessRunning, last_event};
-ghost use Rattle.one_connection.specs.YardDesks.{GoesOnTo, IsGoneFrom, ServesTo, StandsAt};
+ghost use Rattle.one_connection.specs.YardAgents.{GoesOnTo, IsGoneFrom, ServesTo, StandsAt};
 
 use crate::serving::{Served, serve_one};
-use crate::yard_desk::YardDesk;
-use child_jobs::{Launcher, Plan};
-use child_table::Place;
+use crate::yard_agent::YardAgent;
+use child_jobs::{Launcher, Place, Plan};
+use connection_facts::Peer;
 use dir_calls::Dir;
 use event_journals::Journal;
-use rule_lookup::Peer;
-use server_yard::Premises;
+use server_yard::Assumptions;
 use std::alloc::Global;
 use std::io::Write;
+use ucspi_env::Local;
 
 /// Serves a connection that a yard let in, up to the start of its child, as `serve_one` does. Over an honest directory its calls are those that
 /// serve one connection (`server_yard::laws::served`), the last of which is the answer: so whatever history of the headline led to the yard, with
 /// their events it is one that leads to the yard as it is then.
-pub fn serve_by_yard<L: Premises, D: Dir + Drop, J: Journal, S: Launcher + Drop, W: Write>(
+pub fn serve_by_yard<L: Assumptions, D: Dir + Drop, J: Journal, S: Launcher + Drop, W: Write>(
     alloc: Global,
-    desk: &mut YardDesk<L, D, J>,
+    agent: &mut YardAgent<L, D, J>,
     place: Place<L>,
     serial: u64,
     peer: &Peer,
+    local: &Local,
     plan: &Plan,
     launcher: S,
     writer: &mut W,
 ) -> Served<L, S::Job>
-    requires admitted { StandsAt desk.old.yard place serial peer.now stage.Admitted }
+    requires admitted { StandsAt agent.old.yard place serial peer.now stage.Admitted }
     ensures serves { IsTrue D.honest → ServesTo serial (last_event serial result)
-        (yard_state D.state desk.old.yard) (yard_state D.state desk.new.yard) }
+        (yard_state agent.old.yard) (yard_state agent.new.yard) }
     ensures headline { IsTrue D.honest → (history : List EventOf) (files : List KeptFile)
-        → IsReachedBy history (yard_state D.state desk.old.yard) files
-        → GoesOnTo history (last_event serial result) (yard_state D.state desk.new.yard) }
-    ensures started { IfRunning result (λ child. StandsAt desk.new.yard (place_of child) serial peer.now stage.Started) }
-    ensures gone { UnlessRunning result (IsGoneFrom desk.new.yard serial) }
+        → IsReachedBy history (yard_state agent.old.yard) files
+        → GoesOnTo history (last_event serial result) (yard_state agent.new.yard) }
+    ensures started { IfRunning result (λ child. StandsAt agent.new.yard (place_of child) serial peer.now stage.Started) }
+    ensures gone { UnlessRunning result (IsGoneFrom agent.new.yard serial) }
 {
-    serve_one(alloc, desk, place, serial, peer, plan, launcher, writer)
+    serve_one(
+        alloc, agent, place, serial, peer, local, plan, launcher, writer,
+    )
 }

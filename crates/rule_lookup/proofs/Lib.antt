@@ -4,4 +4,4 @@ pub mod CodeFaults
 pub mod DecisionLemmas
 pub mod FormLemmas
 pub mod ListedLemmas
-pub mod PeerLemmas
+pub mod AppendLemmas

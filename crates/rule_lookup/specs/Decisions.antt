@@ -16,7 +16,7 @@ use Rattle.rule_lookup.specs.declared.decision.Found.TheVariants as found
 use Rattle.rule_lookup.specs.declared.decision.Missing.{Missing}
 use Rattle.rule_lookup.specs.declared.decision.Missing.TheVariants as missing
 use Rattle.rule_lookup.specs.Forms.{forms_of}
-use Rattle.rule_lookup.specs.Peers.{Client}
+use Rattle.connection_facts.specs.Peers.{Client}
 
 -- the verdict where there is no rules file
 abbrev pub verdict_without : Missing → Verdict

@@ -1,8 +1,8 @@
--- Peers, their lookup forms, and the decision that the first form with a rule makes.
+-- The lookup forms of peers, and the decision that the first form with a rule makes.
 pub mod Addresses
 pub mod Decisions
 pub mod Forms
-pub mod Peers
+pub mod Answers
 pub use Rattle.rule_lines.specs.Codes
 pub use Rattle.rule_lines.specs.Faults
 pub use Rattle.rule_lines.specs.Lines

@@ -6,7 +6,7 @@ ghost use Rattle.rule_lookup.specs.Decisions.{decision_by, decision_from, finds_
 ghost use Rattle.rule_lookup.specs.declared.decision.DecideFault.TheVariants.{OutOfMemory};
 
 use crate::form::forms;
-use crate::peer::Peer;
+use connection_facts::Peer;
 use rule_lines::{
     CodeFault, DecodeFault, FindFault, Instr, PairSource, Settings, Verdict, decode_instr,
 };

@@ -1,5 +1,5 @@
 //! The addresses that stand in a text by themselves.
-ghost use Rattle.std.specs.Prelude.{◌≡◌, ℕ, List, None, Some, OnOk, bytes_eq, if◌then◌else◌};
+ghost use Rattle.std.specs.Prelude.{◌≡◌, ℕ, List, None, Some, IfOk, OnOk, bytes_eq, if◌then◌else◌};
 ghost use Rattle.rule_warnings.specs.LentLines.{line_lent, line_whole};
 
 use crate::client::octets_of;
@@ -17,14 +17,14 @@ pub struct Lent<'a> {
 }
 
 impl<'a> Lent<'a> {
-    /// No addresses.
-    pub fn new(alloc: Global) -> Lent<'a>
-        ensures { (address : List ℕ) → line_lent result address ≡ None }
+    /// No addresses, with room for so many that are no whole IPv4 addresses.
+    pub fn with_room(alloc: Global, texts: usize) -> Result<Lent<'a>, AllocError>
+        ensures { IfOk result (λ lent. (address : List ℕ) → line_lent lent address ≡ None) }
     {
-        Lent {
+        Ok(Lent {
             whole: HashMap::new(alloc),
-            texts: HashMap::new(alloc),
-        }
+            texts: HashMap::with_capacity(alloc, texts)?,
+        })
     }
 
     /// The number of the line of an address.

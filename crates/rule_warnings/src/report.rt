@@ -1,5 +1,5 @@
 //! The warnings of a text.
-ghost use Rattle.std.specs.Prelude.{◌≡◌, ◌<◌, ◌⊎◌, ◌++◌, ◌==◌, ◌||◌, [], not, true, None, length, flat_map, IfOk, IfErr, OnOk};
+ghost use Rattle.std.specs.Prelude.{◌≡◌, ◌<◌, ◌≤◌, ◌⊎◌, ◌++◌, ◌==◌, ◌||◌, [], not, true, None, length, flat_map, IfOk, IfErr, OnOk};
 ghost use Rattle.std.specs.Io.KnownBytes.{Appends};
 ghost use Rattle.rule_lines.specs.Faults.{first_faulty, IsAccepted};
 ghost use Rattle.rule_lines.specs.Lines.{lines_of};
@@ -7,6 +7,7 @@ ghost use Rattle.rule_warnings.specs.Findings.{kinds_in, OnRefusal, RefusedBy, W
 ghost use Rattle.rule_warnings.specs.Warnings.{report_of, warning_line, warnings_at, warnings_of, when, when_decided};
 ghost use Rattle.rule_warnings.specs.declared.report.WarnFault.TheVariants.{OutOfMemory};
 
+use crate::client::contains;
 use crate::findings::{Findings, look_at};
 use crate::seen::Seen;
 use crate::warning::{Warning, WarningKind};
@@ -101,7 +102,7 @@ fn write_lines<W: Write>(
     ensures warned { IfOk result (λ warned. warned ≡ not (length (report_of text.now) == 0)) }
     ensures fault { IfErr result (λ fault. (fault ≡ WarnFault.WriteFault) ⊎ (fault ≡ WarnFault.OutOfMemory)) }
 {
-    let mut seen = Seen::new(alloc);
+    let mut seen = Seen::with_room(alloc, count_hosts(text))?;
     let mut buffer = Vec::new(alloc);
     let mut lines = Vec::new(alloc);
     let mut warned = false;
@@ -125,6 +126,22 @@ fn write_lines<W: Write>(
         rest = after;
     }
     Ok(warned)
+}
+
+/// How many lines of a text are rules that begin with a `=`, as those of hosts do.
+fn count_hosts(text: &[u8]) -> usize
+    ensures { result ≤ length text.now }
+{
+    let mut count = 0;
+    let mut rest = text;
+    while !rest.is_empty() {
+        let (line, after) = first_line(rest);
+        if line.starts_with(b"=") && contains(line, b':') {
+            count += 1;
+        }
+        rest = after;
+    }
+    count
 }
 
 /// Writes the warnings of a line, and tells whether there was one, or one before.

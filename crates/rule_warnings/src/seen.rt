@@ -22,15 +22,15 @@ pub struct Seen<'a> {
 }
 
 impl<'a> Seen<'a> {
-    /// No addresses.
-    pub fn new(alloc: Global) -> Seen<'a>
-        ensures { (address : List ℕ) → line_under result address ≡ None }
+    /// No addresses, with room for so many that stand in the text and are no whole IPv4 addresses: what grows stands twice for a moment.
+    pub fn with_room(alloc: Global, texts: usize) -> Result<Seen<'a>, AllocError>
+        ensures { IfOk result (λ seen. (address : List ℕ) → line_under seen address ≡ None) }
     {
-        Seen {
-            lent: Lent::new(alloc),
+        Ok(Seen {
+            lent: Lent::with_room(alloc, texts)?,
             made: HashMap::new(alloc),
             spans: HashMap::new(alloc),
-        }
+        })
     }
 
     /// The number of the first line that has the address.

@@ -16,12 +16,14 @@ use Rattle.rules_install.specs.Filled.{blank_file, filled_file, fillings_left, w
 -- ---- a piece of which some was appended, and what comes after it
 
 -- some bytes more of the piece are the next bytes of the file
-pub filled_more : (filled count : ℕ) (left more file : List ℕ) → left ++ more ≡ drop filled file → count ≤ length left → take filled file ++ take count left ≡ take (filled + count) file
+pub filled_more : (filled count : ℕ) (left more file : List ℕ) → left ++ more ≡ drop filled file → count ≤ length left
+    → take filled file ++ take count left ≡ take (filled + count) file
 filled_more filled count left more file is le =
     ap (λ (l : List ℕ). take filled file ++ l) (sym (take-append-le count left more le) ∙ ap (take count) is) ∙ sym (take-add filled count file)
 
 -- what is left of the piece then, and what comes after it, is what is left of the file
-pub left_more : (taken filled count : ℕ) (piece more file : List ℕ) → drop taken piece ++ more ≡ drop filled file → count ≤ length (drop taken piece) → drop (taken + count) piece ++ more ≡ drop (filled + count) file
+pub left_more : (taken filled count : ℕ) (piece more file : List ℕ) → drop taken piece ++ more ≡ drop filled file
+    → count ≤ length (drop taken piece) → drop (taken + count) piece ++ more ≡ drop (filled + count) file
 left_more taken filled count piece more file is le =
     ap (λ (l : List ℕ). l ++ more) (sym (drop-drop count taken piece)) ∙ sym (drop-append-le count (drop taken piece) more le) ∙ ap (drop count) is ∙ drop-drop count filled file
 
@@ -30,7 +32,8 @@ pub taken_within : (taken count : ℕ) (piece : List ℕ) → count ≤ length (
 taken_within taken count piece le within = omega (arith, length-drop taken piece)
 
 -- it is no more than the file
-pub filled_within : (filled count : ℕ) (left more file : List ℕ) → left ++ more ≡ drop filled file → count ≤ length left → filled ≤ length file → filled + count ≤ length file
+pub filled_within : (filled count : ℕ) (left more file : List ℕ) → left ++ more ≡ drop filled file → count ≤ length left
+    → filled ≤ length file → filled + count ≤ length file
 filled_within filled count left more file is le within = omega (arith, length-append left more, length-drop filled file, ap length is)
 
 -- some of the piece is left
@@ -43,17 +46,20 @@ filled_whole filled file none within = omega (arith, length-drop filled file, ap
 
 -- ---- the pointers in the place of zeros
 
-put_over : (header zeros records tables : List ℕ) → length header ≡ length zeros → take 0 (zeros ++ records ++ tables) ++ header ++ drop (0 + length header) (zeros ++ records ++ tables) ≡ header ++ records ++ tables
+put_over : (header zeros records tables : List ℕ) → length header ≡ length zeros
+    → take 0 (zeros ++ records ++ tables) ++ header ++ drop (0 + length header) (zeros ++ records ++ tables) ≡ header ++ records ++ tables
 put_over header zeros records tables same =
     ap (λ (l : List ℕ). header ++ drop (0 + length header) l) (append_assoc zeros records tables)
     ∙ ap (λ (l : List ℕ). header ++ l) (drop_at zeros (records ++ tables) (0 + length header) (omega arith)) ∙ sym (append_assoc header records tables)
 
-same_length : (header zeros records tables : List ℕ) → length header ≡ length zeros → length (zeros ++ records ++ tables) ≡ length (header ++ records ++ tables)
+same_length : (header zeros records tables : List ℕ) → length header ≡ length zeros
+    → length (zeros ++ records ++ tables) ≡ length (header ++ records ++ tables)
 same_length header zeros records tables same =
     omega (arith, length-append (zeros ++ records) tables, length-append zeros records, length-append (header ++ records) tables, length-append header records)
 
 length-header : (pairs : List Pair) (n : ℕ) → length (header_bytes (map (pointer_of pairs) (range_with_len 0 n))) ≡ 8 * n
-length-header pairs n = length-two_numbers (map (pointer_of pairs) (range_with_len 0 n)) ∙ ap (λ (k : ℕ). 8 * k) (length-map-range_with_len (pointer_of pairs) 0 n)
+length-header pairs n =
+    length-two_numbers (map (pointer_of pairs) (range_with_len 0 n)) ∙ ap (λ (k : ℕ). 8 * k) (length-map-range_with_len (pointer_of pairs) 0 n)
 
 -- the pointers take as many bytes as the zeros
 pub length-pointers : (rules : List Rule) → length (header_bytes (pointers_of (stored rules))) ≡ 2048
@@ -82,18 +88,21 @@ pointers_over rules header is =
 -- ---- a piece more
 
 -- the next piece, where nothing is left of the one before it
-pub next_left : (taken filled : ℕ) (piece next before more file : List ℕ) → drop taken piece ++ before ≡ drop filled file → length piece ≤ taken → before ≡ next ++ more → drop 0 next ++ more ≡ drop filled file
+pub next_left : (taken filled : ℕ) (piece next before more file : List ℕ) → drop taken piece ++ before ≡ drop filled file
+    → length piece ≤ taken → before ≡ next ++ more → drop 0 next ++ more ≡ drop filled file
 next_left taken filled piece next before more file is none split = sym split ∙ ap (λ (l : List ℕ). l ++ before) (sym (drop_all taken piece none)) ∙ is
 
 -- where there is no piece any more, all of the file is filled
-pub none_left : (taken filled : ℕ) (piece before file : List ℕ) → drop taken piece ++ before ≡ drop filled file → length piece ≤ taken → before ≡ [] → filled ≤ length file → filled ≡ length file
+pub none_left : (taken filled : ℕ) (piece before file : List ℕ) → drop taken piece ++ before ≡ drop filled file → length piece ≤ taken
+    → before ≡ [] → filled ≤ length file → filled ≡ length file
 none_left taken filled piece before file is none last within =
     filled_whole filled file (sym is ∙ ap (λ (l : List ℕ). l ++ before) (drop_all taken piece none) ∙ last) within
 
 -- ---- what is left to fill
 
 -- all of the file is there, with zeros for its pointers
-pub blank_filled : (rules : List Rule) (filled : ℕ) (patched : Bool) → patched ≡ false → filled ≡ length (blank_file rules) → filled_file rules filled patched ≡ blank_file rules
+pub blank_filled : (rules : List Rule) (filled : ℕ) (patched : Bool) → patched ≡ false → filled ≡ length (blank_file rules)
+    → filled_file rules filled patched ≡ blank_file rules
 blank_filled rules filled patched none all =
     ap (λ (p : Bool). filled_file rules filled p) none ∙ ap (λ (n : ℕ). take n (blank_file rules)) all ∙ take-length (blank_file rules)
 
@@ -104,9 +113,11 @@ less_by : (size filled count more : ℕ) → 0 < count → filled + count ≤ si
 less_by size filled count more some within = omega arith
 
 -- the pointers are one filling
-pub pointers_less : (rules : List Rule) (filled : ℕ) (patched : Bool) → patched ≡ false → fillings_left rules filled true < fillings_left rules filled patched
+pub pointers_less : (rules : List Rule) (filled : ℕ) (patched : Bool) → patched ≡ false
+    → fillings_left rules filled true < fillings_left rules filled patched
 pointers_less rules filled patched none = less_by_one (length (blank_file rules) - filled) patched none
 
 -- bytes are so many
-pub bytes_less : (rules : List Rule) (filled count : ℕ) (patched : Bool) → 0 < count → filled + count ≤ length (blank_file rules) → fillings_left rules (filled + count) patched < fillings_left rules filled patched
+pub bytes_less : (rules : List Rule) (filled count : ℕ) (patched : Bool) → 0 < count → filled + count ≤ length (blank_file rules)
+    → fillings_left rules (filled + count) patched < fillings_left rules filled patched
 bytes_less rules filled count patched some within = less_by (length (blank_file rules)) filled count (if patched then 0 else 1) some within

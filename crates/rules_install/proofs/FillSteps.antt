@@ -10,6 +10,7 @@ use Rattle.dir_calls.specs.Calls.{Call, appends, patches, after, longer, patched
 use Rattle.dir_calls.specs.Outcomes.{Does, LeftBy}
 use Rattle.dir_calls.specs.Lasting.{LastsAmong, HasAmong}
 use Rattle.dir_calls.specs.Moments.{Elapses, LeavesOnly, CountsFault}
+use Rattle.dir_calls.specs.declared.dir.Dir.{Ghosts}
 use Rattle.dir_calls.proofs.Counting.{counts_later, counts_device}
 use Rattle.dir_calls.proofs.Lasting.{CallKeeps, image_has, left_has, does_lasts}
 use Rattle.dir_calls.proofs.Moments.{one_call, started}
@@ -27,7 +28,8 @@ use Rattle.rules_install.proofs.FillBytes.{blank_filled, filled_more, length-bla
 
 -- ---- the phase
 
-is_filling : (reached : Option Phase) (patched : Bool) → next_of reached patched ≡ Filling → ((reached ≡ Some Fresh) ⊎ (reached ≡ Some Filling)) × (patched ≡ false)
+is_filling : (reached : Option Phase) (patched : Bool) → next_of reached patched ≡ Filling
+    → ((reached ≡ Some Fresh) ⊎ (reached ≡ Some Filling)) × (patched ≡ false)
 is_filling None patched is = absurd (cc)
 is_filling (Some Fresh) true is = absurd (cc)
 is_filling (Some Fresh) false is = (inl refl, refl)
@@ -67,20 +69,23 @@ IsScratch d tmp bytes = (number_of d tmp ≡ d.scratch) × (scratch_of d ≡ Som
 scratch_at : (d : Directory) (tmp bytes : List ℕ) → IsScratch d tmp bytes → ScratchAt d tmp bytes
 scratch_at d tmp bytes has = by d.scratch refl has.1
   where
-    by : (scratch : Option ℕ) → d.scratch ≡ scratch → option_and_then (λ n. slice_get d.files n) scratch ≡ Some (record { bytes = bytes; synced = false }) → ScratchAt d tmp bytes
+    by : (scratch : Option ℕ) → d.scratch ≡ scratch
+        → option_and_then (λ n. slice_get d.files n) scratch ≡ Some (record { bytes = bytes; synced = false }) → ScratchAt d tmp bytes
     by None is file = absurd (cc)
     by (Some n) is file = record { n = n; number = has.0 ∙ is; scratch = is; file = file }
 
 is_scratch : (d : Directory) (tmp bytes : List ℕ) → ScratchAt d tmp bytes → IsScratch d tmp bytes
 is_scratch d tmp bytes at = (at.number ∙ sym at.scratch, ap (option_and_then (λ n. slice_get d.files n)) at.scratch ∙ at.file)
 
-at_file : (change : FileState → FileState) (n : ℕ) (files : List FileState) (file : FileState) → slice_get files n ≡ Some file → slice_get (with_file change n files) n ≡ Some (change file)
+at_file : (change : FileState → FileState) (n : ℕ) (files : List FileState) (file : FileState) → slice_get files n ≡ Some file
+    → slice_get (with_file change n files) n ≡ Some (change file)
 at_file change n [] file is = absurd (cc)
 at_file change zero (x ∷ files) file is = let same : x ≡ file = cc in ap (λ (f : FileState). Some (change f)) same
 at_file change (suc n) (x ∷ files) file is = at_file change n files file is
 
 changed : (change : FileState → FileState) (d e : Directory) (tmp bytes new : List ℕ) → IsScratch d tmp bytes
-    → change (record { bytes = bytes; synced = false }) ≡ record { bytes = new; synced = false } → e ≡ with_scratch change d.scratch d → IsScratch e tmp new
+    → change (record { bytes = bytes; synced = false }) ≡ record { bytes = new; synced = false } → e ≡ with_scratch change d.scratch d
+    → IsScratch e tmp new
 changed change d e tmp bytes new has changes is =
     let at = scratch_at d tmp bytes has in
     let e_is = is ∙ ap (λ (scratch : Option ℕ). with_scratch change scratch d) at.scratch in
@@ -92,13 +97,17 @@ changed change d e tmp bytes new has changes is =
     })
 
 -- after an append
-pub appended_has : (d e : Directory) (tmp bytes piece new : List ℕ) → IsScratch d tmp bytes → bytes ++ piece ≡ new → e ≡ after (appends piece) d → IsScratch e tmp new
-appended_has d e tmp bytes piece new has same is = changed (longer piece) d e tmp bytes new has (ap (λ (l : List ℕ). record { bytes = l; synced = false }) same) is
+pub appended_has : (d e : Directory) (tmp bytes piece new : List ℕ) → IsScratch d tmp bytes → bytes ++ piece ≡ new
+    → e ≡ after (appends piece) d → IsScratch e tmp new
+appended_has d e tmp bytes piece new has same is =
+    changed (longer piece) d e tmp bytes new has (ap (λ (l : List ℕ). record { bytes = l; synced = false }) same) is
 
 -- after a patch
-pub patched_has : (d e : Directory) (tmp bytes : List ℕ) (place : ℕ) (over new : List ℕ) → IsScratch d tmp bytes → take place bytes ++ over ++ drop (place + length over) bytes ≡ new
+pub patched_has : (d e : Directory) (tmp bytes : List ℕ) (place : ℕ) (over new : List ℕ) → IsScratch d tmp bytes
+    → take place bytes ++ over ++ drop (place + length over) bytes ≡ new
     → e ≡ after (patches place over) d → IsScratch e tmp new
-patched_has d e tmp bytes place over new has same is = changed (patched place over) d e tmp bytes new has (ap (λ (l : List ℕ). record { bytes = l; synced = false }) same) is
+patched_has d e tmp bytes place over new has same is =
+    changed (patched place over) d e tmp bytes new has (ap (λ (l : List ℕ). record { bytes = l; synced = false }) same) is
 
 -- in the step to another filling
 pub filling_has : (s : Installing) (d : Directory) → next_phase s ≡ Filling → FitsPhase s d s.reached → HasScratch s d
@@ -106,7 +115,8 @@ filling_has s d next fits = ⊎_elim (λ e. subst (λ reached. FitsPhase s d rea
 
 -- the pointers fit into the scratch file
 pub pointers_fit : (s : Installing) (d : Directory) → next_phase s ≡ Filling → FitsPhase s d s.reached → s.filled ≡ length (blank_file s.rules)
-    → (header : List ℕ) → header ≡ header_bytes (pointers_of (stored s.rules)) → (file : FileState) → scratch_of d ≡ Some file → 0 + length header ≤ length file.bytes
+    → (header : List ℕ) → header ≡ header_bytes (pointers_of (stored s.rules)) → (file : FileState) → scratch_of d ≡ Some file
+    → 0 + length header ≤ length file.bytes
 pointers_fit s d next fits all header header_is file is =
     let same = same_Some _ _ (sym (filling_has s d next fits).1 ∙ is) in
     let size : length file.bytes ≡ finished_length (stored s.rules) =
@@ -116,7 +126,8 @@ pointers_fit s d next fits all header header_is file is =
 
 -- with them the scratch file is whole
 pub pointers_has : (s : Installing) (d e : Directory) → next_phase s ≡ Filling → FitsPhase s d s.reached → s.filled ≡ length (blank_file s.rules)
-    → (header : List ℕ) → header ≡ header_bytes (pointers_of (stored s.rules)) → e ≡ after (patches 0 header) d → HasScratch (record s { patched = true }) e
+    → (header : List ℕ) → header ≡ header_bytes (pointers_of (stored s.rules)) → e ≡ after (patches 0 header) d
+    → HasScratch (record s { patched = true }) e
 pointers_has s d e next fits all header header_is is =
     patched_has d e s.names.tmp (filled_file s.rules s.filled s.patched) 0 header (whole_file s.rules) (filling_has s d next fits)
     (ap (λ (l : List ℕ). take 0 l ++ header ++ drop (0 + length header) l) (blank_filled s.rules s.filled s.patched (unpatched s next) all) ∙ pointers_over s.rules header header_is) is
@@ -127,7 +138,8 @@ longer_by s count = record s { filled = s.filled + count }
 
 -- with bytes more it has so many of the file
 pub bytes_have : (s : Installing) (d e : Directory) (count : ℕ) (left more : List ℕ) → next_phase s ≡ Filling → FitsPhase s d s.reached
-    → left ++ more ≡ drop s.filled (blank_file s.rules) → count ≤ length left → e ≡ after (appends (take count left)) d → HasScratch (longer_by s count) e
+    → left ++ more ≡ drop s.filled (blank_file s.rules) → count ≤ length left → e ≡ after (appends (take count left)) d
+    → HasScratch (longer_by s count) e
 bytes_have s d e count left more next fits left_is le is =
     appended_has d e s.names.tmp (filled_file s.rules s.filled s.patched) (take count left) (filled_file s.rules (s.filled + count) s.patched) (filling_has s d next fits)
     (subst (λ (p : Bool). filled_file s.rules s.filled p ++ take count left ≡ filled_file s.rules (s.filled + count) p) (sym (unpatched s next))
@@ -147,7 +159,7 @@ pub record Advances (s t : Installing) : Type 0 where
   pub names : t.names ≡ s.names
   pub is_open : t.over ≡ false
 
-module _ {D : Type 0} {T : Type 0} (honest : Bool) (state : D → Directory) (moment : D → ℕ) (left_since : D → ℕ → Directory → Type 0) (failed : D → ℕ)
+module _ {D F : Type 0} {T : Type 0} (tells : Ghosts D F)
     (s : Installing) (old new : D) (done : T → Call) (whole : Call) (next : T → Installing) where
   step_same : (outcome : Result T DirFault) → ((x : T) → Advances s (next x)) → IsSame s (advanced next s outcome)
   step_same (Ok x) further = record { rules = (further x).rules; names = (further x).names }
@@ -170,8 +182,9 @@ module _ {D : Type 0} {T : Type 0} (honest : Bool) (state : D → Directory) (mo
   step_kept (Err NoName) not_filled = record { filled = refl; patched = refl }
   step_kept (Err Device) not_filled = record { filled = refl; patched = refl }
 
-  step_fits : (outcome : Result T DirFault) → Fits s (state old) → ((x : T) → outcome ≡ Ok x → state new ≡ after (done x) (state old) → HasScratch (next x) (state new))
-      → Does done whole (state old) (state new) outcome → Fits (advanced next s outcome) (state new)
+  step_fits : (outcome : Result T DirFault) → Fits s (tells.state old)
+      → ((x : T) → outcome ≡ Ok x → tells.state new ≡ after (done x) (tells.state old) → HasScratch (next x) (tells.state new))
+      → Does done whole (tells.state old) (tells.state new) outcome → Fits (advanced next s outcome) (tells.state new)
   step_fits (Ok x) fits has does = λ is_open. has x refl does
   step_fits (Err NoMemory) fits has does = λ is_open. subst (λ (d : Directory). FitsPhase s d s.reached) (sym does) (fits is_open)
   step_fits (Err NoScratch) fits has does = λ is_open. absurd (cc)
@@ -179,7 +192,8 @@ module _ {D : Type 0} {T : Type 0} (honest : Bool) (state : D → Directory) (mo
   step_fits (Err Device) fits has does = λ is_open. absurd (cc)
 
   step_changes : (outcome : Result T DirFault) → IsCallOf s Filling whole → ((x : T) → IsCallOf s Filling (done x))
-      → Does done whole (state old) (state new) outcome → Changes s Filling (state old) (state new) (answer_of Filling outcome)
+      → Does done whole (tells.state old) (tells.state new) outcome
+      → Changes s Filling (tells.state old) (tells.state new) (answer_of Filling outcome)
   step_changes (Ok x) call part does = (done x, part x, does)
   step_changes (Err NoMemory) call part does = does
   step_changes (Err NoScratch) call part does = does
@@ -187,48 +201,51 @@ module _ {D : Type 0} {T : Type 0} (honest : Bool) (state : D → Directory) (mo
   step_changes (Err Device) call part does = (whole, call, does)
 
   step_keeps : (outcome : Result T DirFault)
-      → ((image : Directory) → left_since old (moment old) image → IsImage (state old) image)
-      → Elapses (moment old) (moment new) (left_since old) (left_since new) (LeftBy whole (state old) (state new))
-      → Does done whole (state old) (state new) outcome
-      → ((olds : List (Option (List ℕ))) → LastsAmong (state old) s.names.cdb olds → CallKeeps whole (state old) s.names.cdb olds)
-      → ((x : T) (olds : List (Option (List ℕ))) → LastsAmong (state old) s.names.cdb olds → CallKeeps (done x) (state old) s.names.cdb olds)
-      → StepKeeps state moment left_since Filling s old new
+      → ((image : Directory) → tells.left_since old (tells.moment old) image → IsImage (tells.state old) image)
+      → Elapses (tells.moment old) (tells.moment new) (tells.left_since old) (tells.left_since new) (LeftBy whole (tells.state old) (tells.state new))
+      → Does done whole (tells.state old) (tells.state new) outcome
+      → ((olds : List (Option (List ℕ))) → LastsAmong (tells.state old) s.names.cdb olds → CallKeeps whole (tells.state old) s.names.cdb olds)
+      → ((x : T) (olds : List (Option (List ℕ))) → LastsAmong (tells.state old) s.names.cdb olds → CallKeeps (done x) (tells.state old) s.names.cdb olds)
+      → StepKeeps tells Filling s old new
   step_keeps outcome only time does keeps part = record { lasts = lasts; any_moment = any_moment }
     where
-      lasts : (olds : List (Option (List ℕ))) → LastsAmong (state old) s.names.cdb olds → LastsAmong (state new) s.names.cdb olds
-      lasts olds before = does_lasts done whole (state old) (state new) outcome s.names.cdb olds does (keeps olds before) (λ x. part x olds before)
+      lasts : (olds : List (Option (List ℕ))) → LastsAmong (tells.state old) s.names.cdb olds → LastsAmong (tells.state new) s.names.cdb olds
+      lasts olds before =
+          does_lasts done whole (tells.state old) (tells.state new) outcome s.names.cdb olds does (keeps olds before) (λ x. part x olds before)
 
-      any_moment : (olds : List (Option (List ℕ))) → LastsAmong (state old) s.names.cdb olds → LeavesOnly moment left_since old new (HasAmong s.names.cdb olds)
+      any_moment : (olds : List (Option (List ℕ))) → LastsAmong (tells.state old) s.names.cdb olds
+          → LeavesOnly tells.moment tells.left_since old new (HasAmong s.names.cdb olds)
       any_moment olds before =
-          one_call moment left_since old new (HasAmong s.names.cdb olds) (LeftBy whole (state old) (state new)) (IsImage (state old)) only
-          (λ image is. image_has (state old) image s.names.cdb olds before is)
-          time (λ image left. left_has whole (state old) (state new) image s.names.cdb olds (keeps olds before) (lasts olds before) left)
+          one_call tells.moment tells.left_since old new (HasAmong s.names.cdb olds) (LeftBy whole (tells.state old) (tells.state new)) (IsImage (tells.state old)) only
+          (λ image is. image_has (tells.state old) image s.names.cdb olds before is)
+          time (λ image left. left_has whole (tells.state old) (tells.state new) image s.names.cdb olds (keeps olds before) (lasts olds before) left)
 
-  step_blames : (outcome : Result T DirFault) → CountsFault (failed old) (failed new) outcome → BlamesDevice (failed old) (failed new) (answer_of Filling outcome)
+  step_blames : (outcome : Result T DirFault) → CountsFault (tells.failed old) (tells.failed new) outcome
+      → BlamesDevice (tells.failed old) (tells.failed new) (answer_of Filling outcome)
   step_blames (Ok x) counted = tt
   step_blames (Err NoMemory) counted = tt
   step_blames (Err NoScratch) counted = tt
   step_blames (Err NoName) counted = tt
-  step_blames (Err Device) counted = counts_device (failed old) (failed new) counted
+  step_blames (Err Device) counted = counts_device (tells.failed old) (tells.failed new) counted
 
   -- all that is promised of it
   pub filling_steps : (outcome : Result T DirFault) (s' : Installing) (result : Result Phase InstallFault)
       → s' ≡ advanced next s outcome → result ≡ answer_of Filling outcome
       → ((x : T) → Advances s (next x))
       → IsCallOf s Filling whole → ((x : T) → IsCallOf s Filling (done x))
-      → (IsTrue honest → Fits s (state old))
-      → (IsTrue honest → (x : T) → outcome ≡ Ok x → state new ≡ after (done x) (state old) → HasScratch (next x) (state new))
-      → ((image : Directory) → IsTrue honest → left_since old (moment old) image → IsImage (state old) image)
-      → (IsTrue honest → Elapses (moment old) (moment new) (left_since old) (left_since new) (LeftBy whole (state old) (state new)))
-      → (IsTrue honest → Does done whole (state old) (state new) outcome)
-      → ((olds : List (Option (List ℕ))) → LastsAmong (state old) s.names.cdb olds → CallKeeps whole (state old) s.names.cdb olds)
-      → ((x : T) (olds : List (Option (List ℕ))) → LastsAmong (state old) s.names.cdb olds → CallKeeps (done x) (state old) s.names.cdb olds)
-      → CountsFault (failed old) (failed new) outcome
-      → (IsTrue honest → (fault : DirFault) → outcome ≡ Err fault → IsSure fault)
-      → StepsTo honest state moment left_since failed Filling s s' old new result
+      → (IsTrue tells.honest → Fits s (tells.state old))
+      → (IsTrue tells.honest → (x : T) → outcome ≡ Ok x → tells.state new ≡ after (done x) (tells.state old) → HasScratch (next x) (tells.state new))
+      → ((image : Directory) → IsTrue tells.honest → tells.left_since old (tells.moment old) image → IsImage (tells.state old) image)
+      → (IsTrue tells.honest → Elapses (tells.moment old) (tells.moment new) (tells.left_since old) (tells.left_since new) (LeftBy whole (tells.state old) (tells.state new)))
+      → (IsTrue tells.honest → Does done whole (tells.state old) (tells.state new) outcome)
+      → ((olds : List (Option (List ℕ))) → LastsAmong (tells.state old) s.names.cdb olds → CallKeeps whole (tells.state old) s.names.cdb olds)
+      → ((x : T) (olds : List (Option (List ℕ))) → LastsAmong (tells.state old) s.names.cdb olds → CallKeeps (done x) (tells.state old) s.names.cdb olds)
+      → CountsFault (tells.failed old) (tells.failed new) outcome
+      → (IsTrue tells.honest → (fault : DirFault) → outcome ≡ Err fault → IsSure fault)
+      → StepsTo tells Filling s s' old new result
   filling_steps outcome s' result s'_is result_is further call calls fits has only time does keeps part counted sure =
-      subst (λ r. StepsTo honest state moment left_since failed Filling s s' old new r) (sym result_is)
-      (subst (λ t. StepsTo honest state moment left_since failed Filling s t old new (answer_of Filling outcome)) (sym s'_is) (record {
+      subst (λ r. StepsTo tells Filling s s' old new r) (sym result_is)
+      (subst (λ t. StepsTo tells Filling s t old new (answer_of Filling outcome)) (sym s'_is) (record {
         same = step_same outcome further;
         goes = step_goes outcome further;
         kept = step_kept outcome;
@@ -238,13 +255,14 @@ module _ {D : Type 0} {T : Type 0} (honest : Bool) (state : D → Directory) (mo
         stops = λ h. record { call = whole; is_call = call; time = time h };
         settling = λ is. absurd (cc);
         device = λ h. of_device Filling outcome (sure h);
-        failures = counts_later (failed old) (failed new) outcome counted;
+        failures = counts_later (tells.failed old) (tells.failed new) outcome counted;
         blames = step_blames outcome counted;
       }))
 
 -- ---- what is noted of a call
 
-after_patch : {T : Type 0} (s t : Installing) (outcome : Result T DirFault) → ((is_ok outcome ≡ true) × (t ≡ record s { patched = true })) ⊎ ((is_ok outcome ≡ false) × (t ≡ s))
+after_patch : {T : Type 0} (s t : Installing) (outcome : Result T DirFault) → ((is_ok outcome ≡ true) × (t ≡ record s { patched = true }))
+    ⊎ ((is_ok outcome ≡ false) × (t ≡ s))
     → noted Filling t outcome ≡ advanced (λ (x : T). record s { patched = true }) s outcome
 after_patch s t (Ok x) (inl done) = ap (λ (i : Installing). record i { reached = Some Filling }) done.1
 after_patch s t (Ok x) (inr failed) = absurd (cc)
@@ -259,11 +277,13 @@ after_patch s t (Err Device) (inr failed) = ap (λ (i : Installing). record i { 
 
 -- of a patch, where it is also kept that it succeeded
 pub patch_noted : {T : Type 0} (s t s' : Installing) (outcome : Result T DirFault) → s' ≡ noted Filling t outcome
-    → ((is_ok outcome ≡ true) × (t ≡ record s { patched = true })) ⊎ ((is_ok outcome ≡ false) × (t ≡ s)) → s' ≡ advanced (λ (x : T). record s { patched = true }) s outcome
+    → ((is_ok outcome ≡ true) × (t ≡ record s { patched = true })) ⊎ ((is_ok outcome ≡ false) × (t ≡ s))
+    → s' ≡ advanced (λ (x : T). record s { patched = true }) s outcome
 patch_noted s t s' outcome is cases = is ∙ after_patch s t outcome cases
 
 -- of a call that failed, as an answer of another type
-other_failure : {T : Type 0} (U : Type 0) (s : Installing) (next : T → Installing) (fault : DirFault) → noted {T = U} Filling s (Err fault) ≡ advanced next s (Err fault)
+other_failure : {T : Type 0} (U : Type 0) (s : Installing) (next : T → Installing) (fault : DirFault)
+    → noted {T = U} Filling s (Err fault) ≡ advanced next s (Err fault)
 other_failure U s next NoMemory = refl
 other_failure U s next NoScratch = refl
 other_failure U s next NoName = refl
@@ -291,22 +311,26 @@ pub filling_more : {T : Type 0} (s : Installing) (next : T → Installing) (outc
 filling_more s next (Ok x) s' result s'_is result_is less =
     subst (λ r. OnOk r (fillings_left s'.rules s'.filled s'.patched < fillings_left s.rules s.filled s.patched)) (sym result_is)
     (subst (λ (t : Installing). fillings_left t.rules t.filled t.patched < fillings_left s.rules s.filled s.patched) (sym s'_is) (less x refl))
-filling_more s next (Err NoMemory) s' result s'_is result_is less = subst (λ r. OnOk r (fillings_left s'.rules s'.filled s'.patched < fillings_left s.rules s.filled s.patched)) (sym result_is) tt
-filling_more s next (Err NoScratch) s' result s'_is result_is less = subst (λ r. OnOk r (fillings_left s'.rules s'.filled s'.patched < fillings_left s.rules s.filled s.patched)) (sym result_is) tt
-filling_more s next (Err NoName) s' result s'_is result_is less = subst (λ r. OnOk r (fillings_left s'.rules s'.filled s'.patched < fillings_left s.rules s.filled s.patched)) (sym result_is) tt
-filling_more s next (Err Device) s' result s'_is result_is less = subst (λ r. OnOk r (fillings_left s'.rules s'.filled s'.patched < fillings_left s.rules s.filled s.patched)) (sym result_is) tt
+filling_more s next (Err NoMemory) s' result s'_is result_is less =
+    subst (λ r. OnOk r (fillings_left s'.rules s'.filled s'.patched < fillings_left s.rules s.filled s.patched)) (sym result_is) tt
+filling_more s next (Err NoScratch) s' result s'_is result_is less =
+    subst (λ r. OnOk r (fillings_left s'.rules s'.filled s'.patched < fillings_left s.rules s.filled s.patched)) (sym result_is) tt
+filling_more s next (Err NoName) s' result s'_is result_is less =
+    subst (λ r. OnOk r (fillings_left s'.rules s'.filled s'.patched < fillings_left s.rules s.filled s.patched)) (sym result_is) tt
+filling_more s next (Err Device) s' result s'_is result_is less =
+    subst (λ r. OnOk r (fillings_left s'.rules s'.filled s'.patched < fillings_left s.rules s.filled s.patched)) (sym result_is) tt
 
 -- ---- no call is made, for want of memory
 
-pub still_steps : {D : Type 0} (honest : Bool) (state : D → Directory) (moment : D → ℕ) (left_since : D → ℕ → Directory → Type 0) (failed : D → ℕ)
+pub still_steps : {D F : Type 0} (tells : Ghosts D F)
     (s s' : Installing) (dir : D) (result : Result Phase InstallFault)
     → s' ≡ s → result ≡ Err OutOfMemory
-    → (IsTrue honest → Fits s (state dir))
-    → ((image : Directory) → IsTrue honest → left_since dir (moment dir) image → IsImage (state dir) image)
-    → StepsTo honest state moment left_since failed Filling s s' dir dir result
-still_steps honest state moment left_since failed s s' dir result s'_is result_is fits only =
-    subst (λ r. StepsTo honest state moment left_since failed Filling s s' dir dir r) (sym result_is)
-    (subst (λ t. StepsTo honest state moment left_since failed Filling s t dir dir (Err OutOfMemory)) (sym s'_is) (record {
+    → (IsTrue tells.honest → Fits s (tells.state dir))
+    → ((image : Directory) → IsTrue tells.honest → tells.left_since dir (tells.moment dir) image → IsImage (tells.state dir) image)
+    → StepsTo tells Filling s s' dir dir result
+still_steps tells s s' dir result s'_is result_is fits only =
+    subst (λ r. StepsTo tells Filling s s' dir dir r) (sym result_is)
+    (subst (λ t. StepsTo tells Filling s t dir dir (Err OutOfMemory)) (sym s'_is) (record {
       same = record { rules = refl; names = refl };
       goes = refl;
       kept = λ _. record { filled = refl; patched = refl };
@@ -314,7 +338,7 @@ still_steps honest state moment left_since failed s s' dir result s'_is result_i
       changes = λ h. refl;
       keeps = λ h. record {
         lasts = λ olds before. before;
-        any_moment = λ olds before. started moment left_since dir (HasAmong s.names.cdb olds) (λ image left. image_has (state dir) image s.names.cdb olds before (only image h left));
+        any_moment = λ olds before. started tells.moment tells.left_since dir (HasAmong s.names.cdb olds) (λ image left. image_has (tells.state dir) image s.names.cdb olds before (only image h left));
       };
       stops = λ h. record {
         call = appends [];

@@ -49,7 +49,8 @@ pub place-fits : (rules : List Rule) (i : ℕ) (rule : Rule) → slice_get rules
 place-fits rules i rule at = omega (arith, slice_get_within rules i rule at, length-map rules pair_of)
 
 -- bytes before others, however they are joined
-pub behind : (first second front records tables : List ℕ) → front ≡ first → records ≡ second → (front ++ records) ++ tables ≡ first ++ (second ++ tables)
+pub behind : (first second front records tables : List ℕ) → front ≡ first → records ≡ second
+    → (front ++ records) ++ tables ≡ first ++ (second ++ tables)
 behind first second front records tables e f =
     append_assoc front records tables ∙ ap (λ (bytes : List ℕ). bytes ++ (records ++ tables)) e ∙ ap (λ (bytes : List ℕ). first ++ (bytes ++ tables)) f
 
@@ -88,7 +89,8 @@ table_bytes-some entries some =
     omega (arith, length-two_numbers (slots_of entries), length-fold_with_entry (replicate (2 * length entries) empty) entries, length-replicate (2 * length entries) empty)
 
 -- the rule that was written
-pub stored-here : (at : Option Rule) (found : Bool) (key code : List ℕ) → IsStored at found key code → found ≡ true → (rule : Rule) × (at ≡ Some rule) × (key ≡ rule.address) × (code ≡ code_of rule.instr)
+pub stored-here : (at : Option Rule) (found : Bool) (key code : List ℕ) → IsStored at found key code → found ≡ true → (rule : Rule)
+    × (at ≡ Some rule) × (key ≡ rule.address) × (code ≡ code_of rule.instr)
 stored-here None found key code is holds = absurd (false≢true (sym is ∙ holds))
 stored-here (Some rule) found key code is holds = (rule, refl, is.1, is.2)
 

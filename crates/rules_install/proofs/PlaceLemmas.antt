@@ -35,7 +35,8 @@ finished_length-stored rules = omega (arith, records_length-stored rules, length
 -- ---- places
 
 -- at first none has a place
-pub ArePlaced-none : (rules : List Rule) (places : Places) → places.placed ≡ 0 → places.end ≡ 2048 → HoldsByTable places.tables [] → finished_length (stored rules) < 2 ^ 32 → ArePlaced rules places
+pub ArePlaced-none : (rules : List Rule) (places : Places) → places.placed ≡ 0 → places.end ≡ 2048 → HoldsByTable places.tables []
+    → finished_length (stored rules) < 2 ^ 32 → ArePlaced rules places
 ArePlaced-none rules places none end held fits = record {
   inside = omega (arith, none);
   by_table = subst (λ n. HoldsByTable places.tables (entries_of (first_stored rules n))) (sym none) held;
@@ -100,7 +101,8 @@ pub placed-le : (rules : List Rule) (places : Places) → ArePlaced rules places
 placed-le rules places are = are.inside
 
 -- where all rules are placed, these are the tables of the file
-pub AreTablesOf-all : (rules : List Rule) (places : Places) → length rules ≤ places.placed → ArePlaced rules places → AreTablesOf (stored rules) places.tables places.end
+pub AreTablesOf-all : (rules : List Rule) (places : Places) → length rules ≤ places.placed → ArePlaced rules places
+    → AreTablesOf (stored rules) places.tables places.end
 AreTablesOf-all rules places all are =
     let same : first_stored rules places.placed ≡ stored rules = ap stored (take_all places.placed rules all) in
     record {

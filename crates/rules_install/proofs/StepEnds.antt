@@ -4,6 +4,7 @@ use Rattle.std.specs.Prelude.{IsTrue, Option, Some, Result, Ok, Err, OnOk}
 use Rattle.dir_calls.specs.Directory.{Directory}
 use Rattle.dir_calls.specs.Images.{IsImage}
 use Rattle.dir_calls.specs.Lasting.{IsAmong, LastsAmong, HasAmong}
+use Rattle.dir_calls.specs.declared.dir.Dir.{Ghosts}
 use Rattle.dir_calls.proofs.Lasting.{image_has, lasts_more}
 use Rattle.dir_calls.proofs.Moments.{started}
 use Rattle.rules_install.specs.declared.Phase.{Phase}
@@ -17,7 +18,7 @@ use Rattle.rules_install.specs.Steps.{Changes, IsSame, Goes, HasFilled, IsOfDevi
 use Rattle.rules_install.proofs.StepFits.{done_lasts}
 
 -- all that a step promises, but for what its file is compiled of
-pub record StepEnds {D : Type 0} (honest : Bool) (state : D → Directory) (moment : D → ℕ) (left_since : D → ℕ → Directory → Type 0) (failed : D → ℕ)
+pub record StepEnds {D F : Type 0} (tells : Ghosts D F)
     (s s' : Installing) (old new : D) (result : Result Phase InstallFault) : Type 0 where
   pub same : IsSame s s'
   pub over : s.over ≡ true → (result ≡ Err Over) × (s' ≡ s) × (new ≡ old)
@@ -25,22 +26,23 @@ pub record StepEnds {D : Type 0} (honest : Bool) (state : D → Directory) (mome
   pub goes : s.over ≡ false → Goes (next_phase s) s s' result
   pub more : result ≡ Ok Filling → fillings_left s'.rules s'.filled s'.patched < fillings_left s.rules s.filled s.patched
   pub kept : (result ≡ Ok Filling → ⊥) → HasFilled s s'
-  pub changes : IsTrue honest → s.over ≡ false → s.reached ≢ Some Done → Changes s (next_phase s) (state old) (state new) result
-  pub time : IsTrue honest → s.over ≡ false → s.reached ≢ Some Done → StepStops state moment left_since (next_phase s) s old new
-  pub fits : IsTrue honest → Fits s' (state new)
-  pub old_or_new : IsTrue honest → StepKeeps state moment left_since (next_phase s) s old new
-  pub done : IsTrue honest → result ≡ Ok Done → LastsAmong (state new) s.names.cdb (Some (whole_file s.rules) ∷ [])
+  pub changes : IsTrue tells.honest → s.over ≡ false → s.reached ≢ Some Done → Changes s (next_phase s) (tells.state old) (tells.state new) result
+  pub time : IsTrue tells.honest → s.over ≡ false → s.reached ≢ Some Done → StepStops tells (next_phase s) s old new
+  pub fits : IsTrue tells.honest → Fits s' (tells.state new)
+  pub old_or_new : IsTrue tells.honest → StepKeeps tells (next_phase s) s old new
+  pub done : IsTrue tells.honest → result ≡ Ok Done → LastsAmong (tells.state new) s.names.cdb (Some (whole_file s.rules) ∷ [])
   pub settling : s.reached ≡ Some Named → result ≢ Err OutOfMemory
-  pub device : IsTrue honest → IsOfDevice result
-  pub failures : failed old ≤ failed new
-  pub blames : BlamesDevice (failed old) (failed new) result
+  pub device : IsTrue tells.honest → IsOfDevice result
+  pub failures : tells.failed old ≤ tells.failed new
+  pub blames : BlamesDevice (tells.failed old) (tells.failed new) result
 
 -- ---- the phase to be reached next
 
 pub next_is : (s : Installing) (reached : Option Phase) → s.reached ≡ reached → next_phase s ≡ next_of reached s.patched
 next_is s reached is = ap (λ r. next_of r s.patched) is
 
-pub next_filled : (s : Installing) (reached : Phase) (patched : Bool) → s.reached ≡ Some reached → (reached ≡ Fresh) ⊎ (reached ≡ Filling) → s.patched ≡ patched → next_phase s ≡ after_filling patched
+pub next_filled : (s : Installing) (reached : Phase) (patched : Bool) → s.reached ≡ Some reached → (reached ≡ Fresh) ⊎ (reached ≡ Filling)
+    → s.patched ≡ patched → next_phase s ≡ after_filling patched
 next_filled s reached patched is which filled =
     ⊎_elim (λ fresh. next_is s (Some Fresh) (is ∙ ap Some fresh)) (λ filling. next_is s (Some Filling) (is ∙ ap Some filling)) which ∙ ap after_filling filled
 
@@ -61,10 +63,12 @@ named_not_done reached is done = absurd (cc)
 
 -- ---- the installation is done
 
-pub done_stands : (s : Installing) (d : Directory) → Fits s d → s.over ≡ false → s.reached ≡ Some Done → LastsAmong d s.names.cdb (Some (whole_file s.rules) ∷ [])
+pub done_stands : (s : Installing) (d : Directory) → Fits s d → s.over ≡ false → s.reached ≡ Some Done
+    → LastsAmong d s.names.cdb (Some (whole_file s.rules) ∷ [])
 done_stands s d fits is_open done = done_lasts d s.names.cdb (whole_file s.rules) (subst (λ reached. FitsPhase s d reached) done (fits is_open))
 
-step_done : (next : Phase) (s s' : Installing) (d : Directory) (result : Result Phase InstallFault) → IsSame s s' → Goes next s s' result → Fits s' d → result ≡ Ok Done → LastsAmong d s.names.cdb (Some (whole_file s.rules) ∷ [])
+step_done : (next : Phase) (s s' : Installing) (d : Directory) (result : Result Phase InstallFault) → IsSame s s' → Goes next s s' result
+    → Fits s' d → result ≡ Ok Done → LastsAmong d s.names.cdb (Some (whole_file s.rules) ∷ [])
 step_done next s s' d result same goes fits is =
     let went = subst (λ (r : Result Phase InstallFault). Goes next s s' r) is goes in
     let stands = done_stands s' d fits went.2 (went.1 ∙ ap Some (sym went.0)) in
@@ -73,26 +77,33 @@ step_done next s s' d result same goes fits is =
 
 -- ---- a step that makes no call
 
-among_more : (next : Phase) (file : List ℕ) (olds : List (Option (List ℕ))) (w : Option (List ℕ)) → IsAmong olds w → IsAmong (may_stand next file olds) w
+among_more : (next : Phase) (file : List ℕ) (olds : List (Option (List ℕ))) (w : Option (List ℕ)) → IsAmong olds w
+    → IsAmong (may_stand next file olds) w
 among_more Fresh file olds w among = among
 among_more Filling file olds w among = among
 among_more Synced file olds w among = among
 among_more Named file olds w among = inr among
 among_more Done file olds w among = among
 
-module _ {D : Type 0} (honest : Bool) (state : D → Directory) (moment : D → ℕ) (left_since : D → ℕ → Directory → Type 0) (failed : D → ℕ) (s : Installing) where
-  still_keeps : (next : Phase) (dir : D) → ((image : Directory) → left_since dir (moment dir) image → IsImage (state dir) image) → StepKeeps state moment left_since next s dir dir
+module _ {D F : Type 0} (tells : Ghosts D F) (s : Installing) where
+  still_keeps : (next : Phase) (dir : D)
+      → ((image : Directory) → tells.left_since dir (tells.moment dir) image → IsImage (tells.state dir) image)
+      → StepKeeps tells next s dir dir
   still_keeps next dir only = record {
     lasts = more;
-    any_moment = λ olds before. started moment left_since dir (HasAmong s.names.cdb (may_stand next (whole_file s.rules) olds))
-        (λ image left. image_has (state dir) image s.names.cdb (may_stand next (whole_file s.rules) olds) (more olds before) (only image left));
+    any_moment = λ olds before. started tells.moment tells.left_since dir (HasAmong s.names.cdb (may_stand next (whole_file s.rules) olds))
+        (λ image left. image_has (tells.state dir) image s.names.cdb (may_stand next (whole_file s.rules) olds) (more olds before) (only image left));
   }
     where
-      more : (olds : List (Option (List ℕ))) → LastsAmong (state dir) s.names.cdb olds → LastsAmong (state dir) s.names.cdb (may_stand next (whole_file s.rules) olds)
-      more olds before = lasts_more (state dir) s.names.cdb olds (may_stand next (whole_file s.rules) olds) (among_more next (whole_file s.rules) olds) before
+      more : (olds : List (Option (List ℕ))) → LastsAmong (tells.state dir) s.names.cdb olds
+          → LastsAmong (tells.state dir) s.names.cdb (may_stand next (whole_file s.rules) olds)
+      more olds before =
+          lasts_more (tells.state dir) s.names.cdb olds (may_stand next (whole_file s.rules) olds) (among_more next (whole_file s.rules) olds) before
 
-  pub over_ends : (dir : D) → s.over ≡ true → (IsTrue honest → (image : Directory) → left_since dir (moment dir) image → IsImage (state dir) image) → (IsTrue honest → Fits s (state dir))
-      → StepEnds honest state moment left_since failed s s dir dir (Err Over)
+  pub over_ends : (dir : D) → s.over ≡ true
+      → (IsTrue tells.honest → (image : Directory) → tells.left_since dir (tells.moment dir) image → IsImage (tells.state dir) image)
+      → (IsTrue tells.honest → Fits s (tells.state dir))
+      → StepEnds tells s s dir dir (Err Over)
   over_ends dir over only fits = record {
     same = record { rules = refl; names = refl };
     over = λ _. (refl, refl, refl);
@@ -111,8 +122,10 @@ module _ {D : Type 0} (honest : Bool) (state : D → Directory) (moment : D → 
     blames = tt;
   }
 
-  pub done_ends : (dir : D) → s.over ≡ false → s.reached ≡ Some Done → (IsTrue honest → (image : Directory) → left_since dir (moment dir) image → IsImage (state dir) image) → (IsTrue honest → Fits s (state dir))
-      → StepEnds honest state moment left_since failed s s dir dir (Ok Done)
+  pub done_ends : (dir : D) → s.over ≡ false → s.reached ≡ Some Done
+      → (IsTrue tells.honest → (image : Directory) → tells.left_since dir (tells.moment dir) image → IsImage (tells.state dir) image)
+      → (IsTrue tells.honest → Fits s (tells.state dir))
+      → StepEnds tells s s dir dir (Ok Done)
   done_ends dir is_open done only fits = record {
     same = record { rules = refl; names = refl };
     over = λ over. absurd (cc);
@@ -124,7 +137,7 @@ module _ {D : Type 0} (honest : Bool) (state : D → Directory) (moment : D → 
     time = λ h _ other. absurd (other done);
     fits = fits;
     old_or_new = λ h. still_keeps (next_phase s) dir (only h);
-    done = λ h is. done_stands s (state dir) (fits h) is_open done;
+    done = λ h is. done_stands s (tells.state dir) (fits h) is_open done;
     settling = λ _ is. absurd (cc);
     device = λ h. tt;
     failures = omega arith;
@@ -133,10 +146,11 @@ module _ {D : Type 0} (honest : Bool) (state : D → Directory) (moment : D → 
 
   -- ---- a step that makes one
 
-  pub step_ends : (next : Phase) (s' : Installing) (old new : D) (result : Result Phase InstallFault) → s.over ≡ false → next_phase s ≡ next → s.reached ≢ Some Done
-      → StepsTo honest state moment left_since failed next s s' old new result
+  pub step_ends : (next : Phase) (s' : Installing) (old new : D) (result : Result Phase InstallFault) → s.over ≡ false → next_phase s ≡ next
+      → s.reached ≢ Some Done
+      → StepsTo tells next s s' old new result
       → (result ≡ Ok Filling → fillings_left s'.rules s'.filled s'.patched < fillings_left s.rules s.filled s.patched)
-      → StepEnds honest state moment left_since failed s s' old new result
+      → StepEnds tells s s' old new result
   step_ends next s' old new result is_open is other steps more = record {
     same = steps.same;
     over = λ over. absurd (cc);
@@ -144,11 +158,11 @@ module _ {D : Type 0} (honest : Bool) (state : D → Directory) (moment : D → 
     goes = λ _. subst (λ phase. Goes phase s s' result) (sym is) steps.goes;
     more = more;
     kept = steps.kept;
-    changes = λ h _ _. subst (λ phase. Changes s phase (state old) (state new) result) (sym is) (steps.changes h);
-    time = λ h _ _. subst (λ phase. StepStops state moment left_since phase s old new) (sym is) (steps.stops h);
+    changes = λ h _ _. subst (λ phase. Changes s phase (tells.state old) (tells.state new) result) (sym is) (steps.changes h);
+    time = λ h _ _. subst (λ phase. StepStops tells phase s old new) (sym is) (steps.stops h);
     fits = steps.fits;
-    old_or_new = λ h. subst (λ phase. StepKeeps state moment left_since phase s old new) (sym is) (steps.keeps h);
-    done = λ h done. step_done next s s' (state new) result steps.same steps.goes (steps.fits h) done;
+    old_or_new = λ h. subst (λ phase. StepKeeps tells phase s old new) (sym is) (steps.keeps h);
+    done = λ h done. step_done next s s' (tells.state new) result steps.same steps.goes (steps.fits h) done;
     settling = λ named. steps.settling (sym is ∙ next_is s (Some Named) named);
     device = steps.device;
     failures = steps.failures;
@@ -156,7 +170,8 @@ module _ {D : Type 0} (honest : Bool) (state : D → Directory) (moment : D → 
   }
 
 -- a step to another phase does not answer that it fills
-pub no_filling : (next : Phase) (s s' : Installing) (result : Result Phase InstallFault) → Goes next s s' result → NotFilling next → result ≢ Ok Filling
+pub no_filling : (next : Phase) (s s' : Installing) (result : Result Phase InstallFault) → Goes next s s' result → NotFilling next
+    → result ≢ Ok Filling
 no_filling next s s' result goes other is = subst NotFilling (sym (subst (λ (r : Result Phase InstallFault). Goes next s s' r) is goes).0) other
 
 -- what holds of each answer that is no fault

@@ -27,7 +27,8 @@ among_three other fault (suc (suc zero), within, is) differs = inl (sym is)
 among_three other fault (suc (suc (suc k)), within, is) differs = absurd (omega (arith, within))
 
 -- so a step blames the device alone
-pub of_device : {T : Type 0} (next : Phase) (outcome : Result T DirFault) → ((fault : DirFault) → outcome ≡ Err fault → IsSure fault) → IsOfDevice (answer_of next outcome)
+pub of_device : {T : Type 0} (next : Phase) (outcome : Result T DirFault) → ((fault : DirFault) → outcome ≡ Err fault → IsSure fault)
+    → IsOfDevice (answer_of next outcome)
 of_device next (Ok x) sure = tt
 of_device next (Err NoMemory) sure = tt
 of_device next (Err NoScratch) sure = ⊎_elim (λ is. absurd (cc)) (λ is. absurd (cc)) (sure NoScratch refl)
@@ -35,7 +36,8 @@ of_device next (Err NoName) sure = ⊎_elim (λ is. absurd (cc)) (λ is. absurd 
 of_device next (Err Device) sure = refl
 
 -- a step to Done answers no want of memory, where its call does not
-pub no_memory : {T : Type 0} (next : Phase) (outcome : Result T DirFault) → (next ≡ Done → outcome ≢ Err NoMemory) → next ≡ Done → answer_of next outcome ≢ Err OutOfMemory
+pub no_memory : {T : Type 0} (next : Phase) (outcome : Result T DirFault) → (next ≡ Done → outcome ≢ Err NoMemory) → next ≡ Done
+    → answer_of next outcome ≢ Err OutOfMemory
 no_memory next (Ok x) never done is = absurd (cc)
 no_memory next (Err NoMemory) never done is = never done refl
 no_memory next (Err NoScratch) never done is = absurd (cc)

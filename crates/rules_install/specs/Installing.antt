@@ -47,7 +47,8 @@ synced_file rules = record { bytes = whole_file rules; synced = true }
 
 -- the scratch file stands under its name, filled so far
 abbrev pub HasScratch : Installing → Directory → Type 0
-HasScratch s d = (number_of d s.names.tmp ≡ d.scratch) × (scratch_of d ≡ Some (record { bytes = filled_file s.rules s.filled s.patched; synced = false }))
+HasScratch s d = (number_of d s.names.tmp ≡ d.scratch)
+    × (scratch_of d ≡ Some (record { bytes = filled_file s.rules s.filled s.patched; synced = false }))
 
 -- the file that stands under a name, where these are the names
 abbrev pub file_among : Names → List FileState → List ℕ → Option FileState

@@ -1,6 +1,7 @@
 -- What an installation is.
 use Rattle.std.specs.Prelude.{◌≡◌, ◌≢◌, ℕ, Bool, true, false, length, Some, Result}
 use Rattle.dir_calls.specs.Directory.{Directory}
+use Rattle.dir_calls.specs.declared.dir.Dir.{Ghosts}
 use Rattle.rules_install.specs.Filled.{blank_file}
 use Rattle.rules_install.specs.Installing.{Installing, next_phase}
 use Rattle.rules_install.specs.Steps.{Changes, Goes, StepKeeps, StepStops, StepsTo}
@@ -43,14 +44,14 @@ abbrev pub StepChanges : Install → Directory → Directory → Result Phase In
 StepChanges i old new result = Changes (installing i) (next_phase (installing i)) old new result
 
 -- all that a step to a phase promises, where the directory was as the steps before left it
-abbrev pub Steps : {D : Type 0} → Bool → (D → Directory) → (D → ℕ) → (D → ℕ → Directory → Type 0) → (D → ℕ) → Phase → Install → Install → D → D → Result Phase InstallFault → Type 0
-Steps honest state moment left_since failed next i i' old new result =
-    StepsTo honest state moment left_since failed next (installing i) (installing i') old new result
+abbrev pub Steps : {D F : Type 0} → Ghosts D F → Phase → Install → Install → D → D → Result Phase InstallFault → Type 0
+Steps tells next i i' old new result =
+    StepsTo tells next (installing i) (installing i') old new result
 
 -- what stands under the name of the rules file, whenever the machine stops since it began
-abbrev pub KeepsText : {D : Type 0} → (D → Directory) → (D → ℕ) → (D → ℕ → Directory → Type 0) → Install → D → D → Type 0
-KeepsText state moment left_since i old new = StepKeeps state moment left_since (next_phase (installing i)) (installing i) old new
+abbrev pub KeepsText : {D F : Type 0} → Ghosts D F → Install → D → D → Type 0
+KeepsText tells i old new = StepKeeps tells (next_phase (installing i)) (installing i) old new
 
 -- and all that a stop since it began may have left
-abbrev pub StopsWithin : {D : Type 0} → (D → Directory) → (D → ℕ) → (D → ℕ → Directory → Type 0) → Install → D → D → Type 0
-StopsWithin state moment left_since i old new = StepStops state moment left_since (next_phase (installing i)) (installing i) old new
+abbrev pub StopsWithin : {D F : Type 0} → Ghosts D F → Install → D → D → Type 0
+StopsWithin tells i old new = StepStops tells (next_phase (installing i)) (installing i) old new

@@ -7,6 +7,7 @@ use Rattle.dir_calls.specs.Lasting.{LastsAmong, HasAmong}
 use Rattle.dir_calls.specs.Moments.{Elapses, LeavesOnly}
 use Rattle.dir_calls.specs.declared.fault.DirFault.{DirFault}
 use Rattle.dir_calls.specs.declared.fault.DirFault.TheVariants.{Device, OutOfMemory as NoMemory}
+use Rattle.dir_calls.specs.declared.dir.Dir.{Ghosts}
 use Rattle.rules_install.specs.Filled.{whole_file}
 use Rattle.rules_install.specs.Installing.{Installing, Fits}
 use Rattle.rules_install.specs.declared.Phase.{Phase}
@@ -52,17 +53,19 @@ may_stand phase file olds = olds
 
 -- A step to a phase keeps what stood under the name of the rules file, or with its rename puts the whole file there: at its end, and
 -- whenever the machine stops since it began.
-pub record StepKeeps {D : Type 0} (state : D → Directory) (moment : D → ℕ) (left_since : D → ℕ → Directory → Type 0) (next : Phase) (s : Installing) (old new : D) : Type 0 where
-  pub lasts : (olds : List (Option (List ℕ))) → LastsAmong (state old) s.names.cdb olds → LastsAmong (state new) s.names.cdb (may_stand next (whole_file s.rules) olds)
-  pub any_moment : (olds : List (Option (List ℕ))) → LastsAmong (state old) s.names.cdb olds
-      → LeavesOnly moment left_since old new (HasAmong s.names.cdb (may_stand next (whole_file s.rules) olds))
+pub record StepKeeps {D F : Type 0} (tells : Ghosts D F) (next : Phase) (s : Installing) (old new : D) : Type 0 where
+  pub lasts : (olds : List (Option (List ℕ))) → LastsAmong (tells.state old) s.names.cdb olds
+      → LastsAmong (tells.state new) s.names.cdb (may_stand next (whole_file s.rules) olds)
+  pub any_moment : (olds : List (Option (List ℕ))) → LastsAmong (tells.state old) s.names.cdb olds
+      → LeavesOnly tells.moment tells.left_since old new (HasAmong s.names.cdb (may_stand next (whole_file s.rules) olds))
 
 -- Whenever the machine stopped since a step to a phase began: what is left is what could be left before, or what a stop leaves
 -- before, within or right after its one call.
-pub record StepStops {D : Type 0} (state : D → Directory) (moment : D → ℕ) (left_since : D → ℕ → Directory → Type 0) (next : Phase) (s : Installing) (old new : D) : Type 0 where
+pub record StepStops {D F : Type 0} (tells : Ghosts D F) (next : Phase) (s : Installing) (old new : D) : Type 0 where
   pub call : Call
   pub is_call : IsCallOf s next call
-  pub time : Elapses (moment old) (moment new) (left_since old) (left_since new) (LeftBy call (state old) (state new))
+  pub time : Elapses (tells.moment old) (tells.moment new) (tells.left_since old) (tells.left_since new)
+      (LeftBy call (tells.state old) (tells.state new))
 
 -- the answer to what a call of the directory answered, on the way to a phase
 abbrev pub answer_of : {T : Type 0} → Phase → Result T DirFault → Result Phase InstallFault
@@ -90,16 +93,16 @@ abbrev pub BlamesDevice : ℕ → ℕ → Result Phase InstallFault → Type 0
 BlamesDevice before now result = IfErr result (BlamesFault before now)
 
 -- all that a step to a phase promises, where the directory was as the steps before left it
-pub record StepsTo {D : Type 0} (honest : Bool) (state : D → Directory) (moment : D → ℕ) (left_since : D → ℕ → Directory → Type 0) (failed : D → ℕ)
+pub record StepsTo {D F : Type 0} (tells : Ghosts D F)
     (next : Phase) (s s' : Installing) (old new : D) (result : Result Phase InstallFault) : Type 0 where
   pub same : IsSame s s'
   pub goes : Goes next s s' result
   pub kept : (result ≡ Ok Filling → ⊥) → HasFilled s s'
-  pub fits : IsTrue honest → Fits s' (state new)
-  pub changes : IsTrue honest → Changes s next (state old) (state new) result
-  pub keeps : IsTrue honest → StepKeeps state moment left_since next s old new
-  pub stops : IsTrue honest → StepStops state moment left_since next s old new
+  pub fits : IsTrue tells.honest → Fits s' (tells.state new)
+  pub changes : IsTrue tells.honest → Changes s next (tells.state old) (tells.state new) result
+  pub keeps : IsTrue tells.honest → StepKeeps tells next s old new
+  pub stops : IsTrue tells.honest → StepStops tells next s old new
   pub settling : next ≡ Done → result ≢ Err OutOfMemory
-  pub device : IsTrue honest → IsOfDevice result
-  pub failures : failed old ≤ failed new
-  pub blames : BlamesDevice (failed old) (failed new) result
+  pub device : IsTrue tells.honest → IsOfDevice result
+  pub failures : tells.failed old ≤ tells.failed new
+  pub blames : BlamesDevice (tells.failed old) (tells.failed new) result

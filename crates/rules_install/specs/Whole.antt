@@ -4,6 +4,7 @@ use Rattle.dir_calls.specs.Directory.{Directory, file_at}
 use Rattle.dir_calls.specs.Lasting.{HasAmong, LastsAmong}
 use Rattle.dir_calls.specs.Moments.{LeavesOnly}
 use Rattle.dir_calls.specs.declared.fault.DirFault.TheVariants.{Device}
+use Rattle.dir_calls.specs.declared.dir.Dir.{Ghosts}
 use Rattle.cdb_write.specs.Image.{finished_length}
 use Rattle.cdb_write.specs.Making.{limit_of}
 use Rattle.cdb_read.specs.Compiled.{stored}
@@ -11,7 +12,7 @@ use Rattle.cdb_read.specs.Reading.{reading}
 use Rattle.rule_lines.specs.Faults.{IsAccepted, Refuses}
 use Rattle.rule_lines.specs.Pairs.{pairs_of}
 use Rattle.rule_lookup.specs.Decisions.{decision_by, decision_of}
-use Rattle.rule_lookup.specs.Peers.{Client}
+use Rattle.connection_facts.specs.Peers.{Client}
 use Rattle.rule_lines.specs.declared.limits.Limits.{Limits}
 use Rattle.rule_lines.specs.declared.fault.ParseFault.TheVariants.{Line as LineOf}
 use Rattle.rules_install.specs.Filled.{whole_file}
@@ -105,10 +106,10 @@ may_have (Err fault) file olds = olds
 
 -- whenever the machine stopped since a run of steps began, what stood under the name of the rules file stands there, or the whole
 -- file
-abbrev pub RunKeeps : {D : Type 0} → (D → Directory) → (D → ℕ) → (D → ℕ → Directory → Type 0) → Installing → D → D → Type 0
-RunKeeps state moment left_since s old new =
-    (olds : List (Option (List ℕ))) → LastsAmong (state old) s.names.cdb olds
-    → LeavesOnly moment left_since old new (HasAmong s.names.cdb (Some (whole_file s.rules) ∷ olds))
+abbrev pub RunKeeps : {D F : Type 0} → Ghosts D F → Installing → D → D → Type 0
+RunKeeps tells s old new =
+    (olds : List (Option (List ℕ))) → LastsAmong (tells.state old) s.names.cdb olds
+    → LeavesOnly tells.moment tells.left_since old new (HasAmong s.names.cdb (Some (whole_file s.rules) ∷ olds))
 
 -- and so at its end, by its answer
 abbrev pub RunLasts : Installing → Directory → Directory → Result (Unit {0}) InstallFault → Type 0

@@ -11,7 +11,7 @@ ghost use Rattle.rules_install.specs.declared.Phase.TheVariants.{Fresh, Filling,
 ghost use Rattle.rules_install.specs.declared.fault.InstallFault.TheVariants.{Over, OutOfMemory, TooLarge};
 
 use crate::pieces::{Piece, Pieces};
-use crate::{InstallFault, Names, Phase};
+use crate::{FileNames, InstallFault, Phase};
 use dir_calls::{Dir, DirFault, Name};
 use rule_lines::{Limits, RuleList, StoredRule};
 use std::alloc::{AllocError, Global};
@@ -20,7 +20,7 @@ use std::alloc::{AllocError, Global};
 #[derive(Drop)]
 pub struct Install {
     pieces: Pieces,
-    names: Names,
+    names: FileNames,
     // the rule of the record under way
     rule: StoredRule,
     // the piece under way, how much of it was appended, and the place of the next
@@ -51,7 +51,7 @@ impl Install {
     pub fn begin(
         alloc: Global,
         list: RuleList,
-        names: Names,
+        names: FileNames,
         limits: &Limits,
     ) -> Result<Install, InstallFault>
         ensures begun { IfOk result (λ install. installing install ≡ begun list names) }
@@ -130,7 +130,7 @@ impl Install {
         requires is_open { (installing self.old).over ≡ false }
         requires next { next_phase (installing self.old) ≡ Phase.Fresh }
         requires fits { IsTrue D.honest → Fits (installing self.old) (D.state dir.old) }
-        ensures { Steps D.honest D.state D.moment D.left_since D.failed Fresh self.old self.new dir.old dir.new result }
+        ensures { Steps D.Dir Fresh self.old self.new dir.old dir.new result }
     {
         let outcome = dir.fresh(alloc, self.names.tmp());
         self.note(outcome, Phase::Fresh)
@@ -159,7 +159,7 @@ impl Install {
         requires is_open { (installing self.old).over ≡ false }
         requires next { next_phase (installing self.old) ≡ Phase.Filling }
         requires fits { IsTrue D.honest → Fits (installing self.old) (D.state dir.old) }
-        ensures step { Steps D.honest D.state D.moment D.left_since D.failed
+        ensures step { Steps D.Dir
             Filling self.old self.new dir.old dir.new result }
         ensures more { OnOk result (FillsMore (installing self.old) (installing self.new)) }
     {
@@ -193,7 +193,7 @@ impl Install {
         requires next { next_phase (installing self.old) ≡ Phase.Filling }
         requires whole { HasAllBytes self.old }
         requires fits { IsTrue D.honest → Fits (installing self.old) (D.state dir.old) }
-        ensures step { Steps D.honest D.state D.moment D.left_since D.failed
+        ensures step { Steps D.Dir
             Filling self.old self.new dir.old dir.new result }
         ensures more { OnOk result (FillsMore (installing self.old) (installing self.new)) }
     {
@@ -210,7 +210,7 @@ impl Install {
         requires is_open { (installing self.old).over ≡ false }
         requires next { next_phase (installing self.old) ≡ Phase.Synced }
         requires fits { IsTrue D.honest → Fits (installing self.old) (D.state dir.old) }
-        ensures { Steps D.honest D.state D.moment D.left_since D.failed
+        ensures { Steps D.Dir
             Synced self.old self.new dir.old dir.new result }
     {
         let outcome = dir.sync(alloc);
@@ -222,7 +222,7 @@ impl Install {
         requires is_open { (installing self.old).over ≡ false }
         requires next { next_phase (installing self.old) ≡ Phase.Named }
         requires fits { IsTrue D.honest → Fits (installing self.old) (D.state dir.old) }
-        ensures { Steps D.honest D.state D.moment D.left_since D.failed Named self.old self.new dir.old dir.new result }
+        ensures { Steps D.Dir Named self.old self.new dir.old dir.new result }
     {
         let outcome = dir.rename(alloc, self.names.tmp(), self.names.cdb());
         self.note(outcome, Phase::Named)
@@ -233,7 +233,7 @@ impl Install {
         requires is_open { (installing self.old).over ≡ false }
         requires reached { (installing self.old).reached ≡ Some Phase.Named }
         requires fits { IsTrue D.honest → Fits (installing self.old) (D.state dir.old) }
-        ensures { Steps D.honest D.state D.moment D.left_since D.failed Done self.old self.new dir.old dir.new result }
+        ensures { Steps D.Dir Done self.old self.new dir.old dir.new result }
     {
         let outcome = dir.settle();
         self.note(outcome, Phase::Done)
@@ -266,11 +266,11 @@ impl Install {
         ensures fits { IsTrue D.honest → Fits (installing self.new) (D.state dir.new) }
         // and what stops before, within or right after that call may leave, and nothing else
         ensures time { IsTrue D.honest → IsOpen self.old → IsUndone self.old
-            → StopsWithin D.state D.moment D.left_since self.old dir.old dir.new }
+            → StopsWithin D.Dir self.old dir.old dir.new }
 
         // whenever the machine stops since the step began, what stood under the name of the rules file stands there, or from the rename
         // on the new file, whole
-        ensures old_or_new { IsTrue D.honest → KeepsText D.state D.moment D.left_since self.old dir.old dir.new }
+        ensures old_or_new { IsTrue D.honest → KeepsText D.Dir self.old dir.old dir.new }
         // and once it is done, the new file alone
         ensures done { IsTrue D.honest → result ≡ Ok Done → HasForGood (installing self.old) (D.state dir.new) }
         // which is compiled of the rules

@@ -6,7 +6,7 @@ ghost use Rattle.rule_lines.specs.Faults.{IsAccepted};
 ghost use Rattle.rule_lines.specs.Pairs.{pairs_of};
 ghost use Rattle.rule_lines.specs.declared.limits.Limits.{Limits};
 ghost use Rattle.rule_lookup.specs.Decisions.{decision_by, decision_in};
-ghost use Rattle.rule_lookup.specs.Peers.{Client};
+ghost use Rattle.connection_facts.specs.Peers.{Client};
 
 /// In a file that is compiled of an accepted rule text a decision is that of the text, for every peer: nothing there is damaged, and each
 /// value that is found is the code of an instruction.

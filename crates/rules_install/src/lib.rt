@@ -14,7 +14,7 @@ ghost use Rattle.rules_install.specs.PhaseWords.{phase_text};
 
 pub use fault::InstallFault;
 pub use install::Install;
-pub use names::{Names, SameName};
+pub use names::{FileNames, SameName};
 use std::fmt;
 
 /// How far an installation has come.

@@ -12,12 +12,12 @@ pub struct SameName;
 
 /// The name of the rules file, and the other one under which a new file is made.
 #[derive(Debug, Drop)]
-pub struct Names {
+pub struct FileNames {
     cdb: Name,
     tmp: Name,
 }
 
-impl Model for Names {
+impl Model for FileNames {
     ghost use Rattle.std.specs.Prelude.{◌≢◌};
     ghost use Rattle.rules_install.specs.NamePair.{NamePair};
 
@@ -28,19 +28,19 @@ impl Model for Names {
     ghost invariant = { λ names. names.cdb ≢ names.tmp };
 }
 
-impl Names {
+impl FileNames {
     /// The two names, of the rules file and of the scratch file. It takes no memory.
     ///
     /// # Errors
     /// They are one name.
-    pub fn new(cdb: Name, tmp: Name) -> Result<Names, SameName>
+    pub fn new(cdb: Name, tmp: Name) -> Result<FileNames, SameName>
         ensures names { IfOk result (λ names. names ≡ record { cdb = cdb; tmp = tmp }) }
         ensures same { (result ≡ Err record {}) ↔ (cdb ≡ tmp) }
     {
         if cdb.as_str() == tmp.as_str() {
             return Err(SameName);
         }
-        Ok(Names { cdb, tmp })
+        Ok(FileNames { cdb, tmp })
     }
 
     /// The name of the rules file.

@@ -11,7 +11,7 @@ ghost use Rattle.rules_install.specs.Steps.{BlamesFault, IsSame};
 ghost use Rattle.rules_install.specs.Whole.{Begins, DecidesAs, Ends, EndsRun, IsDeviceFault, IsRefused, RunKeeps, RunLasts, StandsAtDone, TellsWhere, begun_of};
 
 use crate::laws::decides;
-use crate::{Install, InstallFault, Names, Phase};
+use crate::{FileNames, Install, InstallFault, Phase};
 use dir_calls::Dir;
 use rule_lines::{Limits, parse};
 use std::alloc::Global;
@@ -22,7 +22,7 @@ use std::alloc::Global;
 /// `Line` and `TooLarge` where the text is not accepted, or its compiled file would be too large; `OutOfMemory`.
 pub fn prepare(
     alloc: Global,
-    names: Names,
+    names: FileNames,
     limits: &Limits,
     text: &[u8],
 ) -> Result<Install, InstallFault>
@@ -54,7 +54,7 @@ pub fn finish<D: Dir>(alloc: Global, dir: &mut D, install: &mut Install) -> Resu
     ensures stands { IsTrue D.honest → IfErr result (StandsAtDone (installing install.old) (D.state dir.new)) }
 
     ensures any_moment { IsTrue D.honest
-        → RunKeeps D.state D.moment D.left_since (installing install.old) dir.old dir.new }
+        → RunKeeps D.Dir (installing install.old) dir.old dir.new }
     ensures lasts { IsTrue D.honest → RunLasts (installing install.old) (D.state dir.old) (D.state dir.new) result }
     ensures done { IsTrue D.honest → OnOk result (HasForGood (installing install.old) (D.state dir.new)) }
     // the new file is compiled of the rules
@@ -75,7 +75,7 @@ pub fn finish<D: Dir>(alloc: Global, dir: &mut D, install: &mut Install) -> Resu
 pub fn install<D: Dir>(
     alloc: Global,
     dir: &mut D,
-    names: Names,
+    names: FileNames,
     limits: &Limits,
     text: &[u8],
 ) -> Result<(), InstallFault>
@@ -91,7 +91,7 @@ pub fn install<D: Dir>(
     // whenever the machine stops since the installation began, what stood under the name of the rules file stands there, or the new
     // file, whole
     ensures any_moment { IsTrue D.honest
-        → RunKeeps D.state D.moment D.left_since (begun_of text.now names) dir.old dir.new }
+        → RunKeeps D.Dir (begun_of text.now names) dir.old dir.new }
     ensures lasts { IsTrue D.honest → RunLasts (begun_of text.now names) (D.state dir.old) (D.state dir.new) result }
     // and once it is done, the new file alone, which is compiled of the text, and decides each peer as it does
     ensures done { IsTrue D.honest → OnOk result (HasForGood (begun_of text.now names) (D.state dir.new)) }

@@ -20,7 +20,7 @@ use Rattle.rule_lines.specs.declared.fault.ParseFault.{ParseFault}
 use Rattle.rule_lines.specs.declared.fault.ParseFault.TheVariants as parse
 use Rattle.rule_lines.specs.declared.limits.Limits.{Limits}
 use Rattle.rule_lookup.specs.Decisions.{decision_by, decision_in}
-use Rattle.rule_lookup.specs.Peers.{Client}
+use Rattle.connection_facts.specs.Peers.{Client}
 use Rattle.rules_install.specs.Filled.{IsWritten, whole_file}
 use Rattle.rules_install.specs.Installing.{Installing, HasForGood}
 use Rattle.rules_install.specs.NamePair.{NamePair}
@@ -31,10 +31,11 @@ use Rattle.rules_install.specs.declared.Phase.TheVariants.{Fresh, Filling, Synce
 use Rattle.rules_install.specs.declared.fault.InstallFault.{InstallFault}
 use Rattle.rules_install.specs.declared.fault.InstallFault.TheVariants as install
 use Rattle.rules_install.proofs.WholeLemmas.{none_left, stands_now}
-use Rattle.rules_tools.specs.Installed.{Answers, Blames, CompilesTo, FailsInput, FailsText, Installs, IsRefusal, PassesPaths, Tells, WasRead, may_stand}
+use Rattle.rules_tools.specs.Installed.{Answers, Blames, CompilesTo, FailsInput, FailsText, FolderRun, Installs, IsRefusal, LastsAfter, LeavesNoScratch, PassesPaths, Tells, WasRead, may_stand}
 use Rattle.rules_tools.specs.Paths.{IsPlaced, paths_fault}
 use Rattle.rules_tools.specs.Reviews.{profile}
 use Rattle.rules_tools.specs.Rules.{line_fault, told_fault}
+use Rattle.rules_tools.specs.Scratch.{OnceBegun, OnceBegunTold}
 use Rattle.rules_tools.specs.Series.{MakesSeries, TellsSeries}
 use Rattle.rules_tools.specs.Turns.{BlamesTurn, EndsOnDisk, IsFree}
 use Rattle.rules_tools.specs.declared.tcprules.TcprulesFault.{TcprulesFault}
@@ -142,18 +143,37 @@ blames_none text TooLarge before now refused fails = tt
 blames_none text (Device phase) before now refused fails = absurd fails
 blames_none text OutOfMemory before now refused fails = tt
 
-makes_none : (text : List ℕ) (s : Installing) (new : Directory) (fault : TcprulesFault) → FailsText text fault → TellsSeries s new (Err fault)
-makes_none text s new BadName fails = tt
-makes_none text s new OtherFolder fails = tt
-makes_none text s new SameName fails = tt
-makes_none text s new ReadFault fails = tt
-makes_none text s new (Line fault) fails = tt
-makes_none text s new LongText fails = tt
-makes_none text s new TooLarge fails = tt
-makes_none text s new (Device phase) fails = absurd fails
-makes_none text s new OutOfMemory fails = tt
+makes_none : (lock : Option (List ℕ)) (text : List ℕ) (s : Installing) (old new : Directory) (fault : TcprulesFault) → FailsText text fault → TellsSeries lock s old new (Err fault)
+makes_none lock text s old new BadName fails = tt
+makes_none lock text s old new OtherFolder fails = tt
+makes_none lock text s old new SameName fails = tt
+makes_none lock text s old new ReadFault fails = tt
+makes_none lock text s old new (Line fault) fails = tt
+makes_none lock text s old new LongText fails = tt
+makes_none lock text s old new TooLarge fails = tt
+makes_none lock text s old new (Device phase) fails = absurd fails
+makes_none lock text s old new OutOfMemory fails = tt
+
+removes_none : (text : List ℕ) (fact : Type 0) (fault : TcprulesFault) → FailsText text fault → OnceBegunTold fact (Err fault)
+removes_none text fact BadName fails = tt
+removes_none text fact OtherFolder fails = tt
+removes_none text fact SameName fails = tt
+removes_none text fact ReadFault fails = tt
+removes_none text fact (Line fault) fails = tt
+removes_none text fact LongText fails = tt
+removes_none text fact TooLarge fails = tt
+removes_none text fact (Device phase) fails = absurd fails
+removes_none text fact OutOfMemory fails = tt
 
 -- ---- an installation
+
+-- what holds once it was begun is told of it
+once_told : (fact : Type 0) (fault : DirFault) (phase : Phase) → OnceBegun fact (Err (install.Disk fault phase)) → OnceBegunTold fact (Err (Device phase))
+once_told fact fault Fresh once = tt
+once_told fact fault Filling once = once
+once_told fact fault Synced once = once
+once_told fact fault Named once = once
+once_told fact fault Done once = once
 
 same_stands : (fault : DirFault) (phase : Phase) (file : List ℕ) (olds : List (Option (List ℕ))) → may_have (Err (install.Disk fault phase)) file olds ≡ may_stand (Err (Device phase)) file olds
 same_stands fault Fresh file olds = refl
@@ -181,37 +201,42 @@ told (Err fault) = Err (told_fault fault)
 abbrev pub Decides : Type 0
 Decides = (limits : Limits) (file text : List ℕ) (peer : Client) → IsAccepted limits text → Compiled file text → decision_by (reading file) peer ≡ Ok (decision_in (pairs_of text) peer)
 
-module _ {D : Type 0} (honest : Bool) (state : D → Directory) (moment : D → ℕ) (left_since : D → ℕ → Directory → Type 0) (failed : D → ℕ) (lock : Option (List ℕ)) (refused : Bool) (input : Option (List ℕ)) (names : NamePair) where
+module _ {D F : Type 0} (run : FolderRun D F) (names : NamePair) where
   -- where the text comes to none, the directory is as it was
-  pub unchanged : (d : D) (fault : TcprulesFault) → (IsTrue honest → (image : Directory) → left_since d (moment d) image → IsImage (state d) image) → FailsInput input fault
-      → Installs honest state moment left_since failed lock refused input names d d (Err fault)
-  unchanged d fault only fails = record {
+  pub unchanged : (fault : TcprulesFault) → run.old ≡ run.new
+      → (IsTrue run.tells.honest → (image : Directory) → run.tells.left_since run.old (run.tells.moment run.old) image → IsImage (run.tells.state run.old) image)
+      → FailsInput run.input fault → Installs run names (Err fault)
+  unchanged fault same only fails = record {
     text = fails.text;
     read = fails.read;
     told = answers fails.text fault fails.fails;
-    any_moment = λ is free olds lasts. none_left state moment left_since d names.cdb (whole_file (pairs_of fails.text)) olds (only is) lasts;
-    lasts = λ is free olds lasts. subst (λ contents. LastsAmong (state d) names.cdb contents) (sym (same_may fails.text fault (whole_file (pairs_of fails.text)) olds fails.fails)) lasts;
+    any_moment = λ is free. subst (λ (d : D). RunKeeps run.tells (begun_of fails.text names) run.old d) same
+        (λ olds lasts. none_left run.tells run.old names.cdb (whole_file (pairs_of fails.text)) olds (only is) lasts);
+    lasts = λ is free. subst (λ (d : D). LastsAfter (begun_of fails.text names) (run.tells.state run.old) (run.tells.state d) (Err fault)) same
+        (λ olds lasts. subst (λ contents. LastsAmong (run.tells.state run.old) names.cdb contents) (sym (same_may fails.text fault (whole_file (pairs_of fails.text)) olds fails.fails)) lasts);
     done = λ is. tt;
     compiled = tt;
     decides = λ is. tt;
-    series = λ is. makes_none fails.text (begun_of fails.text names) (state d) fault fails.fails;
-    blames = λ is. blames_none fails.text fault (failed d) (failed d) refused fails.fails;
+    series = λ is. makes_none run.lock fails.text (begun_of fails.text names) (run.tells.state run.old) (run.tells.state run.new) fault fails.fails;
+    blames = λ is. blames_none fails.text fault (run.tells.failed run.old) (run.tells.failed run.new) run.refused fails.fails;
+    removed = λ is. removes_none fails.text (LeavesNoScratch run names) fault fails.fails;
   }
 
   -- what an installation that was begun comes to
-  pub record OnDisk (s : Installing) (old new : D) (result : Result (Unit {0}) InstallFault) : Type 0 where
+  pub record OnDisk (s : Installing) (result : Result (Unit {0}) InstallFault) : Type 0 where
     pub ends : EndsOnDisk result
-    pub series : IsTrue honest → MakesSeries s (state new) result
-    pub any_moment : IsTrue honest → IsFree lock s.names.cdb → RunKeeps state moment left_since s old new
-    pub lasts : IsTrue honest → IsFree lock s.names.cdb → RunLasts s (state old) (state new) result
-    pub done : IsTrue honest → OnOk result (HasForGood s (state new))
+    pub series : IsTrue run.tells.honest → MakesSeries run.lock s (run.tells.state run.old) (run.tells.state run.new) result
+    pub any_moment : IsTrue run.tells.honest → IsFree run.lock s.names.cdb → RunKeeps run.tells s run.old run.new
+    pub lasts : IsTrue run.tells.honest → IsFree run.lock s.names.cdb → RunLasts s (run.tells.state run.old) (run.tells.state run.new) result
+    pub done : IsTrue run.tells.honest → OnOk result (HasForGood s (run.tells.state run.new))
     pub written : OnOk result (IsWritten s.rules)
-    pub device : IsTrue honest → IfErr result IsDeviceFault
-    pub blames : IfErr result (BlamesTurn (failed old) (failed new) refused)
+    pub device : IsTrue run.tells.honest → IfErr result IsDeviceFault
+    pub blames : IfErr result (BlamesTurn (run.tells.failed run.old) (run.tells.failed run.new) run.refused)
+    pub removed : IsTrue run.tells.honest → OnceBegun (LeavesNoScratch run s.names) result
 
-  by_answer : (law : Decides) (text : List ℕ) (old new : D) (result : Result (Unit {0}) InstallFault) → WasRead input text → MayBeInstalled profile text → OnDisk (begun_of text names) old new result
-      → Installs honest state moment left_since failed lock refused input names old new (told result)
-  by_answer law text old new (Ok done) read may facts = record {
+  by_answer : (law : Decides) (text : List ℕ) (result : Result (Unit {0}) InstallFault) → WasRead run.input text → MayBeInstalled profile text → OnDisk (begun_of text names) result
+      → Installs run names (told result)
+  by_answer law text (Ok done) read may facts = record {
     text = text;
     read = read;
     told = may;
@@ -219,23 +244,25 @@ module _ {D : Type 0} (honest : Bool) (state : D → Directory) (moment : D → 
     lasts = facts.lasts;
     done = facts.done;
     compiled = facts.written.cdb;
-    decides = λ is. (whole_file (pairs_of text), stands_now (state new) names.cdb (whole_file (pairs_of text)) (facts.done is), λ peer. law profile (whole_file (pairs_of text)) text peer may.0 facts.written.cdb);
+    decides = λ is. (whole_file (pairs_of text), stands_now (run.tells.state run.new) names.cdb (whole_file (pairs_of text)) (facts.done is), λ peer. law profile (whole_file (pairs_of text)) text peer may.0 facts.written.cdb);
     series = facts.series;
     blames = λ is. tt;
+    removed = λ is. tt;
   }
-  by_answer law text old new (Err (install.Disk fault phase)) read may facts = record {
+  by_answer law text (Err (install.Disk fault phase)) read may facts = record {
     text = text;
     read = read;
     told = may;
     any_moment = facts.any_moment;
-    lasts = λ is free olds lasts. subst (λ contents. LastsAmong (state new) names.cdb contents) (same_stands fault phase (whole_file (pairs_of text)) olds) (facts.lasts is free olds lasts);
+    lasts = λ is free olds lasts. subst (λ contents. LastsAmong (run.tells.state run.new) names.cdb contents) (same_stands fault phase (whole_file (pairs_of text)) olds) (facts.lasts is free olds lasts);
     done = λ is. tt;
     compiled = tt;
     decides = λ is. tt;
-    series = λ is. subst (λ (f : DirFault). MakesSeries (begun_of text names) (state new) (Err (install.Disk f phase))) (facts.device is) (facts.series is);
-    blames = λ is. blamed fault phase (failed old) (failed new) refused (facts.device is) facts.blames;
+    series = λ is. subst (λ (f : DirFault). MakesSeries run.lock (begun_of text names) (run.tells.state run.old) (run.tells.state run.new) (Err (install.Disk f phase))) (facts.device is) (facts.series is);
+    blames = λ is. blamed fault phase (run.tells.failed run.old) (run.tells.failed run.new) run.refused (facts.device is) facts.blames;
+    removed = λ is. once_told (LeavesNoScratch run names) fault phase (facts.removed is);
   }
-  by_answer law text old new (Err install.OutOfMemory) read may facts = record {
+  by_answer law text (Err install.OutOfMemory) read may facts = record {
     text = text;
     read = read;
     told = tt;
@@ -246,15 +273,15 @@ module _ {D : Type 0} (honest : Bool) (state : D → Directory) (moment : D → 
     decides = λ is. tt;
     series = λ is. tt;
     blames = λ is. tt;
+    removed = λ is. tt;
   }
-  by_answer law text old new (Err (install.Line fault)) read may facts = absurd facts.ends
-  by_answer law text old new (Err install.TooLarge) read may facts = absurd facts.ends
-  by_answer law text old new (Err install.Over) read may facts = absurd facts.ends
+  by_answer law text (Err (install.Line fault)) read may facts = absurd facts.ends
+  by_answer law text (Err install.TooLarge) read may facts = absurd facts.ends
+  by_answer law text (Err install.Over) read may facts = absurd facts.ends
 
-  pub installs : (law : Decides) (s : Installing) (old new : D) (result : Result (Unit {0}) InstallFault) → CompilesTo input names s → OnDisk s old new result
-      → Installs honest state moment left_since failed lock refused input names old new (told result)
-  installs law s old new result compiled facts =
-      by_answer law compiled.text old new result compiled.read compiled.may (subst (λ (i : Installing). OnDisk i old new result) compiled.begun facts)
+  pub installs : (law : Decides) (s : Installing) (result : Result (Unit {0}) InstallFault) → CompilesTo run.input names s → OnDisk s result → Installs run names (told result)
+  installs law s result compiled facts =
+      by_answer law compiled.text result compiled.read compiled.may (subst (λ (i : Installing). OnDisk i result) compiled.begun facts)
 
 -- ---- what is not told
 

@@ -1,11 +1,13 @@
 -- What stands under the name of the rules file, from the turn on to the scratch file that is taken away.
-use Rattle.std.proofs.Common.{◌≡◌, ◌⊎◌, inl, inr, ⊎_elim, Bool, ℕ, ◌<◌, ◌≤◌, ◌-◌, ◌^◌, List, ◌∷◌, refl, sym, subst, arith}
-use Rattle.std.specs.Prelude.{Option, Some, Result, Ok, Err}
+use Rattle.std.proofs.Common.{◌≡◌, ◌≢◌, ◌⊎◌, inl, inr, ⊎_elim, Bool, ℕ, ◌<◌, ◌≤◌, ◌+◌, ◌-◌, ◌^◌, List, ◌∷◌, refl, sym, subst, arith}
+use Rattle.std.specs.Prelude.{Option, None, Some, Result, Ok, Err, IfErr}
 use Rattle.dir_calls.specs.Directory.{Directory, content}
 use Rattle.dir_calls.specs.Lasting.{IsAmong, HasAmong, LastsAmong}
 use Rattle.dir_calls.specs.Moments.{LeavesOnly}
 use Rattle.dir_calls.specs.Replacing.{KeepsWhatLasts}
+use Rattle.dir_calls.specs.declared.fault.DirFault.{DirFault}
 use Rattle.dir_calls.specs.declared.fault.DirFault.TheVariants as dir
+use Rattle.dir_calls.specs.declared.dir.Dir.{Ghosts}
 use Rattle.dir_calls.proofs.Replacing.{stays_then}
 use Rattle.rules_install.specs.Filled.{whole_file}
 use Rattle.rules_install.specs.Installing.{Installing}
@@ -14,8 +16,9 @@ use Rattle.rules_install.specs.Whole.{EndsRun, IsDeviceFault, RunKeeps, RunLasts
 use Rattle.rules_install.specs.declared.Phase.TheVariants.{Fresh, Filling, Synced, Named, Done}
 use Rattle.rules_install.specs.declared.fault.InstallFault.{InstallFault}
 use Rattle.rules_install.specs.declared.fault.InstallFault.TheVariants.{Line, TooLarge, Disk, Over, OutOfMemory}
-use Rattle.rules_tools.specs.Series.{MakesSeries, MakesSteps}
-use Rattle.rules_tools.specs.Turns.{BlamesTurn, EndsOnDisk, HasFailed, IsAtFresh}
+use Rattle.rules_tools.specs.Scratch.{HasFailedTwice, IsTakenAway, OnceBegun}
+use Rattle.rules_tools.specs.Series.{MakesSeries, MakesSteps, StaysUnder}
+use Rattle.rules_tools.specs.Turns.{BlamesTurn, EndsOnDisk, HasFailed, IsAtFresh, IsFree}
 
 -- what may stand there at the end may stand there at any moment
 may_among : (result : Result (Unit {0}) InstallFault) (file : List ℕ) (olds : List (Option (List ℕ))) (w : Option (List ℕ)) → IsAmong (may_have result file olds) w → IsAmong (Some file ∷ olds) w
@@ -66,28 +69,91 @@ fresh_device TooLarge at = tt
 fresh_device Over at = tt
 
 -- a folder that is not made ready has no steps, and one that is has them
-pub unready_series : (s : Installing) (new : Directory) (fault : InstallFault) → IsAtFresh fault → MakesSeries s new (Err fault)
-unready_series s new (Disk fault Fresh) at = tt
-unready_series s new (Disk fault Filling) at = let same = at.1 in absurd (cc)
-unready_series s new (Disk fault Synced) at = let same = at.1 in absurd (cc)
-unready_series s new (Disk fault Named) at = let same = at.1 in absurd (cc)
-unready_series s new (Disk fault Done) at = let same = at.1 in absurd (cc)
-unready_series s new (Line fault) at = absurd at
-unready_series s new TooLarge at = absurd at
-unready_series s new Over at = absurd at
-unready_series s new OutOfMemory at = tt
+module _ (lock : Option (List ℕ)) (s : Installing) where
+  pub unready_series : (old new : Directory) (fault : InstallFault) → IsAtFresh fault → MakesSeries lock s old new (Err fault)
+  unready_series old new (Disk fault Fresh) at = tt
+  unready_series old new (Disk fault Filling) at = let same = at.1 in absurd (cc)
+  unready_series old new (Disk fault Synced) at = let same = at.1 in absurd (cc)
+  unready_series old new (Disk fault Named) at = let same = at.1 in absurd (cc)
+  unready_series old new (Disk fault Done) at = let same = at.1 in absurd (cc)
+  unready_series old new (Line fault) at = absurd at
+  unready_series old new TooLarge at = absurd at
+  unready_series old new Over at = absurd at
+  unready_series old new OutOfMemory at = tt
 
-pub ready_series : (s : Installing) (new : Directory) (result : Result (Unit {0}) InstallFault) → MakesSteps s new result → MakesSeries s new result
-ready_series s new (Ok done) makes = makes
-ready_series s new (Err (Disk fault Fresh)) makes = tt
-ready_series s new (Err (Disk fault Filling)) makes = makes
-ready_series s new (Err (Disk fault Synced)) makes = makes
-ready_series s new (Err (Disk fault Named)) makes = makes
-ready_series s new (Err (Disk fault Done)) makes = makes
-ready_series s new (Err (Line fault)) makes = makes
-ready_series s new (Err TooLarge) makes = makes
-ready_series s new (Err Over) makes = makes
-ready_series s new (Err OutOfMemory) makes = tt
+  ready_steps : (old new : Directory) (result : Result (Unit {0}) InstallFault) → MakesSteps lock s old new result → MakesSeries lock s old new result
+  ready_steps old new (Ok done) makes = makes
+  ready_steps old new (Err (Disk fault Fresh)) makes = tt
+  ready_steps old new (Err (Disk fault Filling)) makes = makes
+  ready_steps old new (Err (Disk fault Synced)) makes = makes
+  ready_steps old new (Err (Disk fault Named)) makes = makes
+  ready_steps old new (Err (Disk fault Done)) makes = makes
+  ready_steps old new (Err (Line fault)) makes = makes
+  ready_steps old new (Err TooLarge) makes = makes
+  ready_steps old new (Err Over) makes = makes
+  ready_steps old new (Err OutOfMemory) makes = tt
+
+  -- the steps from a folder that was made ready are those from the folder before
+  pub ready_series : (old mid new : Directory) (result : Result (Unit {0}) InstallFault)
+      → ((name : List ℕ) → IsFree lock name → s.names.tmp ≢ name → StaysUnder name old mid) → MakesSteps lock s mid new result → MakesSeries lock s old new result
+  ready_series old mid new result first makes = ready_steps old new result (record {
+    begin = makes.begin;
+    clear = makes.clear;
+    before = λ name free differ contents lasts. makes.before name free differ contents (first name free differ contents lasts);
+    t = makes.t;
+    end = makes.end;
+    series = makes.series;
+    last = makes.last;
+    after = makes.after;
+  })
+
+-- a folder that is not made ready had no installation begun, and after any other fault but want of memory the scratch file is taken away
+pub unready_once : (fact : Type 0) (fault : InstallFault) → IsAtFresh fault → OnceBegun fact (Err fault)
+unready_once fact (Disk fault Fresh) at = tt
+unready_once fact (Disk fault Filling) at = let same = at.1 in absurd (cc)
+unready_once fact (Disk fault Synced) at = let same = at.1 in absurd (cc)
+unready_once fact (Disk fault Named) at = let same = at.1 in absurd (cc)
+unready_once fact (Disk fault Done) at = let same = at.1 in absurd (cc)
+unready_once fact (Line fault) at = tt
+unready_once fact TooLarge at = tt
+unready_once fact Over at = tt
+unready_once fact OutOfMemory at = tt
+
+pub ready_once : (fact : Type 0) (result : Result (Unit {0}) InstallFault) → IfErr result (λ fault. fault ≢ OutOfMemory → fact) → OnceBegun fact result
+ready_once fact (Ok done) removed = tt
+ready_once fact (Err (Disk fault Fresh)) removed = tt
+ready_once fact (Err (Disk fault Filling)) removed = removed (λ same. (let no = same in cc))
+ready_once fact (Err (Disk fault Synced)) removed = removed (λ same. (let no = same in cc))
+ready_once fact (Err (Disk fault Named)) removed = removed (λ same. (let no = same in cc))
+ready_once fact (Err (Disk fault Done)) removed = removed (λ same. (let no = same in cc))
+ready_once fact (Err (Line fault)) removed = tt
+ready_once fact (Err TooLarge) removed = tt
+ready_once fact (Err Over) removed = tt
+ready_once fact (Err OutOfMemory) removed = tt
+
+-- a failure after one that was counted is a second one
+second : (before mid now : ℕ) → (before < mid) ⊎ (mid ≡ 2 ^ 64 - 1) → HasFailed mid now → HasFailedTwice before now
+second before mid now first failed = ⊎_elim
+    (λ more. ⊎_elim (λ less. inl (omega arith)) (λ most. inr (omega arith)) first) (λ most. inr most) failed
+
+removed_by : (name : List ℕ) (d : Directory) (before mid now : ℕ) (left : Option DirFault) → (before < mid) ⊎ (mid ≡ 2 ^ 64 - 1)
+    → IsTakenAway name d (HasFailed mid now) left → IsTakenAway name d (HasFailedTwice before now) left
+removed_by name d before mid now None first gone = gone
+removed_by name d before mid now (Some dir.Device) first gone = second before mid now first gone
+removed_by name d before mid now (Some dir.NoScratch) first gone = gone
+removed_by name d before mid now (Some dir.NoName) first gone = gone
+removed_by name d before mid now (Some dir.OutOfMemory) first gone = tt
+
+pub removed_after : (name : List ℕ) (d : Directory) (before mid now : ℕ) (left : Option DirFault) (fault : InstallFault) → EndsOnDisk (Err fault) → IsDeviceFault fault
+    → BlamesFault before mid fault → IsTakenAway name d (HasFailed mid now) left → fault ≢ OutOfMemory → IsTakenAway name d (HasFailedTwice before now) left
+removed_after name d before mid now left (Disk dir.Device phase) ends device blames gone other = removed_by name d before mid now left blames gone
+removed_after name d before mid now left (Disk dir.NoScratch phase) ends device blames gone other = absurd (cc)
+removed_after name d before mid now left (Disk dir.NoName phase) ends device blames gone other = absurd (cc)
+removed_after name d before mid now left (Disk dir.OutOfMemory phase) ends device blames gone other = absurd (cc)
+removed_after name d before mid now left (Line fault) ends device blames gone other = absurd ends
+removed_after name d before mid now left TooLarge ends device blames gone other = absurd ends
+removed_after name d before mid now left Over ends device blames gone other = absurd ends
+removed_after name d before mid now left OutOfMemory ends device blames gone other = absurd (other refl)
 
 -- a failure that was counted is counted later
 later : (before mid now : ℕ) → mid ≤ now → (before < mid) ⊎ (mid ≡ 2 ^ 64 - 1) → HasFailed before now
@@ -107,15 +173,15 @@ blames_turn before mid now refused TooLarge le blames = tt
 blames_turn before mid now refused Over le blames = tt
 blames_turn before mid now refused OutOfMemory le blames = tt
 
-module _ {D : Type 0} (state : D → Directory) (moment : D → ℕ) (left_since : D → ℕ → Directory → Type 0) where
-  leaves_then : (old mid new : D) (P : Directory → Type 0) → LeavesOnly moment left_since old mid P → LeavesOnly moment left_since mid new P → LeavesOnly moment left_since old new P
+module _ {D F : Type 0} (tells : Ghosts D F) where
+  leaves_then : (old mid new : D) (P : Directory → Type 0) → LeavesOnly tells.moment tells.left_since old mid P → LeavesOnly tells.moment tells.left_since mid new P → LeavesOnly tells.moment tells.left_since old new P
   leaves_then old mid new P first second = record {
     later = omega (arith, first.later, second.later);
-    each = λ image left. ⊎_elim (first.each image) (λ has. has) (second.before (moment old) image first.later left);
+    each = λ image left. ⊎_elim (first.each image) (λ has. has) (second.before (tells.moment old) image first.later left);
     before = λ earlier image le left. ⊎_elim (first.before earlier image le) (λ has. inr has) (second.before earlier image (omega (arith, le, first.later)) left);
   }
 
-  leaves_more : (old new : D) (P Q : Directory → Type 0) → ((image : Directory) → P image → Q image) → LeavesOnly moment left_since old new P → LeavesOnly moment left_since old new Q
+  leaves_more : (old new : D) (P Q : Directory → Type 0) → ((image : Directory) → P image → Q image) → LeavesOnly tells.moment tells.left_since old new P → LeavesOnly tells.moment tells.left_since old new Q
   leaves_more old new P Q to leaves = record {
     later = leaves.later;
     each = λ image left. to image (leaves.each image left);
@@ -123,41 +189,41 @@ module _ {D : Type 0} (state : D → Directory) (moment : D → ℕ) (left_since
   }
 
   -- one run and then another
-  pub keeps_then : (name : List ℕ) (old mid new : D) → KeepsWhatLasts state moment left_since name old mid → KeepsWhatLasts state moment left_since name mid new → KeepsWhatLasts state moment left_since name old new
+  pub keeps_then : (name : List ℕ) (old mid new : D) → KeepsWhatLasts tells name old mid → KeepsWhatLasts tells name mid new → KeepsWhatLasts tells name old new
   keeps_then name old mid new first second = λ contents lasts.
       let so_far = first contents lasts in
-      stays_then state moment left_since name contents old mid new so_far (second contents so_far.lasts)
+      stays_then tells name contents old mid new so_far (second contents so_far.lasts)
 
   module _ (s : Installing) (old mid new : D) where
     -- a run of all steps after one that keeps what lasts
-    pub after_keeps : KeepsWhatLasts state moment left_since s.names.cdb old mid → RunKeeps state moment left_since s mid new → RunKeeps state moment left_since s old new
+    pub after_keeps : KeepsWhatLasts tells s.names.cdb old mid → RunKeeps tells s mid new → RunKeeps tells s old new
     after_keeps first second = λ olds lasts.
         let so_far = first olds lasts in
         leaves_then old mid new (HasAmong s.names.cdb (Some (whole_file s.rules) ∷ olds))
         (leaves_more old mid (HasAmong s.names.cdb olds) (HasAmong s.names.cdb (Some (whole_file s.rules) ∷ olds)) (λ image has. inr has) so_far.any_moment)
         (second olds so_far.lasts)
 
-    pub after_lasts : (result : Result (Unit {0}) InstallFault) → KeepsWhatLasts state moment left_since s.names.cdb old mid → RunLasts s (state mid) (state new) result → RunLasts s (state old) (state new) result
+    pub after_lasts : (result : Result (Unit {0}) InstallFault) → KeepsWhatLasts tells s.names.cdb old mid → RunLasts s (tells.state mid) (tells.state new) result → RunLasts s (tells.state old) (tells.state new) result
     after_lasts result first second = λ olds lasts. second olds (first olds lasts).lasts
 
     -- and one that keeps what lasts after a run of all steps
-    pub then_keeps : (result : Result (Unit {0}) InstallFault) → RunKeeps state moment left_since s old mid → RunLasts s (state old) (state mid) result → KeepsWhatLasts state moment left_since s.names.cdb mid new
-        → RunKeeps state moment left_since s old new
+    pub then_keeps : (result : Result (Unit {0}) InstallFault) → RunKeeps tells s old mid → RunLasts s (tells.state old) (tells.state mid) result → KeepsWhatLasts tells s.names.cdb mid new
+        → RunKeeps tells s old new
     then_keeps result keeps stands second = λ olds lasts.
         let may = may_have result (whole_file s.rules) olds in
         leaves_then old mid new (HasAmong s.names.cdb (Some (whole_file s.rules) ∷ olds)) (keeps olds lasts)
         (leaves_more mid new (HasAmong s.names.cdb may) (HasAmong s.names.cdb (Some (whole_file s.rules) ∷ olds))
         (λ image. may_among result (whole_file s.rules) olds (content image s.names.cdb)) (second may (stands olds lasts)).any_moment)
 
-    pub then_lasts : (result : Result (Unit {0}) InstallFault) → RunLasts s (state old) (state mid) result → KeepsWhatLasts state moment left_since s.names.cdb mid new → RunLasts s (state old) (state new) result
+    pub then_lasts : (result : Result (Unit {0}) InstallFault) → RunLasts s (tells.state old) (tells.state mid) result → KeepsWhatLasts tells s.names.cdb mid new → RunLasts s (tells.state old) (tells.state new) result
     then_lasts result stands second = λ olds lasts. (second (may_have result (whole_file s.rules) olds) (stands olds lasts)).lasts
 
   -- where the folder was not made ready
-  module _ (s : Installing) (old new : D) (keeps : KeepsWhatLasts state moment left_since s.names.cdb old new) where
-    pub unready_keeps : RunKeeps state moment left_since s old new
+  module _ (s : Installing) (old new : D) (keeps : KeepsWhatLasts tells s.names.cdb old new) where
+    pub unready_keeps : RunKeeps tells s old new
     unready_keeps = λ olds lasts.
         leaves_more old new (HasAmong s.names.cdb olds) (HasAmong s.names.cdb (Some (whole_file s.rules) ∷ olds)) (λ image has. inr has) (keeps olds lasts).any_moment
 
-    pub unready_lasts : (fault : InstallFault) → IsAtFresh fault → RunLasts s (state old) (state new) (Err fault)
+    pub unready_lasts : (fault : InstallFault) → IsAtFresh fault → RunLasts s (tells.state old) (tells.state new) (Err fault)
     unready_lasts fault at = λ olds lasts.
-        subst (λ contents. LastsAmong (state new) s.names.cdb contents) (sym (fresh_may fault (whole_file s.rules) olds at)) (keeps olds lasts).lasts
+        subst (λ contents. LastsAmong (tells.state new) s.names.cdb contents) (sym (fresh_may fault (whole_file s.rules) olds at)) (keeps olds lasts).lasts

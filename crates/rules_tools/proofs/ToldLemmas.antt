@@ -11,7 +11,7 @@ use Rattle.rule_lookup.specs.declared.decision.Missing.TheVariants.{Drop}
 use Rattle.rule_lookup.specs.declared.decision.Found.TheVariants as found
 use Rattle.rule_lookup.specs.Decisions.{by_code, by_default, by_finding, by_first, by_rule, is_there, without_file}
 use Rattle.rule_lookup.specs.Forms.{forms_of}
-use Rattle.rule_lookup.specs.Peers.{Client}
+use Rattle.connection_facts.specs.Peers.{Client}
 use Rattle.rules_tools.specs.Checks.{DecidesBy}
 use Rattle.rules_tools.specs.Told.{DecidesThere}
 

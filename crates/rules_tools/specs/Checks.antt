@@ -7,7 +7,7 @@ use Rattle.rule_lookup.specs.declared.decision.DecideFault.TheVariants.{Find, Co
 use Rattle.rule_lookup.specs.declared.decision.Decision.{Decision}
 use Rattle.rule_lookup.specs.declared.decision.Missing.TheVariants.{Drop}
 use Rattle.rule_lookup.specs.Decisions.{decision_from}
-use Rattle.rule_lookup.specs.Peers.{Client}
+use Rattle.connection_facts.specs.Peers.{Client}
 use Rattle.rules_tools.specs.declared.tcprulescheck.CheckFault.{CheckFault}
 use Rattle.rules_tools.specs.declared.tcprulescheck.CheckFault.TheVariants.{Damaged, Device, ReadFault, OutOfMemory}
 
@@ -17,7 +17,9 @@ DecidesBy file peer decision = decision_from (option_map reading file) Drop peer
 
 -- no decision comes only where the decision by the bytes is a fault, and the file is called damaged; or where the device or memory fails
 abbrev pub FailsBy : Option (List ℕ) → Client → CheckFault → Type 0
-FailsBy file peer Damaged = (decision_from (option_map reading file) Drop peer ≡ Err (Find Short)) ⊎ (decision_from (option_map reading file) Drop peer ≡ Err (Code NotCode))
+FailsBy file peer Damaged =
+    (decision_from (option_map reading file) Drop peer ≡ Err (Find Short))
+    ⊎ (decision_from (option_map reading file) Drop peer ≡ Err (Code NotCode))
 FailsBy file peer Device = ⊤
 FailsBy file peer ReadFault = ⊤
 FailsBy file peer OutOfMemory = ⊤

@@ -1,5 +1,6 @@
 -- What a folder of rules is made of.
-use Rattle.std.specs.Prelude.{◌≡◌, true}
+use Rattle.std.specs.Prelude.{◌≡◌, true, Option}
+use Rattle.dir_calls.specs.declared.fault.DirFault.{DirFault}
 use Rattle.rules_tools.specs.declared.folder.RulesFolder.{RulesFolder}
 
 -- its directory
@@ -13,3 +14,7 @@ folder_turns folder = folder.turns
 -- it is this program's turn
 abbrev pub IsInTurn : {D T : Type 0} → RulesFolder D T → Type 0
 IsInTurn folder = folder.in_turn ≡ true
+
+-- why the last scratch file that was to be taken away may stand still, if it may
+abbrev pub folder_left : {D T : Type 0} → RulesFolder D T → Option DirFault
+folder_left folder = folder.left

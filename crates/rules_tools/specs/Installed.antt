@@ -2,6 +2,8 @@
 use Rattle.std.specs.Prelude.{◌≡◌, ◌≢◌, ◌<◌, ⊤, ℕ, Bool, IsTrue, List, ◌∷◌, Option, Some, None, IfSome, IfErr, OnOk, Result, Ok, Err}
 use Rattle.dir_calls.specs.Directory.{Directory, content}
 use Rattle.dir_calls.specs.Lasting.{LastsAmong}
+use Rattle.dir_calls.specs.declared.fault.DirFault.{DirFault}
+use Rattle.dir_calls.specs.declared.dir.Dir.{Ghosts}
 use Rattle.cdb_write.specs.Image.{finished_length}
 use Rattle.cdb_write.specs.Making.{limit_of}
 use Rattle.cdb_read.specs.Compiled.{Compiled, stored}
@@ -15,6 +17,7 @@ use Rattle.rules_install.specs.Whole.{DecidesAs, MayBeInstalled, RunKeeps, begun
 use Rattle.rules_install.specs.declared.Phase.TheVariants.{Fresh, Named, Done}
 use Rattle.rules_tools.specs.Paths.{IsSplit, paths_fault}
 use Rattle.rules_tools.specs.Reviews.{profile}
+use Rattle.rules_tools.specs.Scratch.{HasFailedTwice, IsTakenAway, OnceBegunTold}
 use Rattle.rules_tools.specs.Series.{TellsSeries}
 use Rattle.rules_tools.specs.Turns.{HasFailed, IsFree, LacksTurn}
 use Rattle.rules_tools.specs.declared.tcprules.TcprulesFault.{TcprulesFault}
@@ -65,24 +68,48 @@ Blames before now refused (Device Fresh) = LacksTurn before now refused
 Blames before now refused (Device phase) = HasFailed before now
 Blames before now refused fault = ⊤
 
--- A run for two names, over a directory before and after it, whose lock may have a file of its own; `refused` says that a turn was refused.
-pub record Installs {D : Type 0} (honest : Bool) (state : D → Directory) (moment : D → ℕ) (left_since : D → ℕ → Directory → Type 0) (failed : D → ℕ)
-    (lock : Option (List ℕ)) (refused : Bool) (input : Option (List ℕ)) (names : NamePair) (old new : D) (result : Result (Unit {0}) TcprulesFault) : Type 0 where
+-- A run of `tcprules` over directories of a type, and what is known of them.
+pub record FolderRun (D F : Type 0) : Type 1 where
+  -- what a directory tells: whether it is known to do what it should, what stands in it, its moment, what a stop since a moment may have left,
+  -- and how often its device has failed
+  pub tells : Ghosts D F
+  -- the name of the lock's own file, if it has one there, and whether a turn was refused
+  pub lock : Option (List ℕ)
+  pub refused : Bool
+  -- why the scratch file may stand still after a fault, if it may
+  pub left : Option DirFault
+  -- all that the reader had, where that is known
+  pub input : Option (List ℕ)
+  -- the directory before the run and after it
+  pub old : D
+  pub new : D
+
+-- its scratch file was taken away, or the device failed a second time, or there was no memory
+abbrev pub LeavesNoScratch : {D F : Type 0} → FolderRun D F → NamePair → Type 0
+LeavesNoScratch run names =
+    IsTakenAway names.tmp (run.tells.state run.new) (HasFailedTwice (run.tells.failed run.old) (run.tells.failed run.new)) run.left
+
+-- A run for two names.
+pub record Installs {D F : Type 0} (run : FolderRun D F) (names : NamePair) (result : Result (Unit {0}) TcprulesFault) : Type 0 where
   -- the text that was read, to its end, and what is told of it
   pub text : List ℕ
-  pub read : WasRead input text
+  pub read : WasRead run.input text
   pub told : Answers text result
   -- whenever the machine stops since the run began, what stood under the name of the rules file stands there, or the file that is compiled of
   -- the text, whole; and so it is at the end, by what is told
-  pub any_moment : IsTrue honest → IsFree lock names.cdb → RunKeeps state moment left_since (begun_of text names) old new
-  pub lasts : IsTrue honest → IsFree lock names.cdb → LastsAfter (begun_of text names) (state old) (state new) result
+  pub any_moment : IsTrue run.tells.honest → IsFree run.lock names.cdb
+      → RunKeeps run.tells (begun_of text names) run.old run.new
+  pub lasts : IsTrue run.tells.honest → IsFree run.lock names.cdb
+      → LastsAfter (begun_of text names) (run.tells.state run.old) (run.tells.state run.new) result
   -- once it is told that all is done, this file alone, which decides each peer as the text does
-  pub done : IsTrue honest → OnOk result (HasForGood (begun_of text names) (state new))
+  pub done : IsTrue run.tells.honest → OnOk result (HasForGood (begun_of text names) (run.tells.state run.new))
   pub compiled : OnOk result (Compiled (whole_file (pairs_of text)) text)
-  pub decides : IsTrue honest → OnOk result (DecidesAs (content (state new) names.cdb) text)
+  pub decides : IsTrue run.tells.honest → OnOk result (DecidesAs (content (run.tells.state run.new) names.cdb) text)
   -- and it makes the steps of this installation, so that it is a series of events in each world in which the installation may begin
-  pub series : IsTrue honest → TellsSeries (begun_of text names) (state new) result
-  pub blames : IsTrue honest → IfErr result (Blames (failed old) (failed new) refused)
+  pub series : IsTrue run.tells.honest → TellsSeries run.lock (begun_of text names) (run.tells.state run.old) (run.tells.state run.new) result
+  -- the device is blamed only where it failed, and its fault leaves no scratch file
+  pub blames : IsTrue run.tells.honest → IfErr result (Blames (run.tells.failed run.old) (run.tells.failed run.new) run.refused)
+  pub removed : IsTrue run.tells.honest → OnceBegunTold (LeavesNoScratch run names) result
 
 -- what is told of two paths, and then of a text: nothing is wrong with the paths where the text is told of
 abbrev pub Tells : (folder other : List ℕ) → NamePair → Result (Unit {0}) TcprulesFault → Type 0
@@ -99,15 +126,14 @@ PassesPaths (Err SameName) = ⊥
 PassesPaths result = ⊤
 
 -- A run for two paths: the names in them, what is told of them, and where nothing is wrong with them the run for these names.
-pub record Runs {D : Type 0} (honest : Bool) (state : D → Directory) (moment : D → ℕ) (left_since : D → ℕ → Directory → Type 0) (failed : D → ℕ)
-    (lock : Option (List ℕ)) (refused : Bool) (input : Option (List ℕ)) (cdb tmp : List ℕ) (old new : D) (result : Result (Unit {0}) TcprulesFault) : Type 0 where
+pub record Runs {D F : Type 0} (run : FolderRun D F) (cdb tmp : List ℕ) (result : Result (Unit {0}) TcprulesFault) : Type 0 where
   pub folder : List ℕ
   pub other : List ℕ
   pub names : NamePair
   pub first : IsSplit cdb folder names.cdb
   pub second : IsSplit tmp other names.tmp
   pub told : Tells folder other names result
-  pub installs : paths_fault folder other names ≡ None → Installs honest state moment left_since failed lock refused input names old new result
+  pub installs : paths_fault folder other names ≡ None → Installs run names result
 
 -- what a text that was read is compiled to: an installation of which no step was made
 pub record CompilesTo (input : Option (List ℕ)) (names : NamePair) (s : Installing) : Type 0 where

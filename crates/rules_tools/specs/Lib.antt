@@ -1,5 +1,5 @@
--- Paths, turns in a folder, what a run of `tcprules` does, what is told of an installation that failed and of a text, and what `tcprulescheck` tells of a
--- compiled file.
+-- Paths, turns in a folder, what a run of `tcprules` does, what becomes of its scratch file after a fault, what is told of an installation that
+-- failed and of a text, and what `tcprulescheck` tells of a compiled file.
 pub mod Checks
 pub mod Clients
 pub mod FolderParts
@@ -7,6 +7,7 @@ pub mod Installed
 pub mod Paths
 pub mod Reviews
 pub mod Rules
+pub mod Scratch
 pub mod Series
 pub mod Told
 pub mod Turns

@@ -3,9 +3,9 @@ use Rattle.std.specs.Prelude.{◌≡◌, ◌⊎◌, ⊤, ℕ, List, Option, Some
 use Rattle.std.specs.Io.KnownBytes.{Appends}
 use Rattle.dir_calls.specs.Directory.{Directory, content}
 use Rattle.dir_calls.specs.Names.{name_fault}
-use Rattle.answer_lines.specs.Answers.{answer_lines}
+use Rattle.rule_lookup.specs.Answers.{answer_lines}
 use Rattle.rule_lookup.specs.declared.decision.Decision.{Decision}
-use Rattle.rule_lookup.specs.Peers.{Client}
+use Rattle.connection_facts.specs.Peers.{Client}
 use Rattle.rules_tools.specs.Checks.{DecidesBy, FailsBy}
 use Rattle.rules_tools.specs.Clients.{client_of}
 use Rattle.rules_tools.specs.Paths.{IsSplit, folder_path}
@@ -49,7 +49,8 @@ pub record FailsAt (stands : List ℕ → Option Directory) (path : List ℕ) (p
   pub fails : HasNone name (bytes_at stands folder name) peer fault
 
 -- the client that is told and the decision for it, whose lines were written
-pub record Printed (value : List ℕ → Option (List ℕ)) (stands : List ℕ → Option Directory) (path : List ℕ) (before now : Option (List ℕ)) : Type 0 where
+pub record Printed (value : List ℕ → Option (List ℕ)) (stands : List ℕ → Option Directory) (path : List ℕ)
+    (before now : Option (List ℕ)) : Type 0 where
   pub peer : Client
   pub decision : Decision
   pub told : client_of value ≡ Ok peer
@@ -67,6 +68,7 @@ FailsToTell value stands path OutOfMemory = ⊤
 FailsToTell value stands path fault = (peer : Client) × (client_of value ≡ Ok peer) × FailsAt stands path peer fault
 
 -- what a run does, from the variables and the folders to its answer and to what its writer holds
-abbrev pub Checks : (value : List ℕ → Option (List ℕ)) → (stands : List ℕ → Option Directory) → (path : List ℕ) → (before now : Option (List ℕ)) → Result (Unit {0}) CheckFault → Type 0
+abbrev pub Checks : (value : List ℕ → Option (List ℕ)) → (stands : List ℕ → Option Directory) → (path : List ℕ)
+    → (before now : Option (List ℕ)) → Result (Unit {0}) CheckFault → Type 0
 Checks value stands path before now (Ok done) = Printed value stands path before now
 Checks value stands path before now (Err fault) = FailsToTell value stands path fault

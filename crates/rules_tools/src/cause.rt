@@ -18,37 +18,37 @@ pub enum CauseOf {
 
 /// Why a call of the system failed.
 #[derive(Clone, Copy, PartialEq, Eq, Debug)]
-pub struct Cause {
+pub struct ErrorCause {
     /// What it was asked for.
     pub of: CauseOf,
     /// The system's number of its error (`errno`).
     pub error: i32,
 }
 
-impl Cause {
+impl ErrorCause {
     /// The cause that a call tells, if the system has a number for its error.
-    pub(crate) fn of(of: CauseOf, error: Option<i32>) -> Option<Cause> {
-        error.map(|error| Cause { of, error })
+    pub(crate) fn of(of: CauseOf, error: Option<i32>) -> Option<ErrorCause> {
+        error.map(|error| ErrorCause { of, error })
     }
 
     /// The cause of a call of an installation that failed: it names no file but the scratch file, and moves that onto the rules file.
-    pub(crate) fn of_installation(failure: Option<DiskFailure>) -> Option<Cause> {
+    pub(crate) fn of_installation(failure: Option<DiskFailure>) -> Option<ErrorCause> {
         let failure = failure?;
         let of = match failure.on {
             FailedOn::Folder => CauseOf::Folder,
             FailedOn::Name => CauseOf::Scratch,
             FailedOn::Onto => CauseOf::Rules,
         };
-        Cause::of(of, Some(failure.error))
+        ErrorCause::of(of, Some(failure.error))
     }
 
     /// The cause of a call of a look-up that failed: it names no file but the rules file.
-    pub(crate) fn of_look_up(failure: Option<DiskFailure>) -> Option<Cause> {
+    pub(crate) fn of_look_up(failure: Option<DiskFailure>) -> Option<ErrorCause> {
         let failure = failure?;
         let of = match failure.on {
             FailedOn::Folder => CauseOf::Folder,
             FailedOn::Name | FailedOn::Onto => CauseOf::Rules,
         };
-        Cause::of(of, Some(failure.error))
+        ErrorCause::of(of, Some(failure.error))
     }
 }

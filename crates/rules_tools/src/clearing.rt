@@ -20,7 +20,7 @@ pub(crate) fn clear_folder<D: ClearableDir>(
 ) -> Result<(), DirFault>
     ensures clear { IsTrue D.honest → OnOk result (IsClear scratch.now (D.state dir.new)) }
     ensures stays { IsTrue D.honest → (name : List ℕ) → scratch.now ≢ name
-        → KeepsWhatLasts D.state D.moment D.left_since name dir.old dir.new }
+        → KeepsWhatLasts D.Dir name dir.old dir.new }
     ensures faults { IfErr result (Contains (DirFault.Device ∷ DirFault.OutOfMemory ∷ [])) }
     ensures counted { CountsFault (D.failed dir.old) (D.failed dir.new) result }
 {

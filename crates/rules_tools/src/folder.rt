@@ -9,7 +9,8 @@ ghost use Rattle.rules_install.specs.Installs.{installing};
 ghost use Rattle.rules_install.specs.Series.{IsSeries};
 ghost use Rattle.rules_install.specs.Steps.{BlamesFault};
 ghost use Rattle.rules_install.specs.Whole.{EndsRun, IsDeviceFault, RunKeeps, RunLasts};
-ghost use Rattle.rules_tools.specs.Turns.{IsFree, LacksTurn};
+ghost use Rattle.rules_tools.specs.Scratch.{IsTakenAway};
+ghost use Rattle.rules_tools.specs.Turns.{HasFailed, IsFree, LacksTurn};
 
 use crate::clearing::clear_folder;
 use crate::turn::{NoTurn, Turns};
@@ -24,10 +25,11 @@ pub struct RulesFolder<D, T> {
     dir: D,
     turns: T,
     in_turn: bool,
+    left: Option<DirFault>,
 }
 
 impl<D: ClearableDir, T: Turns<D>> RulesFolder<D, T> {
-    ghost use Rattle.rules_tools.specs.FolderParts.{IsInTurn, folder_dir, folder_turns};
+    ghost use Rattle.rules_tools.specs.FolderParts.{IsInTurn, folder_dir, folder_left, folder_turns};
 
     /// A folder in which no turn was taken.
     pub fn new(dir: D, turns: T) -> Self
@@ -38,14 +40,8 @@ impl<D: ClearableDir, T: Turns<D>> RulesFolder<D, T> {
             dir,
             turns,
             in_turn: false,
+            left: None,
         }
-    }
-
-    /// Its directory.
-    pub fn dir(&self) -> &D
-        ensures { result.now ≡ folder_dir self.now }
-    {
-        &self.dir
     }
 
     /// Who takes turns in it.
@@ -55,6 +51,14 @@ impl<D: ClearableDir, T: Turns<D>> RulesFolder<D, T> {
         &self.turns
     }
 
+    /// Why the last scratch file that was to be taken away may stand still: `Device` or `OutOfMemory`; or `None` where it is gone, or none
+    /// was to be taken away.
+    pub fn left(&self) -> Option<DirFault>
+        ensures { result ≡ folder_left self.now }
+    {
+        self.left
+    }
+
     /// Takes a turn, and waits for it while others have it. `scratch` is the name under which the installation will write.
     ///
     /// # Errors
@@ -62,7 +66,7 @@ impl<D: ClearableDir, T: Turns<D>> RulesFolder<D, T> {
     pub fn take_turn(&mut self, scratch: &Name) -> Result<(), NoTurn>
         ensures turn { OnOk result (IsInTurn self.new) }
         ensures stays { IsTrue D.honest → (name : List ℕ) → IsFree T.lock_name name
-            → KeepsWhatLasts D.state D.moment D.left_since name (folder_dir self.old) (folder_dir self.new) }
+            → KeepsWhatLasts D.Dir name (folder_dir self.old) (folder_dir self.new) }
         ensures count { OnOk result (D.failed (folder_dir self.new) ≡ D.failed (folder_dir self.old)) }
         ensures blames { OnErr result (LacksTurn (D.failed (folder_dir self.old)) (D.failed (folder_dir self.new))
             (T.refused (folder_turns self.new))) }
@@ -82,7 +86,7 @@ impl<D: ClearableDir, T: Turns<D>> RulesFolder<D, T> {
         ensures turn { IsInTurn self.new }
         ensures clear { IsTrue D.honest → OnOk result (IsClear scratch.now (D.state (folder_dir self.new))) }
         ensures stays { IsTrue D.honest → (name : List ℕ) → scratch.now ≢ name
-            → KeepsWhatLasts D.state D.moment D.left_since name (folder_dir self.old) (folder_dir self.new) }
+            → KeepsWhatLasts D.Dir name (folder_dir self.old) (folder_dir self.new) }
         ensures faults { IfErr result (Contains (DirFault.Device ∷ DirFault.OutOfMemory ∷ [])) }
         ensures counted { CountsFault (D.failed (folder_dir self.old)) (D.failed (folder_dir self.new)) result }
     {
@@ -107,7 +111,7 @@ impl<D: ClearableDir, T: Turns<D>> RulesFolder<D, T> {
         ensures ends { EndsRun (installing install.new) result }
         ensures series { IsTrue D.honest → IsSeries (installing install.old) (installing install.new)
             (D.state (folder_dir self.old)) (D.state (folder_dir self.new)) result }
-        ensures any_moment { IsTrue D.honest → RunKeeps D.state D.moment D.left_since
+        ensures any_moment { IsTrue D.honest → RunKeeps D.Dir
             (installing install.old) (folder_dir self.old) (folder_dir self.new) }
         ensures lasts { IsTrue D.honest → RunLasts (installing install.old)
             (D.state (folder_dir self.old)) (D.state (folder_dir self.new)) result }
@@ -125,17 +129,19 @@ impl<D: ClearableDir, T: Turns<D>> RulesFolder<D, T> {
         finished
     }
 
-    /// Takes what stands under the scratch name away, as well as that can be done: a fault of that is told to nobody. What lasts under another
+    /// Takes what stands under the scratch name away, as well as that can be done: a fault of that is noted (`left`). What lasts under another
     /// name lasts there, and stands there whenever the machine stops meanwhile.
     pub fn remove_scratch(&mut self, alloc: Global, scratch: &Name)
         requires turn { IsInTurn self.old }
         ensures turn { IsInTurn self.new }
         ensures stays { IsTrue D.honest → (name : List ℕ) → scratch.now ≢ name
-            → KeepsWhatLasts D.state D.moment D.left_since name (folder_dir self.old) (folder_dir self.new) }
+            → KeepsWhatLasts D.Dir name (folder_dir self.old) (folder_dir self.new) }
+        ensures gone { IsTrue D.honest → IsTakenAway scratch.now (D.state (folder_dir self.new))
+            (HasFailed (D.failed (folder_dir self.old)) (D.failed (folder_dir self.new))) (folder_left self.new) }
         ensures count { D.failed (folder_dir self.old) ≤ D.failed (folder_dir self.new) }
         ensures turns { folder_turns self.new ≡ folder_turns self.old }
     {
-        let _removed = self.dir.take_away(alloc, scratch);
+        self.left = self.dir.take_away(alloc, scratch).err();
     }
 }
 

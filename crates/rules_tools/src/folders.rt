@@ -3,7 +3,7 @@ ghost use Rattle.std.specs.Prelude.{◌≡◌, ℕ, Bool, List, Option, Some, No
 ghost use Rattle.dir_calls.specs.Directory.{Directory};
 ghost use Rattle.dir_calls.specs.NoDirectory.{not_honest};
 
-use crate::cause::{Cause, CauseOf};
+use crate::cause::{CauseOf, ErrorCause};
 use dir_calls::Dir;
 use dir_disk::{FolderError, FolderFault, OsDir};
 use std::alloc::Global;
@@ -41,7 +41,7 @@ pub trait Folders {
 #[derive(Drop)]
 pub struct SystemFolders<'a, F> {
     files: &'a F,
-    cause: Option<Cause>,
+    cause: Option<ErrorCause>,
 }
 
 impl<'a, F> SystemFolders<'a, F> {
@@ -51,7 +51,7 @@ impl<'a, F> SystemFolders<'a, F> {
     }
 
     /// Of what the last fault came, where the system has told that.
-    pub fn cause(&self) -> Option<Cause> {
+    pub fn cause(&self) -> Option<ErrorCause> {
         self.cause
     }
 }
@@ -72,13 +72,13 @@ where
         match OsDir::find(alloc, self.files, path) {
             Ok(folder) => Ok(folder),
             Err(FolderError { fault, error }) => {
-                self.cause = Cause::of(CauseOf::Folder, error);
+                self.cause = ErrorCause::of(CauseOf::Folder, error);
                 Err(fault)
             }
         }
     }
 
     fn failed(&mut self, folder: &OsDir<&'a F>) {
-        self.cause = Cause::of_look_up(folder.disk().failure());
+        self.cause = ErrorCause::of_look_up(folder.disk().failure());
     }
 }

@@ -6,8 +6,9 @@ ghost use Rattle.rules_install.specs.Filled.{IsWritten};
 ghost use Rattle.rules_install.specs.Installing.{HasForGood};
 ghost use Rattle.rules_install.specs.Installs.{installing};
 ghost use Rattle.rules_install.specs.Whole.{IsDeviceFault, RunKeeps, RunLasts};
-ghost use Rattle.rules_tools.specs.FolderParts.{IsInTurn, folder_dir, folder_turns};
+ghost use Rattle.rules_tools.specs.FolderParts.{IsInTurn, folder_dir, folder_left, folder_turns};
 ghost use Rattle.rules_tools.specs.Installed.{CompilesTo, FailsInput, Installs, IsRefusal, PassesPaths, Runs};
+ghost use Rattle.rules_tools.specs.Scratch.{HasFailedTwice, IsTakenAway, OnceBegun};
 ghost use Rattle.rules_tools.specs.Series.{MakesSeries, MakesSteps};
 ghost use Rattle.rules_tools.specs.Turns.{BlamesTurn, EndsOnDisk, IsAtFresh, IsFree};
 
@@ -17,7 +18,7 @@ use crate::turn::Turns;
 use dir_calls::{ClearableDir, DirFault, Name};
 use rule_lines::{Limits, parse_owned};
 use rules_install::laws::decides;
-use rules_install::{Install, InstallFault, Names, Phase};
+use rules_install::{FileNames, Install, InstallFault, Phase};
 use std::alloc::Global;
 use std::io::Read;
 
@@ -27,7 +28,8 @@ use std::io::Read;
 /// # Errors
 /// In the order of `TcprulesFault`. After those that stand above `Device` there nothing was touched in the folder, and no turn was taken. After
 /// `Device` and `OutOfMemory` the rules file is the old one, or with the phases `Named` and `Done` possibly the new one. After a fault of the
-/// disk on the way to any phase the scratch file is taken away, as well as that can be done; after want of memory it may be left.
+/// disk on the way to any phase the scratch file is taken away, as well as that can be done, and else the folder notes why not
+/// (`RulesFolder::left`); after want of memory it may be left.
 pub fn install_text<R: Read, D: ClearableDir, T: Turns<D>>(
     alloc: Global,
     reader: &mut R,
@@ -35,8 +37,15 @@ pub fn install_text<R: Read, D: ClearableDir, T: Turns<D>>(
     cdb: &str,
     tmp: &str,
 ) -> Result<(), TcprulesFault>
-    ensures runs { Runs D.honest D.state D.moment D.left_since D.failed T.lock_name (T.refused (folder_turns folder.new))
-        (R.remaining reader.old) cdb.now tmp.now (folder_dir folder.old) (folder_dir folder.new) result }
+    ensures runs { Runs (record {
+      tells = D.Dir;
+      lock = T.lock_name;
+      refused = T.refused (folder_turns folder.new);
+      left = folder_left folder.new;
+      input = R.remaining reader.old;
+      old = folder_dir folder.old;
+      new = folder_dir folder.new;
+    }) cdb.now tmp.now result }
     ensures untouched { IsRefusal result → folder.new ≡ folder.old }
 {
     let (_folder, names) = read_places(alloc, cdb, tmp)?;
@@ -48,10 +57,17 @@ pub fn install_named<R: Read, D: ClearableDir, T: Turns<D>>(
     alloc: Global,
     reader: &mut R,
     folder: &mut RulesFolder<D, T>,
-    names: Names,
+    names: FileNames,
 ) -> Result<(), TcprulesFault>
-    ensures installs { Installs D.honest D.state D.moment D.left_since D.failed T.lock_name (T.refused (folder_turns folder.new))
-        (R.remaining reader.old) names (folder_dir folder.old) (folder_dir folder.new) result }
+    ensures installs { Installs (record {
+      tells = D.Dir;
+      lock = T.lock_name;
+      refused = T.refused (folder_turns folder.new);
+      left = folder_left folder.new;
+      input = R.remaining reader.old;
+      old = folder_dir folder.old;
+      new = folder_dir folder.new;
+    }) names result }
     ensures untouched { IsRefusal result → folder.new ≡ folder.old }
     ensures of_text { PassesPaths result }
 {
@@ -64,7 +80,11 @@ pub fn install_named<R: Read, D: ClearableDir, T: Turns<D>>(
 }
 
 /// Reads a rule text to its end and compiles it, for an installation under these names.
-fn compile<R: Read>(alloc: Global, reader: &mut R, names: Names) -> Result<Install, TcprulesFault>
+fn compile<R: Read>(
+    alloc: Global,
+    reader: &mut R,
+    names: FileNames,
+) -> Result<Install, TcprulesFault>
     ensures compiled { IfOk result (λ install. CompilesTo (R.remaining reader.old) names (installing install)) }
     ensures refused { IfErr result (FailsInput (R.remaining reader.old)) }
 {
@@ -85,10 +105,10 @@ fn install_begun<D: ClearableDir, T: Turns<D>>(
     requires unbegun { (installing install.old).reached ≡ None }
     requires scratch { scratch.now ≡ (installing install.old).names.tmp }
     ensures ends { EndsOnDisk result }
-    ensures series { IsTrue D.honest
-        → MakesSeries (installing install.old) (D.state (folder_dir folder.new)) result }
+    ensures series { IsTrue D.honest → MakesSeries T.lock_name (installing install.old)
+        (D.state (folder_dir folder.old)) (D.state (folder_dir folder.new)) result }
     ensures any_moment { IsTrue D.honest → IsFree T.lock_name (installing install.old).names.cdb → RunKeeps
-        D.state D.moment D.left_since (installing install.old) (folder_dir folder.old) (folder_dir folder.new) }
+        D.Dir (installing install.old) (folder_dir folder.old) (folder_dir folder.new) }
     ensures lasts { IsTrue D.honest → IsFree T.lock_name (installing install.old).names.cdb → RunLasts
         (installing install.old) (D.state (folder_dir folder.old)) (D.state (folder_dir folder.new)) result }
     ensures done { IsTrue D.honest
@@ -97,6 +117,10 @@ fn install_begun<D: ClearableDir, T: Turns<D>>(
     ensures device { IsTrue D.honest → IfErr result IsDeviceFault }
     ensures blames { IfErr result (BlamesTurn (D.failed (folder_dir folder.old)) (D.failed (folder_dir folder.new))
         (T.refused (folder_turns folder.new))) }
+    ensures removed { IsTrue D.honest
+        → OnceBegun (IsTakenAway (installing install.old).names.tmp (D.state (folder_dir folder.new))
+        (HasFailedTwice (D.failed (folder_dir folder.old)) (D.failed (folder_dir folder.new)))
+        (folder_left folder.new)) result }
 {
     // a law: the two names differ
     install.consistent();
@@ -116,7 +140,7 @@ fn make_ready<D: ClearableDir, T: Turns<D>>(
     ensures turn { OnOk result (IsInTurn folder.new) }
     ensures clear { IsTrue D.honest → OnOk result (IsClear scratch.now (D.state (folder_dir folder.new))) }
     ensures stays { IsTrue D.honest → (name : List ℕ) → IsFree T.lock_name name → scratch.now ≢ name
-        → KeepsWhatLasts D.state D.moment D.left_since name (folder_dir folder.old) (folder_dir folder.new) }
+        → KeepsWhatLasts D.Dir name (folder_dir folder.old) (folder_dir folder.new) }
     ensures faults { IfErr result IsAtFresh }
     ensures count { OnOk result (D.failed (folder_dir folder.new) ≡ D.failed (folder_dir folder.old)) }
     ensures blames { IfErr result (BlamesTurn (D.failed (folder_dir folder.old)) (D.failed (folder_dir folder.new))
@@ -145,10 +169,10 @@ fn install_ready<D: ClearableDir, T: Turns<D>>(
     requires scratch { scratch.now ≡ (installing install.old).names.tmp }
     requires clear { IsTrue D.honest → IsClear scratch.now (D.state (folder_dir folder.old)) }
     ensures ends { EndsOnDisk result }
-    ensures series { IsTrue D.honest
-        → MakesSteps (installing install.old) (D.state (folder_dir folder.new)) result }
+    ensures series { IsTrue D.honest → MakesSteps T.lock_name (installing install.old)
+        (D.state (folder_dir folder.old)) (D.state (folder_dir folder.new)) result }
     ensures any_moment { IsTrue D.honest → RunKeeps
-        D.state D.moment D.left_since (installing install.old) (folder_dir folder.old) (folder_dir folder.new) }
+        D.Dir (installing install.old) (folder_dir folder.old) (folder_dir folder.new) }
     ensures lasts { IsTrue D.honest → RunLasts
         (installing install.old) (D.state (folder_dir folder.old)) (D.state (folder_dir folder.new)) result }
     ensures done { IsTrue D.honest
@@ -157,6 +181,10 @@ fn install_ready<D: ClearableDir, T: Turns<D>>(
     ensures device { IsTrue D.honest → IfErr result IsDeviceFault }
     ensures blames { IfErr result (BlamesTurn (D.failed (folder_dir folder.old)) (D.failed (folder_dir folder.new))
         (T.refused (folder_turns folder.new))) }
+    ensures removed { IsTrue D.honest → IfErr result (λ fault. fault ≢ InstallFault.OutOfMemory
+        → IsTakenAway scratch.now (D.state (folder_dir folder.new))
+        (HasFailedTwice (D.failed (folder_dir folder.old)) (D.failed (folder_dir folder.new)))
+        (folder_left folder.new)) }
 {
     // a law: the two names differ
     install.consistent();

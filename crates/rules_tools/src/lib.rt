@@ -14,7 +14,7 @@ pub mod tcprulescheck;
 pub mod turn;
 pub mod variables;
 
-pub use cause::{Cause, CauseOf};
+pub use cause::{CauseOf, ErrorCause};
 pub use folder::RulesFolder;
 pub use folders::{Folders, SystemFolders};
 pub use installing::{install_named, install_text};

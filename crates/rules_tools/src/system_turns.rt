@@ -3,7 +3,7 @@ ghost use Rattle.std.specs.Prelude.{◌≡◌, Some, codes, IsTrue, IfErr, OnOk}
 ghost use Rattle.dir_disk.specs.OsParts.{os_failed};
 ghost use Rattle.rules_tools.specs.Turns.{HasFailed};
 
-use crate::cause::{Cause, CauseOf};
+use crate::cause::{CauseOf, ErrorCause};
 use crate::turn::{NoTurn, Turns};
 use dir_calls::{DirFault, Name};
 use dir_disk::{LockTry, OsDir, find_folder};
@@ -39,7 +39,7 @@ pub struct SystemTurns<'a, S, E> {
     system: &'a S,
     errors: E,
     folder: &'a str,
-    cause: Option<Cause>,
+    cause: Option<ErrorCause>,
     refused: bool,
 }
 
@@ -56,7 +56,7 @@ impl<'a, S, E: Write> SystemTurns<'a, S, E> {
     }
 
     /// Of what a fault of the folder came that was the last one, where the system has told that.
-    pub fn cause(&self) -> Option<Cause> {
+    pub fn cause(&self) -> Option<ErrorCause> {
         self.cause
     }
 
@@ -64,7 +64,7 @@ impl<'a, S, E: Write> SystemTurns<'a, S, E> {
     fn refuse(&mut self, error: Option<i32>) -> NoTurn
         ensures { IsTrue (self.new).refused }
     {
-        self.cause = Cause::of(CauseOf::Folder, error);
+        self.cause = ErrorCause::of(CauseOf::Folder, error);
         self.refused = true;
         NoTurn
     }
@@ -94,7 +94,7 @@ where
     }
 
     fn failed(&mut self, dir: &OsDir<&'a S>) {
-        self.cause = Cause::of_installation(dir.disk().failure());
+        self.cause = ErrorCause::of_installation(dir.disk().failure());
     }
 }
 

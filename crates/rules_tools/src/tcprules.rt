@@ -6,16 +6,16 @@ ghost use Rattle.rules_tools.specs.Paths.{PlacesOf};
 ghost use Rattle.rules_tools.specs.Rules.{told_fault};
 ghost use Rattle.rules_tools.specs.declared.tcprules.TcprulesFault.TheVariants.{OutOfMemory};
 
-use crate::cause::{Cause, CauseOf};
+use crate::cause::{CauseOf, ErrorCause};
 use crate::folder::RulesFolder;
 use crate::installing::install_text;
 use crate::path::{folder_path, split_path};
 use crate::system_turns::SystemTurns;
+use byte_text::NotingStream;
 use dir_calls::{Name, NameFault};
 use dir_disk::OsDir;
-use fault_causes::Noted;
 use rule_lines::{LineFault, LineKind, ParseFault};
-use rules_install::{InstallFault, Names, Phase};
+use rules_install::{FileNames, InstallFault, Phase};
 use std::alloc::{AllocError, Global};
 use std::fs::{File, Files};
 use std::io::{ErrorKind, Read, Write};
@@ -93,7 +93,7 @@ pub struct RulesFailure {
     /// Why.
     pub fault: TcprulesFault,
     /// Of what it came.
-    pub cause: Option<Cause>,
+    pub cause: Option<ErrorCause>,
 }
 
 impl From<TcprulesFault> for RulesFailure {
@@ -127,7 +127,7 @@ where
     let path = folder_path(folder);
     let dir = OsDir::at(alloc, system, path).map_err(TcprulesFault::from)?;
     let mut folder = RulesFolder::new(dir, SystemTurns::new(system, errors, path));
-    let mut reader = Noted::new(reader);
+    let mut reader = NotingStream::new(reader);
     let outcome = install_text(alloc, &mut reader, &mut folder, cdb, tmp);
     let cause = folder.turns().cause();
     folder.into_dir().unlock();
@@ -136,7 +136,7 @@ where
         Err(fault) => Err(RulesFailure {
             fault,
             cause: match fault {
-                TcprulesFault::ReadFault => Cause::of(CauseOf::Input, reader.error()),
+                TcprulesFault::ReadFault => ErrorCause::of(CauseOf::Input, reader.error()),
                 TcprulesFault::Device(_) => cause,
                 _ => None,
             },
@@ -150,7 +150,7 @@ pub fn read_places<'a>(
     alloc: Global,
     cdb: &'a str,
     tmp: &'a str,
-) -> Result<(&'a str, Names), TcprulesFault>
+) -> Result<(&'a str, FileNames), TcprulesFault>
     ensures { PlacesOf cdb.now tmp.now result }
 {
     let (folder, cdb) = split_path(cdb);
@@ -165,7 +165,7 @@ pub fn read_places<'a>(
     }
     let cdb_name = cdb_name.ok_or(TcprulesFault::OutOfMemory)?;
     let tmp_name = tmp_name.ok_or(TcprulesFault::OutOfMemory)?;
-    match Names::new(cdb_name, tmp_name) {
+    match FileNames::new(cdb_name, tmp_name) {
         Ok(names) => Ok((folder, names)),
         Err(_) => unreachable!("the names differ"),
     }

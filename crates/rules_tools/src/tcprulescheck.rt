@@ -1,23 +1,24 @@
 //! `tcprulescheck`: which rule of a compiled file decides a peer.
-ghost use Rattle.std.specs.Prelude.{◌≡◌, ◌≢◌, ◌⊎◌, IsTrue, IfOk, IfErr, OnOk};
+ghost use Rattle.std.specs.Prelude.{◌≡◌, ◌≢◌, ◌⊎◌, None, IsTrue, IfOk, IfErr, OnOk};
 ghost use Rattle.std.specs.Io.KnownBytes.{Appends};
-ghost use Rattle.answer_lines.specs.Answers.{answer_lines};
+ghost use Rattle.rule_lookup.specs.Answers.{answer_lines};
 ghost use Rattle.dir_calls.specs.Directory.{content};
+ghost use Rattle.byte_text.specs.NotingStream.{noted_error, noted_stream};
 ghost use Rattle.rules_tools.specs.Checks.{Blames, DecidesBy, FailsBy};
 ghost use Rattle.rules_tools.specs.Told.{Checks, DecidesAt, DecidesThere, FailsAt, HasNone, NameFails};
 ghost use Rattle.rules_tools.specs.declared.tcprulescheck.CheckFault.TheVariants.{OutOfMemory};
 
-use crate::cause::{Cause, CauseOf};
+use crate::cause::{CauseOf, ErrorCause};
 use crate::folders::{Folders, SystemFolders};
 use crate::path::{folder_path, split_path};
 use crate::variables::{SystemVariables, Variables, read_peer};
-use answer_lines::append_answer;
+use byte_text::NotingStream;
 use cdb_read::CdbFile;
+use connection_facts::Peer;
 use dir_calls::{Dir, DirFault, Name, NameFault};
 use dir_disk::FolderFault;
-use fault_causes::Noted;
 use rule_lines::FindFault;
-use rule_lookup::{DecideFault, Decision, Found, Missing, Peer, decide};
+use rule_lookup::{DecideFault, Decision, Found, Missing, append_answer, decide};
 use std::alloc::{AllocError, Global};
 use std::error::Error;
 use std::fmt;
@@ -88,7 +89,7 @@ pub struct CheckFailure {
     /// Why.
     pub fault: CheckFault,
     /// Of what it came.
-    pub cause: Option<Cause>,
+    pub cause: Option<ErrorCause>,
 }
 
 impl From<CheckFault> for CheckFailure {
@@ -111,7 +112,7 @@ where
     F::File: FileExt,
 {
     let mut folders = SystemFolders::new(files);
-    let mut writer = Noted::new(writer);
+    let mut writer = NotingStream::new(writer);
     match tell_decision(
         env.alloc(),
         &SystemVariables(env),
@@ -124,7 +125,7 @@ where
             fault,
             cause: match fault {
                 CheckFault::NoFile | CheckFault::Device | CheckFault::ReadFault => folders.cause(),
-                CheckFault::WriteFault => Cause::of(CauseOf::Output, writer.error()),
+                CheckFault::WriteFault => ErrorCause::of(CauseOf::Output, writer.error()),
                 _ => None,
             },
         }),
@@ -136,16 +137,18 @@ where
 /// file at a path whose last part is no name.
 ///
 /// # Errors
-/// In the order of `CheckFault`. Before `WriteFault` nothing was written.
+/// In the order of `CheckFault`. Before `WriteFault` nothing was written. Where there is none, the last call of the writer, that all it holds goes
+/// out, had no error of the system.
 pub fn tell_decision<V: Variables, F: Folders, W: Write>(
     alloc: Global,
     variables: &V,
     folders: &mut F,
-    writer: &mut W,
+    writer: &mut NotingStream<W>,
     cdb: &str,
 ) -> Result<(), CheckFault>
     ensures checks { IsTrue V.honest → IsTrue F.honest → Checks (V.value variables.now) (F.stands folders.old) cdb.now
-        (W.contents writer.old) (W.contents writer.new) result }
+        (W.contents (noted_stream writer.old)) (W.contents (noted_stream writer.new)) result }
+    ensures passed { OnOk result (noted_error writer.new ≡ None) }
     ensures unwritten { IfErr result (λ fault. fault ≢ CheckFault.WriteFault → writer.new ≡ writer.old) }
 {
     let peer = read_peer(alloc, variables)?;
@@ -156,11 +159,12 @@ pub fn tell_decision<V: Variables, F: Folders, W: Write>(
 /// Writes what a compiled file decides.
 fn write_decision<W: Write>(
     alloc: Global,
-    writer: &mut W,
+    writer: &mut NotingStream<W>,
     decision: &Decision,
 ) -> Result<(), CheckFault>
-    ensures written { OnOk result
-        (Appends (W.contents writer.old) (W.contents writer.new) (answer_lines decision.now)) }
+    ensures written { OnOk result (Appends (W.contents (noted_stream writer.old))
+        (W.contents (noted_stream writer.new)) (answer_lines decision.now)) }
+    ensures passed { OnOk result (noted_error writer.new ≡ None) }
     ensures faults { IfErr result (λ fault. (fault ≡ CheckFault.WriteFault)
         ⊎ ((fault ≡ CheckFault.OutOfMemory) × (writer.new ≡ writer.old))) }
 {
@@ -267,9 +271,10 @@ pub fn decide_at<D: Dir>(
 }
 
 /// Writes an answer, and flushes it.
-fn write_answer<W: Write>(writer: &mut W, answer: &[u8]) -> Result<(), CheckFault>
-    ensures written { OnOk result
-        (Appends (W.contents writer.old) (W.contents writer.new) answer.now) }
+fn write_answer<W: Write>(writer: &mut NotingStream<W>, answer: &[u8]) -> Result<(), CheckFault>
+    ensures written { OnOk result (Appends (W.contents (noted_stream writer.old))
+        (W.contents (noted_stream writer.new)) answer.now) }
+    ensures passed { OnOk result (noted_error writer.new ≡ None) }
     ensures fault { IfErr result (λ fault. fault ≡ CheckFault.WriteFault) }
 {
     if writer.write_all(answer).is_err() || writer.flush().is_err() {

@@ -25,7 +25,7 @@ pub trait Turns<D: Dir> {
     /// The turn is not had. The directory is as before, but for the lock.
     fn take(&mut self, dir: &mut D, scratch: &Name) -> Result<(), NoTurn>
         ensures stays { IsTrue D.honest → (name : List ℕ) → IsFree lock_name name
-            → KeepsWhatLasts D.state D.moment D.left_since name dir.old dir.new }
+            → KeepsWhatLasts D.Dir name dir.old dir.new }
         ensures count { OnOk result (D.failed dir.new ≡ D.failed dir.old) }
         ensures blames { OnErr result (LacksTurn (D.failed dir.old) (D.failed dir.new) (refused self.new)) };
 

@@ -13,7 +13,7 @@ use Rattle.script_tool.specs.declared.verdicts.Sums.{Sums}
 use Rattle.script_tool.specs.Judging.{Judges, with_line, with_verdict}
 use Rattle.script_tool.specs.Logs.{is_changed, is_told, is_told_changed, is_unread, line_printed, log_printed, printed_by, sums_of, sums_text}
 use Rattle.script_tool.specs.Sim.{Run, Prints, PrintsFront}
-use Rattle.verdict_lines.specs.LogLines.{Reading, Other, Unread, Tells, reading}
+use Rattle.script_words.specs.LogLines.{Reading, Other, Unread, Tells, reading}
 use Rattle.script_tool.proofs.RunLemmas.{Appends-more, Appends-none, IsFront, Prints-after, first_line, front_of}
 
 -- ---- the sums

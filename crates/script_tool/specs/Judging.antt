@@ -2,7 +2,7 @@
 use Rattle.std.specs.Prelude.{◌≡◌, ℕ, ◌+◌, ◌<◌, ◌^◌, Bool, true, false, List, Option}
 use Rattle.script_tool.specs.declared.verdicts.Sums.{Sums}
 use Rattle.script_tool.specs.Logs.{is_changed, line_printed}
-use Rattle.verdict_lines.specs.LogLines.{Reading, Other, Unread, Tells}
+use Rattle.script_words.specs.LogLines.{Reading, Other, Unread, Tells}
 
 -- there is room in the sums for a line more
 pub record HasRoom (sums : Sums) : Type 0 where

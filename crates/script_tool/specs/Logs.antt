@@ -9,10 +9,10 @@ use Rattle.rule_lookup.specs.declared.decision.Found.{Found}
 use Rattle.rule_lookup.specs.declared.decision.Found.TheVariants.{Address, Default, NoFile}
 use Rattle.rule_lookup.specs.declared.decision.Missing.TheVariants.{Drop}
 use Rattle.rule_lookup.specs.Decisions.{decision_of, without_file}
-use Rattle.rule_lookup.specs.Peers.{Client}
+use Rattle.connection_facts.specs.Peers.{Client}
 use Rattle.script_tool.specs.declared.verdicts.Sums.{Sums}
 use Rattle.script_words.specs.Scripts.{peer_at}
-use Rattle.verdict_lines.specs.LogLines.{Told, Reading, Other, Unread, Tells, reading}
+use Rattle.script_words.specs.LogLines.{Told, Reading, Other, Unread, Tells, reading}
 
 -- the peer that is asked about: as `ask` has it of an address and a host, without a user
 abbrev pub asked : Client → Client

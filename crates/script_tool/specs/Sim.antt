@@ -9,7 +9,7 @@ use Rattle.rule_lines.specs.Faults.{fault_of}
 use Rattle.rule_lines.specs.Lines.{Line, lines_of}
 use Rattle.rule_lines.specs.Pairs.{pairs_of}
 use Rattle.rule_lookup.specs.Decisions.{decision_of}
-use Rattle.rule_lookup.specs.Peers.{Client}
+use Rattle.connection_facts.specs.Peers.{Client}
 use Rattle.rules_install.specs.declared.Phase.{Phase}
 use Rattle.rules_install.specs.declared.Phase.TheVariants.{Done}
 use Rattle.server_events.specs.declared.event.Event.{Event}
@@ -17,7 +17,7 @@ use Rattle.server_events.specs.Reports.{first_illegal, report_of}
 use Rattle.server_events.specs.ServerState.{start as server_at_start}
 use Rattle.script_tool.specs.declared.sim.SimFault.{SimFault}
 use Rattle.script_tool.specs.declared.sim.SimFault.TheVariants.{BadCommand, ReadFault, WriteFault, OutOfMemory}
-use Rattle.answer_lines.specs.Answers.{answer_lines}
+use Rattle.rule_lookup.specs.Answers.{answer_lines}
 use Rattle.script_tool.specs.Logs.{log_printed}
 use Rattle.script_tool.specs.Replies.{fault_text, illegal_line, reached_line, report_line}
 use Rattle.script_words.specs.Events.{History, with_event}

@@ -1,6 +1,6 @@
 //! What a script of `rulesim` leads to, command by command.
 ghost use Rattle.std.specs.Prelude.{◌≡◌, ◌≢◌, ◌++◌, ◌<◌, None, Some, OnOk, IfOk, List, [], ℕ, Option};
-ghost use Rattle.answer_lines.specs.Answers.{answer_lines};
+ghost use Rattle.rule_lookup.specs.Answers.{answer_lines};
 ghost use Rattle.dir_calls.specs.MemDir.{mem_state};
 ghost use Rattle.dir_calls.specs.Names.{name_fault};
 ghost use Rattle.rule_lines.specs.Pairs.{pairs_of};
@@ -17,14 +17,14 @@ ghost use Rattle.script_tool.specs.Sim.{Begun, State, start, after, is_in_place,
 ghost use Rattle.script_tool.specs.Texts.{Texts, at_phase, place_of};
 
 use crate::replies::{append_fault, append_illegal, append_reached, append_report};
-use answer_lines::append_answer;
 use cdb_read::CdbFile;
+use connection_facts::Peer;
 use dir_calls::{Choice, Dir, DirFault, MemDir, MemFile, Name, NameFault};
 use rule_lines::{Limits, Settings, Verdict};
-use rule_lookup::{DecideFault, Decision, Found, Missing, Peer, decide};
+use rule_lookup::{DecideFault, Decision, Found, Missing, append_answer, decide};
 use rules_install::laws::decides;
 use rules_install::whole::prepare;
-use rules_install::{Install, InstallFault, Names, Phase, SameName};
+use rules_install::{FileNames, Install, InstallFault, Phase, SameName};
 use script_words::Command;
 use server_events::laws::first_illegal;
 use server_events::{Event, ReplayFault, replay};
@@ -418,10 +418,10 @@ fn name(alloc: Global, text: &[u8]) -> Result<Name, AllocError>
 }
 
 /// The names of the rules file and of the scratch file.
-fn names(alloc: Global) -> Result<Names, AllocError>
+fn names(alloc: Global) -> Result<FileNames, AllocError>
     ensures { IfOk result (λ names. names ≡ sim_names) }
 {
-    match Names::new(name(alloc, b"rules")?, name(alloc, b"rules.tmp")?) {
+    match FileNames::new(name(alloc, b"rules")?, name(alloc, b"rules.tmp")?) {
         Ok(names) => Ok(names),
         Err(SameName) => unreachable!(),
     }

@@ -3,7 +3,7 @@ ghost use Rattle.std.specs.Prelude.{◌≡◌, ◌⊎◌, None, Err, IfSome};
 ghost use Rattle.script_tool.specs.Sim.{Prints, sim};
 
 use crate::sim::{SimFault, run_rulesim};
-use patient_streams::Patient;
+use byte_streams::Patient;
 use std::alloc::Global;
 use std::io;
 use std::io::{BufReader, BufWriter, Read, Write};

@@ -1,23 +1,23 @@
 //! What `rulesim` prints for the log of a server: which verdicts would be others under the rules that stand.
 ghost use Rattle.std.specs.Prelude.{◌≡◌, ◌++◌, ℕ, List, Option, Some, None, true, OnOk, IfOk, IfSome};
 ghost use Rattle.rule_lines.specs.Lines.{lines_of};
-ghost use Rattle.rule_lookup.specs.Peers.{fits, given};
+ghost use Rattle.connection_facts.specs.Peers.{fits, given};
 ghost use Rattle.script_tool.specs.Judging.{HasRoom, Judges};
 ghost use Rattle.script_tool.specs.Kept.{Reads};
 ghost use Rattle.script_tool.specs.Logs.{asked, change_line, decided_now, differs, found_text, host_text, log_printed, now_text, sums_text, unread_line, verdict_name, was_text};
 ghost use Rattle.script_tool.specs.Sim.{Prints};
-ghost use Rattle.verdict_lines.specs.LogLines.{Tells, TellsPeer, reading};
-ghost use Rattle.verdict_lines.specs.Meanings.{client_of, told_of};
+ghost use Rattle.script_words.specs.LogLines.{Tells, TellsPeer, reading};
+ghost use Rattle.script_words.specs.Meanings.{client_of, told_of};
 
 use crate::sim::{MOST_LINES, SimFault, read_fault, without_feed};
 use crate::simulation::Standing;
-use byte_text::{push_number, push_text};
+use byte_text::{push_address, push_number, push_text};
+use connection_facts::{Peer, PeerFault};
 use rule_lines::Verdict;
-use rule_lookup::{Decision, Found, Peer, PeerFault};
-use status_lines::push_address;
+use rule_lookup::{Decision, Found};
+use script_words::{End, LogLine, VerdictLine, read_line};
 use std::alloc::{AllocError, Global};
 use std::io::{BufRead, Write};
-use verdict_lines::{End, LogLine, VerdictLine, read_line};
 
 /// How many lines tell a verdict, how many of these verdicts would be another now, and how many lines of a verdict can't be read.
 #[derive(Clone, Copy, PartialEq, Eq, Debug)]

@@ -3,18 +3,18 @@ use Rattle.std.specs.Prelude.{ℕ, Bool, true, false, List, [], ◌∷◌, Optio
 use Rattle.rule_lines.specs.declared.instr.Verdict.{Verdict}
 use Rattle.rule_lines.specs.declared.instr.Verdict.TheVariants.{Allow, Deny}
 use Rattle.rule_lookup.specs.Addresses.{ipv4_in}
-use Rattle.rule_lookup.specs.Peers.{Client}
+use Rattle.connection_facts.specs.Peers.{Client}
 use Rattle.rule_lookup.specs.declared.decision.Decision.{Decision}
 use Rattle.rule_lookup.specs.declared.decision.Found.TheVariants as found
-use Rattle.rule_lookup.specs.declared.outcome.DropCause.TheVariants as cause
-use Rattle.rule_lookup.specs.declared.outcome.StartFault.TheVariants as fault
-use Rattle.rule_lookup.specs.declared.outcome.Status.{Status}
-use Rattle.rule_lookup.specs.declared.outcome.Status.TheVariants as status
+use Rattle.connection_facts.specs.declared.outcome.DropCause.TheVariants as cause
+use Rattle.connection_facts.specs.declared.outcome.StartFault.TheVariants as fault
+use Rattle.connection_facts.specs.declared.outcome.Status.{Status}
+use Rattle.connection_facts.specs.declared.outcome.Status.TheVariants as status
 use Rattle.rules_install.specs.declared.Phase.{Phase}
 use Rattle.rules_install.specs.declared.Phase.TheVariants.{Fresh, Filling, Synced, Named, Done}
 use Rattle.server_events.specs.declared.event.Event.{Event}
 use Rattle.server_events.specs.declared.event.Event.TheVariants.{Admitted, Opened, Decided, Started, StartFailed, Ended, Retired, Dropped, Stepped, StepFailed, Stop}
-use Rattle.ucspi_words.specs.Numbers.{number_in}
+use Rattle.server_words.specs.Numbers.{number_in}
 
 -- the serial that a word is
 abbrev pub serial_in : List ℕ → Option ℕ

@@ -2,3 +2,6 @@
 pub mod Events
 pub mod Readings
 pub mod Scripts
+pub mod LogLines
+pub mod Meanings
+pub mod Parts

@@ -18,7 +18,7 @@ use Rattle.dir_calls.proofs.Scratches.{appended_is}
 use Rattle.rule_lines.specs.Pairs.{Rule}
 use Rattle.rule_lines.proofs.KnownLemmas.{AreRules-of_text}
 use Rattle.rule_lookup.specs.Decisions.{decision_by, decision_in}
-use Rattle.rule_lookup.specs.Peers.{Client}
+use Rattle.connection_facts.specs.Peers.{Client}
 use Rattle.rule_lookup.proofs.ListedLemmas.{decision_by-listed}
 use Rattle.rules_install.specs.declared.Phase.{Phase}
 use Rattle.rules_install.specs.declared.Phase.TheVariants.{Fresh, Filling, Synced, Named, Done}

@@ -27,3 +27,7 @@ pub mod TwoTexts
 pub mod WholeText
 pub mod WithinLemmas
 pub mod WovenSteps
+pub mod Meeting
+pub mod Leading
+pub mod Stopping
+pub mod Along

@@ -13,5 +13,7 @@ pub mod Headline
 pub mod Taken
 pub mod Within
 pub mod Witness
+pub mod UnderWay
+pub mod Series
 pub use Rattle.rule_lookup.specs.Decisions
-pub use Rattle.rule_lookup.specs.Peers
+pub use Rattle.connection_facts.specs.Peers

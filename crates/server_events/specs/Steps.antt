@@ -10,7 +10,7 @@ use Rattle.cdb_read.specs.Reading.{reading}
 use Rattle.rule_lines.specs.Pairs.{Rule}
 use Rattle.rule_lines.specs.Texts.{AreOfText}
 use Rattle.rule_lookup.specs.Decisions.{decision_from}
-use Rattle.rule_lookup.specs.Peers.{Client}
+use Rattle.connection_facts.specs.Peers.{Client}
 use Rattle.rules_install.specs.declared.Phase.{Phase}
 use Rattle.rules_install.specs.declared.Phase.TheVariants.{Fresh, Filling, Synced, Named, Done}
 use Rattle.server_events.specs.declared.event.Event.{Event}
@@ -31,7 +31,8 @@ MakesScratch tmp call = (call ≡ makes tmp) ⊎ (call ≡ renews tmp)
 -- the one call on the way to a phase, of an installation under way where one has to be; none without a rules name
 abbrev pub IsCallTo : Phase → Option UnderWay → Option RulesName → Call → Type 0
 IsCallTo Fresh under_way rules call = (tmp : List ℕ) × IsScratchName rules tmp × MakesScratch tmp call
-IsCallTo Filling (Some u) (Some r) call = ((piece : List ℕ) × (call ≡ appends piece)) ⊎ ((place : ℕ) × (bytes : List ℕ) × (call ≡ patches place bytes))
+IsCallTo Filling (Some u) (Some r) call = ((piece : List ℕ) × (call ≡ appends piece))
+    ⊎ ((place : ℕ) × (bytes : List ℕ) × (call ≡ patches place bytes))
 IsCallTo Synced (Some u) (Some r) call = call ≡ syncs
 IsCallTo Named (Some u) (Some r) call = call ≡ renames u.tmp r.name
 IsCallTo Done (Some u) (Some r) call = call ≡ settles
@@ -41,21 +42,34 @@ IsCallTo phase under_way rules call = ⊥
 abbrev pub IsWhole : Directory → UnderWay → Type 0
 IsWhole d u = (file : FileState) × (scratch_of d ≡ Some file) × IsOf u.rules file.bytes
 
--- a step to `Fresh` begins an installation of the rules of an accepted text, which count as accepted with it; to `Filling` puts any bytes into the scratch
--- file; to `Synced` syncs it, only where it is whole; to `Named` moves it onto the rules name; to `Done` makes that lasting and
+-- a step to `Fresh` begins an installation of the rules of an accepted text, which count as accepted with it; to `Filling` puts any bytes into
+-- the scratch file; to `Synced` syncs it, only where it is whole; to `Named` moves it onto the rules name; to `Done` makes that lasting and
 -- acknowledges the text
 abbrev pub Advances : Phase → World → World → Type 0
 Advances Fresh w w' =
     (rules : List Rule) × (tmp : List ℕ) × (call : Call) × AreOfText rules × IsScratchName w.rules tmp × MakesScratch tmp call
-    × (w' ≡ record w { directory = after call w.directory; server = w'.server; accepted = w.accepted ++ Some rules ∷ []; under_way = Some (record { rules = rules; number = length w.accepted; tmp = tmp }) })
+    × (w' ≡ record w {
+      directory = after call w.directory;
+      server = w'.server;
+      accepted = w.accepted ++ Some rules ∷ [];
+      under_way = Some (record { rules = rules; number = length w.accepted; tmp = tmp });
+    })
 Advances Filling w w' =
     (call : Call) × IsCallTo Filling w.under_way w.rules call × (w' ≡ record w { directory = after call w.directory; server = w'.server })
 Advances Synced w w' =
-    (u : UnderWay) × (w.under_way ≡ Some u) × (is_some w.rules ≡ true) × IsWhole w.directory u × (w' ≡ record w { directory = after syncs w.directory; server = w'.server })
+    (u : UnderWay) × (w.under_way ≡ Some u) × (is_some w.rules ≡ true) × IsWhole w.directory u
+    × (w' ≡ record w { directory = after syncs w.directory; server = w'.server })
 Advances Named w w' =
-    (u : UnderWay) × (r : RulesName) × (w.under_way ≡ Some u) × (w.rules ≡ Some r) × (w' ≡ record w { directory = after (renames u.tmp r.name) w.directory; server = w'.server })
+    (u : UnderWay) × (r : RulesName) × (w.under_way ≡ Some u) × (w.rules ≡ Some r)
+    × (w' ≡ record w { directory = after (renames u.tmp r.name) w.directory; server = w'.server })
 Advances Done w w' =
-    (u : UnderWay) × (w.under_way ≡ Some u) × (is_some w.rules ≡ true) × (w' ≡ record w { directory = after settles w.directory; server = w'.server; acknowledged = max w.acknowledged u.number; under_way = None })
+    (u : UnderWay) × (w.under_way ≡ Some u) × (is_some w.rules ≡ true)
+    × (w' ≡ record w {
+      directory = after settles w.directory;
+      server = w'.server;
+      acknowledged = max w.acknowledged u.number;
+      under_way = None;
+    })
 
 -- a step that failed leaves of the directory what its call leaves whose device failed, and no installation under way
 abbrev pub FailsTo : Phase → World → World → Type 0

@@ -2,11 +2,11 @@
 use Rattle.std.specs.Prelude.{◌≡◌, ℕ, ◌+◌, ◌<◌, ◌≤◌, List, [], ◌∷◌, ◌++◌, Bool, Option, Some, None, length}
 use Rattle.rule_lines.specs.declared.instr.Verdict.{Verdict}
 use Rattle.rule_lines.specs.declared.instr.Verdict.TheVariants.{Allow}
-use Rattle.rule_lookup.specs.Peers.{Client}
+use Rattle.connection_facts.specs.Peers.{Client}
 use Rattle.rule_lookup.specs.declared.decision.Decision.{Decision}
-use Rattle.rule_lookup.specs.declared.outcome.DropCause.{DropCause}
-use Rattle.rule_lookup.specs.declared.outcome.StartFault.{StartFault}
-use Rattle.rule_lookup.specs.declared.outcome.Status.{Status}
+use Rattle.connection_facts.specs.declared.outcome.DropCause.{DropCause}
+use Rattle.connection_facts.specs.declared.outcome.StartFault.{StartFault}
+use Rattle.connection_facts.specs.declared.outcome.Status.{Status}
 use Rattle.rules_install.specs.declared.Phase.{Phase}
 use Rattle.rules_install.specs.declared.Phase.TheVariants.{Fresh, Filling, Synced, Named, Done}
 use Rattle.server_events.specs.declared.event.Stage.{Stage}
@@ -44,14 +44,23 @@ IsFullFor w ip = w.per_address ≤ count_from ip w.connections
 
 -- an event leads from one state to the next
 pub data Happens : ServerState → Event → ServerState → Type 0 where
-  admitted : {w : ServerState} {n : ℕ} {peer : Client} → n ≡ w.last + 1 → length w.connections < w.limit → count_from peer.ip w.connections < w.per_address → Happens w (Admitted n peer) (record w { last = n; connections = w.connections ++ newcomer n peer ∷ [] })
-  opened : {w : ServerState} {n : ℕ} {there : Bool} → HasStage w n stage.Admitted → Happens w (Opened n there) (record w { connections = with_stage n stage.Opened w.connections })
-  decided : {w : ServerState} {n : ℕ} {d : Decision} → HasStage w n stage.Opened → Happens w (Decided n d) (record w { connections = with_stage n (stage.Decided d.verdict) w.connections })
-  started : {w : ServerState} {n : ℕ} → HasStage w n (stage.Decided Allow) → Happens w (Started n) (record w { connections = with_stage n stage.Started w.connections })
-  start_failed : {w : ServerState} {n : ℕ} {fault : StartFault} → HasStage w n (stage.Decided Allow) → Happens w (StartFailed n fault) (record w { connections = without n w.connections })
-  ended : {w : ServerState} {n : ℕ} {status : Status} → HasStage w n stage.Started → Happens w (Ended n status) (record w { connections = without n w.connections })
-  retired : {w : ServerState} {n : ℕ} → HasStage w n stage.Started → Happens w (Retired n) (record w { connections = with_stage n stage.Retired w.connections })
-  dropped : {w : ServerState} {n : ℕ} {cause : DropCause} {s : Stage} → HasStage w n s → IsUnstarted s → Happens w (Dropped n cause) (record w { connections = without n w.connections })
+  admitted : {w : ServerState} {n : ℕ} {peer : Client} → n ≡ w.last + 1 → length w.connections < w.limit
+      → count_from peer.ip w.connections < w.per_address
+      → Happens w (Admitted n peer) (record w { last = n; connections = w.connections ++ newcomer n peer ∷ [] })
+  opened : {w : ServerState} {n : ℕ} {there : Bool} → HasStage w n stage.Admitted
+      → Happens w (Opened n there) (record w { connections = with_stage n stage.Opened w.connections })
+  decided : {w : ServerState} {n : ℕ} {d : Decision} → HasStage w n stage.Opened
+      → Happens w (Decided n d) (record w { connections = with_stage n (stage.Decided d.verdict) w.connections })
+  started : {w : ServerState} {n : ℕ} → HasStage w n (stage.Decided Allow)
+      → Happens w (Started n) (record w { connections = with_stage n stage.Started w.connections })
+  start_failed : {w : ServerState} {n : ℕ} {fault : StartFault} → HasStage w n (stage.Decided Allow)
+      → Happens w (StartFailed n fault) (record w { connections = without n w.connections })
+  ended : {w : ServerState} {n : ℕ} {status : Status} → HasStage w n stage.Started
+      → Happens w (Ended n status) (record w { connections = without n w.connections })
+  retired : {w : ServerState} {n : ℕ} → HasStage w n stage.Started
+      → Happens w (Retired n) (record w { connections = with_stage n stage.Retired w.connections })
+  dropped : {w : ServerState} {n : ℕ} {cause : DropCause} {s : Stage} → HasStage w n s → IsUnstarted s
+      → Happens w (Dropped n cause) (record w { connections = without n w.connections })
   stepped : {w : ServerState} {p : Phase} → Follows w.phase p → Happens w (Stepped p) (record w { phase = phase_after p })
   failed : {w : ServerState} {p : Phase} → Follows w.phase p → Happens w (StepFailed p) (record w { phase = None })
   stop : {w : ServerState} → Happens w Stop (record w { connections = []; phase = None })

@@ -7,7 +7,7 @@ use Rattle.cdb_read.specs.Compiled.{stored}
 use Rattle.cdb_write.specs.IsCdb.{IsCdb}
 use Rattle.rule_lines.specs.Pairs.{Rule}
 use Rattle.rule_lines.specs.Texts.{AreOfText}
-use Rattle.rule_lookup.specs.Peers.{Client}
+use Rattle.connection_facts.specs.Peers.{Client}
 use Rattle.rule_lookup.specs.declared.decision.Missing.{Missing}
 use Rattle.rule_lookup.specs.declared.decision.Missing.TheVariants.{Allow as AllowMissing}
 use Rattle.server_events.specs.ServerState.{ServerState, start}
@@ -99,8 +99,10 @@ StandsAt files (Some rules) number = (n : ℕ) × (number ≡ Some n) × HoldsRu
 
 -- one of these texts stands under the name, whatever names a stop leaves, and each of them stands there among some
 pub record BeginsWith (d : Directory) (name : List ℕ) (texts : Accepted) : Type 0 where
-  pub each : (names : Names) → CanBeLeft d.names names → (number : ℕ) × (text : Option (List Rule)) × (slice_get texts number ≡ Some text) × StandsAt d.files text (get names name)
-  pub only : (number : ℕ) (text : Option (List Rule)) → slice_get texts number ≡ Some text → (names : Names) × CanBeLeft d.names names × StandsAt d.files text (get names name)
+  pub each : (names : Names) → CanBeLeft d.names names → (number : ℕ) × (text : Option (List Rule)) × (slice_get texts number ≡ Some text)
+      × StandsAt d.files text (get names name)
+  pub only : (number : ℕ) (text : Option (List Rule)) → slice_get texts number ≡ Some text → (names : Names) × CanBeLeft d.names names
+      × StandsAt d.files text (get names name)
 
 -- the same of a server that follows rules
 abbrev pub StartsWith : Directory → Option RulesName → Accepted → Type 0

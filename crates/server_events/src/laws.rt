@@ -5,7 +5,7 @@ ghost use Rattle.dir_calls.specs.Directory.{Directory, FileState};
 ghost use Rattle.dir_calls.specs.Calls.{settles, without};
 ghost use Rattle.dir_calls.specs.Calls as call;
 ghost use Rattle.dir_calls.specs.Images.{IsImage};
-ghost use Rattle.rule_lookup.specs.Peers.{Client};
+ghost use Rattle.connection_facts.specs.Peers.{Client};
 ghost use Rattle.rule_lookup.specs.declared.decision.Decision.{Decision};
 ghost use Rattle.rules_install.specs.declared.Phase.{Phase};
 ghost use Rattle.rules_install.specs.declared.Phase.TheVariants.{Fresh, Synced, Named, Done};
@@ -160,9 +160,9 @@ pub fn two_processes()
     ensures headline { (w v : World) (history : List Event) → IsStart w → Woven w history v → IsKeptBy history v }
 {}
 
-/// A history of the two that happens: an installer makes a text lasting that denies, and a connection opens it; another installer is killed within the
-/// rename of a text that allows; somebody makes a file; and then that connection is decided by the text that it opened, and the next one by the
-/// newer text.
+/// A history of the two that happens: an installer makes a text lasting that denies, and a connection opens it; another installer is killed
+/// within the rename of a text that allows; somebody makes a file; and then that connection is decided by the text that it opened, and the next
+/// one by the newer text.
 pub fn witness_of_two()
     ensures { WovenAround until_the_kill behind_the_kill texts_of_both 1 }
 {}

@@ -3,10 +3,13 @@
 
 mod addresses;
 pub mod event;
+pub mod install_laws;
 pub mod laws;
 pub mod report;
 pub mod state;
+pub mod step;
 
 pub use event::{Event, Stage};
 pub use report::{ReplayFault, Report, replay};
 pub use state::{Connection, State};
+pub use step::make_step;

@@ -1,5 +1,5 @@
 -- What is added to bytes and then written.
-use Rattle.std.proofs.Common.{subst, IfErr, ◌≡◌, ℕ, List, [], ◌∷◌, ◌++◌, Result, Ok, Err, refl, sym, ap, ◌∙◌, inl, inr, append_assoc, arith, length-append}
+use Rattle.std.proofs.Common.{subst, IfErr, ◌≡◌, ◌≢◌, ℕ, List, [], ◌∷◌, ◌++◌, Result, Ok, Err, refl, sym, ap, ◌∙◌, inl, inr, append_assoc, arith, length-append}
 use Rattle.std.proofs.lemmas.List.{append-nil}
 use Rattle.std.proofs.lemmas.List.Folds.{concat-append}
 use Rattle.std.specs.List.{concat}
@@ -7,9 +7,9 @@ use Rattle.std.specs.Result.{result_and}
 use Rattle.std.specs.declared.option.Option.{Option}
 use Rattle.std.specs.Io.KnownBytes.{Appends}
 use Rattle.byte_text.specs.Outcomes.{AppendsLine}
-use Rattle.server_log.specs.Logs.{Adds, AreLeft, IsCut, Logged, Takes}
+use Rattle.server_log.specs.Logs.{Adds, AreLeft, IsCut, IsLater, Logged, Takes, TellsInOrder}
 use Rattle.server_log.specs.declared.fault.LogFault.{LogFault}
-use Rattle.server_log.specs.declared.fault.LogFault.TheVariants.{OutOfMemory, WriteFault}
+use Rattle.server_log.specs.declared.fault.LogFault.TheVariants.{OutOfMemory, OutOfOrder, WriteFault}
 
 -- ---- lines that are left
 
@@ -82,12 +82,14 @@ adds_two xs ys start mid new first second both none one two is =
 pub takes_none : (bytes : List ℕ) (old new : Option (List ℕ)) (result : Result (Unit {0}) LogFault) → Takes bytes old new result → IfErr result (λ fault. fault ≡ WriteFault)
 takes_none bytes old new (Ok done) took = tt
 takes_none bytes old new (Err OutOfMemory) took = absurd took
+takes_none bytes old new (Err OutOfOrder) took = absurd took
 takes_none bytes old new (Err WriteFault) took = refl
 
 -- one line, which took no memory
 pub logged_line : (line : List ℕ) (old new : Option (List ℕ)) (result : Result (Unit {0}) LogFault) → Takes line old new result → Logged (line ∷ []) old new result
 logged_line line old new (Ok done) took = subst (Appends old new) (sym (append-nil line)) took
 logged_line line old new (Err OutOfMemory) took = absurd took
+logged_line line old new (Err OutOfOrder) took = absurd took
 logged_line line old new (Err WriteFault) (front, cut, took) = (line ∷ [], front, all_left (line ∷ []), subst (λ (l : List ℕ). IsCut l front) (sym (append-nil line)) cut, took)
 
 -- the lines that were added
@@ -100,7 +102,25 @@ left_of lines bytes (Err e) (left, some, is) = (left, some.are, is)
 pub logged_front : {E : Type 0} (lines : List (List ℕ)) (bytes text : List ℕ) (old new : Option (List ℕ)) (added : Result (Unit {0}) E) (wrote : Result (Unit {0}) LogFault) (fault : LogFault)
     → wrote ≡ Err fault → text ≡ bytes → Takes text old new wrote → Adds lines [] bytes added → Logged lines old new (Err fault)
 logged_front lines bytes text old new added wrote OutOfMemory is same took adds = absurd (subst (Takes text old new) is took)
+logged_front lines bytes text old new added wrote OutOfOrder is same took adds = absurd (subst (Takes text old new) is took)
 logged_front lines bytes text old new added wrote WriteFault is same took adds =
     let put = subst (Takes text old new) is took in
     let left = left_of lines bytes added adds in
     (left.0, put.0, left.1, subst (λ (l : List ℕ). IsCut l put.0) (same ∙ left.2) put.1, put.2)
+
+-- ---- the order of events
+
+-- what was written is told at a later place
+pub tells_later : (lines : List (List ℕ)) (held held' : Option (List ℕ)) (old at new : ℕ) (result : Result (Unit {0}) LogFault) → Logged lines held held' result
+    → IsLater old at → new ≡ at → TellsInOrder old at new result
+tells_later lines held held' old at new (Ok done) logged later is = (later, is)
+tells_later lines held held' old at new (Err OutOfMemory) logged later is = (later, is)
+tells_later lines held held' old at new (Err OutOfOrder) logged later is = absurd logged
+tells_later lines held held' old at new (Err WriteFault) logged later is = (later, is)
+
+-- and is not refused
+pub never_refused : (lines : List (List ℕ)) (held held' : Option (List ℕ)) (result : Result (Unit {0}) LogFault) → Logged lines held held' result → result ≢ Err OutOfOrder
+never_refused lines held held' (Ok done) logged is = absurd (cc)
+never_refused lines held held' (Err OutOfMemory) logged is = absurd (cc)
+never_refused lines held held' (Err OutOfOrder) logged is = logged
+never_refused lines held held' (Err WriteFault) logged is = absurd (cc)

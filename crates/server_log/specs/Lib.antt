@@ -2,3 +2,4 @@
 pub mod Causes
 pub mod Events
 pub mod Logs
+pub mod Texts

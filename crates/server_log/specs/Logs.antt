@@ -1,11 +1,11 @@
 -- What an event makes of a log.
-use Rattle.std.specs.Prelude.{◌≡◌, ◌⊎◌, ◌<◌, ℕ, List, [], ◌∷◌, ◌++◌, length, Result, Ok, Err}
+use Rattle.std.specs.Prelude.{◌≡◌, ◌⊎◌, ◌<◌, ◌-◌, ◌^◌, ℕ, List, [], ◌∷◌, ◌++◌, length, Result, Ok, Err}
 use Rattle.std.specs.List.{concat}
 use Rattle.std.specs.declared.option.Option.{Option}
 use Rattle.std.specs.Io.KnownBytes.{Appends}
 use Rattle.server_words.specs.declared.level.Level.{Level}
 use Rattle.server_log.specs.declared.fault.LogFault.{LogFault}
-use Rattle.server_log.specs.declared.fault.LogFault.TheVariants.{OutOfMemory, WriteFault}
+use Rattle.server_log.specs.declared.fault.LogFault.TheVariants.{OutOfMemory, OutOfOrder, WriteFault}
 use Rattle.server_log.specs.declared.log.Log.{Log}
 
 abbrev pub writer_of : {W : Type 0} → Log W → W
@@ -16,6 +16,10 @@ level_of log = log.level
 
 abbrev pub limit_of : {W : Type 0} → Log W → ℕ
 limit_of log = log.limit
+
+-- the place of the last event that it told
+abbrev pub last_of : {W : Type 0} → Log W → ℕ
+last_of log = log.last
 
 -- what its writer holds, where that is known
 abbrev pub held : {W : Type 0} → (W → Option (List ℕ)) → Log W → Option (List ℕ)
@@ -45,6 +49,7 @@ pub record IsCut (bytes front : List ℕ) : Type 0 where
 -- What an event with these lines wrote: all of them; those that found memory; or a front of those, where the writer did not take all.
 abbrev pub Logged : List (List ℕ) → (old new : Option (List ℕ)) → Result (Unit {0}) LogFault → Type 0
 Logged lines old new (Ok done) = Appends old new (concat lines)
+Logged lines old new (Err OutOfOrder) = ⊥
 Logged lines old new (Err OutOfMemory) = (left : List (List ℕ)) × SomeLeft lines left × Appends old new (concat left)
 Logged lines old new (Err WriteFault) =
     (left : List (List ℕ)) × (front : List ℕ) × AreLeft lines left × IsCut (concat left) front × Appends old new front
@@ -58,4 +63,14 @@ Adds lines old new (Err e) = (left : List (List ℕ)) × SomeLeft lines left × 
 abbrev pub Takes : List ℕ → (old new : Option (List ℕ)) → Result (Unit {0}) LogFault → Type 0
 Takes bytes old new (Ok done) = Appends old new bytes
 Takes bytes old new (Err OutOfMemory) = ⊥
+Takes bytes old new (Err OutOfOrder) = ⊥
 Takes bytes old new (Err WriteFault) = (front : List ℕ) × IsCut bytes front × Appends old new front
+
+-- One place is later than another. A history that is only counted has one number for all of its events from the 2^64 - 1st on.
+abbrev pub IsLater : (old at : ℕ) → Type 0
+IsLater old at = (old < at) ⊎ (at ≡ 2 ^ 64 - 1)
+
+-- a log that told events up to one place tells one at a later place, and then it has told up to there; or it refuses one that isn't later
+abbrev pub TellsInOrder : (old at new : ℕ) → Result (Unit {0}) LogFault → Type 0
+TellsInOrder old at new (Err OutOfOrder) = ¬ IsLater old at × (new ≡ old)
+TellsInOrder old at new told = IsLater old at × (new ≡ at)

@@ -3,9 +3,17 @@
 
 pub mod cause;
 pub mod fault;
+mod fields;
 mod lines;
 pub mod log;
+pub mod texts;
+pub mod told;
 
 pub use cause::Cause;
 pub use fault::LogFault;
 pub use log::Log;
+pub use texts::{
+    drop_address_line, drop_line, end_line, pid_from, retired_line, start_fault_line, status,
+    verdict_line,
+};
+pub use told::Told;

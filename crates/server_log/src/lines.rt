@@ -1,19 +1,94 @@
-//! The lines of events, each where the level has it. After an `Err` there was no memory for the line, and nothing was added.
-ghost use Rattle.server_log.specs.Events.{cause_lines, error, given_up_lines, progress, refused_lines};
+//! The lines of events, each where the level has it. After an `Err` there was no memory for a line, and it was not added.
+ghost use Rattle.std.specs.Prelude.{Some, ◌++◌, List, ℕ};
+ghost use Rattle.server_log.specs.Events.{cause_lines, error, event_lines, progress, status_lines};
 ghost use Rattle.server_log.specs.Logs.{Adds};
-ghost use Rattle.status_lines.specs.Texts.{drop_text, end_text, full_text, pid_line, retired_text, start_text, status_line, verdict_text};
+ghost use Rattle.server_log.specs.Texts.{drop_text, end_text, full_text, pid_line, retired_text, start_text, status_line, verdict_text};
 
 use crate::cause::Cause;
-use fault_causes::append_cause;
-use rule_lines::Verdict;
-use rule_lookup::{DropCause, Peer, StartFault, Status};
-use server_words::Level;
-use status_lines::{
+use crate::told::Told;
+use crate::{
     drop_address_line, drop_line, end_line, pid_from, retired_line, start_fault_line, status,
     verdict_line,
 };
+use byte_text::append_cause;
+use connection_facts::{DropCause, Peer, StartFault, Status};
+use rule_lines::Verdict;
+use server_words::Level;
 use std::alloc::AllocError;
 use ucspi_env::Local;
+
+/// Adds the lines of an event, after which so many connections are alive.
+pub(crate) fn add_event(
+    level: Level,
+    limit: u64,
+    live: u64,
+    told: Told<'_>,
+    out: &mut Vec<u8>,
+) -> Result<(), AllocError>
+    ensures { Adds (event_lines level limit live told.entry) out.old.items out.new.items result }
+{
+    match told {
+        Told::Admitted { serial, ip } => add_admitted(level, limit, live, serial, ip, out),
+        Told::Decided {
+            serial,
+            verdict,
+            local,
+            peer,
+        } => add_verdict(level, verdict, serial, local, peer, out),
+        Told::StartFailed {
+            serial,
+            fault,
+            cause,
+        } => {
+            let failed = add_refused(level, serial, fault, cause, out);
+            add_status_behind(level, limit, live, failed, out)
+        }
+        Told::Ended { serial, status } => {
+            let end = add_end(level, serial, status, out);
+            add_status_behind(level, limit, live, end, out)
+        }
+        Told::Retired { serial } => {
+            let retired = add_retired(level, serial, out);
+            add_status_behind(level, limit, live, retired, out)
+        }
+        Told::Dropped { serial, cause, why } => {
+            let dropped = add_given_up(level, serial, cause, why, out);
+            add_status_behind(level, limit, live, dropped, out)
+        }
+    }
+}
+
+/// Adds the line of how many are alive behind lines that were added.
+fn add_status_behind(
+    level: Level,
+    limit: u64,
+    live: u64,
+    added: Result<(), AllocError>,
+    out: &mut Vec<u8>,
+) -> Result<(), AllocError>
+    ensures { (lines : List (List ℕ)) (first : List ℕ) → Adds lines first out.old.items added
+        → Adds (lines ++ status_lines level limit live) first out.new.items result }
+{
+    let status = add_status(level, limit, live, out);
+    added.and(status)
+}
+
+/// Adds the lines of a connection that was let in.
+fn add_admitted(
+    level: Level,
+    limit: u64,
+    live: u64,
+    serial: u64,
+    ip: [u8; 4],
+    out: &mut Vec<u8>,
+) -> Result<(), AllocError>
+    ensures { Adds (status_lines level limit live ++ progress level (pid_line serial ip))
+        out.old.items out.new.items result }
+{
+    let status = add_status(level, limit, live, out);
+    let pid = add_pid(level, serial, ip, out);
+    status.and(pid)
+}
 
 /// Adds the line of how many are alive.
 pub(crate) fn add_status(
@@ -31,12 +106,7 @@ pub(crate) fn add_status(
 }
 
 /// Adds the line of a connection that was let in.
-pub(crate) fn add_pid(
-    level: Level,
-    serial: u64,
-    ip: [u8; 4],
-    out: &mut Vec<u8>,
-) -> Result<(), AllocError>
+fn add_pid(level: Level, serial: u64, ip: [u8; 4], out: &mut Vec<u8>) -> Result<(), AllocError>
     ensures { Adds (progress level (pid_line serial ip)) out.old.items out.new.items result }
 {
     match level {
@@ -46,7 +116,7 @@ pub(crate) fn add_pid(
 }
 
 /// Adds the line of a decision.
-pub(crate) fn add_verdict(
+fn add_verdict(
     level: Level,
     verdict: Verdict,
     serial: u64,
@@ -64,12 +134,7 @@ pub(crate) fn add_verdict(
 }
 
 /// Adds the line of a child that ended.
-pub(crate) fn add_end(
-    level: Level,
-    serial: u64,
-    ended: Status,
-    out: &mut Vec<u8>,
-) -> Result<(), AllocError>
+fn add_end(level: Level, serial: u64, ended: Status, out: &mut Vec<u8>) -> Result<(), AllocError>
     ensures { Adds (progress level (end_text serial ended)) out.old.items out.new.items result }
 {
     match level {
@@ -104,14 +169,14 @@ fn add_cause(level: Level, cause: Option<Cause<'_>>, out: &mut Vec<u8>) -> Resul
 }
 
 /// Adds the line of a child that was not started, and behind it why, where that is told.
-pub(crate) fn add_refused(
+fn add_refused(
     level: Level,
     serial: u64,
     fault: StartFault,
     cause: Option<Cause<'_>>,
     out: &mut Vec<u8>,
 ) -> Result<(), AllocError>
-    ensures { Adds (refused_lines level serial fault cause.entry) out.old.items out.new.items result }
+    ensures { Adds (error level (start_text serial (Some fault)) ++ cause_lines level cause.entry) out.old.items out.new.items result }
 {
     let start = add_start(level, serial, Some(fault), out);
     let why = add_cause(level, cause, out);
@@ -119,7 +184,7 @@ pub(crate) fn add_refused(
 }
 
 /// Adds the line of a child that could not be waited for.
-pub(crate) fn add_retired(level: Level, serial: u64, out: &mut Vec<u8>) -> Result<(), AllocError>
+fn add_retired(level: Level, serial: u64, out: &mut Vec<u8>) -> Result<(), AllocError>
     ensures { Adds (error level (retired_text serial)) out.old.items out.new.items result }
 {
     match level {
@@ -144,14 +209,14 @@ fn add_drop(
 }
 
 /// Adds the line of a connection that was given up, and behind it why, where that is told.
-pub(crate) fn add_given_up(
+fn add_given_up(
     level: Level,
     serial: u64,
     cause: DropCause,
     why: Option<Cause<'_>>,
     out: &mut Vec<u8>,
 ) -> Result<(), AllocError>
-    ensures { Adds (given_up_lines level serial cause why.entry) out.old.items out.new.items result }
+    ensures { Adds (error level (drop_text serial cause) ++ cause_lines level why.entry) out.old.items out.new.items result }
 {
     let dropped = add_drop(level, serial, cause, out);
     let why = add_cause(level, why, out);

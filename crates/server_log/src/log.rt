@@ -1,32 +1,28 @@
 //! The log: which lines an event has, and when they are printed.
-ghost use Rattle.std.specs.Prelude.{◌≡◌, IfErr, List, [], ℕ};
+ghost use Rattle.std.specs.Prelude.{◌≡◌, ◌≢◌, ◌↔◌, Err, IfErr, IsTrue, List, [], ℕ};
 ghost use Rattle.std.specs.Io.{WritesAtMost};
 ghost use Rattle.std.specs.Io.KnownBytes.{Keeps, WriteAppends};
-ghost use Rattle.server_log.specs.Events.{admitted_lines, decided_lines, dropped_lines, ended_lines, full_lines, memory_lines, no_ends_lines, no_names_lines, retired_lines, start_failed_lines, status_lines};
-ghost use Rattle.server_log.specs.Logs.{Adds, KeepsSettings, Logged, Takes, held, level_of, limit_of, writer_of};
+ghost use Rattle.server_log.specs.Events.{event_lines, full_lines, memory_lines, no_ends_lines, no_names_lines, status_lines};
+ghost use Rattle.server_log.specs.Logs.{Adds, IsLater, KeepsSettings, Logged, Takes, TellsInOrder, held, last_of, level_of, limit_of, writer_of};
 
-use crate::cause::Cause;
 use crate::fault::LogFault;
-use crate::lines::{
-    add_end, add_full, add_given_up, add_pid, add_refused, add_retired, add_start, add_status,
-    add_verdict,
-};
-use byte_pump::write_out;
-use rule_lines::Verdict;
-use rule_lookup::{DropCause, Peer, StartFault, Status};
+use crate::lines::{add_event, add_full, add_start, add_status};
+use crate::told::Told;
+use byte_streams::write_out;
 use server_words::Level;
 use std::alloc::{AllocError, Global};
 use std::io;
 use std::io::Write;
-use ucspi_env::Local;
 
 /// A log. The lines of one event are written together, by one write where the writer takes them so. A line that finds no memory is left
-/// out, and so is what the writer does not take.
+/// out, and so is what the writer does not take. Events are told in the order of the history: one that comes too late is left out.
 #[derive(Drop)]
 pub struct Log<W> {
     writer: W,
     level: Level,
     limit: u64,
+    // the place of the last event that was told
+    last: u64,
     // room for the lines of an event
     lines: Vec<u8>,
 }
@@ -37,11 +33,13 @@ impl<W: Write> Log<W> {
         ensures writer { writer_of result ≡ writer }
         ensures level { level_of result ≡ level }
         ensures limit { limit_of result ≡ limit }
+        ensures untold { last_of result ≡ 0 }
     {
         Log {
             writer,
             level,
             limit,
+            last: 0,
             lines: Vec::new(alloc),
         }
     }
@@ -54,57 +52,32 @@ impl<W: Write> Log<W> {
         ensures lines { Logged (status_lines (level_of self.old) (limit_of self.old) live)
             (held W.contents self.old) (held W.contents self.new) result }
         ensures same { KeepsSettings self.old self.new }
+        ensures no_event { last_of self.new ≡ last_of self.old }
     {
         self.lines.clear();
         let status = add_status(self.level, self.limit, live, &mut self.lines);
         self.write_lines(status)
     }
 
-    /// A connection was let in.
-    pub fn admitted(&mut self, serial: u64, ip: [u8; 4], live: u64) -> Result<(), LogFault>
-        ensures lines { Logged (admitted_lines (level_of self.old) (limit_of self.old) serial ip live)
+    /// An event, at its place in the history, after which so many connections are alive.
+    ///
+    /// # Errors
+    /// `OutOfOrder` where one at this place or a later one was told before: nothing is written. Else as at `status`.
+    pub fn tell(&mut self, at: u64, live: u64, told: Told<'_>) -> Result<(), LogFault>
+        ensures order { TellsInOrder (last_of self.old) at (last_of self.new) result }
+        ensures lines { result ≢ Err LogFault.OutOfOrder
+            → Logged (event_lines (level_of self.old) (limit_of self.old) live told.entry)
             (held W.contents self.old) (held W.contents self.new) result }
+        ensures untouched { result ≡ Err LogFault.OutOfOrder → self.new ≡ self.old }
         ensures same { KeepsSettings self.old self.new }
     {
+        if !is_later(self.last, at) {
+            return Err(LogFault::OutOfOrder);
+        }
+        self.last = at;
         self.lines.clear();
-        let status = add_status(self.level, self.limit, live, &mut self.lines);
-        let pid = add_pid(self.level, serial, ip, &mut self.lines);
-        self.write_lines(status.and(pid))
-    }
-
-    /// A connection was decided.
-    pub fn decided(
-        &mut self,
-        verdict: Verdict,
-        serial: u64,
-        local: &Local,
-        peer: &Peer,
-    ) -> Result<(), LogFault>
-        ensures lines { Logged (decided_lines (level_of self.old) verdict serial local.now peer.now)
-            (held W.contents self.old) (held W.contents self.new) result }
-        ensures same { KeepsSettings self.old self.new }
-    {
-        self.lines.clear();
-        let decided = add_verdict(self.level, verdict, serial, local, peer, &mut self.lines);
-        self.write_lines(decided)
-    }
-
-    /// The child of a connection could not be started, by this cause where the system told one.
-    pub fn start_failed(
-        &mut self,
-        serial: u64,
-        fault: StartFault,
-        cause: Option<Cause<'_>>,
-        live: u64,
-    ) -> Result<(), LogFault>
-        ensures lines { Logged (start_failed_lines (level_of self.old) (limit_of self.old) serial fault cause.entry live)
-            (held W.contents self.old) (held W.contents self.new) result }
-        ensures same { KeepsSettings self.old self.new }
-    {
-        self.lines.clear();
-        let failed = add_refused(self.level, serial, fault, cause, &mut self.lines);
-        let status = add_status(self.level, self.limit, live, &mut self.lines);
-        self.write_lines(failed.and(status))
+        let added = add_event(self.level, self.limit, live, told, &mut self.lines);
+        self.write_lines(added)
     }
 
     /// A child that was started gave no pipe ends, or its input got no thread.
@@ -112,52 +85,11 @@ impl<W: Write> Log<W> {
         ensures lines { Logged (no_ends_lines (level_of self.old) serial)
             (held W.contents self.old) (held W.contents self.new) result }
         ensures same { KeepsSettings self.old self.new }
+        ensures no_event { last_of self.new ≡ last_of self.old }
     {
         self.lines.clear();
         let failed = add_start(self.level, serial, None, &mut self.lines);
         self.write_lines(failed)
-    }
-
-    /// A child ended.
-    pub fn ended(&mut self, serial: u64, ended: Status, live: u64) -> Result<(), LogFault>
-        ensures lines { Logged (ended_lines (level_of self.old) (limit_of self.old) serial ended live)
-            (held W.contents self.old) (held W.contents self.new) result }
-        ensures same { KeepsSettings self.old self.new }
-    {
-        self.lines.clear();
-        let end = add_end(self.level, serial, ended, &mut self.lines);
-        let status = add_status(self.level, self.limit, live, &mut self.lines);
-        self.write_lines(end.and(status))
-    }
-
-    /// A child could not be waited for.
-    pub fn retired(&mut self, serial: u64, live: u64) -> Result<(), LogFault>
-        ensures lines { Logged (retired_lines (level_of self.old) (limit_of self.old) serial live)
-            (held W.contents self.old) (held W.contents self.new) result }
-        ensures same { KeepsSettings self.old self.new }
-    {
-        self.lines.clear();
-        let retired = add_retired(self.level, serial, &mut self.lines);
-        let status = add_status(self.level, self.limit, live, &mut self.lines);
-        self.write_lines(retired.and(status))
-    }
-
-    /// A connection was given up before its child was started, for this reason where the system told one.
-    pub fn dropped(
-        &mut self,
-        serial: u64,
-        cause: DropCause,
-        why: Option<Cause<'_>>,
-        live: u64,
-    ) -> Result<(), LogFault>
-        ensures lines { Logged (dropped_lines (level_of self.old) (limit_of self.old) serial cause why.entry live)
-            (held W.contents self.old) (held W.contents self.new) result }
-        ensures same { KeepsSettings self.old self.new }
-    {
-        self.lines.clear();
-        let dropped = add_given_up(self.level, serial, cause, why, &mut self.lines);
-        let status = add_status(self.level, self.limit, live, &mut self.lines);
-        self.write_lines(dropped.and(status))
     }
 
     /// A connection was refused: as many of its address are alive as may be.
@@ -165,6 +97,7 @@ impl<W: Write> Log<W> {
         ensures lines { Logged (full_lines (level_of self.old) ip)
             (held W.contents self.old) (held W.contents self.new) result }
         ensures same { KeepsSettings self.old self.new }
+        ensures no_event { last_of self.new ≡ last_of self.old }
     {
         self.lines.clear();
         let full = add_full(self.level, ip, &mut self.lines);
@@ -181,6 +114,7 @@ impl<W: Write> Log<W> {
             (held W.contents self.old) (held W.contents self.new) result }
         ensures takes_none { IfErr result (λ fault. fault ≡ LogFault.WriteFault) }
         ensures same { KeepsSettings self.old self.new }
+        ensures no_event { last_of self.new ≡ last_of self.old }
     {
         match self.level {
             Level::All | Level::Errors => {
@@ -200,6 +134,7 @@ impl<W: Write> Log<W> {
             (held W.contents self.old) (held W.contents self.new) result }
         ensures takes_none { IfErr result (λ fault. fault ≡ LogFault.WriteFault) }
         ensures same { KeepsSettings self.old self.new }
+        ensures no_event { last_of self.new ≡ last_of self.old }
     {
         match self.level {
             Level::All => write_text(
@@ -215,12 +150,20 @@ impl<W: Write> Log<W> {
         ensures lines { (lines : List (List ℕ)) → Adds lines [] self.old.lines.items added
             → Logged lines (held W.contents self.old) (held W.contents self.new) result }
         ensures same { KeepsSettings self.old self.new }
+        ensures no_event { last_of self.new ≡ last_of self.old }
     {
         match write_text(&self.lines, &mut self.writer) {
             Ok(()) => added.map_err(|_| LogFault::OutOfMemory),
             Err(fault) => Err(fault),
         }
     }
+}
+
+/// Whether one place is later than another.
+fn is_later(last: u64, at: u64) -> bool
+    ensures { IsTrue result ↔ IsLater last at }
+{
+    last < at || at == u64::MAX
 }
 
 /// Writes bytes.
@@ -238,6 +181,7 @@ impl<W: Write> Write for Log<W> {
         ensures bound { WritesAtMost result buf.now }
         ensures bytes { WriteAppends (held W.contents self.old) (held W.contents self.new) result buf.now }
         ensures same { KeepsSettings self.old self.new }
+        ensures no_event { last_of self.new ≡ last_of self.old }
     {
         self.writer.write(buf)
     }
@@ -245,6 +189,7 @@ impl<W: Write> Write for Log<W> {
     fn flush(&mut self) -> io::Result<()>
         ensures bytes { Keeps (held W.contents self.old) (held W.contents self.new) }
         ensures same { KeepsSettings self.old self.new }
+        ensures no_event { last_of self.new ≡ last_of self.old }
     {
         self.writer.flush()
     }

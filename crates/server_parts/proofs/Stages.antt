@@ -2,8 +2,8 @@
 use Rattle.std.proofs.Common.{ℕ, List}
 use Rattle.server_parts.specs.Wrappers.{told_by}
 use Rattle.server_parts.specs.declared.wrappers.Wrapper.{Wrapper}
-use Rattle.wrapper_chain.specs.Stages.{deleted_from, fixed_from}
-use Rattle.wrapper_chain.specs.Wrapped.{added, deleted, fixed}
+use Rattle.byte_streams.specs.Stages.{deleted_from, fixed_from}
+use Rattle.byte_streams.specs.Wrapped.{added, deleted, fixed}
 
 abbrev pub rest_of : Wrapper → List ℕ → List ℕ
 rest_of = told_by (λ _. added) (λ stage. deleted_from stage.held) (λ stage. fixed_from stage.after_cr)

@@ -1,2 +1,3 @@
--- The line wrappers of a server.
+-- The program and the line wrappers of a server.
+pub mod Services
 pub mod Wrappers

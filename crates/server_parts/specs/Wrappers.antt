@@ -4,10 +4,10 @@ use Rattle.server_parts.specs.declared.wrappers.Wrapper.{Wrapper}
 use Rattle.server_parts.specs.declared.wrappers.Wrapper.TheVariants as wrapper
 use Rattle.server_words.specs.declared.wrapping.StageName.{StageName}
 use Rattle.server_words.specs.declared.wrapping.StageName.TheVariants.{AddCr, DelCr, FixCr}
-use Rattle.wrapper_chain.specs.Wrapped.{added, deleted, fixed}
-use Rattle.wrapper_chain.specs.declared.stages.AddCr.{AddCr as AddsCr}
-use Rattle.wrapper_chain.specs.declared.stages.DelCr.{DelCr as DeletesCr}
-use Rattle.wrapper_chain.specs.declared.stages.FixCr.{FixCr as FixesCr}
+use Rattle.byte_streams.specs.Wrapped.{added, deleted, fixed}
+use Rattle.byte_streams.specs.declared.stages.AddCr.{AddCr as AddsCr}
+use Rattle.byte_streams.specs.declared.stages.DelCr.{DelCr as DeletesCr}
+use Rattle.byte_streams.specs.declared.stages.FixCr.{FixCr as FixesCr}
 
 -- the text that the wrapper of this name writes of a whole text
 abbrev pub changed_by : StageName → List ℕ → List ℕ

@@ -60,7 +60,7 @@ impl<R: Clock, F: AsRawFd> Follow<F> for ClientWriter<'_, R> {
 
 impl<R: Clock> ClientWriter<'_, R> {
     // A write has waited, and took something or nothing. Whether the client's time is over.
-    fn has_waited(&mut self, took: bool) -> bool {
+    fn wait_once(&mut self, took: bool) -> bool {
         match &mut self.followed {
             Some(followed) => followed.look(self.rt, took),
             None => false,
@@ -84,11 +84,11 @@ impl<R: Clock> Write for ClientWriter<'_, R> {
             let mut stream: &TcpStream = &self.stream;
             match stream.write(buf) {
                 Err(error) if error.kind() == ErrorKind::WouldBlock => {
-                    self.has_waited(false);
+                    self.wait_once(false);
                 }
                 Ok(count) => {
                     if count < buf.len() {
-                        self.has_waited(true);
+                        self.wait_once(true);
                     }
                     return Ok(count);
                 }

@@ -1,4 +1,7 @@
 //! What a server opens before it begins: its words, files, folder, socket and program.
+ghost use Rattle.std.specs.Prelude.{◌≡◌, map, string_bytes, IfOk};
+ghost use Rattle.server_parts.specs.Services.{program_by};
+ghost use Rattle.stream_tools.specs.Programs.{text_in, texts_of};
 
 use crate::fault::{ServerFailure, ServerFault};
 use child_jobs::{Plan, Program};
@@ -14,9 +17,9 @@ use std::net::{Ipv4Addr, Net, OpenListener, SocketAddr, SocketAddrV4, TcpListene
 use std::os::fd::AsRawFd;
 use std::rt::Env;
 use std::{fs, io};
-use stream_tools::started::inherited_variables;
-use tcp_connections::Names;
-use ucspi_env::{HostFault, HostTable, Local};
+use stream_tools::started::{SystemGiven, inherited_variables};
+use tcp_connections::HostNames;
+use ucspi_env::{HostFault, HostTable};
 
 /// The descriptor of standard error, the last of the standard ones.
 const STANDARD_ERROR: i32 = 2;
@@ -31,16 +34,28 @@ pub fn stand_in<F: Files<File = File>>(files: &F) -> Option<File> {
     (file.as_raw_fd() <= STANDARD_ERROR).then_some(file)
 }
 
-/// The words as texts. One that is no text counts as empty.
+/// All words as texts. One that is no text counts as empty.
 ///
 /// # Errors
 /// There was no memory.
-pub fn texts_of(alloc: Global, words: &[Vec<u8>]) -> Result<Vec<String>, AllocError> {
+pub fn texts_of(alloc: Global, words: &[Vec<u8>]) -> Result<Vec<String>, AllocError>
+    ensures { IfOk result (λ texts. map string_bytes texts.items ≡ map text_in (texts_of words.now)) }
+{
     let mut texts = Vec::new(alloc);
     for word in words {
-        texts.push(String::from_str(alloc, str::from_utf8(word).unwrap_or_default())?)?;
+        texts.push(String::from_str(alloc, text_in(word))?)?;
     }
     Ok(texts)
+}
+
+// A word as a text.
+fn text_in(word: &[u8]) -> &str
+    ensures { result.now ≡ text_in word.now }
+{
+    match str::from_utf8(word) {
+        Ok(text) => text,
+        Err(_) => "",
+    }
 }
 
 /// The names of the ends of connections, with the host table that the words name.
@@ -51,7 +66,7 @@ pub fn names_of<F: Files + AllocGlobal>(
     alloc: Global,
     files: &F,
     words: &ServerWords<'_>,
-) -> Result<Names, ServerFailure> {
+) -> Result<HostNames, ServerFailure> {
     let hosts = match words.hosts() {
         Some(path) => Some(read_hosts(alloc, files, path)?),
         None => None,
@@ -60,7 +75,7 @@ pub fn names_of<F: Files + AllocGlobal>(
         Some(name) => Some(String::from_str(alloc, name)?),
         None => None,
     };
-    Ok(Names {
+    Ok(HostNames {
         hosts,
         local,
         remote: words.names_remote(),
@@ -183,26 +198,35 @@ fn write_port<W: Write>(writer: &mut W, port: u16) -> io::Result<()> {
     writer.flush()
 }
 
-// The program, with its arguments.
-fn program_of(alloc: Global, words: &ServerWords<'_>) -> Result<Program, AllocError> {
-    let mut args = Vec::new(alloc);
-    for word in words.service().args() {
-        args.push(String::from_str(alloc, word.as_str())?)?;
-    }
+// The program, with all its arguments.
+fn program_of(alloc: Global, words: &ServerWords<'_>) -> Result<Program, AllocError>
+    ensures { IfOk result (λ program. program ≡ program_by words.now.service) }
+{
+    let args = copies_of(alloc, words.service().args())?;
     Ok(Program::new(String::from_str(alloc, words.service().path())?, args))
 }
 
-/// What each connection is served by; the server's end is set for each.
+// Equal texts.
+fn copies_of(alloc: Global, texts: &[String]) -> Result<Vec<String>, AllocError>
+    ensures { IfOk result (λ copies. map string_bytes copies.items ≡ map string_bytes texts.now) }
+{
+    let mut copies = Vec::new(alloc);
+    for text in texts {
+        copies.push(String::from_str(alloc, text.as_str())?)?;
+    }
+    Ok(copies)
+}
+
+/// What all connections are served by.
 ///
 /// # Errors
 /// There was no memory.
-pub fn plan_of<R: Env>(
-    alloc: Global,
-    env: &R,
-    words: &ServerWords<'_>,
-) -> Result<Plan, ServerFault> {
+pub fn plan_of<R: Env>(alloc: Global, env: &R, words: &ServerWords<'_>) -> Result<Plan, ServerFault>
+    ensures program { IfOk result (λ plan. plan.program ≡ program_by words.now.service) }
+    ensures banner { IfOk result (λ plan. plan.banner ≡ words.now.banner) }
+{
     let program = program_of(alloc, words)?;
-    let inherited = inherited_variables(alloc, env)?;
+    let inherited = inherited_variables(alloc, &SystemGiven(env))?;
     let banner = words.banner().to_vec(alloc)?;
-    Ok(Plan::new(program, inherited, Local::new([0; 4], 0, None), banner))
+    Ok(Plan::new(program, inherited, banner))
 }

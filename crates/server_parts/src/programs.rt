@@ -3,9 +3,9 @@ ghost use Rattle.std.specs.Prelude.{⊤};
 
 use crate::sockets::Handle;
 use child_jobs::{Job, NoEnds, Program, WaitFault};
+use connection_facts::{StartFault, Status};
 use libc::net::POLLOUT;
 use libc::types::pollfd;
-use rule_lookup::{StartFault, Status};
 use std::alloc::Global;
 use std::fs::Files;
 use std::io::{Error, ErrorKind, Write};

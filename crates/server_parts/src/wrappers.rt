@@ -1,11 +1,11 @@
 //! The line wrappers that a server's words name.
 ghost use Rattle.std.specs.Prelude.{◌≡◌, map, IfOk, false};
 ghost use Rattle.server_parts.specs.Wrappers.{changed_by, told_by};
-ghost use Rattle.wrapper_chain.specs.Chains.{has_failed, stages_of};
+ghost use Rattle.byte_streams.specs.Chains.{has_failed, stages_of};
 
+use byte_streams::{AddCr, Chain, DelCr, FixCr, LineStage};
 use server_words::StageName;
 use std::alloc::{AllocError, Global};
-use wrapper_chain::{AddCr, Chain, DelCr, FixCr, LineStage};
 
 /// A line wrapper of one of the kinds that change a text.
 #[derive(Drop)]

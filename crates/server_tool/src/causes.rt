@@ -1,10 +1,10 @@
 //! The lines of causes, behind that of a fault with which the tool ends.
-use byte_text::{push_number, push_text};
-use fault_causes::{append_cause, append_os_cause, words_of_error};
+use byte_text::{
+    append_cause, append_os_cause, push_address, push_number, push_text, words_of_error,
+};
 use rules_tools::path::{folder_path, split_path};
 use server_parts::{ServerFailure, ServerFault};
 use server_words::{Lacking, Level, Operands, ServerWords, UsageCause, usage_cause};
-use status_lines::push_address;
 use std::alloc::{AllocError, Global};
 
 /// The tool's name, at the head of its lines.

@@ -2,13 +2,14 @@
 ghost use Rattle.std.specs.Prelude.{◌≡◌, false};
 
 use cdb_read::CdbFile;
+use connection_facts::Peer;
 use dir_calls::{Dir, DirFault, Name, RulesFile};
 use dir_disk::{Disk, DiskDir, OsDir, OsFile, SystemDisk, SystemFile};
 use rule_lines::{PairSource, decode_instr};
-use rule_lookup::{Peer, forms};
+use rule_lookup::forms;
 use rules_tools::path::{folder_path, split_path};
 use server_parts::has_named_rule;
-use server_yard::{Finding, Premises};
+use server_yard::{Assumptions, Finding};
 use std::alloc::{AllocError, Global};
 use std::fs::{File, Files};
 use std::marker::PhantomData;
@@ -55,13 +56,13 @@ impl<'a, R: Files<File = File>> RulesPath<'a, R> {
 
 /// The rules at a path of the system, of which nothing is known.
 #[derive(Drop)]
-pub(crate) struct FolderRules<'a, L: Premises, R> {
+pub(crate) struct FolderRules<'a, L: Assumptions, R> {
     at: RulesPath<'a, R>,
     yard: PhantomData<L>,
     ghost unmet: { L.met ≡ false },
 }
 
-impl<'a, L: Premises, R> FolderRules<'a, L, R> {
+impl<'a, L: Assumptions, R> FolderRules<'a, L, R> {
     /// Those at this path.
     pub(crate) fn new(at: RulesPath<'a, R>) -> FolderRules<'a, L, R>
         requires { L.met ≡ false }
@@ -73,7 +74,7 @@ impl<'a, L: Premises, R> FolderRules<'a, L, R> {
     }
 }
 
-impl<'a, L: Premises, R: Files<File = File>> Rules<L, RulesOnDisk> for FolderRules<'a, L, R> {
+impl<'a, L: Assumptions, R: Files<File = File>> Rules<L, RulesOnDisk> for FolderRules<'a, L, R> {
     type Handle = FolderHandle<'a, L, SystemDisk<&'a R>>;
 
     fn handle(&self, alloc: Global) -> Result<FolderHandle<'a, L, SystemDisk<&'a R>>, AllocError> {
@@ -96,14 +97,14 @@ impl<'a, L: Premises, R: Files<File = File>> Rules<L, RulesOnDisk> for FolderRul
 
 /// The folder of the rules with their name there, for one connection; without a name no call of it is made.
 #[derive(Drop)]
-pub(crate) struct FolderHandle<'a, L: Premises, D: Disk + Drop> {
+pub(crate) struct FolderHandle<'a, L: Assumptions, D: Disk + Drop> {
     dir: DiskDir<D>,
     name: Option<&'a Name>,
     yard: PhantomData<L>,
     ghost unmet: { L.met ≡ false },
 }
 
-impl<'a, L: Premises, R: Files<File = File>> RulesHandle<L, RulesOnDisk>
+impl<'a, L: Assumptions, R: Files<File = File>> RulesHandle<L, RulesOnDisk>
     for FolderHandle<'a, L, SystemDisk<&'a R>> {
     fn open(&mut self, alloc: Global) -> Result<Finding<L, RulesOnDisk>, DirFault> {
         match self.name {

@@ -1,5 +1,6 @@
 //! The tool: its words, what it opens, and the server.
-ghost use Rattle.std.specs.Prelude.{◌≡◌, ◌<◌, false};
+ghost use Rattle.std.specs.Prelude.{◌≡◌, false, IfOk, vec_len};
+ghost use Rattle.shared_site.specs.Callers.{total_share};
 
 use crate::causes::{tell_failure, tell_usage};
 use crate::rules::{FolderRules, RulesOnDisk, RulesPath};
@@ -16,10 +17,11 @@ use server_parts::{
     Wrapper, chain_of,
 };
 use server_words::{
-    Level, Limits, Mode, ServerWords, ServerWordsFault, Wrapping as WrapperNames, read_server_words,
+    ConnectionLimits, Level, Mode, ServerWords, ServerWordsFault, Wrapping as WrapperNames,
+    read_server_words,
 };
-use server_yard::{Premises, Yard};
-use site_lock::{Caller, Callers, Site};
+use server_yard::{Assumptions, Yard};
+use shared_site::{Caller, Callers, Site};
 use std::alloc::{AllocError, Global};
 use std::fs::{File, Files};
 use std::io::Write;
@@ -33,8 +35,8 @@ use std::thread::Threads;
 use std::time::{Clock, Duration};
 use stream_tools::SearchPath;
 use tcp_service::{
-    Acceptor, Chains, Follow, Log, Patience, Reserve, Rules, ServeEnd, Service, Starter, Wrapping,
-    serve,
+    Acceptor, ChainSource, Chains, Follow, Log, Patience, Reserve, Rules, ServeEnd, Service,
+    Starter, serve,
 };
 
 /// For so many seconds in succession a client whose connection is pumped may take nothing of what its program left for it.
@@ -43,8 +45,8 @@ const IDLE: u64 = 60;
 /// And for so many in all.
 const ALL: u64 = 600;
 
-/// So many callers of the site make the events of all connections.
-const CALLERS: u64 = 1;
+/// So many callers of the site make the events of all connections: one lets them in, and the other makes the rest.
+const CALLERS: u64 = 2;
 
 /// Runs `tcpserver` with these words, over the system's sockets, files and programs; `errors` takes the lines of its log. Without `-s` and
 /// `-S` connections are handed over or pumped as `by_name` says. It returns once as many connections were served as it was to serve, and
@@ -78,7 +80,7 @@ where
 
 // What a server has but for its site and its socket.
 #[derive(Drop)]
-struct House<E> {
+struct ServerParts<E> {
     plan: Plan,
     search: SearchPath,
     service: Service,
@@ -133,12 +135,16 @@ where
     <R::Started as OpenProcess>::Stdout: Send,
     <R::Started as OpenProcess>::Stderr: Send,
 {
-    let house = house_of(rt, errors, words)?;
-    run_house(rt, &house, words)
+    let server = parts_of(rt, errors, words)?;
+    open_and_run(rt, &server, words)
 }
 
 // What a server has by its words, but for its site and its socket.
-fn house_of<R, E>(rt: &R, errors: E, words: &ServerWords<'_>) -> Result<House<E>, ServerFailure>
+fn parts_of<R, E>(
+    rt: &R,
+    errors: E,
+    words: &ServerWords<'_>,
+) -> Result<ServerParts<E>, ServerFailure>
 where
     R: Env + AllocGlobal + Files,
     E: Write + Drop,
@@ -148,7 +154,7 @@ where
     let plan = plan_of(alloc, rt, words)?;
     let service = service_of(rt, words, &plan)?;
     let search = SearchPath::own(alloc, rt)?;
-    Ok(House {
+    Ok(ServerParts {
         plan,
         search,
         service,
@@ -181,7 +187,11 @@ fn service_of<R: AllocGlobal + Files>(
 }
 
 // Opens the folder of the rules and the socket, and runs the server on them.
-fn run_house<R, E>(rt: &R, house: &House<E>, words: &ServerWords<'_>) -> Result<(), ServerFailure>
+fn open_and_run<R, E>(
+    rt: &R,
+    server: &ServerParts<E>,
+    words: &ServerWords<'_>,
+) -> Result<(), ServerFailure>
 where
     R: Print + AllocGlobal + Files<File = File> + Processes + Threads + Wait + Clock + Sync,
     R: Net<Stream = TcpStream>,
@@ -202,18 +212,17 @@ where
     let at = RulesPath::new(rt, words.rules().unwrap_or_default(), name.as_ref());
     let listener = open_socket(rt, words)?;
     if words.hosts().is_none() && words.level() == Level::All && at.name_someone(alloc) {
-        let _ = house.log.lock(rt).no_names();
+        let _ = server.log.lock(rt).no_names();
     }
     let (places, parts) = (Blank::new(limits.connections), Blank::new(CALLERS));
     let served = run_site::<Brand, Brand, _, _, _, _>(
         rt,
-        house,
+        server,
         listener,
         (dir, rules),
         at,
         words,
         places,
-        CALLERS,
         parts,
     );
     served
@@ -237,9 +246,10 @@ struct Wrappers<'a> {
     names: &'a WrapperNames,
 }
 
-impl Wrapping for Wrappers<'_> {
-    type Stage = Wrapper;
+impl ChainSource for Wrappers<'_> {
+    type LineWrapper = Wrapper;
 
+    #[tactic(auto, using(crate::proofs::Renewed::is_new))]
     fn chains(&self, alloc: Global) -> Result<Chains<Wrapper>, AllocError> {
         Ok(Chains {
             input: chain_of(alloc, self.names.input())?,
@@ -251,17 +261,16 @@ impl Wrapping for Wrappers<'_> {
 // The server over a yard and a site of its own.
 fn run_site<L, N, D, R, E, T>(
     rt: &R,
-    house: &House<E>,
+    server: &ServerParts<E>,
     listener: T,
     rules: (D, Option<(Name, Missing)>),
     at: RulesPath<'_, R>,
     words: &ServerWords<'_>,
     places: Blank,
-    count: u64,
     parts: Blank,
 ) -> Result<(), ServerFailure>
 where
-    L: Premises + Send + Sync,
+    L: Assumptions + Send + Sync,
     N: Callers + Send + Sync,
     D: Dir<File = RulesOnDisk> + Send + Drop,
     R: AllocGlobal + Files<File = File> + Processes + Threads + Wait + Clock + Sync,
@@ -275,8 +284,8 @@ where
     E: Write + Send,
     requires places { (places.name ≡ L.name) × (places.parts ≡ L.parts) × (places.parts ≡ words.now.limits.connections) }
     requires met { L.met ≡ false }
-    requires parts { (parts.name ≡ N.name) × (parts.parts ≡ N.parts) × (parts.parts ≡ count) }
-    requires callers { (N.all ≡ count) × (N.before ≡ 0) × (0 < count) }
+    requires parts { (parts.name ≡ N.name) × (parts.parts ≡ N.parts) × (parts.parts ≡ 2) }
+    requires callers { (N.all ≡ 2) × (N.before ≡ 0) }
 {
     let (site, callers) = site_of::<L, N, D>(
         rt.alloc(),
@@ -284,27 +293,26 @@ where
         rules.1,
         words.limits(),
         places,
-        count,
         parts,
     )?;
     let rules = FolderRules::<L, R>::new(at);
-    serve_by_mode(rt, house, listener, &site, &rules, callers, words)
+    serve_by_mode(rt, server, listener, (site, callers), &rules, words)
 }
 
-// A site, with so many callers, over a yard of this folder.
-fn site_of<L: Premises, N: Callers, D: Dir + Drop>(
+// A site, with both of its callers, over a yard of this folder.
+fn site_of<L: Assumptions, N: Callers, D: Dir + Drop>(
     alloc: Global,
     dir: D,
     rules: Option<(Name, Missing)>,
-    limits: Limits,
+    limits: ConnectionLimits,
     places: Blank,
-    count: u64,
     parts: Blank,
 ) -> Result<(Site<L, N, D, Counts>, Vec<Caller<N>>), ServerFault>
     requires places { (places.name ≡ L.name) × (places.parts ≡ L.parts) × (places.parts ≡ limits.connections) }
     requires met { L.met ≡ false }
-    requires parts { (parts.name ≡ N.name) × (parts.parts ≡ N.parts) × (parts.parts ≡ count) }
-    requires callers { (N.all ≡ count) × (N.before ≡ 0) × (0 < count) }
+    requires parts { (parts.name ≡ N.name) × (parts.parts ≡ N.parts) × (parts.parts ≡ 2) }
+    requires callers { (N.all ≡ 2) × (N.before ≡ 0) }
+    ensures new { IfOk result (λ made. (vec_len made.1 ≡ 2) × (total_share made.1.items ≡ 0)) }
 {
     let (connections, per_address) = (limits.connections, limits.per_address);
     let yard = Yard::<L, D, Counts>::with_address_limit(
@@ -319,7 +327,7 @@ fn site_of<L: Premises, N: Callers, D: Dir + Drop>(
     let Ok(yard) = yard else {
         return Err(ServerFault::OutOfMemory);
     };
-    match Site::<L, N, D, Counts>::new(alloc, parts, yard, count) {
+    match Site::<L, N, D, Counts>::new(alloc, parts, yard, CALLERS) {
         Ok(made) => Ok(made),
         Err(_) => Err(ServerFault::OutOfMemory),
     }
@@ -328,15 +336,14 @@ fn site_of<L: Premises, N: Callers, D: Dir + Drop>(
 // Serves the connections of a socket at a site: their programs hold them, or the server passes their bytes on.
 fn serve_by_mode<L, N, D, U, R, E, T>(
     rt: &R,
-    house: &House<E>,
+    server: &ServerParts<E>,
     listener: T,
-    site: &Site<L, N, D, Counts>,
+    site: (Site<L, N, D, Counts>, Vec<Caller<N>>),
     rules: &U,
-    callers: Vec<Caller<N>>,
     words: &ServerWords<'_>,
 ) -> Result<(), ServerFailure>
 where
-    L: Premises + Send + Sync,
+    L: Assumptions + Send + Sync,
     N: Callers + Send + Sync,
     D: Dir + Send + Drop,
     D::File: Send,
@@ -351,12 +358,8 @@ where
     <R::Started as OpenProcess>::Stderr: Send,
     T: OpenListener<Stream = TcpStream> + Drop,
     E: Write + Send,
+    requires callers { (N.all ≡ 2) × (N.parts ≡ 2) × (vec_len site.1 ≡ 2) × (total_share site.1.items ≡ 0) }
 {
-    let mut callers = callers;
-    let Some(caller) = callers.pop() else {
-        return Err(ServerFailure::from(ServerFault::OutOfMemory));
-    };
-    let caller = &Mutex::new(caller);
     let wrappers = Wrappers {
         names: words.wrapping(),
     };
@@ -364,48 +367,29 @@ where
     match words.mode() {
         Mode::HandedOver => {
             let mut acceptor = HandedAcceptor::new(rt, rt.alloc(), listener, at_once);
-            let starter = HandingLauncher::new(rt, &house.search, &house.service.reserve);
-            serve_site(
-                rt,
-                house,
-                &mut acceptor,
-                site,
-                rules,
-                caller,
-                &wrappers,
-                &starter,
-            )
+            let starter = HandingLauncher::new(rt, &server.search, &server.service.reserve);
+            serve_site(rt, server, &mut acceptor, site, rules, &wrappers, &starter)
         }
         Mode::Pumped => {
             let mut acceptor = PumpedAcceptor::new(rt, rt.alloc(), listener, at_once);
-            let starter = ServiceLauncher::new(rt, &house.search, &house.service.reserve);
-            serve_site(
-                rt,
-                house,
-                &mut acceptor,
-                site,
-                rules,
-                caller,
-                &wrappers,
-                &starter,
-            )
+            let starter = ServiceLauncher::new(rt, &server.search, &server.service.reserve);
+            serve_site(rt, server, &mut acceptor, site, rules, &wrappers, &starter)
         }
     }
 }
 
-// Serves at a site by this caller of it.
+// Serves at a site by both of its callers.
 fn serve_site<L, N, D, U, R, E, A, S>(
     rt: &R,
-    house: &House<E>,
+    server: &ServerParts<E>,
     acceptor: &mut A,
-    site: &Site<L, N, D, Counts>,
+    site: (Site<L, N, D, Counts>, Vec<Caller<N>>),
     rules: &U,
-    caller: &Mutex<Caller<N>>,
     wrappers: &Wrappers<'_>,
     starter: &S,
 ) -> Result<(), ServerFailure>
 where
-    L: Premises + Send + Sync,
+    L: Assumptions + Send + Sync,
     N: Callers + Send + Sync,
     D: Dir + Send + Drop,
     D::File: Send,
@@ -419,27 +403,33 @@ where
     S::Job: Send,
     <S::Job as Job>::Input: Send + Drop,
     <S::Job as Job>::Output: Send + Drop,
+    requires callers { (N.all ≡ 2) × (N.parts ≡ 2) × (vec_len site.1 ≡ 2) × (total_share site.1.items ≡ 0) }
 {
-    let end = serve(
+    let (site, callers) = site;
+    let served = serve(
         rt,
         rt.alloc(),
         acceptor,
         site,
+        callers,
         rules,
-        caller,
         wrappers,
         starter,
-        &house.plan,
-        &house.service,
-        &house.log,
+        &server.plan,
+        &server.service,
+        &server.log,
     );
+    let end = match served {
+        Ok(closed) => closed.end,
+        Err(unfinished) => unfinished.end,
+    };
     end_of(end, acceptor.error())
 }
 
 // How the tool ends, by the system's last error of accepting.
 fn end_of(end: ServeEnd, error: Option<i32>) -> Result<(), ServerFailure> {
     match end {
-        ServeEnd::Count => Ok(()),
+        ServeEnd::Count | ServeEnd::Spent => Ok(()),
         ServeEnd::NoPlaces => Err(ServerFailure::from(ServerFault::NoPlaces)),
         ServeEnd::AcceptFaults => Err(ServerFailure {
             fault: ServerFault::AcceptFault,

@@ -6,7 +6,7 @@ use Rattle.std.specs.List.{slice_split}
 use Rattle.std.specs.Str.{chars}
 use Rattle.std.specs.Fmt.{digits}
 use lib.Utf8.{encode}
-use Rattle.ucspi_words.specs.Letters.{meaning_of}
+use Rattle.server_words.specs.Letters.{meaning_of}
 use Rattle.rule_lookup.specs.Addresses.{ipv4_in}
 use Rattle.rule_lookup.specs.declared.decision.Missing.TheVariants.{Allow, Drop}
 use Rattle.server_words.specs.declared.fault.ServerWordsFault.{ServerWordsFault}

@@ -4,14 +4,14 @@ use Rattle.std.specs.Option.{ok_or, option_map_or}
 use Rattle.std.specs.Prelude.{codes}
 use Rattle.std.specs.Result.{result_err}
 use Rattle.std.specs.Str.Parse.{digits_value}
-use Rattle.ucspi_words.specs.declared.fault.WordFault.{WordFault}
-use Rattle.ucspi_words.specs.declared.fault.WordFault.TheVariants as word
-use Rattle.ucspi_words.specs.Numbers.{is_number_between, number_in}
-use Rattle.ucspi_words.specs.Options.{value_of}
-use Rattle.ucspi_words.specs.Words.{LetterGiven, Reading}
+use Rattle.server_words.specs.declared.option_fault.WordFault.{WordFault}
+use Rattle.server_words.specs.declared.option_fault.WordFault.TheVariants as word
+use Rattle.server_words.specs.Numbers.{is_number_between, number_in}
+use Rattle.server_words.specs.OptionWords.{value_of}
+use Rattle.server_words.specs.Words.{LetterGiven, Reading}
 use Rattle.server_words.specs.declared.fault.ServerWordsFault.{ServerWordsFault}
 use Rattle.server_words.specs.declared.fault.ServerWordsFault.TheVariants as fault
-use Rattle.server_words.specs.declared.limits.Limits.{Limits}
+use Rattle.server_words.specs.declared.limits.ConnectionLimits.{ConnectionLimits}
 use Rattle.server_words.specs.declared.mode.Mode.{Mode}
 use Rattle.server_words.specs.Checks.{checks, first_found, found, mode_check, operands_check, wrapping_check}
 use Rattle.server_words.specs.Faults.{fault_of_word}
@@ -45,7 +45,7 @@ count-found None = refl
 count-found (Some text) = count_test (is_number_between text 1 4294967295) (digits_value 10 text)
 
 -- what comes after the numbers
-module _ (by_name : Mode) (options : List LetterGiven) (limits : Limits) where
+module _ (by_name : Mode) (options : List LetterGiven) (limits : ConnectionLimits) where
   mode-found : (mode : Option Mode) (service : Service) (wrapping : Wrappers) → result_err (with_mode options limits service wrapping mode) ≡ first_found (found (is_none mode) fault.BadWrappers ∷ [])
   mode-found (Some mode) service wrapping = refl
   mode-found None service wrapping = refl

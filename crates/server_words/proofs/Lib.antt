@@ -1,4 +1,7 @@
-pub mod CutParts
 pub mod Cases
 pub mod CheckLemmas
 pub mod StageLemmas
+pub mod LetterLemmas
+pub mod OptionLemmas
+pub mod RuleLemmas
+pub mod WordLemmas

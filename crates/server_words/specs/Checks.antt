@@ -1,9 +1,9 @@
 -- The checks of words whose options were read, in their order, and the fault that each finds.
 use Rattle.std.specs.Prelude.{ℕ, Bool, false, not, is_none, List, [], ◌∷◌, Option, Some, None, codes, if◌then◌else◌}
 use Rattle.std.specs.Option.{option_map_or}
-use Rattle.ucspi_words.specs.Numbers.{is_number_between}
-use Rattle.ucspi_words.specs.Options.{value_of}
-use Rattle.ucspi_words.specs.Words.{LetterGiven, Reading}
+use Rattle.server_words.specs.Numbers.{is_number_between}
+use Rattle.server_words.specs.OptionWords.{value_of}
+use Rattle.server_words.specs.Words.{LetterGiven, Reading}
 use Rattle.server_words.specs.declared.fault.ServerWordsFault.{ServerWordsFault}
 use Rattle.server_words.specs.declared.fault.ServerWordsFault.TheVariants as fault
 use Rattle.server_words.specs.declared.mode.Mode.{Mode}

@@ -1,7 +1,7 @@
 -- Why words are refused, what is printed of it, and the exit code.
 use Rattle.std.specs.Prelude.{ℕ, List, ◌++◌, codes, encode_utf8}
-use Rattle.ucspi_words.specs.declared.fault.WordFault.{WordFault}
-use Rattle.ucspi_words.specs.declared.fault.WordFault.TheVariants as word
+use Rattle.server_words.specs.declared.option_fault.WordFault.{WordFault}
+use Rattle.server_words.specs.declared.option_fault.WordFault.TheVariants as word
 use Rattle.server_words.specs.declared.fault.ServerWordsFault.{ServerWordsFault}
 use Rattle.server_words.specs.declared.fault.ServerWordsFault.TheVariants as fault
 

@@ -8,3 +8,7 @@ pub mod Options
 pub mod Plans
 pub mod Usages
 pub mod Wrappings
+pub mod Letters
+pub mod Numbers
+pub mod OptionWords
+pub mod Words

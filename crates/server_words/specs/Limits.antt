@@ -1,11 +1,11 @@
 -- The numbers that options give.
 use Rattle.std.specs.Prelude.{ℕ, List, Option, Some, None, Result, Ok, Err, codes}
-use Rattle.ucspi_words.specs.declared.fault.WordFault.{WordFault}
-use Rattle.ucspi_words.specs.declared.fault.WordFault.TheVariants as word
-use Rattle.ucspi_words.specs.Numbers.{number_in}
-use Rattle.ucspi_words.specs.Options.{number_of, value_of}
-use Rattle.ucspi_words.specs.Words.{LetterGiven}
-use Rattle.server_words.specs.declared.limits.Limits.{Limits}
+use Rattle.server_words.specs.declared.option_fault.WordFault.{WordFault}
+use Rattle.server_words.specs.declared.option_fault.WordFault.TheVariants as word
+use Rattle.server_words.specs.Numbers.{number_in}
+use Rattle.server_words.specs.OptionWords.{number_of, value_of}
+use Rattle.server_words.specs.Words.{LetterGiven}
+use Rattle.server_words.specs.declared.limits.ConnectionLimits.{ConnectionLimits}
 use Rattle.server_words.specs.Options.{letter}
 
 -- what follows a result that is no fault
@@ -35,7 +35,7 @@ abbrev pub per_address_in : List LetterGiven → ℕ → Result ℕ WordFault
 per_address_in options connections = number_of options (letter (codes "m")) 1 10000 connections
 
 -- all three, of which the first bad one counts: `-c`, then `-k`, then `-m`
-abbrev pub limits_in : List LetterGiven → Result Limits WordFault
+abbrev pub limits_in : List LetterGiven → Result ConnectionLimits WordFault
 limits_in options =
     and_then (connections_in options) (λ connections.
     and_then (count_in options) (λ count.

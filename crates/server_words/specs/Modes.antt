@@ -1,7 +1,7 @@
 -- Which of two a program's standard input and output are: the connection itself, or pipes.
 use Rattle.std.specs.Prelude.{ℕ, ◌==◌, List, Option, Some, None, codes, if◌then◌else◌}
-use Rattle.ucspi_words.specs.Options.{is_given, last_of}
-use Rattle.ucspi_words.specs.Words.{LetterGiven}
+use Rattle.server_words.specs.OptionWords.{is_given, last_of}
+use Rattle.server_words.specs.Words.{LetterGiven}
 use Rattle.server_words.specs.declared.mode.Mode.{Mode}
 use Rattle.server_words.specs.declared.mode.Mode.TheVariants.{HandedOver, Pumped}
 use Rattle.server_words.specs.Options.{letter}

@@ -3,7 +3,7 @@ use Rattle.std.specs.Prelude.{ℕ, List, [], ◌∷◌, map, Option, Some, None,
 use Rattle.std.specs.declared.alloc.Global.{Global}
 use Rattle.std.specs.Prelude.{String}
 use Rattle.rule_lookup.specs.Addresses.{ipv4_in}
-use Rattle.ucspi_words.specs.Numbers.{number_in}
+use Rattle.server_words.specs.Numbers.{number_in}
 
 -- where a server listens, and the program that it starts
 pub record Service : Type 0 where

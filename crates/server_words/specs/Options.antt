@@ -1,8 +1,8 @@
 -- What the options given say, by their letters.
 use Rattle.std.specs.Prelude.{ℕ, ◌==◌, Bool, false, List, [], ◌∷◌}
 use Rattle.std.specs.Option.{option_map_or}
-use Rattle.ucspi_words.specs.Options.{last_of}
-use Rattle.ucspi_words.specs.Words.{LetterGiven}
+use Rattle.server_words.specs.OptionWords.{last_of}
+use Rattle.server_words.specs.Words.{LetterGiven}
 
 -- the letter that a text of one is
 abbrev pub letter : List ℕ → ℕ

@@ -1,16 +1,16 @@
 -- What the words of `tcpserver` ask for, or the first fault that they have.
 use Rattle.std.specs.Prelude.{◌≡◌, ℕ, ◌==◌, Bool, not, List, [], Option, Some, None, Result, Ok, Err, codes, unwrap_or, if◌then◌else◌}
-use Rattle.ucspi_words.specs.declared.fault.WordFault.{WordFault}
-use Rattle.ucspi_words.specs.Options.{is_given, last_of, value_of}
-use Rattle.ucspi_words.specs.Words.{LetterGiven, Reading, reading}
-use Rattle.ucspi_words.specs.declared.letter.TheConstants.{TCPSERVER_LETTERS}
+use Rattle.server_words.specs.declared.option_fault.WordFault.{WordFault}
+use Rattle.server_words.specs.OptionWords.{is_given, last_of, value_of}
+use Rattle.server_words.specs.Words.{LetterGiven, Reading, reading}
+use Rattle.server_words.specs.declared.letter.TheConstants.{TCPSERVER_LETTERS}
 use Rattle.rule_lookup.specs.declared.decision.Missing.{Missing}
 use Rattle.rule_lookup.specs.declared.decision.Missing.TheVariants.{Allow, Drop}
 use Rattle.server_words.specs.declared.fault.ServerWordsFault.{ServerWordsFault}
 use Rattle.server_words.specs.declared.fault.ServerWordsFault.TheVariants as fault
 use Rattle.server_words.specs.declared.level.Level.{Level}
 use Rattle.server_words.specs.declared.level.Level.TheVariants.{Quiet, Errors, All}
-use Rattle.server_words.specs.declared.limits.Limits.{Limits}
+use Rattle.server_words.specs.declared.limits.ConnectionLimits.{ConnectionLimits}
 use Rattle.server_words.specs.declared.mode.Mode.{Mode}
 use Rattle.server_words.specs.Faults.{fault_of_word}
 use Rattle.server_words.specs.Limits.{limits_in}
@@ -26,7 +26,7 @@ pub record ServerPlan : Type 0 where
   -- whether the port is printed
   pub prints_port : Bool
   -- how many connections are let in
-  pub limits : Limits
+  pub limits : ConnectionLimits
   -- the path of the rules file, and what it means that there is none
   pub rules : Option (List ℕ)
   pub missing : Missing
@@ -63,7 +63,7 @@ abbrev pub missing_of : List LetterGiven → Missing
 missing_of options = if is_given options (letter (codes "X")) then Allow else Drop
 
 -- what options ask for, with what was read of their numbers, of the wrappers, of the mode and of the words after them
-abbrev pub plan_by : List LetterGiven → Limits → Service → Wrappers → Mode → ServerPlan
+abbrev pub plan_by : List LetterGiven → ConnectionLimits → Service → Wrappers → Mode → ServerPlan
 plan_by options limits service wrapping mode = record {
   level = level_of options;
   prints_port = is_given options (letter (codes "1"));
@@ -86,24 +86,24 @@ abbrev pub options_in : List (List ℕ) → Result Reading WordFault
 options_in words = reading TCPSERVER_LETTERS.now words
 
 -- the last check: with wrappers no connection is handed over
-abbrev pub with_mode : List LetterGiven → Limits → Service → Wrappers → Option Mode → Result ServerPlan ServerWordsFault
+abbrev pub with_mode : List LetterGiven → ConnectionLimits → Service → Wrappers → Option Mode → Result ServerPlan ServerWordsFault
 with_mode options limits service wrapping (Some mode) = Ok (plan_by options limits service wrapping mode)
 with_mode options limits service wrapping None = Err fault.BadWrappers
 
 -- the checks from the wrappers on
-abbrev pub with_wrapping : Mode → List LetterGiven → Limits → Service → Option Wrappers → Result ServerPlan ServerWordsFault
+abbrev pub with_wrapping : Mode → List LetterGiven → ConnectionLimits → Service → Option Wrappers → Result ServerPlan ServerWordsFault
 with_wrapping by_name options limits service (Some wrapping) =
     with_mode options limits service wrapping (mode_in by_name options)
 with_wrapping by_name options limits service None = Err fault.BadWrappers
 
 -- from host, port and program on
-abbrev pub with_service : Mode → List LetterGiven → Limits → Option Service → Result ServerPlan ServerWordsFault
+abbrev pub with_service : Mode → List LetterGiven → ConnectionLimits → Option Service → Result ServerPlan ServerWordsFault
 with_service by_name options limits (Some service) =
     with_wrapping by_name options limits service (wrapping_in (value_of options (letter (codes "w"))))
 with_service by_name options limits None = Err fault.Usage
 
 -- from the numbers on
-abbrev pub with_limits : Mode → Reading → Result Limits WordFault → Result ServerPlan ServerWordsFault
+abbrev pub with_limits : Mode → Reading → Result ConnectionLimits WordFault → Result ServerPlan ServerWordsFault
 with_limits by_name read (Ok limits) = with_service by_name read.options limits (operands_in read.rest)
 with_limits by_name read (Err f) = Err (fault_of_word f)
 

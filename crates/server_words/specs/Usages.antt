@@ -1,7 +1,7 @@
 -- What is wrong with words that get the usage line.
 use Rattle.std.specs.Prelude.{ℕ, Bool, true, false, ◌&&◌, List, [], ◌∷◌, Option, Some, None, Result, Ok, Err, is_none, if◌then◌else◌}
-use Rattle.ucspi_words.specs.declared.fault.WordFault.{WordFault}
-use Rattle.ucspi_words.specs.Words.{Reading}
+use Rattle.server_words.specs.declared.option_fault.WordFault.{WordFault}
+use Rattle.server_words.specs.Words.{Reading}
 use Rattle.server_words.specs.declared.level.Level.{Level}
 use Rattle.server_words.specs.declared.level.Level.TheVariants.{Quiet, Errors, All}
 use Rattle.server_words.specs.declared.usage.Lacking.{Lacking}

@@ -4,10 +4,10 @@ ghost use Rattle.byte_text.specs.Outcomes.{AppendsLine, AppendsPart};
 ghost use Rattle.server_words.specs.declared.fault.ServerWordsFault.TheVariants.{OutOfMemory};
 ghost use Rattle.server_words.specs.Faults.{exit_of, fault_line, fault_of_word, fault_text};
 
+use crate::WordFault;
 use byte_text::{push_text, whole_or_none};
 use std::alloc::{AllocError, AllocFailed};
 use thiserror::Error;
-use ucspi_words::WordFault;
 
 /// What is wrong with the words of `tcpserver`. Where several things are, the first of them counts: the option words in their order,
 /// then the numbers of `-c`, `-k` and `-m` in this order, then host, port and program, then the wrappers.

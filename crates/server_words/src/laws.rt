@@ -1,8 +1,8 @@
 //! Laws over the definitions alone.
 ghost use Rattle.std.specs.Prelude.{◌≡◌, ℕ, List};
 ghost use Rattle.std.specs.Result.{result_err};
-ghost use Rattle.ucspi_words.specs.Words.{Reading};
-ghost use Rattle.ucspi_words.specs.declared.fault.WordFault.{WordFault};
+ghost use Rattle.server_words.specs.Words.{Reading};
+ghost use Rattle.server_words.specs.declared.option_fault.WordFault.{WordFault};
 ghost use Rattle.server_words.specs.Checks.{checks, first_found};
 ghost use Rattle.server_words.specs.Faults.{fault_of_word};
 ghost use Rattle.server_words.specs.declared.mode.Mode.{Mode};

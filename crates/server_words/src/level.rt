@@ -2,7 +2,7 @@
 ghost use Rattle.std.specs.Prelude.{◌≡◌};
 ghost use Rattle.server_words.specs.Plans.{level_of};
 
-use ucspi_words::Options;
+use crate::Options;
 
 /// Which lines of the log `tcpserver` prints. Of `-v`, `-Q` and `-q` the last given counts.
 #[derive(Clone, Copy, PartialEq, Eq, Debug)]

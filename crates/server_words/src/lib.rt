@@ -3,19 +3,30 @@
 
 pub mod fault;
 pub mod laws;
+pub mod letter;
 pub mod level;
 pub mod limits;
 pub mod mode;
+pub mod number;
 pub mod operands;
+pub mod option_fault;
+pub mod option_laws;
+pub mod option_words;
+pub mod options;
 pub mod usage;
 pub mod words;
 pub mod wrapping;
 
 pub use fault::ServerWordsFault;
+pub use letter::{Meaning, TCPSERVER_LETTERS};
 pub use level::Level;
-pub use limits::Limits;
+pub use limits::ConnectionLimits;
 pub use mode::Mode;
+pub use number::number_in;
 pub use operands::Operands;
+pub use option_fault::WordFault;
+pub use option_words::read_words;
+pub use options::{Given, Options};
 pub use usage::{Lacking, UsageCause, usage_cause};
 pub use words::{ServerWords, read_server_words};
 pub use wrapping::{StageName, Wrapping};

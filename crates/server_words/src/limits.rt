@@ -2,11 +2,11 @@
 ghost use Rattle.std.specs.Prelude.{◌≡◌};
 ghost use Rattle.server_words.specs.Limits.{count_in, limits_in};
 
-use ucspi_words::{Options, WordFault, number_in};
+use crate::{Options, WordFault, number_in};
 
 /// How many connections a server lets in.
 #[derive(Clone, Copy, PartialEq, Eq, Debug)]
-pub struct Limits {
+pub struct ConnectionLimits {
     /// At most so many at once: the number of `-c`, 1 to 10,000, else 40.
     pub connections: u64,
     /// At most so many at once from one address: the number of `-m`, 1 to 10,000, else `connections`.
@@ -15,19 +15,19 @@ pub struct Limits {
     pub count: Option<u32>,
 }
 
-impl Limits {
+impl ConnectionLimits {
     /// The limits that options ask for.
     ///
     /// # Errors
     /// `BadNumber` with the first of the letters `c`, `k` and `m`, in this order, whose value is no number in its range. No other
     /// fault is answered.
-    pub(crate) fn of(options: &Options<'_>) -> Result<Limits, WordFault>
+    pub(crate) fn of(options: &Options<'_>) -> Result<ConnectionLimits, WordFault>
         ensures { result ≡ limits_in options.now }
     {
         let connections = options.number('c', 1, 10_000, 40)?;
         let count = count_of(options)?;
         let per_address = options.number('m', 1, 10_000, connections)?;
-        Ok(Limits {
+        Ok(ConnectionLimits {
             connections,
             per_address,
             count,

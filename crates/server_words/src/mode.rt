@@ -2,7 +2,7 @@
 ghost use Rattle.std.specs.Prelude.{◌≡◌};
 ghost use Rattle.server_words.specs.Modes.{mode_given, mode_in};
 
-use ucspi_words::Options;
+use crate::Options;
 
 /// What a program has as its standard input and output. Of `-s` and `-S` the last given counts; without them the name by which the tool was
 /// called does.

@@ -2,9 +2,9 @@
 ghost use Rattle.std.specs.Prelude.{◌≡◌};
 ghost use Rattle.server_words.specs.Operands.{address_in, operands_in, port_in, texts};
 
+use crate::number_in;
 use rule_lookup::parse_address;
 use std::marker::Model;
-use ucspi_words::number_in;
 
 /// Where a server listens, and which program it starts for each connection.
 #[derive(Debug, Drop)]

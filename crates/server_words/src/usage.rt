@@ -3,12 +3,12 @@ ghost use Rattle.std.specs.Prelude.{◌≡◌, IfOk};
 ghost use Rattle.server_words.specs.Operands.{texts};
 ghost use Rattle.server_words.specs.Usages.{lacking_behind, lacking_in, no_program, usage_of};
 
+use crate::WordFault;
 use crate::level::Level;
 use crate::operands::{Operands, address_of, port_of};
 use crate::words::read_options;
 use std::alloc::{AllocError, Global};
 use std::marker::Model;
-use ucspi_words::WordFault;
 
 /// Which of the words after the options is lacking.
 #[derive(Clone, Copy, PartialEq, Eq, Debug)]

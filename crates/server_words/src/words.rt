@@ -1,29 +1,29 @@
 //! The words of `tcpserver`, and what they ask for.
 ghost use Rattle.std.specs.Prelude.{◌≡◌, ◌==◌, Ok, IfOk, IfErr};
-ghost use Rattle.ucspi_words.specs.Options.{text_of};
-ghost use Rattle.ucspi_words.specs.Words.{Refuses};
+ghost use Rattle.server_words.specs.OptionWords.{text_of};
+ghost use Rattle.server_words.specs.Words.{Refuses};
 ghost use Rattle.server_words.specs.Operands.{texts};
 ghost use Rattle.server_words.specs.Options.{is_last};
 ghost use Rattle.server_words.specs.Plans.{RefusesPlan, missing_of, options_in, plan_by, plan_of};
 
 use crate::fault::ServerWordsFault;
 use crate::level::Level;
-use crate::limits::Limits;
+use crate::limits::ConnectionLimits;
 use crate::mode::Mode;
 use crate::operands::Operands;
+use crate::option_laws::by_the_rules;
 use crate::wrapping::Wrapping;
+use crate::{Options, TCPSERVER_LETTERS, WordFault, read_words};
 use rule_lookup::Missing;
 use std::alloc::Global;
 use std::marker::Model;
-use ucspi_words::laws::by_the_rules;
-use ucspi_words::{Options, TCPSERVER_LETTERS, WordFault, read_words};
 
 /// What the words of `tcpserver` ask for. Texts are parts of the words that were read.
 #[derive(Debug, Drop)]
 pub struct ServerWords<'a> {
     level: Level,
     prints_port: bool,
-    limits: Limits,
+    limits: ConnectionLimits,
     rules: Option<&'a str>,
     missing: Missing,
     banner: &'a str,
@@ -38,7 +38,7 @@ pub struct ServerWords<'a> {
 }
 
 impl<'a> Model for ServerWords<'a> {
-    ghost use Rattle.ucspi_words.specs.Options.{text_of};
+    ghost use Rattle.server_words.specs.OptionWords.{text_of};
     ghost use Rattle.server_words.specs.Plans.{ServerPlan};
 
     ghost Value = { ServerPlan };
@@ -76,7 +76,7 @@ pub fn read_server_words(
     ensures refused { IfErr result (RefusesPlan (plan_of by_name (texts words.now))) }
 {
     let (options, rest) = read_options(alloc, words)?;
-    let limits = Limits::of(&options)?;
+    let limits = ConnectionLimits::of(&options)?;
     let Some(service) = Operands::of(rest) else {
         return Err(ServerWordsFault::Usage);
     };
@@ -114,7 +114,7 @@ impl<'a> ServerWords<'a> {
     /// What these options ask for, with what was read of their numbers, of the wrappers, of the mode and of the words after them.
     fn of(
         options: &Options<'a>,
-        limits: Limits,
+        limits: ConnectionLimits,
         service: Operands<'a>,
         wrapping: Wrapping,
         mode: Mode,
@@ -154,7 +154,7 @@ impl<'a> ServerWords<'a> {
     }
 
     /// How many connections are let in (`-c`, `-m`, `-k`).
-    pub fn limits(&self) -> Limits
+    pub fn limits(&self) -> ConnectionLimits
         ensures { result ≡ self.now.limits }
     {
         self.limits

@@ -1,7 +1,7 @@
 //! The wrappers that `-w` names.
 ghost use Rattle.std.specs.Prelude.{◌≡◌, Some, IfOk, IfErr, option_map};
 ghost use Rattle.server_words.specs.Wrappings.{RefusesAs, acts_on_input, acts_on_output, names_in, stage_named, stages_in, texts, wrapping_by_names, wrapping_in, wrapping_of};
-ghost use Rattle.ucspi_words.specs.Options.{text_of};
+ghost use Rattle.server_words.specs.OptionWords.{text_of};
 
 use crate::fault::ServerWordsFault;
 use std::alloc::{AllocError, Global};

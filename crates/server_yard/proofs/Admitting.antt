@@ -1,30 +1,30 @@
 -- A connection that is let in.
-use Rattle.std.proofs.Common.{◌≡◌, ◌≢◌, ℕ, ◌+◌, ◌≤◌, List, [], ◌∷◌, ◌++◌, length, Bool, true, false, cond, Option, refl, sym, ap, subst, ◌∙◌, arith, bytes_eq}
+use Rattle.std.proofs.Common.{◌≡◌, ◌≢◌, ℕ, ◌+◌, ◌≤◌, List, [], ◌∷◌, ◌++◌, length, Bool, true, false, cond, refl, sym, ap, subst, ◌∙◌, arith, bytes_eq}
 use Rattle.std.proofs.Props.{props}
 use Rattle.std.proofs.lemmas.Slice.Eq.{bytes_eq-Decides}
 use Rattle.std.proofs.lemmas.Bool.{true≢false}
 use mathlib.Core.Logic.{∥∥₁_elim}
-use Rattle.child_table.specs.Seats.{OneMoreAt, Seats, live_at}
-use Rattle.event_journals.specs.declared.journal.Noted.{Noted}
-use Rattle.rule_lookup.specs.Peers.{Client}
+use Rattle.child_jobs.specs.Seats.{OneMoreAt, Seats, live_at}
+use Rattle.event_journals.specs.Journals.{Books}
+use Rattle.connection_facts.specs.Peers.{Client}
 use Rattle.server_events.specs.ServerState.{ServerState, count_from, newcomer, start}
 use Rattle.server_events.specs.declared.event.Event.{Event}
-use Rattle.server_events.specs.declared.report.Report.{Report}
 use Rattle.server_events.proofs.Limits.{WithinLimits, count_from-push, within}
 use Rattle.server_yard.specs.Rolls.{HasHistory, IsHistory}
 
-limits_of : (told : Report) (count : ℕ) (stored : Option (List Noted)) (s : ServerState) (h : List Event) → IsHistory told count stored s h → WithinLimits s
-limits_of told count stored s h is =
+limits_of : (books : Books) (s : ServerState) (h : List Event) → IsHistory books s h → WithinLimits s
+limits_of books s h is =
     subst (λ (u : ServerState). WithinLimits u) (sym is.leads) (within (start s.limit s.per_address) h (record { all = omega arith; each = λ ip. omega arith }) is.legal)
 
 -- no more are alive than may be
-pub all_within : (told : Report) (count : ℕ) (stored : Option (List Noted)) (s : ServerState) → HasHistory told count stored s → length s.connections ≤ s.limit
-all_within told count stored s has = ∥∥₁_elim has (hlevel props) (λ (x : (h : List Event) × IsHistory told count stored s h). (limits_of told count stored s x.0 x.1).all)
+pub all_within : (books : Books) (s : ServerState) → HasHistory books s → length s.connections ≤ s.limit
+all_within books s has = ∥∥₁_elim has (hlevel props) (λ (x : (h : List Event) × IsHistory books s h). (limits_of books s x.0 x.1).all)
 
-pub each_within : (told : Report) (count : ℕ) (stored : Option (List Noted)) (s : ServerState) (ip : List ℕ) → HasHistory told count stored s → count_from ip s.connections ≤ s.per_address
-each_within told count stored s ip has = ∥∥₁_elim has (hlevel props) (λ (x : (h : List Event) × IsHistory told count stored s h). (limits_of told count stored s x.0 x.1).each ip)
+pub each_within : (books : Books) (s : ServerState) (ip : List ℕ) → HasHistory books s → count_from ip s.connections ≤ s.per_address
+each_within books s ip has = ∥∥₁_elim has (hlevel props) (λ (x : (h : List Event) × IsHistory books s h). (limits_of books s x.0 x.1).each ip)
 
-pub joined_at : (ip : List ℕ) (n : ℕ) (peer : Client) (s : ServerState) (old new : Seats) → OneMoreAt peer.ip old new → live_at ip old ≡ count_from ip s.connections → live_at ip new ≡ count_from ip (s.connections ++ newcomer n peer ∷ [])
+pub joined_at : (ip : List ℕ) (n : ℕ) (peer : Client) (s : ServerState) (old new : Seats) → OneMoreAt peer.ip old new
+    → live_at ip old ≡ count_from ip s.connections → live_at ip new ≡ count_from ip (s.connections ++ newcomer n peer ∷ [])
 joined_at ip n peer s old new more same = go (bytes_eq peer.ip ip) refl
   where
     sums : count_from ip (s.connections ++ newcomer n peer ∷ []) ≡ count_from ip s.connections + cond (bytes_eq peer.ip ip) 1 0

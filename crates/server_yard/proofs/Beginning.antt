@@ -3,10 +3,8 @@ use Rattle.std.proofs.Common.{◌≡◌, ◌<◌, ◌^◌, ℕ, List, true, fals
 use Rattle.std.specs.Prelude.{Err}
 use Rattle.dir_calls.specs.Directory.{Directory}
 use Rattle.dir_calls.specs.declared.fault.DirFault.TheVariants.{NoScratch, NoName, Device, OutOfMemory as NoMemory}
-use Rattle.event_journals.specs.declared.journal.Noted.{Noted}
-use Rattle.install_steps.specs.UnderWay as way
-use Rattle.install_steps.specs.UnderWay.{IsUnderWay}
-use Rattle.rule_lines.specs.Pairs.{Rule}
+use Rattle.server_events.specs.UnderWay as way
+use Rattle.server_events.specs.UnderWay.{IsUnderWay}
 use Rattle.rules_install.specs.Installing.{Installing, next_of, next_phase}
 use Rattle.rules_install.specs.Steps.{Goes, IsOfDevice}
 use Rattle.rules_install.specs.declared.Phase.{Phase}
@@ -16,9 +14,8 @@ use Rattle.rules_install.specs.declared.fault.InstallFault.TheVariants.{Line, To
 use Rattle.server_events.specs.ServerState.{ServerState}
 use Rattle.server_events.specs.Worlds.{RulesName}
 use Rattle.server_events.specs.declared.event.Event.TheVariants.{StepFailed}
-use Rattle.server_events.specs.declared.report.Report.{Report}
-use Rattle.server_yard.specs.Installed.{IsKeptBy}
-use Rattle.server_yard.specs.Rolls.{IsQuiet, NotesSome, Roll, books_by}
+use Rattle.server_yard.specs.Installed.{KeepsHistory}
+use Rattle.server_yard.specs.Rolls.{IsQuiet, NotesSome, Roll}
 use Rattle.server_yard.specs.Stepping.{HandsBack, fault_event, is_of_disk, kept_after_fault, kept_then}
 use Rattle.server_yard.specs.Yards.{name_of}
 use Rattle.server_yard.proofs.Going.{kept_failed}
@@ -35,20 +32,20 @@ pub named_by : (o : Option RulesName) (name : List ℕ) → name_of o ≡ Some n
 named_by o name is r same = same_some name r.name (sym is ∙ ap (λ (x : Option RulesName). name_of x) same)
 
 -- after a fault of the directory none is under way
-pub disk_phase : {J : Type 0} (told : J → Report) (count : J → ℕ) (stored : J → Option (List Noted)) (fault : InstallFault) (old new : Roll J) → is_of_disk fault ≡ true → NotesSome told count stored (fault_event fault) old new → new.server.phase ≡ None
-disk_phase told count stored (Line fault) old new disk noted = absurd (cc)
-disk_phase told count stored TooLarge old new disk noted = absurd (cc)
-disk_phase told count stored (Disk fault phase) old new disk noted = ap (λ (u : ServerState). u.phase) noted.happens
-disk_phase told count stored Over old new disk noted = absurd (cc)
-disk_phase told count stored OutOfMemory old new disk noted = absurd (cc)
+pub disk_phase : (fault : InstallFault) (old new : Roll) → is_of_disk fault ≡ true → NotesSome (fault_event fault) old new → new.server.phase ≡ None
+disk_phase (Line fault) old new disk noted = absurd (cc)
+disk_phase TooLarge old new disk noted = absurd (cc)
+disk_phase (Disk fault phase) old new disk noted = ap (λ (u : ServerState). u.phase) noted.happens
+disk_phase Over old new disk noted = absurd (cc)
+disk_phase OutOfMemory old new disk noted = absurd (cc)
 
 -- any other is no event
-pub quiet_of : {J : Type 0} (told : J → Report) (count : J → ℕ) (stored : J → Option (List Noted)) (fault : InstallFault) (old new : Roll J) → is_of_disk fault ≡ false → NotesSome told count stored (fault_event fault) old new → IsQuiet told count stored old new
-quiet_of told count stored (Line fault) old new other noted = noted
-quiet_of told count stored TooLarge old new other noted = noted
-quiet_of told count stored (Disk fault phase) old new other noted = absurd (cc)
-quiet_of told count stored Over old new other noted = noted
-quiet_of told count stored OutOfMemory old new other noted = noted
+pub quiet_of : (fault : InstallFault) (old new : Roll) → is_of_disk fault ≡ false → NotesSome (fault_event fault) old new → IsQuiet old new
+quiet_of (Line fault) old new other noted = noted
+quiet_of TooLarge old new other noted = noted
+quiet_of (Disk fault phase) old new other noted = absurd (cc)
+quiet_of Over old new other noted = noted
+quiet_of OutOfMemory old new other noted = noted
 
 -- none at all
 pub none_event : (fault : InstallFault) → is_of_disk fault ≡ false → fault_event fault ≡ None
@@ -107,15 +104,15 @@ back_of s t next Over goes = absurd goes
 back_of s t next OutOfMemory goes = goes
 
 -- what the installations left then
-pub kept_fault : {J : Type 0} (told : J → Report) (count : J → ℕ) (stored : J → Option (List Noted)) (lists : J → Option (List (List Rule))) (d e : Directory) (rules : Option RulesName) (installing : Option Installing) (s t : Installing) (fault : InstallFault) (old new : Roll J)
-    (k : IsKeptBy (books_by told count stored lists old.journal) (record { directory = d; rules = rules; server = old.server; installing = installing })) → IsUnderWay k.installed.world s d → old.server.limit < 2 ^ 64 → is_of_disk fault ≡ true → NotesSome told count stored (fault_event fault) old new → IsOfDevice (Err fault) → lists new.journal ≡ lists old.journal → way.LeadsOn s t d e (Err fault)
-    → IsKeptBy (books_by told count stored lists new.journal) (record { directory = e; rules = rules; server = new.server; installing = None })
-kept_fault told count stored lists d e rules installing s t (Line fault) old new k under small disk noted device same leads = absurd (cc)
-kept_fault told count stored lists d e rules installing s t TooLarge old new k under small disk noted device same leads = absurd (cc)
-kept_fault told count stored lists d e rules installing s t Over old new k under small disk noted device same leads = absurd (cc)
-kept_fault told count stored lists d e rules installing s t OutOfMemory old new k under small disk noted device same leads = absurd (cc)
-kept_fault told count stored lists d e rules installing s t (Disk NoScratch phase) old new k under small disk noted device same leads = absurd (cc)
-kept_fault told count stored lists d e rules installing s t (Disk NoName phase) old new k under small disk noted device same leads = absurd (cc)
-kept_fault told count stored lists d e rules installing s t (Disk NoMemory phase) old new k under small disk noted device same leads = absurd (cc)
-kept_fault told count stored lists d e rules installing s t (Disk Device phase) old new k under small disk noted device same leads =
-    kept_failed (record { directory = d; rules = rules; server = old.server; installing = installing }) new.server e s t (next_phase s) k under (λ q g. g.1 ∙ ap (λ (x : Phase). Some x) (sym g.0)) phase old.speaker (one_more_of told count stored (StepFailed phase) old new small tt noted) same leads
+pub kept_fault : (d e : Directory) (rules : Option RulesName) (installing : Option Installing) (s t : Installing) (fault : InstallFault) (old new : Roll)
+    (k : KeepsHistory old.books (record { directory = d; rules = rules; server = old.server; installing = installing })) → IsUnderWay k.installed.world s d → old.server.limit < 2 ^ 64 → is_of_disk fault ≡ true → NotesSome (fault_event fault) old new → IsOfDevice (Err fault) → new.books.lists ≡ old.books.lists → way.StepLeads s t d e (Err fault)
+    → KeepsHistory new.books (record { directory = e; rules = rules; server = new.server; installing = None })
+kept_fault d e rules installing s t (Line fault) old new k under small disk noted device same leads = absurd (cc)
+kept_fault d e rules installing s t TooLarge old new k under small disk noted device same leads = absurd (cc)
+kept_fault d e rules installing s t Over old new k under small disk noted device same leads = absurd (cc)
+kept_fault d e rules installing s t OutOfMemory old new k under small disk noted device same leads = absurd (cc)
+kept_fault d e rules installing s t (Disk NoScratch phase) old new k under small disk noted device same leads = absurd (cc)
+kept_fault d e rules installing s t (Disk NoName phase) old new k under small disk noted device same leads = absurd (cc)
+kept_fault d e rules installing s t (Disk NoMemory phase) old new k under small disk noted device same leads = absurd (cc)
+kept_fault d e rules installing s t (Disk Device phase) old new k under small disk noted device same leads =
+    kept_failed (record { directory = d; rules = rules; server = old.server; installing = installing }) new.server e s t (next_phase s) k under (λ q g. g.1 ∙ ap (λ (x : Phase). Some x) (sym g.0)) phase old.speaker (one_more_of (StepFailed phase) old new small tt noted) same leads

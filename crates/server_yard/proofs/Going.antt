@@ -3,9 +3,9 @@ use Rattle.std.proofs.Common.{◌≡◌, ◌≢◌, ℕ, List, [], ◌∷◌, �
 use Rattle.std.specs.Prelude.{◌<◌, ◌^◌, IfSome, Result, Ok, Err, option_map, if◌then◌else◌}
 use Rattle.dir_calls.specs.Directory.{Directory}
 use Rattle.dir_calls.specs.declared.fault.DirFault.TheVariants.{NoScratch, NoName, Device, OutOfMemory as NoMemory}
-use Rattle.event_journals.specs.declared.journal.Noted.{Noted}
-use Rattle.install_steps.specs.UnderWay as way
-use Rattle.install_steps.specs.UnderWay.{IsUnderWay}
+use Rattle.event_journals.specs.Journals.{Books}
+use Rattle.server_events.specs.UnderWay as way
+use Rattle.server_events.specs.UnderWay.{IsUnderWay}
 use Rattle.rule_lines.specs.Pairs.{Rule}
 use Rattle.rules_install.specs.Installing.{Installing, next_of, next_phase}
 use Rattle.rules_install.specs.NamePair.{NamePair}
@@ -19,10 +19,9 @@ use Rattle.server_events.specs.Steps.{Advances}
 use Rattle.server_events.specs.Worlds.{RulesName, World}
 use Rattle.server_events.specs.declared.event.Event.{Event}
 use Rattle.server_events.specs.declared.event.Event.TheVariants.{Stepped, StepFailed}
-use Rattle.server_events.specs.declared.report.Report.{Report}
-use Rattle.server_yard.specs.Installed.{IsKeptBy}
+use Rattle.server_yard.specs.Installed.{KeepsHistory}
 use Rattle.server_yard.specs.Kept.{IsGoing, phase_of}
-use Rattle.server_yard.specs.Rolls.{Books, NotesSome, Roll, books_by}
+use Rattle.server_yard.specs.Rolls.{NotesSome, Roll}
 use Rattle.server_yard.specs.Standing.{HasUnderWay, YardState}
 use Rattle.server_yard.specs.Stepping.{is_kept_after, kept_after_step, kept_then, step_event}
 use Rattle.server_yard.proofs.Histories.{OneMore, history_on}
@@ -48,7 +47,8 @@ kept_is t s' (Err Over) is = same_some t s' is
 kept_is t s' (Err OutOfMemory) is = same_some t s' is
 
 -- an installation goes on: it was not done, and met no fault
-pub going_at : (s t : Installing) (rules : Option RulesName) (p : Phase) → p ≢ Done → IsSame s t → ((r : RulesName) → rules ≡ Some r → s.names.cdb ≡ r.name) → rules ≢ None → t.over ≡ false → t.reached ≡ Some p → IsGoing t rules
+pub going_at : (s t : Installing) (rules : Option RulesName) (p : Phase) → p ≢ Done → IsSame s t
+    → ((r : RulesName) → rules ≡ Some r → s.names.cdb ≡ r.name) → rules ≢ None → t.over ≡ false → t.reached ≡ Some p → IsGoing t rules
 going_at s t rules p undone same named follows is_open reached = record {
   is_open = is_open;
   begun = reached_some t.reached p reached;
@@ -57,7 +57,9 @@ going_at s t rules p undone same named follows is_open reached = record {
   follows = follows;
 }
 
-pub going_then : (s t : Installing) (next : Phase) (result : Result Phase InstallFault) (rules : Option RulesName) → IsSame s t → ((r : RulesName) → rules ≡ Some r → s.names.cdb ≡ r.name) → rules ≢ None → (step_event result ≡ None → IsGoing s rules) → Goes next s t result → (s' : Installing) → kept_then t result ≡ Some s' → IsGoing s' rules
+pub going_then : (s t : Installing) (next : Phase) (result : Result Phase InstallFault) (rules : Option RulesName) → IsSame s t
+    → ((r : RulesName) → rules ≡ Some r → s.names.cdb ≡ r.name) → rules ≢ None → (step_event result ≡ None → IsGoing s rules)
+    → Goes next s t result → (s' : Installing) → kept_then t result ≡ Some s' → IsGoing s' rules
 going_then s t next (Ok Fresh) rules same named follows still goes s' is = subst (λ (x : Installing). IsGoing x rules) (same_some t s' is) (going_at s t rules Fresh (λ e. absurd (cc)) same named follows goes.2 (goes.1 ∙ ap (λ (q : Phase). Some q) (sym goes.0)))
 going_then s t next (Ok Filling) rules same named follows still goes s' is = subst (λ (x : Installing). IsGoing x rules) (same_some t s' is) (going_at s t rules Filling (λ e. absurd (cc)) same named follows goes.2 (goes.1 ∙ ap (λ (q : Phase). Some q) (sym goes.0)))
 going_then s t next (Ok Synced) rules same named follows still goes s' is = subst (λ (x : Installing). IsGoing x rules) (same_some t s' is) (going_at s t rules Synced (λ e. absurd (cc)) same named follows goes.2 (goes.1 ∙ ap (λ (q : Phase). Some q) (sym goes.0)))
@@ -67,7 +69,8 @@ going_then s t next (Err (Line fault)) rules same named follows still goes s' is
 going_then s t next (Err TooLarge) rules same named follows still goes s' is = absurd goes
 going_then s t next (Err (Disk fault phase)) rules same named follows still goes s' is = absurd (none_not_some s' is)
 going_then s t next (Err Over) rules same named follows still goes s' is = absurd goes
-going_then s t next (Err OutOfMemory) rules same named follows still goes s' is = subst (λ (x : Installing). IsGoing x rules) (sym goes ∙ same_some t s' is) (still refl)
+going_then s t next (Err OutOfMemory) rules same named follows still goes s' is =
+    subst (λ (x : Installing). IsGoing x rules) (sym goes ∙ same_some t s' is) (still refl)
 
 -- the phase is that of the one that is kept
 phase_ok : (t : Installing) (p : Phase) → t.reached ≡ Some p → phase_of (kept_then t (Ok p)) ≡ phase_after p
@@ -77,21 +80,27 @@ phase_ok t Synced is = is
 phase_ok t Named is = is
 phase_ok t Done is = refl
 
-pub phase_then : {J : Type 0} (told : J → Report) (count : J → ℕ) (stored : J → Option (List Noted)) (s t : Installing) (next : Phase) (result : Result Phase InstallFault) (old new : Roll J) → NotesSome told count stored (step_event result) old new → Goes next s t result → s.reached ≡ old.server.phase → phase_of (kept_then t result) ≡ new.server.phase
-phase_then told count stored s t next (Ok p) old new noted goes was = phase_ok t p (goes.1 ∙ ap (λ (q : Phase). Some q) (sym goes.0)) ∙ sym (ap (λ (u : ServerState). u.phase) noted.happens)
-phase_then told count stored s t next (Err (Disk fault phase)) old new noted goes was = sym (ap (λ (u : ServerState). u.phase) noted.happens)
-phase_then told count stored s t next (Err (Line fault)) old new noted goes was = absurd goes
-phase_then told count stored s t next (Err TooLarge) old new noted goes was = absurd goes
-phase_then told count stored s t next (Err Over) old new noted goes was = absurd goes
-phase_then told count stored s t next (Err OutOfMemory) old new noted goes was = ap (λ (x : Installing). x.reached) goes ∙ was ∙ sym (ap (λ (u : ServerState). u.phase) noted.stays)
+pub phase_then : (s t : Installing) (next : Phase) (result : Result Phase InstallFault) (old new : Roll)
+    → NotesSome (step_event result) old new → Goes next s t result → s.reached ≡ old.server.phase
+    → phase_of (kept_then t result) ≡ new.server.phase
+phase_then s t next (Ok p) old new noted goes was =
+    phase_ok t p (goes.1 ∙ ap (λ (q : Phase). Some q) (sym goes.0)) ∙ sym (ap (λ (u : ServerState). u.phase) noted.happens)
+phase_then s t next (Err (Disk fault phase)) old new noted goes was = sym (ap (λ (u : ServerState). u.phase) noted.happens)
+phase_then s t next (Err (Line fault)) old new noted goes was = absurd goes
+phase_then s t next (Err TooLarge) old new noted goes was = absurd goes
+phase_then s t next (Err Over) old new noted goes was = absurd goes
+phase_then s t next (Err OutOfMemory) old new noted goes was =
+    ap (λ (x : Installing). x.reached) goes ∙ was ∙ sym (ap (λ (u : ServerState). u.phase) noted.stays)
 
 -- ---- what the installations left
 
 -- one step more of a history
 module _ {b b' : Books} (y : YardState) (server : ServerState) (e : Directory) (s t : Installing) (next : Phase)
-    (k : IsKeptBy b y) (under : IsUnderWay k.installed.world s y.directory) (goes_reached : (p : Phase) → Goes next s t (Ok p) → t.reached ≡ Some p) where
-  pub kept_stepped : (p : Phase) (caller : ℕ) → OneMore b.told b.count b.stored y.server (Stepped p) caller b'.told b'.count b'.stored server → Goes next s t (Ok p) → way.LeadsOn s t y.directory e (Ok p) → ((p ≡ Fresh → b'.lists ≡ option_map (λ (all : List (List Rule)). all ++ t.rules ∷ []) b.lists) × (p ≢ Fresh → b'.lists ≡ b.lists))
-      → IsKeptBy b' (record { directory = e; rules = y.rules; server = server; installing = kept_then t (Ok p) })
+    (k : KeepsHistory b y) (under : IsUnderWay k.installed.world s y.directory) (goes_reached : (p : Phase) → Goes next s t (Ok p) → t.reached ≡ Some p) where
+  pub kept_stepped : (p : Phase) (caller : ℕ) → OneMore b y.server (Stepped p) caller b' server → Goes next s t (Ok p)
+      → way.StepLeads s t y.directory e (Ok p)
+      → ((p ≡ Fresh → b'.lists ≡ option_map (λ (all : List (List Rule)). all ++ t.rules ∷ []) b.lists) × (p ≢ Fresh → b'.lists ≡ b.lists))
+      → KeepsHistory b' (record { directory = e; rules = y.rules; server = server; installing = kept_then t (Ok p) })
   kept_stepped p caller more goes leads texts =
       let moved = stepped k.installed.world s t y.directory e under p goes.2 (goes_reached p goes) leads in
       record {
@@ -107,8 +116,9 @@ module _ {b b' : Books} (y : YardState) (server : ServerState) (e : Directory) (
       by Named v moves has which = subst (λ (o : Option (List (List Rule))). IfSome o (λ all. v.accepted ≡ k.installed.first.accepted ++ map Some all)) (sym (which.1 (λ x. absurd (cc)))) (texts_same b.lists k.installed.world v k.installed.first.accepted (accepted_other Named k.installed.world v (λ x. absurd (cc)) moves) k.installed.accepted)
       by Done v moves has which = subst (λ (o : Option (List (List Rule))). IfSome o (λ all. v.accepted ≡ k.installed.first.accepted ++ map Some all)) (sym (which.1 (λ x. absurd (cc)))) (texts_same b.lists k.installed.world v k.installed.first.accepted (accepted_other Done k.installed.world v (λ x. absurd (cc)) moves) k.installed.accepted)
 
-  pub kept_failed : (p : Phase) (caller : ℕ) → OneMore b.told b.count b.stored y.server (StepFailed p) caller b'.told b'.count b'.stored server → b'.lists ≡ b.lists → way.LeadsOn s t y.directory e (Err (Disk Device p))
-      → IsKeptBy b' (record { directory = e; rules = y.rules; server = server; installing = None })
+  pub kept_failed : (p : Phase) (caller : ℕ) → OneMore b y.server (StepFailed p) caller b' server → b'.lists ≡ b.lists
+      → way.StepLeads s t y.directory e (Err (Disk Device p))
+      → KeepsHistory b' (record { directory = e; rules = y.rules; server = server; installing = None })
   kept_failed p caller more same leads =
       let moved = step_failed k.installed.world s t y.directory e under p leads in
       record {
@@ -118,21 +128,21 @@ module _ {b b' : Books} (y : YardState) (server : ServerState) (e : Directory) (
       }
 
 -- by the answer of a step
-pub kept_result : {J : Type 0} (told : J → Report) (count : J → ℕ) (stored : J → Option (List Noted)) (lists : J → Option (List (List Rule))) (d e : Directory) (rules : Option RulesName) (installing : Option Installing) (s t : Installing) (next : Phase) (result : Result Phase InstallFault) (old new : Roll J)
-    (k : IsKeptBy (books_by told count stored lists old.journal) (record { directory = d; rules = rules; server = old.server; installing = installing })) → installing ≡ Some s → IsUnderWay k.installed.world s d → old.server.limit < 2 ^ 64 → NotesSome told count stored (step_event result) old new → Goes next s t result → IsOfDevice result
-    → way.LeadsOn s t d e result → (step_event result ≡ None → e ≡ d) → next ≢ Fresh → lists new.journal ≡ lists old.journal
-    → IsKeptBy (books_by told count stored lists new.journal) (record { directory = e; rules = rules; server = new.server; installing = kept_then t result })
-kept_result told count stored lists d e rules installing s t next (Ok p) old new k kept under small noted goes device leads still later same =
-    kept_stepped (record { directory = d; rules = rules; server = old.server; installing = installing }) new.server e s t next k under (λ q g. g.1 ∙ ap (λ (x : Phase). Some x) (sym g.0)) p old.speaker (one_more_of told count stored (Stepped p) old new small tt noted) goes leads ((λ is. absurd (later (sym goes.0 ∙ is))), λ other. same)
-kept_result told count stored lists d e rules installing s t next (Err (Disk Device p)) old new k kept under small noted goes device leads still later same =
-    kept_failed (record { directory = d; rules = rules; server = old.server; installing = installing }) new.server e s t next k under (λ q g. g.1 ∙ ap (λ (x : Phase). Some x) (sym g.0)) p old.speaker (one_more_of told count stored (StepFailed p) old new small tt noted) same leads
-kept_result told count stored lists d e rules installing s t next (Err (Disk NoScratch p)) old new k kept under small noted goes device leads still later same = absurd (cc)
-kept_result told count stored lists d e rules installing s t next (Err (Disk NoName p)) old new k kept under small noted goes device leads still later same = absurd (cc)
-kept_result told count stored lists d e rules installing s t next (Err (Disk NoMemory p)) old new k kept under small noted goes device leads still later same = absurd (cc)
-kept_result told count stored lists d e rules installing s t next (Err (Line fault)) old new k kept under small noted goes device leads still later same = absurd goes
-kept_result told count stored lists d e rules installing s t next (Err TooLarge) old new k kept under small noted goes device leads still later same = absurd goes
-kept_result told count stored lists d e rules installing s t next (Err Over) old new k kept under small noted goes device leads still later same = absurd goes
-kept_result told count stored lists d e rules installing s t next (Err OutOfMemory) old new k kept under small noted goes device leads still later same =
+pub kept_result : (d e : Directory) (rules : Option RulesName) (installing : Option Installing) (s t : Installing) (next : Phase) (result : Result Phase InstallFault) (old new : Roll)
+    (k : KeepsHistory old.books (record { directory = d; rules = rules; server = old.server; installing = installing })) → installing ≡ Some s → IsUnderWay k.installed.world s d → old.server.limit < 2 ^ 64 → NotesSome (step_event result) old new → Goes next s t result → IsOfDevice result
+    → way.StepLeads s t d e result → (step_event result ≡ None → e ≡ d) → next ≢ Fresh → new.books.lists ≡ old.books.lists
+    → KeepsHistory new.books (record { directory = e; rules = rules; server = new.server; installing = kept_then t result })
+kept_result d e rules installing s t next (Ok p) old new k kept under small noted goes device leads still later same =
+    kept_stepped (record { directory = d; rules = rules; server = old.server; installing = installing }) new.server e s t next k under (λ q g. g.1 ∙ ap (λ (x : Phase). Some x) (sym g.0)) p old.speaker (one_more_of (Stepped p) old new small tt noted) goes leads ((λ is. absurd (later (sym goes.0 ∙ is))), λ other. same)
+kept_result d e rules installing s t next (Err (Disk Device p)) old new k kept under small noted goes device leads still later same =
+    kept_failed (record { directory = d; rules = rules; server = old.server; installing = installing }) new.server e s t next k under (λ q g. g.1 ∙ ap (λ (x : Phase). Some x) (sym g.0)) p old.speaker (one_more_of (StepFailed p) old new small tt noted) same leads
+kept_result d e rules installing s t next (Err (Disk NoScratch p)) old new k kept under small noted goes device leads still later same = absurd (cc)
+kept_result d e rules installing s t next (Err (Disk NoName p)) old new k kept under small noted goes device leads still later same = absurd (cc)
+kept_result d e rules installing s t next (Err (Disk NoMemory p)) old new k kept under small noted goes device leads still later same = absurd (cc)
+kept_result d e rules installing s t next (Err (Line fault)) old new k kept under small noted goes device leads still later same = absurd goes
+kept_result d e rules installing s t next (Err TooLarge) old new k kept under small noted goes device leads still later same = absurd goes
+kept_result d e rules installing s t next (Err Over) old new k kept under small noted goes device leads still later same = absurd goes
+kept_result d e rules installing s t next (Err OutOfMemory) old new k kept under small noted goes device leads still later same =
     kept_quiet noted.tells noted.counts noted.stores same noted.stays (still refl) refl (ap (λ (x : Installing). Some x) goes ∙ sym kept) k
 
 -- an installation that was begun comes to no first phase again
@@ -154,14 +164,16 @@ some_rules None follows = absurd (follows refl)
 some_rules (Some r) follows = (r, refl)
 
 -- what a yard has after a step that is an event
-pub steps_to : {J : Type 0} (told : J → Report) (count : J → ℕ) (stored : J → Option (List Noted)) (t : Installing) (y z : YardState) (result : Result Phase InstallFault) (old new : Roll J) → NotesSome told count stored (step_event result) old new → y.server ≡ old.server → z.server ≡ new.server → z.rules ≡ y.rules → z.installing ≡ kept_then t result
+pub steps_to : (t : Installing) (y z : YardState) (result : Result Phase InstallFault) (old new : Roll)
+    → NotesSome (step_event result) old new → y.server ≡ old.server → z.server ≡ new.server → z.rules ≡ y.rules
+    → z.installing ≡ kept_then t result
     → (event : Event) → step_event result ≡ Some event → StepsTo y z event (kept_then t result)
-steps_to told count stored t y z (Ok p) old new noted was is rules kept event same = record { happens = is ∙ noted.happens ∙ ap (λ (u : ServerState). after u (Stepped p)) (sym was) ∙ ap (λ (x : Event). after y.server x) (same_some (Stepped p) event same); rules = rules; installing = kept }
-steps_to told count stored t y z (Err (Disk fault p)) old new noted was is rules kept event same = record { happens = is ∙ noted.happens ∙ ap (λ (u : ServerState). after u (StepFailed p)) (sym was) ∙ ap (λ (x : Event). after y.server x) (same_some (StepFailed p) event same); rules = rules; installing = kept }
-steps_to told count stored t y z (Err (Line fault)) old new noted was is rules kept event same = absurd (none_not_some event same)
-steps_to told count stored t y z (Err TooLarge) old new noted was is rules kept event same = absurd (none_not_some event same)
-steps_to told count stored t y z (Err Over) old new noted was is rules kept event same = absurd (none_not_some event same)
-steps_to told count stored t y z (Err OutOfMemory) old new noted was is rules kept event same = absurd (none_not_some event same)
+steps_to t y z (Ok p) old new noted was is rules kept event same = record { happens = is ∙ noted.happens ∙ ap (λ (u : ServerState). after u (Stepped p)) (sym was) ∙ ap (λ (x : Event). after y.server x) (same_some (Stepped p) event same); rules = rules; installing = kept }
+steps_to t y z (Err (Disk fault p)) old new noted was is rules kept event same = record { happens = is ∙ noted.happens ∙ ap (λ (u : ServerState). after u (StepFailed p)) (sym was) ∙ ap (λ (x : Event). after y.server x) (same_some (StepFailed p) event same); rules = rules; installing = kept }
+steps_to t y z (Err (Line fault)) old new noted was is rules kept event same = absurd (none_not_some event same)
+steps_to t y z (Err TooLarge) old new noted was is rules kept event same = absurd (none_not_some event same)
+steps_to t y z (Err Over) old new noted was is rules kept event same = absurd (none_not_some event same)
+steps_to t y z (Err OutOfMemory) old new noted was is rules kept event same = absurd (none_not_some event same)
 
 -- and after one that is none
 pub states : (y z : YardState) → z.directory ≡ y.directory → z.rules ≡ y.rules → z.server ≡ y.server → z.installing ≡ y.installing → z ≡ y
@@ -171,14 +183,17 @@ states y z d r s i =
     ∙ ap (λ (x : ServerState). record { directory = y.directory; rules = y.rules; server = x; installing = z.installing }) s
     ∙ ap (λ (x : Option Installing). record { directory = y.directory; rules = y.rules; server = y.server; installing = x }) i
 
-pub still_state : {J : Type 0} (told : J → Report) (count : J → ℕ) (stored : J → Option (List Noted)) (s t : Installing) (next : Phase) (y z : YardState) (result : Result Phase InstallFault) (old new : Roll J) → NotesSome told count stored (step_event result) old new → Goes next s t result → y.server ≡ old.server → z.server ≡ new.server → z.rules ≡ y.rules → y.installing ≡ Some s → z.installing ≡ kept_then t result
+pub still_state : (s t : Installing) (next : Phase) (y z : YardState) (result : Result Phase InstallFault) (old new : Roll)
+    → NotesSome (step_event result) old new → Goes next s t result → y.server ≡ old.server → z.server ≡ new.server → z.rules ≡ y.rules
+    → y.installing ≡ Some s → z.installing ≡ kept_then t result
     → (step_event result ≡ None → z.directory ≡ y.directory) → step_event result ≡ None → z ≡ y
-still_state told count stored s t next y z (Ok p) old new noted goes was is rules kept after_it still none = absurd (none_not_some (Stepped p) (sym none))
-still_state told count stored s t next y z (Err (Disk fault p)) old new noted goes was is rules kept after_it still none = absurd (none_not_some (StepFailed p) (sym none))
-still_state told count stored s t next y z (Err (Line fault)) old new noted goes was is rules kept after_it still none = absurd goes
-still_state told count stored s t next y z (Err TooLarge) old new noted goes was is rules kept after_it still none = absurd goes
-still_state told count stored s t next y z (Err Over) old new noted goes was is rules kept after_it still none = absurd goes
-still_state told count stored s t next y z (Err OutOfMemory) old new noted goes was is rules kept after_it still none =
+still_state s t next y z (Ok p) old new noted goes was is rules kept after_it still none = absurd (none_not_some (Stepped p) (sym none))
+still_state s t next y z (Err (Disk fault p)) old new noted goes was is rules kept after_it still none =
+    absurd (none_not_some (StepFailed p) (sym none))
+still_state s t next y z (Err (Line fault)) old new noted goes was is rules kept after_it still none = absurd goes
+still_state s t next y z (Err TooLarge) old new noted goes was is rules kept after_it still none = absurd goes
+still_state s t next y z (Err Over) old new noted goes was is rules kept after_it still none = absurd goes
+still_state s t next y z (Err OutOfMemory) old new noted goes was is rules kept after_it still none =
     states y z (still refl) rules (is ∙ noted.stays ∙ sym was) (after_it ∙ ap (λ (x : Installing). Some x) goes ∙ sym kept)
 
 -- a step is never refused as over
@@ -186,7 +201,8 @@ pub not_over : (s t : Installing) (next : Phase) (result : Result Phase InstallF
 not_over s t next result goes is = subst (λ (r : Result Phase InstallFault). Goes next s t r) is goes
 
 -- which installation is kept, after a step
-pub kept_numbers : (result : Result Phase InstallFault) (number : ℕ) → (if is_kept_after result then Some number else None) ≡ kept_after_step result (Some number)
+pub kept_numbers : (result : Result Phase InstallFault) (number : ℕ)
+    → (if is_kept_after result then Some number else None) ≡ kept_after_step result (Some number)
 kept_numbers (Ok p) number = refl
 kept_numbers (Err (Disk fault p)) number = refl
 kept_numbers (Err (Line fault)) number = refl

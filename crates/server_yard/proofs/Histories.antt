@@ -1,14 +1,14 @@
 -- The history of a yard, and one event more.
 use Rattle.std.proofs.Common.{◌≡◌, ℕ, ◌<◌, ◌^◌, List, [], ◌∷◌, ◌++◌, map, true, false, Option, None, Some, refl, sym, ap, subst, ◌∙◌, arith}
-use Rattle.std.specs.Prelude.{IfSome, is_some, option_map}
+use Rattle.std.specs.Prelude.{Err, IfSome, Ok, OnErr, OnOk, Result, is_some, option_map}
 use Rattle.std.proofs.Props.{props}
 use mathlib.Core.Logic.{∥∥₁_map, ∥∥₁_elim}
-use Rattle.event_journals.specs.Journals.{FitsSerial, TellsOf, next_report, one_more}
+use Rattle.event_journals.specs.Journals.{Books, FitsSerial, TellsOf, next_report, one_more}
 use Rattle.event_journals.specs.declared.journal.Noted.{Noted}
 use Rattle.event_journals.proofs.ReportSteps.{goes_on as told_on}
+use Rattle.rule_lines.specs.Pairs.{Rule}
 use Rattle.server_events.specs.declared.event.Event.{Event}
 use Rattle.server_events.specs.declared.event.Stage.{Stage}
-use Rattle.server_events.specs.declared.report.Report.{Report}
 use Rattle.server_events.specs.ServerState.{ServerState, after, is_legal, may_happen, stage_of, start, state_after, without}
 use Rattle.server_events.specs.Worlds.{peer_of}
 use Rattle.server_events.proofs.History.{is_legal-snoc, state_after-snoc}
@@ -20,15 +20,15 @@ use Rattle.server_yard.specs.Rolls.{HasHistory, IsHistory, StoresNothing}
 use Rattle.server_yard.proofs.Peopled.{above_none}
 
 -- the empty history
-pub none_yet : (told : Report) (count : ℕ) (stored : Option (List Noted)) (limit per_address : ℕ) → TellsOf told count [] → StoresNothing stored → IsHistory told count stored (start limit per_address) []
-none_yet told count stored limit per_address tells_none stores_none = record {
+pub none_yet : (books : Books) (limit per_address : ℕ) → TellsOf books [] → StoresNothing books → IsHistory books (start limit per_address) []
+none_yet books limit per_address tells_none stores_none = record {
   tells = tells_none;
   legal = refl;
   leads = refl;
-  stores = go stored stores_none;
+  stores = go books.notes stores_none;
 }
   where
-    go : (o : Option (List Noted)) → StoresNothing o → IfSome o (λ notes. map (λ (n : Noted). n.event) notes ≡ [])
+    go : (o : Option (List Noted)) → IfSome o (λ notes. notes ≡ []) → IfSome o (λ notes. map (λ (n : Noted). n.event) notes ≡ [])
     go None none = tt
     go (Some notes) none = ap (λ (ns : List Noted). map (λ (n : Noted). n.event) ns) none
 
@@ -41,53 +41,70 @@ stored_on : (stored : Option (List Noted)) (n : Noted) (h : List Event) → IfSo
 stored_on None n h same = tt
 stored_on (Some notes) n h same = map-push notes n ∙ ap (λ (es : List Event). es ++ n.event ∷ []) same
 
--- what a roster has after an event, and what its journal tells then
-pub record OneMore (told : Report) (count : ℕ) (stored : Option (List Noted)) (s : ServerState) (e : Event) (caller : ℕ) (told' : Report) (count' : ℕ) (stored' : Option (List Noted)) (s' : ServerState) : Type 0 where
+-- what a register has after an event, and what its journal tells then
+pub record OneMore (books : Books) (s : ServerState) (e : Event) (caller : ℕ) (books' : Books) (s' : ServerState) : Type 0 where
   pub small : s.limit < 2 ^ 64
   pub fits : FitsSerial e
   pub may : may_happen s e ≡ true
   pub happens : s' ≡ after s e
-  pub tells_so : told' ≡ next_report told e
-  pub counts : count' ≡ one_more count
-  pub stores : stored' ≡ option_map (λ notes. notes ++ record { event = e; caller = caller } ∷ []) stored
+  pub tells_so : books'.report ≡ next_report books.report e
+  pub counts : books'.count ≡ one_more books.count
+  pub stores : books'.notes ≡ option_map (λ notes. notes ++ record { event = e; caller = caller } ∷ []) books.notes
 
-module _ {told told' : Report} {count count' : ℕ} {stored stored' : Option (List Noted)} {s s' : ServerState} {e : Event} {caller : ℕ} (more : OneMore told count stored s e caller told' count' stored' s') where
+module _ {books books' : Books} {s s' : ServerState} {e : Event} {caller : ℕ} (more : OneMore books s e caller books' s') where
   starts_same : start s'.limit s'.per_address ≡ start s.limit s.per_address
   starts_same =
       ap (λ (u : ServerState). start u.limit u.per_address) more.happens
       ∙ ap (λ (l : ℕ). start l (after s e).per_address) (limit_after s e)
       ∙ ap (λ (p : ℕ). start s.limit p) (per_address_after s e)
 
-  pub history_on : (h : List Event) → IsHistory told count stored s h → IsHistory told' count' stored' s' (h ++ e ∷ [])
+  pub history_on : (h : List Event) → IsHistory books s h → IsHistory books' s' (h ++ e ∷ [])
   history_on h is =
       let w = start s.limit s.per_address in
       let goes : is_legal w (h ++ e ∷ []) ≡ true = is_legal-snoc w h e is.legal ∙ ap (λ (u : ServerState). may_happen u e) (sym is.leads) ∙ more.may in
-      let so = told_on told count e s.limit s.per_address h more.small more.fits is.tells goes in
       record {
-        tells = record { report = more.tells_so ∙ so.report; number = more.counts ∙ so.number };
+        tells = told_on books books' e more.tells_so more.counts s.limit s.per_address h more.small more.fits is.tells goes;
         legal = ap (λ (u : ServerState). is_legal u (h ++ e ∷ [])) starts_same ∙ goes;
-        leads = more.happens ∙ ap (λ (u : ServerState). after u e) is.leads ∙ sym (state_after-snoc w h e) ∙ ap (λ (u : ServerState). state_after u (h ++ e ∷ [])) (sym starts_same);
-        stores = subst (λ (o : Option (List Noted)). IfSome o (λ notes. map (λ (x : Noted). x.event) notes ≡ h ++ e ∷ [])) (sym more.stores) (stored_on stored (record { event = e; caller = caller }) h is.stores);
+        leads =
+            more.happens ∙ ap (λ (u : ServerState). after u e) is.leads ∙ sym (state_after-snoc w h e)
+            ∙ ap (λ (u : ServerState). state_after u (h ++ e ∷ [])) (sym starts_same);
+        stores = subst (λ (o : Option (List Noted)). IfSome o (λ notes. map (λ (x : Noted). x.event) notes ≡ h ++ e ∷ [])) (sym more.stores) (stored_on books.notes (record { event = e; caller = caller }) h is.stores);
       }
 
-  pub has_history_on : HasHistory told count stored s → HasHistory told' count' stored' s'
-  has_history_on has = ∥∥₁_map has (λ (x : (h : List Event) × IsHistory told count stored s h). (x.0 ++ e ∷ [], history_on x.0 x.1))
+  pub has_history_on : HasHistory books s → HasHistory books' s'
+  has_history_on has = ∥∥₁_map has (λ (x : (h : List Event) × IsHistory books s h). (x.0 ++ e ∷ [], history_on x.0 x.1))
 
 -- the same history, of what tells the same
-pub history_same : {told told' : Report} {count count' : ℕ} {stored stored' : Option (List Noted)} {s s' : ServerState} → told' ≡ told → count' ≡ count → stored' ≡ stored → s' ≡ s → (h : List Event) → IsHistory told count stored s h → IsHistory told' count' stored' s' h
-history_same {told} {told'} {count} {count'} {stored} {stored'} {s} {s'} t c o w h is =
-    let a = subst (λ (x : Report). IsHistory x count stored s h) (sym t) is in
-    let b = subst (λ (x : ℕ). IsHistory told' x stored s h) (sym c) a in
-    let d = subst (λ (x : Option (List Noted)). IsHistory told' count' x s h) (sym o) b in
-    subst (λ (x : ServerState). IsHistory told' count' stored' x h) (sym w) d
+pub history_same : {books books' : Books} {s s' : ServerState} → books'.report ≡ books.report → books'.count ≡ books.count
+    → books'.notes ≡ books.notes → s' ≡ s
+    → (h : List Event) → IsHistory books s h → IsHistory books' s' h
+history_same {books} {books'} {s} {s'} r c n w h is = subst (λ (x : ServerState). IsHistory books' x h) (sym w) (record {
+  tells = record { report = r ∙ is.tells.report; number = c ∙ is.tells.number };
+  legal = is.legal;
+  leads = is.leads;
+  stores = subst (λ (o : Option (List Noted)). IfSome o (λ notes. map (λ (x : Noted). x.event) notes ≡ h)) (sym n) is.stores;
+})
 
-pub has_history_same : {told told' : Report} {count count' : ℕ} {stored stored' : Option (List Noted)} {s s' : ServerState} → told' ≡ told → count' ≡ count → stored' ≡ stored → s' ≡ s → HasHistory told count stored s → HasHistory told' count' stored' s'
-has_history_same {told} {told'} {count} {count'} {stored} {stored'} {s} {s'} t c o w has =
-    ∥∥₁_map has (λ (x : (h : List Event) × IsHistory told count stored s h). (x.0, history_same t c o w x.0 x.1))
+pub has_history_same : {books books' : Books} {s s' : ServerState} → books'.report ≡ books.report → books'.count ≡ books.count
+    → books'.notes ≡ books.notes → s' ≡ s
+    → HasHistory books s → HasHistory books' s'
+has_history_same {books} {books'} {s} {s'} r c n w has =
+    ∥∥₁_map has (λ (x : (h : List Event) × IsHistory books s h). (x.0, history_same r c n w x.0 x.1))
+
+-- and of the very same books
+pub has_history_kept : {books books' : Books} {s s' : ServerState} → books' ≡ books → s' ≡ s → HasHistory books s → HasHistory books' s'
+has_history_kept b w has = has_history_same (ap (λ (x : Books). x.report) b) (ap (λ (x : Books). x.count) b) (ap (λ (x : Books). x.notes) b) w has
+
+-- a list of rules was stored or not: all else is as before
+pub same_but_lists : {E : Type 0} (result : Result Unit E) (b b' : Books) (lists : Option (List (List Rule)))
+    → OnOk result (b' ≡ record b { lists = lists }) → OnErr result (b' ≡ b)
+    → (b'.report ≡ b.report) × (b'.count ≡ b.count) × (b'.notes ≡ b.notes)
+same_but_lists (Ok done) b b' lists kept err = (ap (λ (x : Books). x.report) kept, ap (λ (x : Books). x.count) kept, ap (λ (x : Books). x.notes) kept)
+same_but_lists (Err fault) b b' lists kept err = (ap (λ (x : Books). x.report) err, ap (λ (x : Books). x.count) err, ap (λ (x : Books). x.notes) err)
 
 -- the serials of a state that a history leads to rise
-pub rises : (told : Report) (count : ℕ) (stored : Option (List Noted)) (s : ServerState) (h : List Event) → IsHistory told count stored s h → Rise 0 s.connections s.last
-rises told count stored s h is =
+pub rises : (books : Books) (s : ServerState) (h : List Event) → IsHistory books s h → Rise 0 s.connections s.last
+rises books s h is =
     subst (λ (u : ServerState). Rise 0 u.connections u.last) (sym is.leads) (tells s.limit s.per_address h is.legal).rise
 
 none_is : {X : Type 0} (o : Option X) → o ≡ None → is_some o ≡ false
@@ -106,12 +123,13 @@ above_stage n low s h above = go (stage_of n s.connections) refl where
   go None is = refl
   go (Some t) is = let below = stage_of-le n t low s.connections s.last h is in absurd (omega (arith, below, above))
 
-pub distinct : (told : Report) (count : ℕ) (stored : Option (List Noted)) (s : ServerState) → HasHistory told count stored s → Distinct s
-distinct told count stored s has = record {
-  fresh_peer = λ n above. ∥∥₁_elim has (hlevel props) (λ (x : (h : List Event) × IsHistory told count stored s h). above_none n 0 s.connections s.last (rises told count stored s x.0 x.1) above);
-  fresh_stage = λ n above. ∥∥₁_elim has (hlevel props) (λ (x : (h : List Event) × IsHistory told count stored s h). above_stage n 0 s (rises told count stored s x.0 x.1) above);
-  gone_peer = λ n. ∥∥₁_elim has (hlevel props) (λ (x : (h : List Event) × IsHistory told count stored s h). none_is _ (peer_of-without n 0 s.connections s.last (rises told count stored s x.0 x.1)));
-  gone_stage = λ n. ∥∥₁_elim has (hlevel props) (λ (x : (h : List Event) × IsHistory told count stored s h). none_is _ (stage_of-without n 0 s.connections s.last (rises told count stored s x.0 x.1)));
+pub distinct : (books : Books) (s : ServerState) → HasHistory books s → Distinct s
+distinct books s has = record {
+  fresh_peer = λ n above. ∥∥₁_elim has (hlevel props) (λ (x : (h : List Event) × IsHistory books s h). above_none n 0 s.connections s.last (rises books s x.0 x.1) above);
+  fresh_stage =
+      λ n above. ∥∥₁_elim has (hlevel props) (λ (x : (h : List Event) × IsHistory books s h). above_stage n 0 s (rises books s x.0 x.1) above);
+  gone_peer = λ n. ∥∥₁_elim has (hlevel props) (λ (x : (h : List Event) × IsHistory books s h). none_is _ (peer_of-without n 0 s.connections s.last (rises books s x.0 x.1)));
+  gone_stage = λ n. ∥∥₁_elim has (hlevel props) (λ (x : (h : List Event) × IsHistory books s h). none_is _ (stage_of-without n 0 s.connections s.last (rises books s x.0 x.1)));
 }
 
 -- where the option is empty there is nothing

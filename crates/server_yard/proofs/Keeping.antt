@@ -4,20 +4,18 @@ use Rattle.std.specs.Prelude.{◌⊎◌, ◌||◌, IfOk, IsTrue, OnErr, Result, 
 use Rattle.std.proofs.lemmas.Bool.{true≢false}
 use Rattle.rules_install.specs.declared.Phase.{Phase}
 use Rattle.dir_calls.specs.Directory.{Directory, content}
-use Rattle.event_journals.specs.Journals.{FitsSerial}
-use Rattle.event_journals.specs.declared.journal.Noted.{Noted}
+use Rattle.event_journals.specs.Journals.{Books, FitsSerial}
 use Rattle.rule_lines.specs.Pairs.{Rule}
 use Rattle.rule_lines.specs.Lookups.{WhereKnown}
-use Rattle.rule_lookup.specs.Peers.{Client}
+use Rattle.connection_facts.specs.Peers.{Client}
 use Rattle.server_events.specs.ServerState.{ServerState}
 use Rattle.server_events.specs.Worlds.{RulesName, StandsFor}
 use Rattle.server_events.specs.declared.event.Event.{Event}
 use Rattle.server_events.specs.declared.event.Event.TheVariants.{Admitted, Opened, Decided, Started, StartFailed, Ended, Retired, Dropped, Stepped, StepFailed, Stop}
-use Rattle.server_events.specs.declared.report.Report.{Report}
 use Rattle.server_events.proofs.WholeText.{reached_whole}
-use Rattle.server_yard.specs.Installed.{IsKeptBy, IsWholeFile, installs_of}
+use Rattle.server_yard.specs.Installed.{KeepsHistory, IsWholeFile, installs_of}
 use Rattle.server_yard.specs.Passes.{trust_in}
-use Rattle.server_yard.specs.Rolls.{Books, IsQuiet, Notes, Roll}
+use Rattle.server_yard.specs.Rolls.{IsQuiet, Notes, Roll}
 use Rattle.server_yard.specs.Seating.{goes_on, is_installing, leaver}
 use Rattle.server_yard.specs.Standing.{YardState}
 use Rattle.server_yard.specs.Yards.{IsSameBeside, IsSameButDirectory, yard_over, yard_roll, yard_state}
@@ -79,9 +77,9 @@ leaver_plain (StepFailed phase) n k = absurd (cc)
 leaver_plain Stop n k = absurd (cc)
 
 -- what is noted is one event more
-pub one_more_of : {J : Type 0} (told : J → Report) (count : J → ℕ) (stored : J → Option (List Noted)) (e : Event) (old new : Roll J) → old.server.limit < 2 ^ 64 → FitsSerial e → Notes told count stored e old new
-    → OneMore (told old.journal) (count old.journal) (stored old.journal) old.server e old.speaker (told new.journal) (count new.journal) (stored new.journal) new.server
-one_more_of told count stored e old new small fits noted = record {
+pub one_more_of : (e : Event) (old new : Roll) → old.server.limit < 2 ^ 64 → FitsSerial e → Notes e old new
+    → OneMore old.books old.server e old.speaker new.books new.server
+one_more_of e old new small fits noted = record {
   small = small;
   fits = fits;
   may = noted.may;
@@ -93,7 +91,8 @@ one_more_of told count stored e old new small fits noted = record {
 
 -- the installations of a history with one event of a connection more left the same
 pub kept_on : {b b' : Books} {y y' : YardState} {e : Event} {caller : ℕ}
-    → is_connection's e ≡ true → b'.lists ≡ b.lists → y'.directory ≡ y.directory → y'.rules ≡ y.rules → y'.installing ≡ y.installing → OneMore b.told b.count b.stored y.server e caller b'.told b'.count b'.stored y'.server → IsKeptBy b y → IsKeptBy b' y'
+    → is_connection's e ≡ true → b'.lists ≡ b.lists → y'.directory ≡ y.directory → y'.rules ≡ y.rules → y'.installing ≡ y.installing
+    → OneMore b y.server e caller b' y'.server → KeepsHistory b y → KeepsHistory b' y'
 kept_on {b} {b'} {y} {y'} {e} {caller} own l same r i more k = record {
   history = k.history ++ e ∷ [];
   is_history = history_on more k.history k.is_history;
@@ -101,20 +100,31 @@ kept_on {b} {b'} {y} {y'} {e} {caller} own l same r i more k = record {
 }
 
 -- a yard that noted an event of a connection, and is the same beside
-pub goes_to : {L D J F : Type 0} {p : _} {l : _} {d : _} {j : _} (state : D → Directory) (told : J → Report) (count : J → ℕ) (stored : J → Option (List Noted)) (lists : J → Option (List (List Rule))) (e : Event) (old new : Yard L D J F p l d j)
-    → Notes told count stored e (yard_roll old) (yard_roll new) → IsSameBeside lists old new → GoesTo (yard_state state old) (yard_state state new) e
-goes_to state told count stored lists e old new noted same = record {
+pub goes_to : {L D J F : Type 0} {p : _} {l : _} {d : _} {j : _} (e : Event) (old new : Yard L D J F p l d j)
+    → Notes e (yard_roll old) (yard_roll new) → IsSameBeside old new → GoesTo (yard_state old) (yard_state new) e
+goes_to {l = l} e old new noted same = record {
   may = noted.may;
   happens = noted.happens;
-  directory = ap state same.directory;
+  directory = ap l.state same.directory;
+  rules = same.rules;
+  installing = same.installing;
+}
+
+-- and so over any directory
+pub goes_over : {L D J F : Type 0} {p : _} {l : _} {d : _} {j : _} (directory : Directory) (e : Event) (old new : Yard L D J F p l d j)
+    → Notes e (yard_roll old) (yard_roll new) → IsSameBeside old new → GoesTo (yard_over directory old) (yard_over directory new) e
+goes_over directory e old new noted same = record {
+  may = noted.may;
+  happens = noted.happens;
+  directory = refl;
   rules = same.rules;
   installing = same.installing;
 }
 
 -- a yard that is the same but for its directory is so over any directory
-pub same_over : {L D J F : Type 0} {p : _} {l : _} {d : _} {j : _} (lists : J → Option (List (List Rule))) (directory : Directory) (old new : Yard L D J F p l d j)
-    → yard_roll new ≡ yard_roll old → IsSameButDirectory lists old new → yard_over directory new ≡ yard_over directory old
-same_over lists directory old new roll same = λ i.
+pub same_over : {L D J F : Type 0} {p : _} {l : _} {d : _} {j : _} (directory : Directory) (old new : Yard L D J F p l d j)
+    → yard_roll new ≡ yard_roll old → IsSameButDirectory old new → yard_over directory new ≡ yard_over directory old
+same_over directory old new roll same = λ i.
     let y : YardState = record { directory = directory; rules = same.rules i; server = (roll i).server; installing = same.installing i } in y
 
 -- what stands under the rules name is compiled of rules, or nothing
@@ -122,7 +132,7 @@ whole_of : (text : Option (List Rule)) (bytes : Option (List ℕ)) → StandsFor
 whole_of None bytes none = subst (λ (o : Option (List ℕ)). IsWholeFile o) (sym none) tt
 whole_of (Some rules) bytes stands = subst (λ (o : Option (List ℕ)). IsWholeFile o) (sym stands.1) (rules, stands.2)
 
-pub stands_whole : {b : Books} {y : YardState} → IsKeptBy b y → (r : RulesName) → y.rules ≡ Some r → IsWholeFile (content y.directory r.name)
+pub stands_whole : {b : Books} {y : YardState} → KeepsHistory b y → (r : RulesName) → y.rules ≡ Some r → IsWholeFile (content y.directory r.name)
 stands_whole {b} {y} k r is =
     let it = k.installed in
     let has = reached_whole (installs_of k.history) it.world r (reached_by it) (it.has_rules ∙ is) in
@@ -136,10 +146,11 @@ known_of true false P (Some bytes) is known = known
 known_of false sound P (Some bytes) is known = absurd (cc)
 
 -- a connection was let in, or not
-pub admitted_or_not : {J X E : Type 0} (told : J → Report) (count : J → ℕ) (stored : J → Option (List Noted)) (peer : Client) (old new : Roll J) (result : Result (ℕ × X) E) → IfOk result (λ r. Notes told count stored (Admitted r.0 peer) old new) → IfOk result (λ r. r.0 < 2 ^ 64) → OnErr result (IsQuiet told count stored old new)
-    → ((n : ℕ) × Notes told count stored (Admitted n peer) old new × (n < 2 ^ 64)) ⊎ IsQuiet told count stored old new
-admitted_or_not told count stored peer old new (Ok r) noted fits quiet = inl (r.0, noted, fits)
-admitted_or_not told count stored peer old new (Err fault) noted fits quiet = inr quiet
+pub admitted_or_not : {X E : Type 0} (peer : Client) (old new : Roll) (result : Result (ℕ × X) E)
+    → IfOk result (λ r. Notes (Admitted r.0 peer) old new) → IfOk result (λ r. r.0 < 2 ^ 64) → OnErr result (IsQuiet old new)
+    → ((n : ℕ) × Notes (Admitted n peer) old new × (n < 2 ^ 64)) ⊎ IsQuiet old new
+admitted_or_not peer old new (Ok r) noted fits quiet = inl (r.0, noted, fits)
+admitted_or_not peer old new (Err fault) noted fits quiet = inr quiet
 
 pub if_ok : {X E : Type 0} {P Q : X → Type 0} (result : Result X E) → IfOk result P → ((x : X) → P x → Q x) → IfOk result Q
 if_ok (Ok x) is then_so = then_so x is
@@ -147,7 +158,8 @@ if_ok (Err fault) is then_so = tt
 
 -- nothing was noted
 pub kept_quiet : {b b' : Books} {y y' : YardState}
-    → b'.told ≡ b.told → b'.count ≡ b.count → b'.stored ≡ b.stored → b'.lists ≡ b.lists → y'.server ≡ y.server → y'.directory ≡ y.directory → y'.rules ≡ y.rules → y'.installing ≡ y.installing → IsKeptBy b y → IsKeptBy b' y'
+    → b'.report ≡ b.report → b'.count ≡ b.count → b'.notes ≡ b.notes → b'.lists ≡ b.lists → y'.server ≡ y.server
+    → y'.directory ≡ y.directory → y'.rules ≡ y.rules → y'.installing ≡ y.installing → KeepsHistory b y → KeepsHistory b' y'
 kept_quiet {b} {b'} {y} {y'} t c o l w e r i k = record {
   history = k.history;
   is_history = history_same t c o w k.history k.is_history;

@@ -9,7 +9,6 @@ pub mod Stepped
 pub mod Reached
 pub mod Installs
 pub mod Opened
-pub mod OpenedWithin
 pub mod Outcomes
 pub mod Leaving
 pub mod Living

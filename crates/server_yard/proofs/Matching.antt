@@ -4,7 +4,7 @@ use Rattle.std.specs.Prelude.{is_some, option_and_then, option_map, Ok}
 use Rattle.cdb_read.specs.Reading.{reading}
 use Rattle.dir_calls.specs.Directory.{Directory, content}
 use Rattle.rule_lookup.specs.Decisions.{decision_from}
-use Rattle.rule_lookup.specs.Peers.{Client}
+use Rattle.connection_facts.specs.Peers.{Client}
 use Rattle.rule_lookup.specs.declared.decision.Decision.{Decision}
 use Rattle.rules_install.specs.Installing.{Installing}
 use Rattle.server_events.specs.ServerState.{ServerState, after, may_happen}
@@ -101,7 +101,8 @@ standing_is y files w at =
     ap (λ (d : Directory). option_and_then (λ (r : RulesName). content d r.name) w.rules) at.directory
     ∙ ap (λ (o : Option RulesName). option_and_then (λ (r : RulesName). content y.directory r.name) o) at.rules
 
-pub opened_leads : (y z : YardState) (n : ℕ) (bytes : Option (List ℕ)) → GoesTo y z (Opened n (is_some bytes)) → bytes ≡ standing_of y → LeadsOpened n bytes y z
+pub opened_leads : (y z : YardState) (n : ℕ) (bytes : Option (List ℕ)) → GoesTo y z (Opened n (is_some bytes)) → bytes ≡ standing_of y
+    → LeadsOpened n bytes y z
 opened_leads y z n bytes to found files w at =
     let e = Opened n (is_some bytes) in
     let is : bytes ≡ standing w = found ∙ sym (standing_is y files w at) in
@@ -114,7 +115,8 @@ opened_leads y z n bytes to found files w at =
     } in
     (v, step, then_matches y z e refl to files w at v (files ++ record { serial = n; bytes = bytes } ∷ []) refl)
 
-pub decided_leads : (y z : YardState) (n : ℕ) (bytes : Option (List ℕ)) (decision : Decision) (peer : Client) → GoesTo y z (Decided n decision) → peer_of n y.server.connections ≡ Some peer
+pub decided_leads : (y z : YardState) (n : ℕ) (bytes : Option (List ℕ)) (decision : Decision) (peer : Client)
+    → GoesTo y z (Decided n decision) → peer_of n y.server.connections ≡ Some peer
     → decision_from (option_map reading bytes) (missing_by y.rules) peer ≡ Ok decision → LeadsDecided n bytes decision y z
 decided_leads y z n bytes decision peer to its decides files keeps w at =
     let e = Decided n decision in

@@ -6,7 +6,8 @@ use Rattle.dir_calls.specs.Methods.{OpenElapses}
 
 -- an opening changes nothing, so that it is an image of the directory as it is
 pub left_by_opening : {D : Type 0} (state : D → Directory) (moment : D → ℕ) (left_since : D → ℕ → Directory → Type 0) (old new : D)
-    → ((image : Directory) → left_since old (moment old) image → IsImage (state old) image) → OpenElapses state moment left_since old new → state new ≡ state old
+    → ((image : Directory) → left_since old (moment old) image → IsImage (state old) image) → OpenElapses state moment left_since old new
+    → state new ≡ state old
     → (image : Directory) → left_since new (moment old) image → IsImage (state new) image
 left_by_opening state moment left_since old new only time same image left =
     subst (λ (d : Directory). IsImage d image) (sym same)

@@ -25,7 +25,8 @@ use Rattle.server_yard.specs.Telling.{AreApart, is_apart}
 
 -- ---- changes of two connections, in either order
 
-with_stage-swap : (n m : ℕ) (s t : Stage) (cs : List Connection) → (m == n) ≡ false → with_stage m t (with_stage n s cs) ≡ with_stage n s (with_stage m t cs)
+with_stage-swap : (n m : ℕ) (s t : Stage) (cs : List Connection) → (m == n) ≡ false
+    → with_stage m t (with_stage n s cs) ≡ with_stage n s (with_stage m t cs)
 with_stage-swap n m s t [] other = refl
 with_stage-swap n m s t (c ∷ cs) other =
     elim (c.serial == n) as (λ b. (c.serial == n) ≡ b → with_stage m t (if b then ((record c { stage = s }) ∷ cs) else (c ∷ with_stage n s cs)) ≡ with_stage n s (if c.serial == m then ((record c { stage = t }) ∷ cs) else (c ∷ with_stage m t cs))) [
@@ -49,7 +50,8 @@ with_stage-without n m s (c ∷ cs) other =
           ]
     ] refl
 
-with_stage-push : (n : ℕ) (s t : Stage) (cs : List Connection) (c : Connection) → stage_of n cs ≡ Some t → with_stage n s (cs ++ c ∷ []) ≡ with_stage n s cs ++ c ∷ []
+with_stage-push : (n : ℕ) (s t : Stage) (cs : List Connection) (c : Connection) → stage_of n cs ≡ Some t
+    → with_stage n s (cs ++ c ∷ []) ≡ with_stage n s cs ++ c ∷ []
 with_stage-push n s t [] c e = absurd (cc)
 with_stage-push n s t (x ∷ cs) c e =
     elim (x.serial == n) as (λ b. (if b then Some x.stage else stage_of n cs) ≡ Some t → (if b then ((record x { stage = s }) ∷ (cs ++ c ∷ [])) else (x ∷ with_stage n s (cs ++ c ∷ []))) ≡ (if b then ((record x { stage = s }) ∷ cs) else (x ∷ with_stage n s cs)) ++ c ∷ []) [
@@ -79,7 +81,8 @@ not_its n m is = elim (n == m) as (λ b. (n == m) ≡ b → not b ≡ true → (
 
 -- what may happen to others may happen there
 its_stage : (n m : ℕ) (s : ServerState) → (m == n) ≡ false → stage_of m (opened n s).connections ≡ stage_of m s.connections
-its_stage n m s other = stage_of-with_stage_other m n stage.Opened s.connections (let back : (n == m) ≡ false = grind (arith, nat_tests, other) in back)
+its_stage n m s other =
+    stage_of-with_stage_other m n stage.Opened s.connections (let back : (n == m) ≡ false = grind (arith, nat_tests, other) in back)
 
 may_there : (n : ℕ) (s : ServerState) (event : Event) → is_apart n event ≡ true → may_happen (opened n s) event ≡ may_happen s event
 may_there n s (Admitted m peer) apart =
@@ -100,11 +103,14 @@ may_there n s Stop apart = absurd (cc)
 with_connections : (s : ServerState) (cs ds : List Connection) → cs ≡ ds → (record s { connections = cs }) ≡ record s { connections = ds }
 with_connections s cs ds is = ap (λ (xs : List Connection). record s { connections = xs }) is
 
-leads_there : (n : ℕ) (s : ServerState) (event : Event) → stage_of n s.connections ≡ Some stage.Admitted → is_apart n event ≡ true → after (opened n s) event ≡ opened n (after s event)
+leads_there : (n : ℕ) (s : ServerState) (event : Event) → stage_of n s.connections ≡ Some stage.Admitted → is_apart n event ≡ true
+    → after (opened n s) event ≡ opened n (after s event)
 leads_there n s (Admitted m peer) waits apart =
     ap (λ (cs : List Connection). record s { last = m; connections = cs }) (sym (with_stage-push n stage.Opened stage.Admitted s.connections (newcomer m peer) waits))
-leads_there n s (Opened m there) waits apart = with_connections s _ _ (with_stage-swap n m stage.Opened stage.Opened s.connections (not_its n m apart))
-leads_there n s (Decided m decision) waits apart = with_connections s _ _ (with_stage-swap n m stage.Opened (stage.Decided decision.verdict) s.connections (not_its n m apart))
+leads_there n s (Opened m there) waits apart =
+    with_connections s _ _ (with_stage-swap n m stage.Opened stage.Opened s.connections (not_its n m apart))
+leads_there n s (Decided m decision) waits apart =
+    with_connections s _ _ (with_stage-swap n m stage.Opened (stage.Decided decision.verdict) s.connections (not_its n m apart))
 leads_there n s (Started m) waits apart = with_connections s _ _ (with_stage-swap n m stage.Opened stage.Started s.connections (not_its n m apart))
 leads_there n s (StartFailed m fault) waits apart = with_connections s _ _ (with_stage-without n m stage.Opened s.connections (not_its n m apart))
 leads_there n s (Ended m status) waits apart = with_connections s _ _ (with_stage-without n m stage.Opened s.connections (not_its n m apart))
@@ -115,10 +121,12 @@ leads_there n s (StepFailed phase) waits apart = refl
 leads_there n s Stop waits apart = absurd (cc)
 
 -- the connection itself waits on
-waits_on : (n : ℕ) (s : ServerState) (event : Event) → stage_of n s.connections ≡ Some stage.Admitted → is_apart n event ≡ true → stage_of n (after s event).connections ≡ Some stage.Admitted
+waits_on : (n : ℕ) (s : ServerState) (event : Event) → stage_of n s.connections ≡ Some stage.Admitted → is_apart n event ≡ true
+    → stage_of n (after s event).connections ≡ Some stage.Admitted
 waits_on n s (Admitted m peer) waits apart = stage_of-push_found n stage.Admitted s.connections (newcomer m peer) waits
 waits_on n s (Opened m there) waits apart = stage_of-with_stage_other n m stage.Opened s.connections (not_its n m apart) ∙ waits
-waits_on n s (Decided m decision) waits apart = stage_of-with_stage_other n m (stage.Decided decision.verdict) s.connections (not_its n m apart) ∙ waits
+waits_on n s (Decided m decision) waits apart =
+    stage_of-with_stage_other n m (stage.Decided decision.verdict) s.connections (not_its n m apart) ∙ waits
 waits_on n s (Started m) waits apart = stage_of-with_stage_other n m stage.Started s.connections (not_its n m apart) ∙ waits
 waits_on n s (StartFailed m fault) waits apart = stage_of-without_other n m s.connections (not_its n m apart) ∙ waits
 waits_on n s (Ended m status) waits apart = stage_of-without_other n m s.connections (not_its n m apart) ∙ waits
@@ -135,7 +143,8 @@ record Keeps (n : ℕ) (bytes : Option (List ℕ)) (old new : List KeptFile) : T
   own : kept_by n new ≡ Some bytes
   others : (m : ℕ) → m ≢ n → kept_by m new ≡ kept_by m old
 
-kept_by-push_found : (n : ℕ) (bytes : Option (List ℕ)) (ks : List KeptFile) (k : KeptFile) → kept_by n ks ≡ Some bytes → kept_by n (ks ++ k ∷ []) ≡ Some bytes
+kept_by-push_found : (n : ℕ) (bytes : Option (List ℕ)) (ks : List KeptFile) (k : KeptFile) → kept_by n ks ≡ Some bytes
+    → kept_by n (ks ++ k ∷ []) ≡ Some bytes
 kept_by-push_found n bytes [] k e = absurd (cc)
 kept_by-push_found n bytes (x ∷ ks) k e =
     elim (x.serial == n) as (λ b. (if b then Some x.bytes else kept_by n ks) ≡ Some bytes → (if b then Some x.bytes else kept_by n (ks ++ k ∷ [])) ≡ Some bytes) [
@@ -169,7 +178,8 @@ kept_by-push_same m xs ys k same = at_end xs ∙ ap (λ o. first_of o (kept_by m
           | false ↦ at_end ks
         ]
 
-keeps_more : (n : ℕ) (bytes : Option (List ℕ)) (old new : List KeptFile) (k : KeptFile) → Keeps n bytes old new → Keeps n bytes (old ++ k ∷ []) (new ++ k ∷ [])
+keeps_more : (n : ℕ) (bytes : Option (List ℕ)) (old new : List KeptFile) (k : KeptFile) → Keeps n bytes old new
+    → Keeps n bytes (old ++ k ∷ []) (new ++ k ∷ [])
 keeps_more n bytes old new k keeps = record {
   own = kept_by-push_found n bytes new k keeps.own;
   others = λ m other. kept_by-push_same m new old k (keeps.others m other);
@@ -195,7 +205,8 @@ module _ (n : ℕ) (bytes : Option (List ℕ)) (w x : World) (kept : List KeptFi
   plainly : x ≡ record w { server = x.server } → already n kept x ≡ record (already n kept w) { server = opened n x.server }
   plainly m = ap (λ (y : World). record y { server = opened n x.server; kept = kept }) m
 
-  moves_there : (event : Event) → is_apart n event ≡ true → Keeps n bytes w.kept kept → Moves event w x → Moves event (already n kept w) (then_there event)
+  moves_there : (event : Event) → is_apart n event ≡ true → Keeps n bytes w.kept kept → Moves event w x
+      → Moves event (already n kept w) (then_there event)
   moves_there (Admitted m peer) apart keeps moves = plainly moves
   moves_there (Opened m there) apart keeps moves = (
     moves.0,
@@ -215,11 +226,13 @@ module _ (n : ℕ) (bytes : Option (List ℕ)) (w x : World) (kept : List KeptFi
   moves_there (Retired m) apart keeps moves = plainly moves
   moves_there (Dropped m cause) apart keeps moves = plainly moves
   moves_there (Stepped phase) apart keeps moves = advances_there phase moves
-  moves_there (StepFailed phase) apart keeps moves = (moves.0, moves.1, moves.2, ap (λ (y : World). record y { server = opened n x.server; kept = kept }) moves.3)
+  moves_there (StepFailed phase) apart keeps moves =
+      (moves.0, moves.1, moves.2, ap (λ (y : World). record y { server = opened n x.server; kept = kept }) moves.3)
   moves_there Stop apart keeps moves = absurd (cc)
 
   -- a step is one there
-  step_there : (event : Event) → is_apart n event ≡ true → stage_of n w.server.connections ≡ Some stage.Admitted → Keeps n bytes w.kept kept → Step w event x → Step (already n kept w) event (then_there event)
+  step_there : (event : Event) → is_apart n event ≡ true → stage_of n w.server.connections ≡ Some stage.Admitted → Keeps n bytes w.kept kept
+      → Step w event x → Step (already n kept w) event (then_there event)
   step_there event apart waits keeps step =
       let is = step_is step.table in
       record {
@@ -232,7 +245,8 @@ module _ (n : ℕ) (bytes : Option (List ℕ)) (w x : World) (kept : List KeptFi
   keeps_as new is keeps = subst (λ (ks : List KeptFile). Keeps n bytes ks new) (sym is) keeps
 
   -- and what is kept after it
-  keeps_there : (event : Event) → is_apart n event ≡ true → Keeps n bytes w.kept kept → Moves event w x → Keeps n bytes x.kept (kept_after (already n kept w) event)
+  keeps_there : (event : Event) → is_apart n event ≡ true → Keeps n bytes w.kept kept → Moves event w x
+      → Keeps n bytes x.kept (kept_after (already n kept w) event)
   keeps_there (Admitted m peer) apart keeps moves = keeps_as kept (moves_same (Admitted m peer) w x moves).0 keeps
   keeps_there (Opened m there) apart keeps moves =
       let found : KeptFile = record { serial = m; bytes = standing w } in
@@ -290,7 +304,8 @@ another n m other = elim (n == m) as (λ b. (n == m) ≡ b → b ≡ false) [
   | false ↦ λ apart. refl
 ] refl
 
-pub opens_at_once : (history : List Event) (u w : World) (events : List Event) (n : ℕ) → Reaches history u → stage_of n u.server.connections ≡ Some stage.Admitted
+pub opens_at_once : (history : List Event) (u w : World) (events : List Event) (n : ℕ) → Reaches history u
+    → stage_of n u.server.connections ≡ Some stage.Admitted
     → Woven u events w → AreApart n events → OpensAtOnce n u events w
 opens_at_once history u w events n reaches waits woven apart =
     let found : KeptFile = record { serial = n; bytes = standing u } in

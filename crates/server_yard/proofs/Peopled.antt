@@ -2,7 +2,7 @@
 use Rattle.std.proofs.Common.{◌≡◌, ℕ, ◌+◌, ◌<◌, ◌≤◌, List, [], ◌∷◌, length, true, false, ◌==◌, cond, Option, None, Some, refl, sym, ap, ◌∙◌, arith, add_comm, bytes_eq}
 use Rattle.std.specs.Prelude.{if◌then◌else◌, is_some}
 use Rattle.std.proofs.lemmas.Bool.Decides.{nat_tests}
-use Rattle.rule_lookup.specs.Peers.{Client}
+use Rattle.connection_facts.specs.Peers.{Client}
 use Rattle.server_events.specs.declared.event.Event.{Event}
 use Rattle.server_events.specs.declared.event.Event.TheVariants.{Admitted, Opened, Decided, Started, StartFailed, Ended, Retired, Dropped, Stepped, StepFailed, Stop}
 use Rattle.server_events.specs.declared.event.Stage.{Stage}
@@ -84,7 +84,8 @@ some_client : (x y : Client) → ◌≡◌ {A = Option Client} (Some x) (Some y)
 some_client x y e = cc
 
 -- one goes, from its own address alone
-pub count_from-without-some : (n : ℕ) (peer : Client) (ip : List ℕ) (cs : List Connection) → peer_of n cs ≡ Some peer → count_from ip (without n cs) + cond (bytes_eq peer.ip ip) 1 0 ≡ count_from ip cs
+pub count_from-without-some : (n : ℕ) (peer : Client) (ip : List ℕ) (cs : List Connection) → peer_of n cs ≡ Some peer
+    → count_from ip (without n cs) + cond (bytes_eq peer.ip ip) 1 0 ≡ count_from ip cs
 count_from-without-some n peer ip [] e = absurd (cc)
 count_from-without-some n peer ip (c ∷ cs) e =
     elim (c.serial == n) as (λ b. (if b then Some c.peer else peer_of n cs) ≡ Some peer → count_from ip (if b then cs else (c ∷ without n cs)) + cond (bytes_eq peer.ip ip) 1 0 ≡ count_from ip (c ∷ cs)) [
@@ -116,7 +117,8 @@ above_none n low cs high h above = go (peer_of n cs) refl where
   go (Some peer) is = let below = peer_of-le n peer low cs high h is in absurd (omega (arith, below, above))
 
 -- nobody is retired by an event by which a connection goes on
-pub retired_goes_on : (w : ServerState) (e : Event) → goes_on e ≡ true → may_happen w e ≡ true → retired_in (after w e).connections ≡ retired_in w.connections
+pub retired_goes_on : (w : ServerState) (e : Event) → goes_on e ≡ true → may_happen w e ≡ true
+    → retired_in (after w e).connections ≡ retired_in w.connections
 retired_goes_on w (Admitted n peer) k m = absurd (cc)
 retired_goes_on w (Opened n there) k m = (moves w (Opened n there) m).retired
 retired_goes_on w (Decided n decision) k m = (moves w (Decided n decision) m).retired

@@ -8,7 +8,8 @@ use Rattle.server_yard.specs.Standing.{HasUnderWay, IsNew, IsReachedBy, Matches,
 use Rattle.server_yard.specs.Standing.Series.{none as no_call, more as one_more}
 
 -- a series leads on from each world that is the yard's
-pub goes_on : {y z : YardState} {files all : List KeptFile} {history : List Event} → Series y files history z all → (w : World) → Matches y files w → (v : World) × Legal w history v × Matches z all v
+pub goes_on : {y z : YardState} {files all : List KeptFile} {history : List Event} → Series y files history z all → (w : World)
+    → Matches y files w → (v : World) × Legal w history v × Matches z all v
 goes_on no_call w at = (w, none, at)
 goes_on (one_more leads rest) w at =
     let next = leads w at in

@@ -7,6 +7,7 @@ use Rattle.std.proofs.lemmas.List.Sums.{sum_by-cons}
 use mathlib.Core.Logic.{∥∥₁_map}
 use Rattle.dir_calls.specs.Directory.{Directory}
 use Rattle.dir_calls.specs.NameTable.{CanBeLeft, Names}
+use Rattle.event_journals.specs.Journals.{Books}
 use Rattle.rule_lines.specs.Pairs.{Rule}
 use Rattle.rules_install.specs.declared.Phase.{Phase}
 use Rattle.rules_install.specs.declared.Phase.TheVariants.{Fresh, Filling, Synced, Named, Done}
@@ -20,9 +21,8 @@ use Rattle.server_events.proofs.StandingTexts.{IsText}
 use Rattle.server_events.proofs.TableLemmas.{may_come_follows, step_is}
 use Rattle.server_events.proofs.WholeText.{Agree, good_reached, good_rules}
 use Rattle.server_yard.proofs.Installs.{reached_by}
-use Rattle.server_yard.specs.Installed.{IsKeptBy, installs_of}
+use Rattle.server_yard.specs.Installed.{KeepsHistory, installs_of}
 use Rattle.server_yard.specs.Readers.{IsAbsentOrCompiled, KeptYard, NamesCompiled, NamesStored, NamesStoredSinceDone, ReadersFind, begun_in, is_first}
-use Rattle.server_yard.specs.Rolls.{Books}
 use Rattle.server_yard.specs.Seating.{is_installing}
 use Rattle.server_yard.specs.Standing.{YardState}
 
@@ -37,7 +37,8 @@ abbrev one_of : Event → ℕ
 one_of event = cond (is_first event) 1 0
 
 -- a step that accepts nothing, and begins nothing
-counted_same : (m : ℕ) (w v : World) (n : ℕ) → v.accepted ≡ w.accepted → (w.under_way ≡ None → v.under_way ≡ None) → Counted m w n → Counted m v (n + 0)
+counted_same : (m : ℕ) (w v : World) (n : ℕ) → v.accepted ≡ w.accepted → (w.under_way ≡ None → v.under_way ≡ None) → Counted m w n
+    → Counted m v (n + 0)
 counted_same m w v n same idle c =
     let texts : length v.accepted ≡ length w.accepted = ap (λ (a : Accepted). length a) same in
     let was = c.texts in
@@ -55,10 +56,13 @@ counted_advance m Done w v n a c = counted_same m w v n (ap (λ (x : World). x.a
 
 counted_moves : (m : ℕ) (event : Event) (w v : World) (n : ℕ) → Moves event w v → Counted m w n → Counted m v (n + one_of event)
 counted_moves m (Admitted k peer) w v n a c = counted_same m w v n (ap (λ (x : World). x.accepted) a) (λ is. ap (λ (x : World). x.under_way) a ∙ is) c
-counted_moves m (Opened k there) w v n a c = counted_same m w v n (ap (λ (x : World). x.accepted) a.1) (λ is. ap (λ (x : World). x.under_way) a.1 ∙ is) c
-counted_moves m (Decided k decision) w v n a c = counted_same m w v n (ap (λ (x : World). x.accepted) a.5) (λ is. ap (λ (x : World). x.under_way) a.5 ∙ is) c
+counted_moves m (Opened k there) w v n a c =
+    counted_same m w v n (ap (λ (x : World). x.accepted) a.1) (λ is. ap (λ (x : World). x.under_way) a.1 ∙ is) c
+counted_moves m (Decided k decision) w v n a c =
+    counted_same m w v n (ap (λ (x : World). x.accepted) a.5) (λ is. ap (λ (x : World). x.under_way) a.5 ∙ is) c
 counted_moves m (Started k) w v n a c = counted_same m w v n (ap (λ (x : World). x.accepted) a) (λ is. ap (λ (x : World). x.under_way) a ∙ is) c
-counted_moves m (StartFailed k fault) w v n a c = counted_same m w v n (ap (λ (x : World). x.accepted) a) (λ is. ap (λ (x : World). x.under_way) a ∙ is) c
+counted_moves m (StartFailed k fault) w v n a c =
+    counted_same m w v n (ap (λ (x : World). x.accepted) a) (λ is. ap (λ (x : World). x.under_way) a ∙ is) c
 counted_moves m (Ended k status) w v n a c = counted_same m w v n (ap (λ (x : World). x.accepted) a) (λ is. ap (λ (x : World). x.under_way) a ∙ is) c
 counted_moves m (Retired k) w v n a c = counted_same m w v n (ap (λ (x : World). x.accepted) a) (λ is. ap (λ (x : World). x.under_way) a ∙ is) c
 counted_moves m (Dropped k cause) w v n a c = counted_same m w v n (ap (λ (x : World). x.accepted) a) (λ is. ap (λ (x : World). x.under_way) a ∙ is) c
@@ -139,7 +143,8 @@ no_event : (before : List Event) (e : Event) (later : List Event) → ◌≡◌ 
 no_event [] e later is = cc
 no_event (b ∷ bs) e later is = cc
 
-parts_of : {v w : World} {h : List Event} → Legal v h w → (before : List Event) (e : Event) (later : List Event) → h ≡ before ++ e ∷ later → Parts v w before e later
+parts_of : {v w : World} {h : List Event} → Legal v h w → (before : List Event) (e : Event) (later : List Event) → h ≡ before ++ e ∷ later
+    → Parts v w before e later
 parts_of none before e later is = absurd (no_event before e later is)
 parts_of (more {u} {v} {w} {event} {events} step rest) [] e later is =
     let same : event ≡ e = cc in
@@ -166,7 +171,8 @@ parts_of (beside out rest) before e later is =
     let parts = parts_of rest before e later is in
     record { x = parts.x; y = parts.y; first = beside out parts.first; step = parts.step; rest = parts.rest }
 
-last_of : (accepted : Accepted) (least : ℕ) (name : List ℕ) (d : Directory) (phase : Option Phase) (u : UnderWay) → Follows phase Done → Agree accepted least name d phase (Some u) → u.number + 1 ≡ length accepted
+last_of : (accepted : Accepted) (least : ℕ) (name : List ℕ) (d : Directory) (phase : Option Phase) (u : UnderWay) → Follows phase Done
+    → Agree accepted least name d phase (Some u) → u.number + 1 ≡ length accepted
 last_of accepted least name d phase u done goes = goes.last
 
 rules_there : (o : Option RulesName) → is_some o ≡ true → (r : RulesName) × (o ≡ Some r)
@@ -174,7 +180,8 @@ rules_there None there = absurd (cc)
 rules_there (Some r) there = (r, refl)
 
 -- it has the number of the first steps up to it, behind the texts of the start, and there is one
-number_done : (h : List Event) (x y : World) → (reaches : Reaches h x) → Step x (Stepped Done) y → (begun_in h + length reaches.begin.accepted ≤ y.acknowledged + 1) × (0 < begun_in h)
+number_done : (h : List Event) (x y : World) → (reaches : Reaches h x) → Step x (Stepped Done) y
+    → (begun_in h + length reaches.begin.accepted ≤ y.acknowledged + 1) × (0 < begun_in h)
 number_done h x y reaches step =
     let moves = step.moves in
     let u = moves.0 in
@@ -191,7 +198,8 @@ number_done h x y reaches step =
     positive zero c = let none_there = c.idle refl in let there = step.moves.1 in absurd (cc)
     positive (suc n) c = omega arith
 
-done_number : (h : List Event) (w : World) → (reaches : Reaches h w) → (before later : List Event) → h ≡ before ++ Stepped Done ∷ later → (begun_in before + length reaches.begin.accepted ≤ w.acknowledged + 1) × (0 < begun_in before)
+done_number : (h : List Event) (w : World) → (reaches : Reaches h w) → (before later : List Event) → h ≡ before ++ Stepped Done ∷ later
+    → (begun_in before + length reaches.begin.accepted ≤ w.acknowledged + 1) × (0 < begun_in before)
 done_number h w reaches before later is =
     let parts = parts_of reaches.legal before (Stepped Done) later is in
     let at = number_done before parts.x parts.y (record { begin = reaches.begin; starts = reaches.starts; legal = parts.first }) parts.step in
@@ -240,20 +248,26 @@ length-texts [] = refl
 length-texts (x ∷ xs) = let rest = length-texts xs in omega (arith, rest)
 
 -- a text behind the first is that of a stored list
-stored_text : (lists : List (List Rule)) (place : ℕ) (text : Option (List Rule)) → slice_get (map (λ (r : List Rule). Some r) lists) place ≡ Some text → (rules : List Rule) × (slice_get lists place ≡ Some rules) × (text ≡ Some rules)
+stored_text : (lists : List (List Rule)) (place : ℕ) (text : Option (List Rule))
+    → slice_get (map (λ (r : List Rule). Some r) lists) place ≡ Some text → (rules : List Rule) × (slice_get lists place ≡ Some rules)
+    × (text ≡ Some rules)
 stored_text [] place text is = absurd (cc)
 stored_text (x ∷ xs) zero text is = let same : text ≡ Some x = cc in (x, refl, same)
 stored_text (x ∷ xs) (suc place) text is = stored_text xs place text is
 
-compiled_at : (d : Directory) (names : Names) (name : List ℕ) (rules : List Rule) → StandsAt d.files (Some rules) (get names name) → NamesCompiled d names name rules
-compiled_at d names name rules stands = record { number = stands.0; file = stands.2.file; named = stands.1; synced = stands.2.there; compiled = stands.2.compiled }
+compiled_at : (d : Directory) (names : Names) (name : List ℕ) (rules : List Rule) → StandsAt d.files (Some rules) (get names name)
+    → NamesCompiled d names name rules
+compiled_at d names name rules stands =
+    record { number = stands.0; file = stands.2.file; named = stands.1; synced = stands.2.there; compiled = stands.2.compiled }
 
-absent_or : (d : Directory) (names : Names) (name : List ℕ) (text : Option (List Rule)) → StandsAt d.files text (get names name) → (get names name ≡ None) ⊎ ((rules : List Rule) × NamesCompiled d names name rules)
+absent_or : (d : Directory) (names : Names) (name : List ℕ) (text : Option (List Rule)) → StandsAt d.files text (get names name)
+    → (get names name ≡ None) ⊎ ((rules : List Rule) × NamesCompiled d names name rules)
 absent_or d names name None stands = inl stands
 absent_or d names name (Some rules) stands = inr (rules, compiled_at d names name rules stands)
 
 -- what stands behind the first of a list
-behind : (first others : Accepted) (place : ℕ) (text : Option (List Rule)) → length first ≤ place → slice_get (first ++ others) place ≡ Some text → (k : ℕ) × (place ≡ k + length first) × (slice_get others k ≡ Some text)
+behind : (first others : Accepted) (place : ℕ) (text : Option (List Rule)) → length first ≤ place
+    → slice_get (first ++ others) place ≡ Some text → (k : ℕ) × (place ≡ k + length first) × (slice_get others k ≡ Some text)
 behind [] others place text le is = (place, omega arith, is)
 behind (x ∷ first) others zero text le is = absurd (omega (arith, le))
 behind (x ∷ first) others (suc place) text le is =
@@ -276,7 +290,8 @@ stored_at first lists least d names name place text some recent is stands =
     }
 
 module _ (k : KeptYard) where
-  text_of : (names : Names) → CanBeLeft k.state.directory.names names → IsText k.kept.installed.world.accepted k.kept.installed.world.acknowledged k.state.directory.files (get names k.rules.name)
+  text_of : (names : Names) → CanBeLeft k.state.directory.names names
+      → IsText k.kept.installed.world.accepted k.kept.installed.world.acknowledged k.state.directory.files (get names k.rules.name)
   text_of names left =
       let it = k.kept.installed in
       let holds = good_rules it.world k.rules (it.has_rules ∙ k.follows) (good_reached (installs_of k.kept.history) it.world (reached_by it)) in
@@ -287,7 +302,8 @@ module _ (k : KeptYard) where
       let is = text_of names left in
       absent_or k.state.directory names k.rules.name is.text is.stands
 
-  texts_are : (lists : List (List Rule)) → k.books.lists ≡ Some lists → k.kept.installed.world.accepted ≡ k.kept.installed.first.accepted ++ map (λ (r : List Rule). Some r) lists
+  texts_are : (lists : List (List Rule)) → k.books.lists ≡ Some lists
+      → k.kept.installed.world.accepted ≡ k.kept.installed.first.accepted ++ map (λ (r : List Rule). Some r) lists
   texts_are lists is =
       let it = k.kept.installed in
       subst (λ (o : Option (List (List Rule))). IfSome o (λ all. it.world.accepted ≡ it.first.accepted ++ map Some all)) is it.accepted
@@ -317,12 +333,13 @@ module _ (k : KeptYard) where
   pub readers_find : ReadersFind k.books k.state k.rules
   readers_find = record { history = k.kept.history; is_history = k.kept.is_history; always = always_whole; since_done = by k.books.lists refl }
     where
-      by : (o : Option (List (List Rule))) → k.books.lists ≡ o → IfSome o (λ all. NamesStoredSinceDone k.kept.history all k.state.directory k.rules.name)
+      by : (o : Option (List (List Rule))) → k.books.lists ≡ o
+          → IfSome o (λ all. NamesStoredSinceDone k.kept.history all k.state.directory k.rules.name)
       by None is = tt
       by (Some lists) is = since_done lists is
 
--- the same of a yard whose premises were met, with or without a rules name
-pub find_whole : (books : Books) (y : YardState) → ∥ IsKeptBy books y ∥₁ → IfSome y.rules (λ r. ∥ ReadersFind books y r ∥₁)
+-- the same of a yard whose assumptions were met, with or without a rules name
+pub find_whole : (books : Books) (y : YardState) → ∥ KeepsHistory books y ∥₁ → IfSome y.rules (λ r. ∥ ReadersFind books y r ∥₁)
 find_whole books y kept = by y.rules refl where
   by : (o : Option RulesName) → y.rules ≡ o → IfSome o (λ r. ∥ ReadersFind books y r ∥₁)
   by None is = tt

@@ -17,7 +17,8 @@ room-cons c cs = refl
 some_stage : (x y : Stage) → ◌≡◌ {A = Option Stage} (Some x) (Some y) → x ≡ y
 some_stage x y e = cc
 
-pub room-with_stage : (n : ℕ) (s t : Stage) (cs : List Connection) → stage_of n cs ≡ Some t → room_needed (with_stage n s cs) + events_left t ≡ room_needed cs + events_left s
+pub room-with_stage : (n : ℕ) (s t : Stage) (cs : List Connection) → stage_of n cs ≡ Some t
+    → room_needed (with_stage n s cs) + events_left t ≡ room_needed cs + events_left s
 room-with_stage n s t [] e = cc
 room-with_stage n s t (c ∷ cs) e =
     elim (c.serial == n) as (λ b. (if b then Some c.stage else stage_of n cs) ≡ Some t → room_needed (if b then ((record c { stage = s }) ∷ cs) else (c ∷ with_stage n s cs)) + events_left t ≡ room_needed (c ∷ cs) + events_left s) [
@@ -49,10 +50,12 @@ room-push [] c = omega arith
 room-push (d ∷ cs) c = let rest = room-push cs c in omega (arith, room-cons d (cs ++ c ∷ []), room-cons d cs)
 
 -- a connection that goes on needs room for one event less
-pub room_goes_on : (w : ServerState) (e : Event) → goes_on e ≡ true → may_happen w e ≡ true → room_needed (after w e).connections + 1 ≡ room_needed w.connections
+pub room_goes_on : (w : ServerState) (e : Event) → goes_on e ≡ true → may_happen w e ≡ true
+    → room_needed (after w e).connections + 1 ≡ room_needed w.connections
 room_goes_on w (Admitted n peer) k m = absurd (cc)
 room_goes_on w (Opened n there) k m = let sums = room-with_stage n stage.Opened stage.Admitted w.connections (is_admitted-true _ m) in omega arith
-room_goes_on w (Decided n decision) k m = let sums = room-with_stage n (stage.Decided decision.verdict) stage.Opened w.connections (is_opened-true _ m) in omega arith
+room_goes_on w (Decided n decision) k m =
+    let sums = room-with_stage n (stage.Decided decision.verdict) stage.Opened w.connections (is_opened-true _ m) in omega arith
 room_goes_on w (Started n) k m = let sums = room-with_stage n stage.Started _ w.connections (is_allowed-true _ m) in omega arith
 room_goes_on w (StartFailed n fault) k m = absurd (cc)
 room_goes_on w (Ended n status) k m = absurd (cc)
@@ -62,7 +65,8 @@ room_goes_on w (Stepped phase) k m = absurd (cc)
 room_goes_on w (StepFailed phase) k m = absurd (cc)
 room_goes_on w Stop k m = absurd (cc)
 
-pub room_retired : (w : ServerState) (n : ℕ) → stage_of n w.connections ≡ Some stage.Started → room_needed (with_stage n stage.Retired w.connections) + 1 ≡ room_needed w.connections
+pub room_retired : (w : ServerState) (n : ℕ) → stage_of n w.connections ≡ Some stage.Started
+    → room_needed (with_stage n stage.Retired w.connections) + 1 ≡ room_needed w.connections
 room_retired w n at = let sums = room-with_stage n stage.Retired stage.Started w.connections at in omega arith
 
 -- a connection that goes: it is taken out, and might have had one more event at least
@@ -72,7 +76,8 @@ pub record GoesOff (w : ServerState) (e : Event) (n : ℕ) : Type 0 where
   pub has_stage : stage_of n w.connections ≡ Some at
   pub some_left : 1 ≤ events_left at
 
-unstarted_has : (n : ℕ) (w : ServerState) (o : Option Stage) → is_unstarted o ≡ true → o ≡ stage_of n w.connections → (t : Stage) × (stage_of n w.connections ≡ Some t) × (1 ≤ events_left t)
+unstarted_has : (n : ℕ) (w : ServerState) (o : Option Stage) → is_unstarted o ≡ true → o ≡ stage_of n w.connections → (t : Stage)
+    × (stage_of n w.connections ≡ Some t) × (1 ≤ events_left t)
 unstarted_has n w None e is = absurd (cc)
 unstarted_has n w (Some stage.Admitted) e is = (stage.Admitted, sym is, omega arith)
 unstarted_has n w (Some stage.Opened) e is = (stage.Opened, sym is, omega arith)
@@ -83,7 +88,8 @@ unstarted_has n w (Some stage.Retired) e is = absurd (cc)
 some_serial : (x y : ℕ) → ◌≡◌ {A = Option ℕ} (Some x) (Some y) → x ≡ y
 some_serial x y e = cc
 
-off : (w : ServerState) (m n : ℕ) → m ≡ n → (t : Stage) → stage_of m w.connections ≡ Some t → 1 ≤ events_left t → (e : Event) → after w e ≡ record w { connections = without m w.connections } → GoesOff w e n
+off : (w : ServerState) (m n : ℕ) → m ≡ n → (t : Stage) → stage_of m w.connections ≡ Some t → 1 ≤ events_left t → (e : Event)
+    → after w e ≡ record w { connections = without m w.connections } → GoesOff w e n
 off w m n same t at some e is = record {
   is_without = is ∙ ap (λ (k : ℕ). record w { connections = without k w.connections }) same;
   at = t;
@@ -99,7 +105,8 @@ goes_off w (Started m) n k may = absurd (cc)
 goes_off w (StartFailed m fault) n k may = off w m n (some_serial m n k) _ (is_allowed-true _ may) (omega arith) (StartFailed m fault) refl
 goes_off w (Ended m status) n k may = off w m n (some_serial m n k) _ (is_started-true _ may) (omega arith) (Ended m status) refl
 goes_off w (Retired m) n k may = absurd (cc)
-goes_off w (Dropped m cause) n k may = let has = unstarted_has m w _ may refl in off w m n (some_serial m n k) has.0 has.1 has.2 (Dropped m cause) refl
+goes_off w (Dropped m cause) n k may =
+    let has = unstarted_has m w _ may refl in off w m n (some_serial m n k) has.0 has.1 has.2 (Dropped m cause) refl
 goes_off w (Stepped phase) n k may = absurd (cc)
 goes_off w (StepFailed phase) n k may = absurd (cc)
 goes_off w Stop n k may = absurd (cc)

@@ -1,12 +1,12 @@
--- The seats of a roster, after an event.
+-- The seats of a register, after an event.
 use Rattle.std.proofs.Common.{◌≡◌, ℕ, ◌+◌, ◌≤◌, List, [], ◌∷◌, ◌++◌, Bool, true, false, ◌==◌, cond, Option, None, Some, ⊎_elim, refl, sym, ap, subst, ◌∙◌, arith}
 use Rattle.std.specs.Prelude.{if◌then◌else◌, is_some, option_map}
 use Rattle.std.proofs.lemmas.Bool.Decides.{nat_tests}
 use Rattle.std.specs.Cmp.{nat_cmp_total, unsigned_tied}
 use Rattle.std.specs.FinMap as map
 use Rattle.std.specs.Ordering.{eq_by_cmp, nat_cmp}
-use Rattle.child_table.specs.Seats.{Seats, is_used, with_place, without_place}
-use Rattle.rule_lookup.specs.Peers.{Client}
+use Rattle.child_jobs.specs.Seats.{Seats, is_used, with_place, without_place}
+use Rattle.connection_facts.specs.Peers.{Client}
 use Rattle.server_events.specs.declared.event.Event.TheVariants.{Admitted}
 use Rattle.server_events.specs.declared.event.Stage.{Stage}
 use Rattle.server_events.specs.declared.state.Connection.{Connection}
@@ -26,13 +26,15 @@ seats_stay seat table s s' stays has = record {
 }
 
 -- other seats that tell the same
-pub seats_same : (seat seat' : ℕ → Option ℕ) (table table' : Seats) (s : ServerState) → KeepsSeats seat seat' → table'.places ≡ table.places → HasSeats seat table s → HasSeats seat' table' s
+pub seats_same : (seat seat' : ℕ → Option ℕ) (table table' : Seats) (s : ServerState) → KeepsSeats seat seat' → table'.places ≡ table.places
+    → HasSeats seat table s → HasSeats seat' table' s
 seats_same seat seat' table table' s same places has = record {
   up_to_last = λ index serial is. has.up_to_last index serial (sym (same index) ∙ is);
   for_its_peer = λ index serial peer is its. ap (λ p. map.get p index) places ∙ has.for_its_peer index serial peer (sym (same index) ∙ is) its;
 }
 
-peer_of-push : (n : ℕ) (cs : List Connection) (c : Connection) → c.serial ≡ n → is_some (peer_of n cs) ≡ false → peer_of n (cs ++ c ∷ []) ≡ Some c.peer
+peer_of-push : (n : ℕ) (cs : List Connection) (c : Connection) → c.serial ≡ n → is_some (peer_of n cs) ≡ false
+    → peer_of n (cs ++ c ∷ []) ≡ Some c.peer
 peer_of-push n [] c e f = let same : (c.serial == n) ≡ true = grind (arith, nat_tests, e) in rw same refl
 peer_of-push n (d ∷ cs) c e f =
     elim (d.serial == n) as (λ b. is_some (if b then Some d.peer else peer_of n cs) ≡ false → (if b then Some d.peer else peer_of n (cs ++ c ∷ [])) ≡ Some c.peer) [
@@ -50,7 +52,8 @@ tied_is : (j i : ℕ) (b : Bool) → (j == i) ≡ b → eq_by_cmp nat_cmp j i �
 tied_is j i b is = unsigned_tied j i ∙ is
 
 -- one comes, and is given a seat at a place
-pub seats_come : (seat seat' : ℕ → Option ℕ) (table : Seats) (s : ServerState) (n index : ℕ) (peer : Client) → n ≡ s.last + 1 → Distinct s → GivesSeat index n seat seat' → HasSeats seat table s → HasSeats seat' (with_place index peer.ip table) (after s (Admitted n peer))
+pub seats_come : (seat seat' : ℕ → Option ℕ) (table : Seats) (s : ServerState) (n index : ℕ) (peer : Client) → n ≡ s.last + 1 → Distinct s
+    → GivesSeat index n seat seat' → HasSeats seat table s → HasSeats seat' (with_place index peer.ip table) (after s (Admitted n peer))
 seats_come seat seat' table s n index peer next apart gives has = record {
   up_to_last = λ j m is. go_last j m (j == index) refl (sym (gives j) ∙ is);
   for_its_peer = λ j m p is its. go_peer j m p (j == index) refl (sym (gives j) ∙ is) its;
@@ -60,7 +63,8 @@ seats_come seat seat' table s n index peer next apart gives has = record {
     go_last j m true here is = let same = some_number n m (ap (λ (c : Bool). if c then Some n else seat j) (sym here) ∙ is) in omega arith
     go_last j m false other is = let below = has.up_to_last j m (ap (λ (c : Bool). if c then Some n else seat j) (sym other) ∙ is) in omega arith
 
-    go_peer : (j m : ℕ) (p : Client) (b : Bool) → (j == index) ≡ b → (if (j == index) then Some n else seat j) ≡ Some m → peer_of m (s.connections ++ newcomer n peer ∷ []) ≡ Some p → map.get (map.insert table.places index peer.ip) j ≡ Some p.ip
+    go_peer : (j m : ℕ) (p : Client) (b : Bool) → (j == index) ≡ b → (if (j == index) then Some n else seat j) ≡ Some m
+        → peer_of m (s.connections ++ newcomer n peer ∷ []) ≡ Some p → map.get (map.insert table.places index peer.ip) j ≡ Some p.ip
     go_peer j m p true here is its =
         let same = some_number n m (ap (λ (c : Bool). if c then Some n else seat j) (sym here) ∙ is) in
         let fresh = apart.fresh_peer n (omega arith) in
@@ -79,13 +83,15 @@ seats_come seat seat' table s n index peer next apart gives has = record {
         ∙ has.for_its_peer j m p had before
 
 -- one goes, and its place is free
-pub seats_go : (seat : ℕ → Option ℕ) (table : Seats) (s : ServerState) (n index : ℕ) → Distinct s → seat index ≡ Some n → HasSeats seat table s → HasSeats seat (without_place index table) (record s { connections = without n s.connections })
+pub seats_go : (seat : ℕ → Option ℕ) (table : Seats) (s : ServerState) (n index : ℕ) → Distinct s → seat index ≡ Some n
+    → HasSeats seat table s → HasSeats seat (without_place index table) (record s { connections = without n s.connections })
 seats_go seat table s n index apart own has = record {
   up_to_last = has.up_to_last;
   for_its_peer = λ j m p is its. go j m p (n == m) refl is its;
 }
   where
-    go : (j m : ℕ) (p : Client) (b : Bool) → (n == m) ≡ b → seat j ≡ Some m → peer_of m (without n s.connections) ≡ Some p → map.get (map.remove table.places index) j ≡ Some p.ip
+    go : (j m : ℕ) (p : Client) (b : Bool) → (n == m) ≡ b → seat j ≡ Some m → peer_of m (without n s.connections) ≡ Some p
+        → map.get (map.remove table.places index) j ≡ Some p.ip
     go j m p true same is its =
         let it : n ≡ m = grind (arith, nat_tests, same) in
         let there = ap is_some (ap (λ (k : ℕ). peer_of k (without n s.connections)) it ∙ its) in
@@ -107,7 +113,8 @@ seats_go seat table s n index apart own has = record {
         ] refl
 
 -- a seat that nobody has is lost
-pub seats_lost : (seat seat' : ℕ → Option ℕ) (table : Seats) (s : ServerState) → LosesOne table seat seat' → HasSeats seat table s → HasSeats seat' table s
+pub seats_lost : (seat seat' : ℕ → Option ℕ) (table : Seats) (s : ServerState) → LosesOne table seat seat' → HasSeats seat table s
+    → HasSeats seat' table s
 seats_lost seat seat' table s loses has = record {
   up_to_last = λ j m is. has.up_to_last j m (had j m is);
   for_its_peer = λ j m p is its. has.for_its_peer j m p (had j m is) its;
@@ -117,10 +124,12 @@ seats_lost seat seat' table s loses has = record {
     had j m is = ⊎_elim (λ same. sym same ∙ is) (λ none. absurd (let gone = none.0 in cc)) (loses j)
 
 -- and so each seat tells the same connection, or none as before
-pub serials_kept : (seat seat' : ℕ → Option ℕ) (table : Seats) (s : ServerState) → LosesOne table seat seat' → HasSeats seat table s → KeepsSerials s seat seat'
+pub serials_kept : (seat seat' : ℕ → Option ℕ) (table : Seats) (s : ServerState) → LosesOne table seat seat' → HasSeats seat table s
+    → KeepsSerials s seat seat'
 serials_kept seat seat' table s loses has j = ⊎_elim (λ same. ap (λ (o : Option ℕ). serial_at o s) same) (λ none. ap (λ (o : Option ℕ). serial_at o s) none.0 ∙ sym (nobody (seat j) refl none.1)) (loses j)
   where
-    by_stage : (m : ℕ) (o : Option Stage) → seat j ≡ Some m → stage_of m s.connections ≡ o → is_used table j ≡ false → option_map (λ (t : Stage). m) o ≡ None
+    by_stage : (m : ℕ) (o : Option Stage) → seat j ≡ Some m → stage_of m s.connections ≡ o → is_used table j ≡ false
+        → option_map (λ (t : Stage). m) o ≡ None
     by_stage m None is at unused = refl
     by_stage m (Some t) is at unused =
         let its = stage_of-peer_of m t s.connections at in
@@ -150,7 +159,8 @@ place_back table index ip vacant = ap (λ p. record table { places = p }) (map.s
         ∙ by j (j == index) refl
 
 -- the connection of a seat that has a stage
-pub seat_at : (seat : Option ℕ) (s : ServerState) (t : Stage) → stage_at seat s ≡ Some t → (n : ℕ) × (seat ≡ Some n) × (stage_of n s.connections ≡ Some t) × (number_at seat ≡ n)
+pub seat_at : (seat : Option ℕ) (s : ServerState) (t : Stage) → stage_at seat s ≡ Some t → (n : ℕ) × (seat ≡ Some n)
+    × (stage_of n s.connections ≡ Some t) × (number_at seat ≡ n)
 seat_at None s t e = absurd (cc)
 seat_at (Some n) s t e = (n, refl, e, refl)
 

@@ -11,7 +11,8 @@ use Rattle.server_yard.specs.Standing.{IsReachedBy, YardState}
 use Rattle.server_yard.specs.Serving.{IsReachedOn, Serves}
 use Rattle.server_yard.specs.Serving.Serves.{at_once, undecided, decided}
 
-pub served : (n : ℕ) (history events : List Event) (y z : YardState) (files : List KeptFile) → IsReachedBy history y files → stage_of n y.server.connections ≡ Some stage.Admitted → Serves n y events z → IsReachedOn (history ++ events) z
+pub served : (n : ℕ) (history events : List Event) (y z : YardState) (files : List KeptFile) → IsReachedBy history y files
+    → stage_of n y.server.connections ≡ Some stage.Admitted → Serves n y events z → IsReachedOn (history ++ events) z
 served n history events y z files reached here (at_once last) =
     let w = reached.0 in
     let end = last files w reached.2 in

@@ -3,8 +3,8 @@ use Rattle.std.proofs.Common.{◌≡◌, ◌≢◌, ℕ, List, [], ◌∷◌, �
 use Rattle.std.specs.Prelude.{Ok, Err, Result}
 use Rattle.dir_calls.specs.Directory.{Directory}
 use Rattle.dir_calls.specs.declared.fault.DirFault.TheVariants.{NoScratch, NoName, Device, OutOfMemory as NoMemory}
-use Rattle.install_steps.specs.UnderWay.{Arrives, HasReached, IsAsFar, IsUnderWay, rules_named}
-use Rattle.install_steps.specs.UnderWay as way
+use Rattle.server_events.specs.UnderWay.{Arrives, HasReached, IsAsFar, IsUnderWay, rules_named}
+use Rattle.server_events.specs.UnderWay as way
 use Rattle.rule_lines.specs.Pairs.{Rule}
 use Rattle.rules_install.specs.Installing.{Installing}
 use Rattle.rules_install.specs.Steps.{Goes, IsOfDevice}
@@ -72,7 +72,8 @@ pub record GoesOn (w v : World) (event : Event) (e : Directory) (kept_then : Opt
   pub under : HasUnderWay v kept_then
 
 module _ (w : World) (s t : Installing) (d e : Directory) (at : IsUnderWay w s d) where
-  pub stepped : (p : Phase) → t.over ≡ false → t.reached ≡ Some p → way.LeadsOn s t d e (Ok p) → (v : World) × GoesOn w v (Stepped p) e (kept_after t (Ok p))
+  pub stepped : (p : Phase) → t.over ≡ false → t.reached ≡ Some p → way.StepLeads s t d e (Ok p) → (v : World)
+      × GoesOn w v (Stepped p) e (kept_after t (Ok p))
   stepped p is_open reached leads =
       let next = leads w at in
       let v = next.0 in
@@ -95,7 +96,7 @@ module _ (w : World) (s t : Installing) (d e : Directory) (at : IsUnderWay w s d
       by Named v moves there reached = as_far v t Named (λ x. absurd (cc)) reached (there.reached is_open)
       by Done v moves there reached = done_idle w v moves
 
-  pub step_failed : (p : Phase) → way.LeadsOn s t d e (Err (Disk Device p)) → (v : World) × GoesOn w v (StepFailed p) e None
+  pub step_failed : (p : Phase) → way.StepLeads s t d e (Err (Disk Device p)) → (v : World) × GoesOn w v (StepFailed p) e None
   step_failed p leads =
       let next = leads w at in
       let v = next.0 in
@@ -117,7 +118,8 @@ rules_in None = []
 rules_in (Some u) = u.rules
 
 -- what the texts are that are accepted after a step
-same_rules : (v : World) (rules : List Rule) (number : ℕ) (tmp : List ℕ) (t : Installing) → v.under_way ≡ Some (record { rules = rules; number = number; tmp = tmp }) → IsAsFar v t → rules ≡ t.rules
+same_rules : (v : World) (rules : List Rule) (number : ℕ) (tmp : List ℕ) (t : Installing)
+    → v.under_way ≡ Some (record { rules = rules; number = number; tmp = tmp }) → IsAsFar v t → rules ≡ t.rules
 same_rules v rules number tmp t is far = ap rules_in (sym is ∙ far.under_way)
 
 pub accepted_fresh : (w v : World) (t : Installing) → Advances Fresh w v → IsAsFar v t → v.accepted ≡ w.accepted ++ Some t.rules ∷ []
@@ -138,10 +140,12 @@ accepted_failed p w v moves = ap (λ (x : World). x.accepted) moves.3
 
 -- ---- a world that has a directory, a rules name, and an installation
 
-rules_are : (rules : Option RulesName) (s : Installing) (r : RulesName) → rules ≡ Some r → s.names.cdb ≡ r.name → rules ≡ Some (rules_named s.names r.missing)
+rules_are : (rules : Option RulesName) (s : Installing) (r : RulesName) → rules ≡ Some r → s.names.cdb ≡ r.name
+    → rules ≡ Some (rules_named s.names r.missing)
 rules_are rules s r is name = is ∙ ap (λ (n : List ℕ). let x : RulesName = record { name = n; missing = r.missing } in Some x) (sym name)
 
-pub has_kept : (w : World) (d : Directory) (rules : Option RulesName) (s : Installing) (r : RulesName) → w.directory ≡ d → w.rules ≡ rules → rules ≡ Some r → s.names.cdb ≡ r.name → IsAsFar w s → IsUnderWay w s d
+pub has_kept : (w : World) (d : Directory) (rules : Option RulesName) (s : Installing) (r : RulesName) → w.directory ≡ d → w.rules ≡ rules
+    → rules ≡ Some r → s.names.cdb ≡ r.name → IsAsFar w s → IsUnderWay w s d
 has_kept w d rules s r directory ruled is name far = record {
   directory = directory;
   missing = r.missing;
@@ -150,7 +154,8 @@ has_kept w d rules s r directory ruled is name far = record {
 }
 
 -- one that is not begun
-pub has_new : (w : World) (d : Directory) (rules : Option RulesName) (s : Installing) (r : RulesName) → w.directory ≡ d → w.rules ≡ rules → rules ≡ Some r → s.names.cdb ≡ r.name → s.reached ≡ None → IsUnderWay w s d
+pub has_new : (w : World) (d : Directory) (rules : Option RulesName) (s : Installing) (r : RulesName) → w.directory ≡ d → w.rules ≡ rules
+    → rules ≡ Some r → s.names.cdb ≡ r.name → s.reached ≡ None → IsUnderWay w s d
 has_new w d rules s r directory ruled is name unbegun = record {
   directory = directory;
   missing = r.missing;
@@ -166,7 +171,8 @@ pub record StepsTo (y z : YardState) (event : Event) (kept_then : Option Install
   pub rules : z.rules ≡ y.rules
   pub installing : z.installing ≡ kept_then
 
-pub matches_on : (y z : YardState) (event : Event) (kept_then : Option Installing) (files : List KeptFile) (w v : World) → StepsTo y z event kept_then → Matches y files w → GoesOn w v event z.directory kept_then → Matches z files v
+pub matches_on : (y z : YardState) (event : Event) (kept_then : Option Installing) (files : List KeptFile) (w v : World)
+    → StepsTo y z event kept_then → Matches y files w → GoesOn w v event z.directory kept_then → Matches z files v
 matches_on y z event kept_then files w v to at on = record {
   directory = on.directory;
   rules = on.rules ∙ at.rules ∙ sym to.rules;
@@ -187,8 +193,11 @@ pub it_new : (y : YardState) (s : Installing) (r : RulesName) → y.rules ≡ So
 it_new y s r rules name unbegun files w at = has_new w y.directory y.rules s r at.directory at.rules rules name unbegun
 
 -- a step leads on, by its answer: the phase that it reached, or one that it could not reach, or nothing
-pub step_leads : (y z : YardState) (s t : Installing) (next : Phase) (result : Result Phase InstallFault) → HasIt y s → Goes next s t result → IsOfDevice result
-    → way.LeadsOn s t y.directory z.directory result → ((event : Event) → step_event result ≡ Some event → StepsTo y z event (kept_after t result)) → (step_event result ≡ None → z ≡ y) → LeadsSome (step_event result) y z
+pub step_leads : (y z : YardState) (s t : Installing) (next : Phase) (result : Result Phase InstallFault) → HasIt y s → Goes next s t result
+    → IsOfDevice result
+    → way.StepLeads s t y.directory z.directory result
+    → ((event : Event) → step_event result ≡ Some event → StepsTo y z event (kept_after t result)) → (step_event result ≡ None → z ≡ y)
+    → LeadsSome (step_event result) y z
 step_leads y z s t next (Ok p) has goes device leads to same = λ files w at.
     let moved = stepped w s t y.directory z.directory (has files w at) p goes.2 (goes.1 ∙ ap (λ (q : Phase). Some q) (sym goes.0)) leads in
     (moved.0, moved.1.step, matches_on y z (Stepped p) (kept_after t (Ok p)) files w moved.0 (to (Stepped p) refl) at moved.1)

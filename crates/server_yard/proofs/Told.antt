@@ -35,8 +35,10 @@ nothing_under_way : (v w : World) (o : Option Installing) → v.under_way ≡ No
 nothing_under_way v w None idle also has = also
 nothing_under_way v w (Some s) idle also has = absurd (let never = sym idle ∙ has.under_way in cc)
 
-pub told_later : (history events : List Event) (u w : World) (y z : YardState) (files : List KeptFile) (n : ℕ) (bytes : Option (List ℕ)) → Reaches history u
-    → stage_of n u.server.connections ≡ Some stage.Admitted → Woven u events w → AreApart n events → IsServers y files w → bytes ≡ standing_of (over y u.directory)
+pub told_later : (history events : List Event) (u w : World) (y z : YardState) (files : List KeptFile) (n : ℕ) (bytes : Option (List ℕ))
+    → Reaches history u
+    → stage_of n u.server.connections ≡ Some stage.Admitted → Woven u events w → AreApart n events → IsServers y files w
+    → bytes ≡ standing_of (over y u.directory)
     → LeadsOpened n bytes (over y u.directory) (over z u.directory) → ToldLater n bytes u events files z
 told_later history events u w y z files n bytes reaches waits woven apart at found leads =
     let at_once = opens_at_once history u w events n reaches waits woven apart in

@@ -2,11 +2,12 @@
 use Rattle.std.specs.Prelude.{◌≡◌, ◌++◌, ◌⊎◌, ⊤, ℕ, List, Option, None, Some, IfSome, map}
 use Rattle.std.specs.List.{filter}
 use Rattle.dir_calls.specs.Directory.{Directory, content, number_of}
+use Rattle.event_journals.specs.Journals.{Books}
 use Rattle.rule_lines.specs.Pairs.{Rule}
 use Rattle.server_events.specs.Steps.{Legal}
 use Rattle.server_events.specs.Worlds.{IsOf, IsStart, World}
 use Rattle.server_events.specs.declared.event.Event.{Event}
-use Rattle.server_yard.specs.Rolls.{Books, IsHistory}
+use Rattle.server_yard.specs.Rolls.{IsHistory}
 use Rattle.server_yard.specs.Seating.{is_installing}
 use Rattle.server_yard.specs.Standing.{HasUnderWay, YardState}
 
@@ -29,9 +30,9 @@ pub record IsInstalledBy (lists : Option (List (List Rule))) (y : YardState) (hi
   pub accepted : IfSome lists (λ all. world.accepted ≡ first.accepted ++ map Some all)
 
 -- a history of a yard, and what its installations left
-pub record IsKeptBy (books : Books) (y : YardState) : Type 0 where
+pub record KeepsHistory (books : Books) (y : YardState) : Type 0 where
   pub history : List Event
-  pub is_history : IsHistory books.told books.count books.stored y.server history
+  pub is_history : IsHistory books y.server history
   pub installed : IsInstalledBy books.lists y history
 
 -- a file, or nothing: one that is compiled of rules, or no name at all

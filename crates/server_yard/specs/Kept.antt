@@ -2,20 +2,17 @@
 use Rattle.std.specs.Prelude.{◌≡◌, ◌≢◌, ℕ, Bool, IsTrue, List, [], Option, IfSome, None, Some, true, false, option_map}
 use Rattle.std.proofs.Props.{props}
 use Rattle.dir_calls.specs.Directory.{Directory}
-use Rattle.event_journals.specs.Journals.{TellsOf}
-use Rattle.event_journals.specs.declared.journal.Noted.{Noted}
-use Rattle.rule_lines.specs.Pairs.{Rule}
+use Rattle.event_journals.specs.Journals.{Books, TellsOf}
 use Rattle.rule_lookup.specs.declared.decision.Missing.{Missing}
 use Rattle.rules_install.specs.Installing.{Fits, FitsPhase, Installing}
 use Rattle.rules_install.specs.Installs.{installing}
 use Rattle.rules_install.specs.declared.Phase.{Phase}
 use Rattle.rules_install.specs.declared.Phase.TheVariants.{Fresh, Filling, Synced, Named, Done}
 use Rattle.server_events.specs.Worlds.{RulesName}
-use Rattle.server_events.specs.declared.report.Report.{Report}
 use Rattle.server_yard.specs.Rolls.{StoresNothing}
-use Rattle.server_yard.specs.Rosters.{roll_of}
+use Rattle.server_yard.specs.Registers.{roll_of}
 use Rattle.server_yard.specs.Standing.{YardState}
-use Rattle.server_yard.specs.declared.roster.Roster.{Roster}
+use Rattle.server_yard.specs.declared.register.Register.{Register}
 use Rattle.server_yard.specs.declared.yard.Installation.{Installation}
 use Rattle.server_yard.specs.declared.yard.Installation.TheVariants.{Idle, UnderWay, AtDone}
 
@@ -30,11 +27,11 @@ installing_of (UnderWay install) = Some (installing install)
 installing_of AtDone = None
 
 -- what a yard of these parts has of a world
-abbrev pub state_of : {L J : Type 0} {j : _} → Roster L J j → Directory → Option (List ℕ × Missing) → Installation → YardState
-state_of roster directory rules installation = record {
+abbrev pub state_of : {L J : Type 0} {j : _} → Register L J j → Directory → Option (List ℕ × Missing) → Installation → YardState
+state_of register directory rules installation = record {
   directory = directory;
   rules = rules_of rules;
-  server = (roll_of roster).server;
+  server = (roll_of register).server;
   installing = installing_of installation;
 }
 
@@ -51,11 +48,11 @@ pub record IsGoing (s : Installing) (rules : Option RulesName) : Type 0 where
   pub for_rules : (r : RulesName) → rules ≡ Some r → s.names.cdb ≡ r.name
   pub follows : rules ≢ None
 
--- the same of the one that is kept
+-- the installation that is kept is such, if there is one
 abbrev pub IsKeptInstallation : Option Installing → Option RulesName → Type 0
 IsKeptInstallation kept rules = (s : Installing) → kept ≡ Some s → IsGoing s rules
 
--- it finds the directory as its steps left it
+-- over an honest directory the installation that is kept finds it as its steps left it
 abbrev pub FindsItsFile : Bool → Option Installing → Directory → Type 0
 FindsItsFile honest kept d = IsTrue honest → (s : Installing) → kept ≡ Some s → Fits s d
 
@@ -70,14 +67,13 @@ FitsPhase-prop s d (Some Done) = hlevel props
 pub FindsItsFile-prop : (honest : Bool) (kept : Option Installing) (d : Directory) → IsProp (FindsItsFile honest kept d)
 FindsItsFile-prop honest kept d = hlevel (props, FitsPhase-prop)
 
--- a journal that has no event, and no rules
-pub record HasNoEvents {J : Type 0} (told : J → Report) (count : J → ℕ) (stored : J → Option (List Noted)) (lists : J → Option (List (List Rule)))
-    (journal : J) : Type 0 where
-  pub tells : TellsOf (told journal) (count journal) []
-  pub stores : StoresNothing (stored journal)
-  pub no_rules : IfSome (lists journal) (λ all. all ≡ [])
+-- a journal has no event, and no rules
+pub record HasNoEvents (books : Books) : Type 0 where
+  pub tells : TellsOf books []
+  pub stores : StoresNothing books
+  pub no_rules : IfSome books.lists (λ all. all ≡ [])
 
--- whether one is kept: under way, or done
+-- whether an installation is kept: under way, or done
 abbrev pub is_kept : Installation → Bool
 is_kept Idle = false
 is_kept (UnderWay install) = true

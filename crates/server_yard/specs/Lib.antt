@@ -2,14 +2,13 @@
 pub mod Rooms
 pub mod Rolls
 pub mod Seating
-pub mod Rosters
+pub mod Registers
 pub mod Standing
 pub mod Serving
 pub mod Telling
 pub mod Stepping
 pub mod Installed
 pub mod Readers
-pub mod Openings
 pub mod Passes
 pub mod Kept
 pub mod Yards

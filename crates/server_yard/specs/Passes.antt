@@ -4,7 +4,7 @@ use Rattle.cdb_read.specs.Reading.{reading}
 use Rattle.cdb_read.specs.Sources.{trust_of}
 use Rattle.rule_lines.specs.Lookups.{Trust, Sound, WhereKnown}
 use Rattle.rule_lookup.specs.Decisions.{decision_from}
-use Rattle.rule_lookup.specs.Peers.{Client}
+use Rattle.connection_facts.specs.Peers.{Client}
 use Rattle.rule_lookup.specs.declared.decision.Decision.{Decision}
 use Rattle.rule_lookup.specs.declared.decision.Missing.{Missing}
 use Rattle.server_yard.specs.declared.finding.Finding.{Finding}
@@ -26,7 +26,7 @@ finding_file finding = finding.file
 abbrev pub pass_file : {L F : Type 0} {p : _} {l : _} {f : _} → Pass L F p l f → Option F
 pass_file pass = pass.file
 
--- its bytes, by what a file tells of them
+-- the bytes of the file that was found
 abbrev pub pass_bytes : {L F : Type 0} {p : _} {l : _} {f : _} → (F → List ℕ) → Pass L F p l f → Option (List ℕ)
 pass_bytes bytes pass = option_map bytes (pass_file pass)
 
@@ -38,4 +38,5 @@ trust_in honest sound (Some bytes) = trust_of honest sound
 -- `decide` decided so for what a pass has and this peer, as far as what the file holds is known
 abbrev pub IsDecidedBy : {L F : Type 0} {p : _} {l : _} {f : _} → Bool → Bool → (F → List ℕ) → Pass L F p l f → Client → Decision → Type 0
 IsDecidedBy honest sound bytes pass peer decision =
-    WhereKnown (trust_in honest sound (pass_bytes bytes pass)) (decision_from (option_map reading (pass_bytes bytes pass)) (pass_missing pass) peer ≡ Ok decision)
+    WhereKnown (trust_in honest sound (pass_bytes bytes pass))
+    (decision_from (option_map reading (pass_bytes bytes pass)) (pass_missing pass) peer ≡ Ok decision)

@@ -4,13 +4,14 @@ use Rattle.std.specs.List.{count_by}
 use Rattle.std.specs.FinMap.{get}
 use Rattle.dir_calls.specs.Directory.{Directory}
 use Rattle.dir_calls.specs.NameTable.{CanBeLeft, Names}
+use Rattle.event_journals.specs.Journals.{Books}
 use Rattle.rule_lines.specs.Pairs.{Rule}
 use Rattle.rules_install.specs.declared.Phase.TheVariants.{Fresh, Done}
 use Rattle.server_events.specs.Worlds.{IsOf, RulesName}
 use Rattle.server_events.specs.declared.event.Event.{Event}
 use Rattle.server_events.specs.declared.event.Event.TheVariants.{Stepped}
-use Rattle.server_yard.specs.Installed.{IsKeptBy}
-use Rattle.server_yard.specs.Rolls.{Books, IsHistory}
+use Rattle.server_yard.specs.Installed.{KeepsHistory}
+use Rattle.server_yard.specs.Rolls.{IsHistory}
 use Rattle.server_yard.specs.Standing.{YardState}
 
 -- among these names the name stands for a synced file that is compiled of these rules
@@ -21,12 +22,12 @@ pub record NamesCompiled (d : Directory) (names : Names) (name : List ℕ) (rule
   pub synced : slice_get d.files number ≡ Some (record { bytes = file; synced = true })
   pub compiled : IsOf rules file
 
--- whatever a stop leaves under the name, it is absent, or stands for such a file
+-- whatever a stop leaves under the name, it is absent, or stands for a synced file that is compiled of some rules
 abbrev pub IsAbsentOrCompiled : Directory → List ℕ → Type 0
 IsAbsentOrCompiled d name =
     (names : Names) → CanBeLeft d.names names → (get names name ≡ None) ⊎ ((rules : List Rule) × NamesCompiled d names name rules)
 
--- by a first step an installation begins
+-- whether an event is a first step, by which an installation begins
 abbrev pub is_first : Event → Bool
 is_first (Stepped Fresh) = true
 is_first event = false
@@ -56,11 +57,11 @@ pub record KeptYard : Type 0 where
   pub state : YardState
   pub rules : RulesName
   pub follows : state.rules ≡ Some rules
-  pub kept : IsKeptBy books state
+  pub kept : KeepsHistory books state
 
--- what readers find in it, told from its history
+-- what readers find in a yard, told from its history
 pub record ReadersFind (books : Books) (y : YardState) (rules : RulesName) : Type 0 where
   pub history : List Event
-  pub is_history : IsHistory books.told books.count books.stored y.server history
+  pub is_history : IsHistory books y.server history
   pub always : IsAbsentOrCompiled y.directory rules.name
   pub since_done : IfSome books.lists (λ all. NamesStoredSinceDone history all y.directory rules.name)

@@ -1,5 +1,5 @@
 -- How many events the connections that are alive may still have.
-use Rattle.std.specs.Prelude.{◌≡◌, ℕ, ◌+◌, ◌-◌, Bool, List, [], ◌∷◌, Option, None, Some}
+use Rattle.std.specs.Prelude.{◌≡◌, ℕ, ◌+◌, ◌-◌, List, [], ◌∷◌, Option, None, Some}
 use Rattle.server_events.specs.declared.event.Stage.{Stage}
 use Rattle.server_events.specs.declared.event.Stage.TheVariants.{Admitted, Opened, Decided, Started, Retired}
 use Rattle.server_events.specs.declared.state.Connection.{Connection}
@@ -18,12 +18,11 @@ abbrev pub spare_events : Option Stage → ℕ
 spare_events None = 0
 spare_events (Some s) = events_left s - 1
 
--- of all of them
+-- how many events all of these connections may still have
 abbrev pub room_needed : List Connection → ℕ
 room_needed [] = 0
 room_needed (c ∷ cs) = events_left c.stage + room_needed cs
 
 -- beyond what its connections may still have, a journal has room for as many events as before
-abbrev pub KeepsRoom : {J : Type 0} → (J → ℕ → Bool) → (old new : Roll J) → Type 0
-KeepsRoom has_room old new =
-    (n : ℕ) → has_room new.journal (n + room_needed new.server.connections) ≡ has_room old.journal (n + room_needed old.server.connections)
+abbrev pub KeepsRoom : (old new : Roll) → Type 0
+KeepsRoom old new = (n : ℕ) → new.room (n + room_needed new.server.connections) ≡ old.room (n + room_needed old.server.connections)

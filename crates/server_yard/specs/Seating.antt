@@ -1,8 +1,8 @@
 -- Connections and the places that they were given.
 use Rattle.std.specs.Prelude.{◌≡◌, ◌<◌, ◌≤◌, ◌+◌, ◌-◌, ◌^◌, ◌==◌, ◌⊎◌, ℕ, Bool, true, false, List, Option, Some, None, length, if◌then◌else◌}
 use Rattle.std.specs.FinMap as map
-use Rattle.child_table.specs.Seats.{Seats, is_used}
-use Rattle.rule_lookup.specs.Peers.{Client}
+use Rattle.child_jobs.specs.Seats.{Seats, is_used}
+use Rattle.connection_facts.specs.Peers.{Client}
 use Rattle.server_events.specs.ServerState.{ServerState, count_from}
 use Rattle.server_events.specs.Worlds.{peer_of}
 use Rattle.server_events.specs.declared.event.Event.{Event}
@@ -42,8 +42,8 @@ IsAddressFull ip server =
     (length server.connections < server.limit) × (server.last < 2 ^ 64 - 1) × (count_from ip server.connections ≡ server.per_address)
 
 -- room for one event more than the connections need
-abbrev pub HasSpareRoom : {J : Type 0} → (J → ℕ → Bool) → Roll J → Type 0
-HasSpareRoom has_room roll = has_room roll.journal (room_needed roll.server.connections + 1) ≡ true
+abbrev pub HasSpareRoom : Roll → Type 0
+HasSpareRoom roll = roll.room (room_needed roll.server.connections + 1) ≡ true
 
 -- by this event a connection goes on, with its place
 abbrev pub goes_on : Event → Bool

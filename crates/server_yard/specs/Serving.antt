@@ -15,7 +15,8 @@ pub data Serves (n : ℕ) : YardState → List Event → YardState → Type 0 wh
   undecided : {x y z : YardState} {bytes : Option (List ℕ)} {last : Event}
       → LeadsOpened n bytes x y → LeadsOn last y z → Serves n x (Opened n (is_some bytes) ∷ last ∷ []) z
   decided : {x y z t : YardState} {bytes : Option (List ℕ)} {decision : Decision} {last : Event}
-      → LeadsOpened n bytes x y → LeadsDecided n bytes decision y z → LeadsOn last z t → Serves n x (Opened n (is_some bytes) ∷ Decided n decision ∷ last ∷ []) t
+      → LeadsOpened n bytes x y → LeadsDecided n bytes decision y z → LeadsOn last z t
+      → Serves n x (Opened n (is_some bytes) ∷ Decided n decision ∷ last ∷ []) t
 
 -- a history of the headline leads to a world that is the yard's, whatever its connections keep
 abbrev pub IsReachedOn : List Event → YardState → Type 0

@@ -1,7 +1,7 @@
 -- A yard as worlds see it, and the steps that its calls are.
 use Rattle.std.specs.Prelude.{◌≡◌, ◌++◌, ◌∷◌, ℕ, Bool, IsTrue, List, [], Option, None, Some, option_and_then, is_some}
 use Rattle.dir_calls.specs.Directory.{Directory, content}
-use Rattle.install_steps.specs.UnderWay.{IsAsFar}
+use Rattle.server_events.specs.UnderWay.{IsAsFar}
 use Rattle.rules_install.specs.Installing.{Installing}
 use Rattle.rule_lookup.specs.declared.decision.Decision.{Decision}
 use Rattle.server_events.specs.Headline.{Reaches}
@@ -36,11 +36,11 @@ pub record Matches (y : YardState) (files : List KeptFile) (w : World) : Type 0 
 abbrev pub Leads : Event → YardState → List KeptFile → YardState → List KeptFile → Type 0
 Leads event y files z more = (w : World) → Matches y files w → (v : World) × Step w event v × Matches z more v
 
--- whatever files are kept, and they are kept on
+-- by an event a yard leads on, whatever files its connections keep, and they keep them
 abbrev pub LeadsOn : Event → YardState → YardState → Type 0
 LeadsOn event y z = (files : List KeptFile) → Leads event y files z files
 
--- by the event of a call, if it had one
+-- a call leads on by its event, and where it had none the yard is as before
 abbrev pub LeadsSome : Option Event → YardState → YardState → Type 0
 LeadsSome None y z = z ≡ y
 LeadsSome (Some event) y z = LeadsOn event y z
@@ -50,7 +50,7 @@ abbrev pub LeadsOpened : ℕ → Option (List ℕ) → YardState → YardState �
 LeadsOpened n bytes y z =
     (files : List KeptFile) → Leads (Opened n (is_some bytes)) y files z (files ++ record { serial = n; bytes = bytes } ∷ [])
 
--- a connection is decided, where it keeps this
+-- by its decision a connection leads its yard on, where it keeps this file, or none
 abbrev pub LeadsDecided : ℕ → Option (List ℕ) → Decision → YardState → YardState → Type 0
 LeadsDecided n bytes decision y z =
     (files : List KeptFile) → kept_by n files ≡ Some bytes → Leads (Decided n decision) y files z files
@@ -65,7 +65,7 @@ pub record Begins (d : Directory) (rules : Option RulesName) : Type 0 where
   pub texts : Accepted
   pub stand : StartsWith d rules texts
 
--- the same of one that is honest
+-- the directory is honest, and begins so
 abbrev pub BeginsWell : Bool → Directory → Option RulesName → Type 0
 BeginsWell honest d rules = IsTrue honest × Begins d rules
 

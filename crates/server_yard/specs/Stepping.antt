@@ -11,27 +11,27 @@ use Rattle.server_events.specs.ServerState.{ServerState, may_come}
 use Rattle.server_events.specs.declared.event.Event.{Event}
 use Rattle.server_events.specs.declared.event.Event.TheVariants.{Stepped, StepFailed}
 
--- of a step that met a fault: one that failed, if the directory's
+-- the event of a step that met a fault: that it failed, where the fault is the directory's, and else none
 abbrev pub fault_event : InstallFault → Option Event
 fault_event (Disk fault phase) = Some (StepFailed phase)
 fault_event fault = None
 
--- of a step, by its answer
+-- the event of a step, by its answer
 abbrev pub step_event : Result Phase InstallFault → Option Event
 step_event (Ok phase) = Some (Stepped phase)
 step_event (Err fault) = fault_event fault
 
--- of a first step
+-- the event of a first step, by its answer
 abbrev pub begin_event : {I : Type 0} → Result ℕ (I × InstallFault) → Option Event
 begin_event (Ok number) = Some (Stepped Fresh)
 begin_event (Err refused) = fault_event refused.1
 
--- of a call that steps only an installation that is under way
+-- the event of a call that steps an installation only where one is under way
 abbrev pub event_of_step : Option Installing → Result Phase InstallFault → Option Event
 event_of_step None result = None
 event_of_step (Some s) result = step_event result
 
--- a fault of the directory
+-- whether a fault is the directory's
 abbrev pub is_of_disk : InstallFault → Bool
 is_of_disk (Disk fault phase) = true
 is_of_disk fault = false
@@ -48,12 +48,12 @@ kept_then s (Ok phase) = Some s
 kept_then s (Err (Disk fault phase)) = None
 kept_then s (Err fault) = Some s
 
--- the number of the one that is kept: none after a fault of the directory
+-- the number of the installation that is kept after a fault: none, where the fault is the directory's
 abbrev pub kept_after_fault : InstallFault → Option ℕ → Option ℕ
 kept_after_fault (Disk fault phase) kept = None
 kept_after_fault fault kept = kept
 
--- whether one is kept after a step
+-- whether an installation is kept after a step
 abbrev pub is_kept_after : Result Phase InstallFault → Bool
 is_kept_after (Err (Disk fault phase)) = false
 is_kept_after result = true
@@ -66,7 +66,7 @@ abbrev pub kept_after_begin : {I : Type 0} → Result ℕ (I × InstallFault) �
 kept_after_begin (Ok number) kept = Some number
 kept_after_begin (Err refused) kept = kept_after_fault refused.1 kept
 
--- the number of the last one that made its first step
+-- the number of the last installation that made its first step
 abbrev pub last_begun_after : {I : Type 0} → Result ℕ (I × InstallFault) → ℕ → ℕ
 last_begun_after (Ok number) last = number
 last_begun_after (Err refused) last = last
@@ -81,7 +81,7 @@ abbrev pub IsRefusedAs : {N I : Type 0} → InstallFault → Result N (I × Inst
 IsRefusedAs fault (Ok number) = ⊥
 IsRefusedAs fault (Err refused) = refused.1 ≡ fault
 
--- and handed back: after a fault of the directory it is over, else it is as it was
+-- an installation that is refused is handed back: after a fault of the directory it is over, else it is as it was
 abbrev pub HandsBack : Installing → Installing → InstallFault → Type 0
 HandsBack s t (Disk fault phase) = t.over ≡ true
 HandsBack s t fault = t ≡ s

@@ -13,7 +13,7 @@ abbrev pub is_apart : ℕ → Event → Bool
 is_apart n Stop = false
 is_apart n event = not (concerns n event)
 
--- so each of these
+-- each of these events is such
 abbrev pub AreApart : ℕ → List Event → Type 0
 AreApart n [] = ⊤
 AreApart n (event ∷ events) = (is_apart n event ≡ true) × AreApart n events

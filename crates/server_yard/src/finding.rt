@@ -2,7 +2,7 @@
 ghost use Rattle.std.specs.Prelude.{◌≡◌, IsTrue, option_map};
 ghost use Rattle.server_yard.specs.Installed.{IsWholeFile};
 
-use crate::premises::Premises;
+use crate::assumptions::Assumptions;
 use cdb_read::CdbFile;
 use dir_calls::RulesFile;
 use std::marker::PhantomData;
@@ -10,14 +10,14 @@ use std::marker::PhantomData;
 /// What a connection found when it opened the rules by a handle of its own, beside its yard: the file, or that none stood there. `Yard::opened`
 /// takes it.
 #[derive(Drop)]
-pub struct Finding<L: Premises, F: RulesFile + Drop> {
+pub struct Finding<L: Assumptions, F: RulesFile + Drop> {
     pub(crate) file: Option<CdbFile<F>>,
     pub(crate) yard: PhantomData<L>,
     /// where its yard's directory is honest and began as it has to, the file is compiled of rules
     pub ghost whole: { IsTrue L.met → ∥ IsWholeFile (option_map F.bytes file) ∥₁ },
 }
 
-impl<L: Premises, F: RulesFile + Drop> Finding<L, F> {
+impl<L: Assumptions, F: RulesFile + Drop> Finding<L, F> {
     ghost use Rattle.server_yard.specs.Passes.{finding_file};
 
     /// That this file was found, or none.

@@ -1,14 +1,12 @@
 //! Laws over the definitions alone.
-ghost use Rattle.std.specs.Prelude.{◌≡◌, ◌++◌, ◌∷◌, ℕ, List, [], Option, Some, length, true};
+ghost use Rattle.std.specs.Prelude.{◌≡◌, ◌++◌, ℕ, List, [], Option, Some, length, true};
 ghost use Rattle.rule_lines.specs.Pairs.{Rule};
 ghost use Rattle.server_events.specs.Headline.{Reaches};
 ghost use Rattle.server_events.specs.Processes.{Woven, is_connections};
 ghost use Rattle.server_events.specs.Table.{HasStage};
-ghost use Rattle.server_events.specs.Within.{FindsWithin, noting};
 ghost use Rattle.server_events.specs.Worlds.{KeptFile, World};
 ghost use Rattle.server_events.specs.declared.event.Event.{Event};
 ghost use Rattle.server_events.specs.declared.event.Stage.TheVariants as Stage;
-ghost use Rattle.server_yard.specs.Openings.{OpensBeside};
 ghost use Rattle.server_yard.specs.Readers.{IsAbsentOrCompiled, KeptYard, NamesStoredSinceDone, begun_in};
 ghost use Rattle.server_yard.specs.Serving.{IsReachedOn, IsServers, Serves, StepsByItself, over};
 ghost use Rattle.server_yard.specs.Standing.{IsNew, IsReachedBy, Leads, LeadsOpened, Series, YardState, standing_of};
@@ -37,18 +35,10 @@ pub fn beside()
         → StepsByItself w event z more }
 {}
 
-/// An opening that takes some time. Others go on meanwhile, and it found what stood under the rules name at some moment of that. The yard notes it
-/// over the directory that others came to; what the server has then is its yard's again. By `server_events::laws::opened_within` that world is the
-/// one to which the steps of others lead with the opening at its moment.
-pub fn opened_within()
-    ensures { (w v : World) (y z : YardState) (files : List KeptFile) (n : ℕ) (bytes : Option (List ℕ))
-        → IsServers y files w → FindsWithin w v bytes → OpensBeside n bytes y z
-        → IsServers z (files ++ record { serial = n; bytes = bytes } ∷ []) (noting n bytes v) }
-{}
-
-/// The same of an opening by a handle of the connection's own, while the yard's other connections go on too: where it found what stood at a moment
-/// meanwhile, and the yard is told of it at its end (`Yard::opened`, clause `beside`), all is as if it had opened them at that moment. So
-/// the headline says that its decision is by the text that stood then.
+/// An opening that takes some time, by `Yard::open` or by a handle of the connection's own: others go on meanwhile, and the yard's other
+/// connections too. Where it found what stood at a moment meanwhile, and the yard is told of it later (clause `beside` of `Yard::open` and
+/// `Yard::opened`), all is as if it had opened the rules at that moment. So the headline says that its decision is by the text that
+/// stood then.
 pub fn told_later()
     ensures { (history events : List Event) (u w : World) (y z : YardState) (files : List KeptFile)
         (n : ℕ) (bytes : Option (List ℕ)) → Reaches history u
@@ -57,7 +47,7 @@ pub fn told_later()
         → LeadsOpened n bytes (over y u.directory) (over z u.directory) → ToldLater n bytes u events files z }
 {}
 
-/// What a reader finds, in each yard as its type keeps it where the premises were met when it was made. Whatever a stop leaves under it, the
+/// What a reader finds, in each yard as its type keeps it where the assumptions were met when it was made. Whatever a stop leaves under it, the
 /// rules name is absent, or stands for a synced file that is compiled of rules. Over a journal that stores the lists of the
 /// installations, since any of them answered `Done` it stands for one that is compiled of the list of that installation or of a later one;
 /// there is one list for each.

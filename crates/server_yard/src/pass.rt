@@ -2,7 +2,7 @@
 ghost use Rattle.std.specs.Prelude.{◌≡◌, IsTrue, option_copied, option_map};
 ghost use Rattle.server_yard.specs.Installed.{IsWholeFile};
 
-use crate::premises::Premises;
+use crate::assumptions::Assumptions;
 use cdb_read::CdbFile;
 use dir_calls::RulesFile;
 use rule_lookup::Missing;
@@ -11,7 +11,7 @@ use std::marker::PhantomData;
 /// The rules file that a connection opened, or that there was none; it keeps its bytes, whatever becomes of the name. Only `Yard::open` makes
 /// one.
 #[derive(Drop)]
-pub struct Pass<L: Premises, F: RulesFile + Drop> {
+pub struct Pass<L: Assumptions, F: RulesFile + Drop> {
     pub(crate) serial: u64,
     pub(crate) file: Option<CdbFile<F>>,
     pub(crate) missing: Missing,
@@ -20,7 +20,7 @@ pub struct Pass<L: Premises, F: RulesFile + Drop> {
     pub ghost whole: { IsTrue L.met → ∥ IsWholeFile (option_map F.bytes file) ∥₁ },
 }
 
-impl<L: Premises, F: RulesFile + Drop> Pass<L, F> {
+impl<L: Assumptions, F: RulesFile + Drop> Pass<L, F> {
     ghost use Rattle.server_yard.specs.Passes.{pass_file, pass_missing, pass_serial};
 
     /// The file, as a source of decisions.

@@ -1,7 +1,7 @@
 //! The yard.
 ghost use Rattle.std.specs.Prelude.{◌≡◌, ◌≢◌, ◌+◌, ◌<◌, ◌≤◌, ◌∷◌, ◌↔◌, ℕ, List, [], true, false, Err, Ok, Some, None, IsTrue, IfOk, IfErr, IfNone, IfSome, OnErr, Contains, is_some, length, option_map};
 ghost use Rattle.child_jobs.specs.Runs.{place_of};
-ghost use Rattle.child_table.specs.Seats.{RefusesLimits};
+ghost use Rattle.child_jobs.specs.Seats.{RefusesLimits};
 ghost use Rattle.dir_calls.specs.Directory.{Directory};
 ghost use Rattle.dir_calls.specs.Moments.{CountsFault};
 ghost use Rattle.event_journals.specs.Journals.{HasSameRoom};
@@ -14,29 +14,29 @@ ghost use Rattle.server_events.specs.ServerState.{count_from, is_allowed, is_uns
 ghost use Rattle.server_events.specs.Worlds.{missing_by, peer_of};
 ghost use Rattle.server_events.specs.declared.event.Event.TheVariants.{Admitted, Opened, Decided, Started, StartFailed, Ended, Retired, Dropped};
 ghost use Rattle.server_events.specs.declared.event.Stage.TheVariants as stage;
-ghost use Rattle.server_yard.specs.Installed.{IsKeptBy, IsWholeFile};
+ghost use Rattle.server_yard.specs.Installed.{KeepsHistory, IsWholeFile};
 ghost use Rattle.server_yard.specs.Passes.{IsDecidedBy, finding_file, pass_bytes, pass_file, pass_missing, pass_serial};
 ghost use Rattle.server_yard.specs.Readers.{ReadersFind};
 ghost use Rattle.server_yard.specs.Rolls.{CountsStored, IsQuiet, Lived, Notes, NotesSome};
 ghost use Rattle.server_yard.specs.Rooms.{KeepsRoom};
-ghost use Rattle.server_yard.specs.Rosters.{books_of, roll_of};
+ghost use Rattle.server_yard.specs.Registers.{books_of, roll_of};
 ghost use Rattle.server_yard.specs.Seating.{GivesSeat, IsAddressFull, IsSpent, KeepsSeats, KeepsSerials, goes_on, leaver};
 ghost use Rattle.server_yard.specs.Standing.{BeginsWell, LeadsDecided, LeadsOn, LeadsOpened, LeadsSome, standing_of};
 ghost use Rattle.server_yard.specs.Stepping.{GoesAsStep, HandsBack, IsRefusedAs, begin_event, event_of_step, kept_after_begin, kept_after_step, is_kept_after, is_of_disk, kept_then, last_begun_after, lists_after_begin};
 ghost use Rattle.server_yard.specs.Kept.{FindsItsFile, FindsItsFile-prop, HasNoEvents, IsKeptInstallation, installing_of, is_kept, phase_of, rules_of, state_of};
-ghost use Rattle.server_yard.specs.declared.roster.AdmitFault.TheVariants.{Full, FullForAddress, Spent};
+ghost use Rattle.server_yard.specs.declared.register.AdmitFault.TheVariants.{Full, FullForAddress, Spent};
 
+use crate::assumptions::Assumptions;
 use crate::finding::Finding;
 use crate::pass::Pass;
-use crate::premises::Premises;
-use crate::roster::{AdmitFault, Roster};
+use crate::register::{AdmitFault, Register};
 use crate::stepping::{begin_noted, step_noted};
 use cdb_read::CdbFile;
-use child_jobs::{Job, Running};
-use child_table::{Place, TableFault};
+use child_jobs::{Job, Place, Running, TableFault};
+use connection_facts::{DropCause, Peer, StartFault, Status};
 use dir_calls::{Dir, DirFault, Name};
 use event_journals::Journal;
-use rule_lookup::{Decision, DropCause, Missing, Peer, StartFault, Status};
+use rule_lookup::{Decision, Missing};
 use rules_install::{Install, InstallFault, Phase};
 use server_events::{Event, Stage};
 use std::alloc::{AllocError, Global};
@@ -59,26 +59,26 @@ enum Installation {
 /// A place, a running child or a pass that a call takes has the yard's ledger, as its type says; `serial_of`, `stage` and `is_peer` tell
 /// whether its event may happen.
 #[derive(Drop)]
-pub struct Yard<L: Premises, D: Dir + Drop, J: Journal> {
-    roster: Roster<L, J>,
+pub struct Yard<L: Assumptions, D: Dir + Drop, J: Journal> {
+    register: Register<L, J>,
     dir: D,
     rules: Option<(Name, Missing)>,
     installation: Installation,
     // the number of the last installation that made its first step
     begun: u64,
-    // where the premises are met the directory is honest
+    // where the assumptions are met the directory is honest
     ghost honest: { IsTrue L.met → IsTrue D.honest },
     // the phase is that of the installation that is kept
-    pub ghost phase: { phase_of (installing_of installation) ≡ (roll_of roster).server.phase },
+    pub ghost phase: { phase_of (installing_of installation) ≡ (roll_of register).server.phase },
     ghost going: { IsKeptInstallation (installing_of installation) (rules_of rules) },
     ghost finds: { FindsItsFile D.honest (installing_of installation) (D.state dir) } by { FindsItsFile-prop D.honest (installing_of installation) (D.state dir) },
-    // where the premises are met the installations of its history, by themselves, are a history of the headline that left its directory
+    // where the assumptions are met the installations of its history, by themselves, are a history of the headline that left its directory
     pub ghost installed: { IsTrue L.met
-        → ∥ IsKeptBy (books_of roster) (state_of roster (D.state dir) rules installation) ∥₁ },
+        → ∥ KeepsHistory (books_of register) (state_of register (D.state dir) rules installation) ∥₁ },
 }
 
-impl<L: Premises, D: Dir + Drop, J: Journal> Yard<L, D, J> {
-    ghost use Rattle.server_yard.specs.Yards.{IsMade, IsSameBeside, IsSameButDirectory, LeavesNothingElse, MayBegin, kept_number, kept_under, last_begun, name_of, number_of, serial_of, stage_of_place, yard_books, yard_directory, yard_installing, yard_over, yard_roll, yard_rules, yard_seat, yard_server, yard_state};
+impl<L: Assumptions, D: Dir + Drop, J: Journal> Yard<L, D, J> {
+    ghost use Rattle.server_yard.specs.Yards.{IsMade, IsSameBeside, IsSameButDirectory, LeavesNothingElse, MayBegin, kept_number, kept_under, last_begun, name_of, number_of, serial_of, stage_of_place, yard_books, yard_directory, yard_installing, yard_journal, yard_over, yard_roll, yard_rules, yard_seat, yard_server, yard_state};
 
     /// A yard over a directory, with the name of its rules file and what is decided where no file stands there; without a name every connection is
     /// allowed. No connection is there, and no installation under way. At most `limit` connections are alive at once. `blank` has as many
@@ -96,7 +96,7 @@ impl<L: Premises, D: Dir + Drop, J: Journal> Yard<L, D, J> {
     ) -> Result<Yard<L, D, J>, TableFault>
         requires name { blank.name ≡ L.name }
         requires parts { (blank.parts ≡ L.parts) × (blank.parts ≡ limit) }
-        requires journal { HasNoEvents J.told J.count J.stored J.lists journal }
+        requires journal { HasNoEvents (J.books journal) }
         requires begins { IsTrue L.met → BeginsWell D.honest (D.state dir) (rules_of rules) }
         ensures made { IfOk result (IsMade dir (rules_of rules) limit limit journal) }
         ensures refused { IfErr result (RefusesLimits limit limit) }
@@ -119,13 +119,13 @@ impl<L: Premises, D: Dir + Drop, J: Journal> Yard<L, D, J> {
     ) -> Result<Yard<L, D, J>, TableFault>
         requires name { blank.name ≡ L.name }
         requires parts { (blank.parts ≡ L.parts) × (blank.parts ≡ limit) }
-        requires journal { HasNoEvents J.told J.count J.stored J.lists journal }
+        requires journal { HasNoEvents (J.books journal) }
         requires begins { IsTrue L.met → BeginsWell D.honest (D.state dir) (rules_of rules) }
         ensures made { IfOk result (IsMade dir (rules_of rules) limit per_address journal) }
         ensures refused { IfErr result (RefusesLimits limit per_address) }
     {
         Ok(Yard {
-            roster: Roster::new(alloc, blank, limit, per_address, journal)?,
+            register: Register::new(alloc, blank, limit, per_address, journal)?,
             dir,
             rules,
             installation: Installation::Idle,
@@ -137,21 +137,21 @@ impl<L: Premises, D: Dir + Drop, J: Journal> Yard<L, D, J> {
     pub fn live(&self) -> u64
         ensures { result ≡ length (yard_server self.now).connections }
     {
-        self.roster.state().live()
+        self.register.state().live()
     }
 
     /// How many may be alive at once.
     pub fn limit(&self) -> u64
         ensures { result ≡ (yard_server self.now).limit }
     {
-        self.roster.limit()
+        self.register.limit()
     }
 
     /// How many of them may come from one address.
     pub fn address_limit(&self) -> u64
         ensures { result ≡ (yard_server self.now).per_address }
     {
-        self.roster.address_limit()
+        self.register.address_limit()
     }
 
     /// What is decided where no rules file stands: what `open` gives its pass.
@@ -173,15 +173,15 @@ impl<L: Premises, D: Dir + Drop, J: Journal> Yard<L, D, J> {
 
     /// The journal.
     pub fn journal(&self) -> &J
-        ensures { result.now ≡ (yard_roll self.now).journal }
+        ensures { result.now ≡ yard_journal self.now }
     {
-        self.roster.journal()
+        self.register.journal()
     }
 
-    /// A law: what a reader finds, as `laws::readers` has it, of each yard whose premises were met when it was made.
+    /// A law: what a reader finds, as `laws::readers` has it, of each yard whose assumptions were met when it was made.
     pub fn consistent(&self)
         ensures { IsTrue L.met → IfSome (yard_rules self.now) (λ rules.
-            ∥ ReadersFind (yard_books self.now) (yard_state D.state self.now) rules ∥₁) }
+            ∥ ReadersFind (yard_books self.now) (yard_state self.now) rules ∥₁) }
     {}
 
     /// A law: the history of each yard. There is one that the table of events allows, with these limits and with the report, the number and the
@@ -198,17 +198,18 @@ impl<L: Premises, D: Dir + Drop, J: Journal> Yard<L, D, J> {
     /// Who calls the events that follow: a number from 1, or 0 for nobody, as at first. Nothing else changes.
     pub fn speaker(&mut self, speaker: u64)
         ensures speaks { yard_roll self.new ≡ record (yard_roll self.old) { speaker = speaker } }
-        ensures same { IsSameBeside J.lists self.old self.new }
+        ensures journal { yard_journal self.new ≡ yard_journal self.old }
+        ensures same { IsSameBeside self.old self.new }
         ensures seats { KeepsSeats (yard_seat self.old) (yard_seat self.new) }
     {
-        self.roster.speak(speaker);
+        self.register.speak(speaker);
     }
 
     /// The serial of the connection that has a place, where it is alive.
     pub fn serial_of(&self, place: &Place<L>) -> Option<u64>
         ensures { result ≡ serial_of self.now place.now }
     {
-        self.roster.serial(place.index())
+        self.register.serial(place.index())
     }
 
     /// The serial and the stage of the connection that has a place, where it is alive: the test for what the calls that take a place
@@ -218,21 +219,21 @@ impl<L: Premises, D: Dir + Drop, J: Journal> Yard<L, D, J> {
         ensures stage { option_map (λ r. r.1) result ≡ stage_of_place self.now place.now }
         ensures number { IfSome result (λ r. r.0 ≡ number_of self.now place.now) }
     {
-        self.roster.stage(place.index())
+        self.register.stage(place.index())
     }
 
     /// The stage of a connection that is alive.
     pub fn stage(&self, serial: u64) -> Option<Stage>
         ensures { result ≡ stage_of serial (yard_server self.now).connections }
     {
-        self.roster.state().stage(serial)
+        self.register.state().stage(serial)
     }
 
     /// Whether this is the other end of a connection that is alive.
     pub fn is_peer(&self, serial: u64, peer: &Peer) -> bool
         ensures { IsTrue result ↔ (peer_of serial (yard_server self.now).connections ≡ Some peer.now) }
     {
-        match self.roster.state().peer(serial) {
+        match self.register.state().peer(serial) {
             Some(own) => is_same(own, peer),
             None => false,
         }
@@ -248,32 +249,31 @@ impl<L: Premises, D: Dir + Drop, J: Journal> Yard<L, D, J> {
         ensures full { (result ≡ Err Full) ↔ (length (yard_server self.old).connections ≡ (yard_server self.old).limit) }
         ensures spent { (result ≡ Err Spent) ↔ IsSpent (yard_server self.old) }
         ensures full_for_address { (result ≡ Err FullForAddress) ↔ IsAddressFull peer.now.ip (yard_server self.old) }
-        ensures noted { IfOk result (λ r. Notes J.told J.count J.stored
-            (Admitted r.0 peer.now) (yard_roll self.old) (yard_roll self.new)) }
+        ensures noted { IfOk result (λ r. Notes (Admitted r.0 peer.now) (yard_roll self.old) (yard_roll self.new)) }
         ensures step { IsTrue D.honest → IfOk result (λ r. LeadsOn
-            (Admitted r.0 peer.now) (yard_state D.state self.old) (yard_state D.state self.new)) }
+            (Admitted r.0 peer.now) (yard_state self.old) (yard_state self.new)) }
         // and so over whatever directory others left
         ensures beside { (d : Directory) → IfOk result (λ r. LeadsOn
             (Admitted r.0 peer.now) (yard_over d self.old) (yard_over d self.new)) }
         ensures seat { IfOk result (λ r. GivesSeat r.1 r.0 (yard_seat self.old) (yard_seat self.new)) }
-        ensures room { KeepsRoom J.has_room (yard_roll self.old) (yard_roll self.new) }
-        ensures same { IsSameBeside J.lists self.old self.new }
-        ensures refused { OnErr result (IsQuiet J.told J.count J.stored (yard_roll self.old) (yard_roll self.new)) }
+        ensures room { KeepsRoom (yard_roll self.old) (yard_roll self.new) }
+        ensures same { IsSameBeside self.old self.new }
+        ensures refused { OnErr result (IsQuiet (yard_roll self.old) (yard_roll self.new)) }
         ensures same_seats { OnErr result (KeepsSerials (yard_server self.old) (yard_seat self.old) (yard_seat self.new)) }
     {
-        self.roster.admit(peer)
+        self.register.admit(peer)
     }
 
     // A connection goes on by an event, and keeps its place.
     fn advance(&mut self, event: Event)
         requires kind { goes_on event ≡ true }
         requires may { may_happen (yard_server self.old) event ≡ true }
-        ensures noted { Notes J.told J.count J.stored event (yard_roll self.old) (yard_roll self.new) }
-        ensures room { KeepsRoom J.has_room (yard_roll self.old) (yard_roll self.new) }
-        ensures same { IsSameBeside J.lists self.old self.new }
+        ensures noted { Notes event (yard_roll self.old) (yard_roll self.new) }
+        ensures room { KeepsRoom (yard_roll self.old) (yard_roll self.new) }
+        ensures same { IsSameBeside self.old self.new }
         ensures seats { KeepsSeats (yard_seat self.old) (yard_seat self.new) }
     {
-        self.roster.advance(event);
+        self.register.advance(event);
     }
 
     // A connection goes by an event, and its place is free.
@@ -281,32 +281,30 @@ impl<L: Premises, D: Dir + Drop, J: Journal> Yard<L, D, J> {
         requires kind { leaver event ≡ Some serial }
         requires seat { yard_seat self.old place ≡ Some serial }
         requires may { may_happen (yard_server self.old) event ≡ true }
-        ensures noted { Notes J.told J.count J.stored event (yard_roll self.old) (yard_roll self.new) }
-        ensures step { IsTrue D.honest
-            → LeadsOn event (yard_state D.state self.old) (yard_state D.state self.new) }
+        ensures noted { Notes event (yard_roll self.old) (yard_roll self.new) }
+        ensures step { IsTrue D.honest → LeadsOn event (yard_state self.old) (yard_state self.new) }
         ensures beside { (d : Directory) → LeadsOn event (yard_over d self.old) (yard_over d self.new) }
-        ensures room { KeepsRoom J.has_room (yard_roll self.old) (yard_roll self.new) }
-        ensures same { IsSameBeside J.lists self.old self.new }
+        ensures room { KeepsRoom (yard_roll self.old) (yard_roll self.new) }
+        ensures same { IsSameBeside self.old self.new }
         ensures seats { KeepsSeats (yard_seat self.old) (yard_seat self.new) }
         ensures gone { stage_of serial (yard_server self.new).connections ≡ None }
     {
-        self.roster.leave(place, serial, event);
+        self.register.leave(place, serial, event);
     }
 
     // What stands under the rules name, and what is decided where nothing does.
     fn find(&mut self, alloc: Global) -> Result<(Option<CdbFile<D::File>>, Missing), DirFault>
         ensures missing { IfOk result (λ r. r.1 ≡ missing_by (yard_rules self.old)) }
         ensures found { IsTrue D.honest → IfOk result (λ r.
-            option_map D.File.bytes r.0 ≡ standing_of (yard_state D.state self.old)) }
+            option_map D.File.bytes r.0 ≡ standing_of (yard_state self.old)) }
         ensures whole { IsTrue L.met → IfOk result (λ r. ∥ IsWholeFile (option_map D.File.bytes r.0) ∥₁) }
         ensures roll { yard_roll self.new ≡ yard_roll self.old }
-        ensures state { IsTrue D.honest → yard_state D.state self.new ≡ yard_state D.state self.old }
-        ensures stops { IsTrue D.honest
-            → LeavesNothingElse D.state D.moment D.left_since self.old self.new }
+        ensures state { IsTrue D.honest → yard_state self.new ≡ yard_state self.old }
+        ensures stops { IsTrue D.honest → LeavesNothingElse self.old self.new }
         ensures faults { IfErr result (Contains (DirFault.Device ∷ DirFault.OutOfMemory ∷ [])) }
         ensures counted { CountsFault (D.failed (yard_directory self.old)) (D.failed (yard_directory self.new)) result }
         ensures without { yard_rules self.old ≡ None → yard_directory self.new ≡ yard_directory self.old }
-        ensures same { IsSameButDirectory J.lists self.old self.new }
+        ensures same { IsSameButDirectory self.old self.new }
         ensures seats { KeepsSeats (yard_seat self.old) (yard_seat self.new) }
     {
         let Some((name, missing)) = &self.rules else {
@@ -329,26 +327,24 @@ impl<L: Premises, D: Dir + Drop, J: Journal> Yard<L, D, J> {
         ensures its { IfOk result (λ pass. pass_serial pass ≡ serial) }
         ensures missing { IfOk result (λ pass. pass_missing pass ≡ missing_by (yard_rules self.old)) }
         ensures found { IsTrue D.honest → IfOk result (λ pass.
-            pass_bytes D.File.bytes pass ≡ standing_of (yard_state D.state self.old)) }
-        ensures noted { IfOk result (λ pass. Notes J.told J.count J.stored
+            pass_bytes D.File.bytes pass ≡ standing_of (yard_state self.old)) }
+        ensures noted { IfOk result (λ pass. Notes
             (Opened serial (is_some (pass_file pass))) (yard_roll self.old) (yard_roll self.new)) }
         ensures step { IsTrue D.honest → IfOk result (λ pass. LeadsOpened serial
-            (pass_bytes D.File.bytes pass) (yard_state D.state self.old) (yard_state D.state self.new)) }
+            (pass_bytes D.File.bytes pass) (yard_state self.old) (yard_state self.new)) }
         // and so over whatever directory others left
         ensures beside { (d : Directory) → IfOk result (λ pass.
             pass_bytes D.File.bytes pass ≡ standing_of (yard_over d self.old)
             → LeadsOpened serial (pass_bytes D.File.bytes pass) (yard_over d self.old) (yard_over d self.new)) }
-        ensures refused { OnErr result (IsQuiet J.told J.count J.stored (yard_roll self.old) (yard_roll self.new)) }
-        ensures err_state { IsTrue D.honest
-            → OnErr result (yard_state D.state self.new ≡ yard_state D.state self.old) }
+        ensures refused { OnErr result (IsQuiet (yard_roll self.old) (yard_roll self.new)) }
+        ensures err_state { IsTrue D.honest → OnErr result (yard_state self.new ≡ yard_state self.old) }
         // a stop since then left what the headline's world may leave: an opening changes nothing
-        ensures stops { IsTrue D.honest
-            → LeavesNothingElse D.state D.moment D.left_since self.old self.new }
+        ensures stops { IsTrue D.honest → LeavesNothingElse self.old self.new }
         ensures faults { IfErr result (Contains (DirFault.Device ∷ DirFault.OutOfMemory ∷ [])) }
         ensures counted { CountsFault (D.failed (yard_directory self.old)) (D.failed (yard_directory self.new)) result }
         ensures without { yard_rules self.old ≡ None → yard_directory self.new ≡ yard_directory self.old }
-        ensures room { KeepsRoom J.has_room (yard_roll self.old) (yard_roll self.new) }
-        ensures same { IsSameButDirectory J.lists self.old self.new }
+        ensures room { KeepsRoom (yard_roll self.old) (yard_roll self.new) }
+        ensures same { IsSameButDirectory self.old self.new }
         ensures seats { KeepsSeats (yard_seat self.old) (yard_seat self.new) }
     {
         let (file, missing) = self.find(alloc)?;
@@ -372,15 +368,14 @@ impl<L: Premises, D: Dir + Drop, J: Journal> Yard<L, D, J> {
         ensures its { pass_serial result ≡ serial }
         ensures missing { pass_missing result ≡ missing_by (yard_rules self.old) }
         ensures found { pass_file result ≡ finding_file finding }
-        ensures noted { Notes J.told J.count J.stored
-            (Opened serial (is_some (pass_file result))) (yard_roll self.old) (yard_roll self.new) }
-        ensures step { IsTrue D.honest → pass_bytes D.File.bytes result ≡ standing_of (yard_state D.state self.old)
-            → LeadsOpened serial (pass_bytes D.File.bytes result) (yard_state D.state self.old) (yard_state D.state self.new) }
+        ensures noted { Notes (Opened serial (is_some (pass_file result))) (yard_roll self.old) (yard_roll self.new) }
+        ensures step { IsTrue D.honest → pass_bytes D.File.bytes result ≡ standing_of (yard_state self.old)
+            → LeadsOpened serial (pass_bytes D.File.bytes result) (yard_state self.old) (yard_state self.new) }
         // and so over whatever directory others left
         ensures beside { (d : Directory) → pass_bytes D.File.bytes result ≡ standing_of (yard_over d self.old)
             → LeadsOpened serial (pass_bytes D.File.bytes result) (yard_over d self.old) (yard_over d self.new) }
-        ensures room { KeepsRoom J.has_room (yard_roll self.old) (yard_roll self.new) }
-        ensures same { IsSameBeside J.lists self.old self.new }
+        ensures room { KeepsRoom (yard_roll self.old) (yard_roll self.new) }
+        ensures same { IsSameBeside self.old self.new }
         ensures seats { KeepsSeats (yard_seat self.old) (yard_seat self.new) }
     {
         let missing = self.missing();
@@ -403,15 +398,14 @@ impl<L: Premises, D: Dir + Drop, J: Journal> Yard<L, D, J> {
         requires missing { pass_missing pass ≡ missing_by (yard_rules self.old) }
         requires peer { peer_of (pass_serial pass) (yard_server self.old).connections ≡ Some peer.now }
         requires decides { IsDecidedBy D.File.honest D.File.sound D.File.bytes pass peer.now decision }
-        ensures noted { Notes J.told J.count J.stored
-            (Decided (pass_serial pass) decision) (yard_roll self.old) (yard_roll self.new) }
+        ensures noted { Notes (Decided (pass_serial pass) decision) (yard_roll self.old) (yard_roll self.new) }
         ensures step { IsTrue D.honest → LeadsDecided (pass_serial pass) (pass_bytes D.File.bytes pass) decision
-            (yard_state D.state self.old) (yard_state D.state self.new) }
+            (yard_state self.old) (yard_state self.new) }
         // and so over whatever directory others left
         ensures beside { (d : Directory) → IsTrue D.File.honest → LeadsDecided (pass_serial pass)
             (pass_bytes D.File.bytes pass) decision (yard_over d self.old) (yard_over d self.new) }
-        ensures room { KeepsRoom J.has_room (yard_roll self.old) (yard_roll self.new) }
-        ensures same { IsSameBeside J.lists self.old self.new }
+        ensures room { KeepsRoom (yard_roll self.old) (yard_roll self.new) }
+        ensures same { IsSameBeside self.old self.new }
         ensures seats { KeepsSeats (yard_seat self.old) (yard_seat self.new) }
     {
         self.advance(Event::Decided {
@@ -423,92 +417,89 @@ impl<L: Premises, D: Dir + Drop, J: Journal> Yard<L, D, J> {
     /// The child of a connection that was allowed runs, at its place. It takes no memory.
     pub fn started<C: Job>(&mut self, running: &Running<L, C>)
         requires allowed { is_allowed (stage_of_place self.old (place_of running.now)) ≡ true }
-        ensures noted { Notes J.told J.count J.stored
+        ensures noted { Notes
             (Started (number_of self.old (place_of running.now))) (yard_roll self.old) (yard_roll self.new) }
         ensures step { IsTrue D.honest → LeadsOn (Started (number_of self.old (place_of running.now)))
-            (yard_state D.state self.old) (yard_state D.state self.new) }
+            (yard_state self.old) (yard_state self.new) }
         // and so over whatever directory others left
         ensures beside { (d : Directory) → LeadsOn (Started (number_of self.old (place_of running.now)))
             (yard_over d self.old) (yard_over d self.new) }
-        ensures room { KeepsRoom J.has_room (yard_roll self.old) (yard_roll self.new) }
-        ensures same { IsSameBeside J.lists self.old self.new }
+        ensures room { KeepsRoom (yard_roll self.old) (yard_roll self.new) }
+        ensures same { IsSameBeside self.old self.new }
         ensures seats { KeepsSeats (yard_seat self.old) (yard_seat self.new) }
     {
-        let serial = self.roster.number(running.place().index());
+        let serial = self.register.number(running.place().index());
         self.advance(Event::Started { serial });
     }
 
     /// The child of a connection that was allowed could not be started: the connection is gone. It takes no memory.
     pub fn start_failed(&mut self, place: Place<L>, fault: StartFault)
         requires allowed { is_allowed (stage_of_place self.old place) ≡ true }
-        ensures noted { Notes J.told J.count J.stored
-            (StartFailed (number_of self.old place) fault) (yard_roll self.old) (yard_roll self.new) }
+        ensures noted { Notes (StartFailed (number_of self.old place) fault) (yard_roll self.old) (yard_roll self.new) }
         ensures step { IsTrue D.honest → LeadsOn (StartFailed (number_of self.old place) fault)
-            (yard_state D.state self.old) (yard_state D.state self.new) }
+            (yard_state self.old) (yard_state self.new) }
         // and so over whatever directory others left
         ensures beside { (d : Directory) → LeadsOn (StartFailed (number_of self.old place) fault)
             (yard_over d self.old) (yard_over d self.new) }
-        ensures room { KeepsRoom J.has_room (yard_roll self.old) (yard_roll self.new) }
-        ensures same { IsSameBeside J.lists self.old self.new }
+        ensures room { KeepsRoom (yard_roll self.old) (yard_roll self.new) }
+        ensures same { IsSameBeside self.old self.new }
         ensures seats { KeepsSeats (yard_seat self.old) (yard_seat self.new) }
         ensures gone { stage_of (number_of self.old place) (yard_server self.new).connections ≡ None }
     {
-        let serial = self.roster.number(place.index());
+        let serial = self.register.number(place.index());
         self.leave(place, serial, Event::StartFailed { serial, fault });
     }
 
     /// The child of a connection has ended: the connection is gone. It takes no memory.
     pub fn ended(&mut self, place: Place<L>, status: Status)
         requires started { stage_of_place self.old place ≡ Some stage.Started }
-        ensures noted { Notes J.told J.count J.stored
-            (Ended (number_of self.old place) status) (yard_roll self.old) (yard_roll self.new) }
+        ensures noted { Notes (Ended (number_of self.old place) status) (yard_roll self.old) (yard_roll self.new) }
         ensures step { IsTrue D.honest → LeadsOn (Ended (number_of self.old place) status)
-            (yard_state D.state self.old) (yard_state D.state self.new) }
+            (yard_state self.old) (yard_state self.new) }
         // and so over whatever directory others left
         ensures beside { (d : Directory) → LeadsOn (Ended (number_of self.old place) status)
             (yard_over d self.old) (yard_over d self.new) }
-        ensures room { KeepsRoom J.has_room (yard_roll self.old) (yard_roll self.new) }
-        ensures same { IsSameBeside J.lists self.old self.new }
+        ensures room { KeepsRoom (yard_roll self.old) (yard_roll self.new) }
+        ensures same { IsSameBeside self.old self.new }
         ensures seats { KeepsSeats (yard_seat self.old) (yard_seat self.new) }
         ensures gone { stage_of (number_of self.old place) (yard_server self.new).connections ≡ None }
     {
-        let serial = self.roster.number(place.index());
+        let serial = self.register.number(place.index());
         self.leave(place, serial, Event::Ended { serial, status });
     }
 
     /// The child of a connection could not be waited for: it is abandoned, and its place stays counted for good. It takes no memory.
     pub fn retired<C: Job>(&mut self, running: Running<L, C>)
         requires started { stage_of_place self.old (place_of running) ≡ Some stage.Started }
-        ensures noted { Notes J.told J.count J.stored
+        ensures noted { Notes
             (Retired (number_of self.old (place_of running))) (yard_roll self.old) (yard_roll self.new) }
         ensures step { IsTrue D.honest → LeadsOn (Retired (number_of self.old (place_of running)))
-            (yard_state D.state self.old) (yard_state D.state self.new) }
+            (yard_state self.old) (yard_state self.new) }
         // and so over whatever directory others left
         ensures beside { (d : Directory) → LeadsOn (Retired (number_of self.old (place_of running)))
             (yard_over d self.old) (yard_over d self.new) }
-        ensures room { KeepsRoom J.has_room (yard_roll self.old) (yard_roll self.new) }
-        ensures same { IsSameBeside J.lists self.old self.new }
+        ensures room { KeepsRoom (yard_roll self.old) (yard_roll self.new) }
+        ensures same { IsSameBeside self.old self.new }
         ensures seats { KeepsSeats (yard_seat self.old) (yard_seat self.new) }
     {
-        self.roster.retire(running);
+        self.register.retire(running);
     }
 
     /// A connection is given up before a child was started: it is gone. It takes no memory.
     pub fn dropped(&mut self, place: Place<L>, cause: DropCause)
         requires unstarted { is_unstarted (stage_of_place self.old place) ≡ true }
-        ensures noted { Notes J.told J.count J.stored
-            (Dropped (number_of self.old place) cause) (yard_roll self.old) (yard_roll self.new) }
+        ensures noted { Notes (Dropped (number_of self.old place) cause) (yard_roll self.old) (yard_roll self.new) }
         ensures step { IsTrue D.honest → LeadsOn (Dropped (number_of self.old place) cause)
-            (yard_state D.state self.old) (yard_state D.state self.new) }
+            (yard_state self.old) (yard_state self.new) }
         // and so over whatever directory others left
         ensures beside { (d : Directory) → LeadsOn (Dropped (number_of self.old place) cause)
             (yard_over d self.old) (yard_over d self.new) }
-        ensures room { KeepsRoom J.has_room (yard_roll self.old) (yard_roll self.new) }
-        ensures same { IsSameBeside J.lists self.old self.new }
+        ensures room { KeepsRoom (yard_roll self.old) (yard_roll self.new) }
+        ensures same { IsSameBeside self.old self.new }
         ensures seats { KeepsSeats (yard_seat self.old) (yard_seat self.new) }
         ensures gone { stage_of (number_of self.old place) (yard_server self.new).connections ≡ None }
     {
-        let serial = self.roster.number(place.index());
+        let serial = self.register.number(place.index());
         self.leave(place, serial, Event::Dropped { serial, cause });
     }
 
@@ -564,29 +555,27 @@ impl<L: Premises, D: Dir + Drop, J: Journal> Yard<L, D, J> {
         ensures begun { last_begun self.new ≡ last_begun_after result (last_begun self.old) }
         ensures kept { kept_number self.new ≡ kept_after_begin result (kept_number self.old) }
         ensures rules { yard_rules self.new ≡ yard_rules self.old }
-        ensures noted { NotesSome J.told J.count J.stored
-            (begin_event result) (yard_roll self.old) (yard_roll self.new) }
+        ensures noted { NotesSome (begin_event result) (yard_roll self.old) (yard_roll self.new) }
         ensures step { IsTrue D.honest → LeadsSome
-            (begin_event result) (yard_state D.state self.old) (yard_state D.state self.new) }
+            (begin_event result) (yard_state self.old) (yard_state self.new) }
         // a stop at any moment since left what the headline's world may leave, or an image of the directory as it is then
-        ensures stops { IsTrue D.honest
-            → LeavesNothingElse D.state D.moment D.left_since self.old self.new }
-        ensures lists { J.lists (yard_roll self.new).journal
-            ≡ lists_after_begin result (installing install).rules (J.lists (yard_roll self.old).journal) }
+        ensures stops { IsTrue D.honest → LeavesNothingElse self.old self.new }
+        ensures lists { (yard_books self.new).lists
+            ≡ lists_after_begin result (installing install).rules (yard_books self.old).lists }
         ensures back { IfErr result (λ r. HandsBack (installing install) (installing r.0) r.1) }
         // the device is blamed only where it failed, and that was counted
         ensures device { IsTrue D.honest → IfErr result (λ r. IsOfDevice (Err r.1)) }
         ensures blames { IfErr result (λ r.
             BlamesFault (D.failed (yard_directory self.old)) (D.failed (yard_directory self.new)) r.1) }
         ensures untouched { IsRefusedAs Over result → yard_directory self.new ≡ yard_directory self.old }
-        ensures room { HasSameRoom J.has_room (yard_roll self.old).journal (yard_roll self.new).journal }
+        ensures room { HasSameRoom (yard_roll self.old).room (yard_roll self.new).room }
         ensures seats { KeepsSeats (yard_seat self.old) (yard_seat self.new) }
     {
         let Some(number) = self.next_number(&install) else {
             return Err((install, InstallFault::Over));
         };
         let mut install = install;
-        match begin_noted(alloc, &mut self.roster, &mut self.dir, &mut install) {
+        match begin_noted(alloc, &mut self.register, &mut self.dir, &mut install) {
             Ok(_) => {
                 self.installation = Installation::UnderWay(install);
                 self.begun = number;
@@ -611,23 +600,22 @@ impl<L: Premises, D: Dir + Drop, J: Journal> Yard<L, D, J> {
     pub fn install_step(&mut self, alloc: Global, number: u64) -> Result<Phase, InstallFault>
         ensures over { (result ≡ Err Over) ↔ (kept_number self.old ≢ Some number) }
         ensures after_done { kept_number self.old ≡ Some number → yard_installing self.old ≡ None → result ≡ Ok Done }
-        ensures noted { NotesSome J.told J.count J.stored
+        ensures noted { NotesSome
             (event_of_step (kept_under self.old number) result) (yard_roll self.old) (yard_roll self.new) }
         ensures step { IsTrue D.honest → LeadsSome (event_of_step (kept_under self.old number) result)
-            (yard_state D.state self.old) (yard_state D.state self.new) }
-        ensures stops { IsTrue D.honest
-            → LeavesNothingElse D.state D.moment D.left_since self.old self.new }
+            (yard_state self.old) (yard_state self.new) }
+        ensures stops { IsTrue D.honest → LeavesNothingElse self.old self.new }
         // as `Install::step` of the one that is kept
         ensures goes { IfSome (kept_under self.old number) (λ s. GoesAsStep s (yard_installing self.new) result) }
         ensures kept { kept_number self.new ≡ kept_after_step result (kept_number self.old) }
         ensures begun { last_begun self.new ≡ last_begun self.old }
         ensures rules { yard_rules self.new ≡ yard_rules self.old }
-        ensures lists { J.lists (yard_roll self.new).journal ≡ J.lists (yard_roll self.old).journal }
+        ensures lists { (yard_books self.new).lists ≡ (yard_books self.old).lists }
         // the device is blamed only where it failed, and that was counted; where none is under way the directory is not called
         ensures device { IsTrue D.honest → IsOfDevice result }
         ensures blames { BlamesDevice (D.failed (yard_directory self.old)) (D.failed (yard_directory self.new)) result }
         ensures untouched { kept_under self.old number ≡ None → yard_directory self.new ≡ yard_directory self.old }
-        ensures room { HasSameRoom J.has_room (yard_roll self.old).journal (yard_roll self.new).journal }
+        ensures room { HasSameRoom (yard_roll self.old).room (yard_roll self.new).room }
         ensures seats { KeepsSeats (yard_seat self.old) (yard_seat self.new) }
     {
         if number != self.begun {
@@ -640,7 +628,7 @@ impl<L: Premises, D: Dir + Drop, J: Journal> Yard<L, D, J> {
                 Ok(Phase::Done)
             }
             Installation::UnderWay(mut install) => {
-                let result = step_noted(alloc, &mut self.roster, &mut self.dir, &mut install);
+                let result = step_noted(alloc, &mut self.register, &mut self.dir, &mut install);
                 self.installation = Installation::after(install, result);
                 result
             }

@@ -1,12 +1,12 @@
 -- How far a tool came that passes one stream on, by the end of its pump.
 use Rattle.std.proofs.Common.{◌≡◌, ◌≢◌, ◌⊎◌, inl, inr, ℕ, Bool, true, false, List, [], ◌∷◌, ◌++◌, Option, None, Some, Result, Ok, Err, OnOk, IfSome, refl, sym, ap, subst, ◌∙◌, append-nil}
 use Rattle.std.specs.Io.KnownBytes.{Appends, Consumes, IsAtEnd}
-use Rattle.wrapper_chain.specs.Stages.{Gives, deleted_from, through}
-use Rattle.byte_pump.specs.Pumps.{Ends, Gave, GivesFirst, IsWritten, Pumped}
-use Rattle.byte_pump.specs.Taps.{Shown}
-use Rattle.byte_pump.specs.declared.pumping.PumpEnd.{PumpEnd}
-use Rattle.byte_pump.specs.declared.pumping.Why.{Why}
-use Rattle.byte_pump.specs.declared.pumping.Why.TheVariants as why
+use Rattle.byte_streams.specs.Stages.{Gives, deleted_from, through}
+use Rattle.byte_streams.specs.Pumps.{Ends, Gave, GivesFirst, IsWritten, Pumped}
+use Rattle.byte_streams.specs.Taps.{Shown}
+use Rattle.byte_streams.specs.declared.pumping.PumpEnd.{PumpEnd}
+use Rattle.byte_streams.specs.declared.pumping.Why.{Why}
+use Rattle.byte_streams.specs.declared.pumping.Why.TheVariants as why
 use Rattle.stream_tools.specs.declared.filter.FilterFault.{FilterFault}
 use Rattle.stream_tools.specs.Filters.{Came, EndWithNothing, Leaves, answer_of}
 

@@ -43,7 +43,7 @@ folders_of-none : (text : List ℕ) → Nowhere (Passes (is_byte 58) text) 0 (le
 folders_of-none text none = slice_split_none (λ b. eqb b 58) text (no_colon text none)
 
 -- a folder more
-texts_of-more : (folders : List (Vec ℕ Global)) (folder : Vec ℕ Global) (text : List ℕ) → folder.items ≡ text → texts_of (folders ++ folder ∷ []) ≡ texts_of folders ++ text ∷ []
+pub texts_of-more : (folders : List (Vec ℕ Global)) (folder : Vec ℕ Global) (text : List ℕ) → folder.items ≡ text → texts_of (folders ++ folder ∷ []) ≡ texts_of folders ++ text ∷ []
 texts_of-more folders folder text is = map-append (λ (word : Vec ℕ Global). word.items) folders (folder ∷ []) ∙ ap (λ t. texts_of folders ++ t ∷ []) is
 
 pub taken_more : (folders after : List (Vec ℕ Global)) (folder : Vec ℕ Global) (path rest : List ℕ) (k : ℕ)

@@ -1,9 +1,9 @@
 -- How far a tool came that passes one stream on.
 use Rattle.std.specs.Prelude.{◌≡◌, ◌≢◌, ℕ, List, [], ◌++◌, Option, Result, Ok, Err}
 use Rattle.std.specs.Io.KnownBytes.{Appends, Consumes, IsAtEnd}
-use Rattle.byte_pump.specs.declared.pumping.Why.{Why}
-use Rattle.byte_pump.specs.declared.pumping.Why.TheVariants as why
-use Rattle.byte_pump.specs.declared.pumping.Why.TheVariants.{End}
+use Rattle.byte_streams.specs.declared.pumping.Why.{Why}
+use Rattle.byte_streams.specs.declared.pumping.Why.TheVariants as why
+use Rattle.byte_streams.specs.declared.pumping.Why.TheVariants.{End}
 use Rattle.stream_tools.specs.declared.filter.FilterFault.{FilterFault}
 use Rattle.stream_tools.specs.declared.filter.FilterFault.TheVariants.{ReadFault, WriteFault, OutOfMemory}
 

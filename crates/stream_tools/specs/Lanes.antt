@@ -1,12 +1,91 @@
--- What became of the two ends of a pump that were handed over to it.
-use Rattle.std.specs.Prelude.{◌≡◌, ◌^◌, ℕ}
-use Rattle.byte_pump.specs.Pumps.{Ends, Pumped}
-use Rattle.byte_pump.specs.Taps.{Shown}
-use Rattle.byte_pump.specs.declared.pumping.PumpEnd.{PumpEnd}
-use Rattle.byte_pump.specs.declared.pumping.Why.TheVariants.{TurnsOver}
+-- What became of what was handed over to a pump, and of a program between two pumps.
+use Rattle.std.specs.Prelude.{◌≡◌, ◌≢◌, ◌^◌, ℕ, List, [], false, Option}
+use Rattle.std.specs.Borrow.{Bor}
+use Rattle.std.specs.Fn.{FnOnceReturnsAt, Once}
+use Rattle.byte_streams.specs.Pumps.{Pumped, ends_of}
+use Rattle.byte_streams.specs.Recorders.{number_of, way_of, writer_of}
+use Rattle.byte_streams.specs.Recorders.{has_failed as has_recorder_failed}
+use Rattle.byte_streams.specs.Taps.{shown_to}
+use Rattle.byte_streams.specs.declared.tap.NoTap.{NoTap}
+use Rattle.byte_streams.specs.declared.tap.Recorder.{Recorder}
+use Rattle.byte_streams.specs.declared.pumping.PumpEnd.{PumpEnd}
+use Rattle.byte_streams.specs.declared.pumping.Why.TheVariants.{Failed, TurnsOver}
+use Rattle.child_jobs.specs.Programs.{ProgramText}
+use Rattle.byte_streams.specs.Watches.{left_under, reader_of, watch_of}
+use Rattle.byte_streams.specs.declared.watched.Watch.{Watch}
+use Rattle.byte_streams.specs.declared.watched.Watched.{Watched}
+use Rattle.connection_facts.specs.declared.outcome.StartFault.{StartFault}
+use Rattle.connection_facts.specs.declared.outcome.StartFault.TheVariants as fault
+use Rattle.ucspi_env.specs.Variables.{Variables}
+use Rattle.byte_streams.specs.Chains.{has_failed, stages_of}
+use Rattle.byte_streams.specs.Stages.{fixed_from, through}
+use Rattle.byte_streams.specs.Wrapped.{fixed}
+use Rattle.byte_streams.specs.declared.chain.Chain.{Chain}
+use Rattle.byte_streams.specs.declared.recording.Way.{Way}
+use Rattle.byte_streams.specs.declared.stages.FixCr.{FixCr}
+use Rattle.stream_tools.specs.declared.between.BetweenFault.{BetweenFault}
+use Rattle.stream_tools.specs.declared.between.BetweenFault.TheVariants.{CannotStart, OutOfMemory}
+use Rattle.stream_tools.specs.declared.between.Lane.{Lane}
 
--- From these ends and this tap a pump ran, which left them as they are now. It read until one of its ends ended, or 2^40 times.
-pub record Ran (old new : Ends) (tap : Shown) (end : PumpEnd) : Type 0 where
+-- From this reader a pump ran to this writer, through this chain and under the eyes of this tap, and ended so; it left the four as they are now. It
+-- read until one of its ends ended, or 2^40 times. The functions are those of `ends_of` and `shown_to`.
+pub record Ran {R W S T : Type 0}
+    (remaining : R → Option (List ℕ)) (contents : W → Option (List ℕ)) (rest : S → List ℕ → List ℕ)
+    (watches : T → Way) (sees : T → List ℕ → T → Type 0) (ends : T → T → Type 0)
+    (reader : R) (writer : W) (chain : Chain S) (tap : T) (end : PumpEnd) : Type 0 where
+  pub reader-now : R
+  pub writer-now : W
+  pub chain-now : Chain S
+  pub tap-now : T
   pub reads : ℕ
-  pub pumped : Pumped old new tap reads end
+  pub pumped : Pumped (ends_of remaining contents rest reader writer chain) (ends_of remaining contents rest reader-now writer-now chain-now) (shown_to watches sees ends tap tap-now) reads end
   pub over : end.why ≡ TurnsOver → reads ≡ 2 ^ 40
+  pub ready : has_failed chain ≡ false → end.why ≢ Failed
+
+-- The input of a program: a pump ran from the stream of this lane to a pipe of the program, and ended so. The stream was watched as `watch`, whose
+-- calls the first function tells of, says of that pipe; the other functions are those of `Ran`.
+pub record Fed {F I P S T : Type 0} (calls : Once F (Bor P × Unit {0}) (Option Watch))
+    (remaining : I → Option (List ℕ)) (contents : P → Option (List ℕ)) (rest : S → List ℕ → List ℕ)
+    (watches : T → Way) (sees : T → List ℕ → T → Type 0) (ends : T → T → Type 0)
+    (watch : F) (lane : Lane I S T) (end : PumpEnd) : Type 0 where
+  pub to : P
+  pub watched : Watched I
+  pub reader : reader_of watched ≡ lane.stream
+  pub under : FnOnceReturnsAt calls watch to (watch_of watched)
+  pub ran : Ran (λ w. left_under (watch_of w) (remaining (reader_of w))) contents rest watches sees ends watched to lane.chain lane.tap end
+
+-- The output of a program: a pump ran from a pipe of the program to the stream of this lane, and ended so.
+pub record Drained {P O S T : Type 0}
+    (remaining : P → Option (List ℕ)) (contents : O → Option (List ℕ)) (rest : S → List ℕ → List ℕ)
+    (watches : T → Way) (sees : T → List ℕ → T → Type 0) (ends : T → T → Type 0)
+    (lane : Lane O S T) (end : PumpEnd) : Type 0 where
+  pub from : P
+  pub ran : Ran remaining contents rest watches sees ends from lane.stream lane.chain lane.tap end
+
+-- a lane over this stream, in which each line gets a carriage return where it has none
+abbrev pub IsFixing : {E : Type 0} → E → Lane E FixCr NoTap → Type 0
+IsFixing stream lane = (lane.stream ≡ stream) × (through (λ (stage : FixCr). fixed_from stage.after_cr) (stages_of lane.chain) ≡ fixed)
+
+-- a lane over this stream, which changes nothing and is recorded with this number and way
+pub record IsRecording {E W : Type 0} (number : ℕ) (way : Way) (errors : W) (stream : E) (lane : Lane E FixCr (Recorder W)) : Type 0 where
+  pub over : lane.stream ≡ stream
+  pub plain : stages_of lane.chain ≡ []
+  pub numbered : number_of lane.tap ≡ number
+  pub goes : way_of lane.tap ≡ way
+  pub writes : writer_of lane.tap ≡ errors
+  pub works : has_recorder_failed lane.tap ≡ false
+
+-- what is told of a program that its launcher did not start
+abbrev pub refusal_of : StartFault → BetweenFault
+refusal_of fault.OutOfMemory = OutOfMemory
+refusal_of fault.NotFound = CannotStart
+refusal_of fault.Refused = CannotStart
+refusal_of fault.Other = CannotStart
+
+-- this job runs this program with these variables; the functions say what a job tells of these
+abbrev pub IsRunOf : {J : Type 0} → (J → ProgramText) → (J → Variables) → ProgramText → Variables → J → Type 0
+IsRunOf program_of environment_of program environment job = (program_of job ≡ program) × (environment_of job ≡ environment)
+
+-- a launcher did not start this program with these variables, and that is told of it; the function says why it may not have
+abbrev pub IsNotStarted : {L : Type 0} → (L → ProgramText → Variables → StartFault → Type 0) → L → ProgramText → Variables → BetweenFault → Type 0
+IsNotStarted refuses launcher program environment told = (fault : StartFault) × refuses launcher program environment fault × (told ≡ refusal_of fault)

@@ -3,7 +3,7 @@ use Rattle.std.specs.Prelude.{ℕ, List, [], ◌∷◌, map, Vec, Option, Some, 
 use Rattle.std.specs.declared.alloc.Global.{Global}
 use Rattle.std.specs.Str.{is_utf8}
 use Rattle.child_jobs.specs.Programs.{ProgramText}
-use Rattle.ucspi_words.specs.Numbers.{number_in}
+use Rattle.server_words.specs.Numbers.{number_in}
 
 -- words, as the bytes that they are
 abbrev pub texts_of : List (Vec ℕ Global) → List (List ℕ)

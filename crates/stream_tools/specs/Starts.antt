@@ -1,6 +1,6 @@
 -- What is told of a program that the system did not start.
-use Rattle.rule_lookup.specs.declared.outcome.StartFault.{StartFault}
-use Rattle.rule_lookup.specs.declared.outcome.StartFault.TheVariants as fault
+use Rattle.connection_facts.specs.declared.outcome.StartFault.{StartFault}
+use Rattle.connection_facts.specs.declared.outcome.StartFault.TheVariants as fault
 use Rattle.std.specs.declared.io.ErrorKind.{ErrorKind}
 use Rattle.std.specs.declared.io.ErrorKind.TheVariants.{NotFound, PermissionDenied, OutOfMemory}
 

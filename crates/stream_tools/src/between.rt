@@ -1,26 +1,26 @@
 //! `fixcrio` and `recordio`: a program between two pumps.
-ghost use Rattle.std.specs.Prelude.{◌≡◌, ◌≢◌, ◌+◌, ◌-◌, ◌^◌, ◌<◌, false, Err, IfOk, IfSome};
-ghost use Rattle.wrapper_chain.specs.Chains.{has_failed};
-ghost use Rattle.byte_pump.specs.Pumps.{Pumped, ends_of};
-ghost use Rattle.byte_pump.specs.Taps.{shown_to};
-ghost use Rattle.stream_tools.specs.Lanes.{Ran};
+ghost use Rattle.std.specs.Prelude.{◌≡◌, ◌≢◌, ◌⊎◌, ◌+◌, ◌-◌, ◌^◌, ◌<◌, false, None, Err, IfErr, IfOk, IfSome, Some};
+ghost use Rattle.std.specs.Thread.{IsSend};
+ghost use Rattle.byte_streams.specs.Chains.{has_failed};
+ghost use Rattle.byte_streams.specs.Pumps.{Pumped, ends_of};
+ghost use Rattle.byte_streams.specs.Taps.{shown_to};
+ghost use Rattle.stream_tools.specs.Lanes.{Drained, Fed, IsNotStarted, IsRunOf, Ran};
 ghost use Rattle.stream_tools.specs.declared.between.BetweenFault.TheVariants.{CannotStart, OutOfMemory};
 
 use crate::filter::TURNS;
-use byte_pump::{PumpEnd, Steps, Tap, Why, pump_counted};
+use byte_streams::{Chain, LineStage, PumpEnd, Steps, Tap, Watch, Watched, Why, pump_counted};
 use child_jobs::{Job, Launcher, Program, WaitFault};
-use patient_streams::{Watch, Watched};
-use rule_lookup::{StartFault, Status};
+use connection_facts::{StartFault, Status};
 use std::alloc::{AllocError, Global};
 use std::io::{Read, Write};
 use std::marker::Brand;
+use std::snapshot::Snapshot;
 use std::sync::Wait;
 use std::sync::ledger::{Blank, Ledger};
 use std::thread;
-use std::thread::Threads;
+use std::thread::{Promise, Threads};
 use thiserror::Error;
 use ucspi_env::Environment;
-use wrapper_chain::{Chain, LineStage};
 
 /// Why a program could not be run between pumps.
 #[derive(Clone, Copy, PartialEq, Eq, Debug, Error)]
@@ -55,9 +55,27 @@ pub struct Lane<E, S, T> {
     pub tap: T,
 }
 
+/// How the two pumps of a program ended.
+#[derive(Clone, Copy, PartialEq, Eq, Debug)]
+pub struct PumpEnds {
+    /// The one that gave it its input.
+    pub input: PumpEnd,
+    /// The one that took its output.
+    pub output: PumpEnd,
+}
+
+/// How a program ended that ran between two pumps, and how these ended.
+#[derive(Clone, Copy, PartialEq, Eq, Debug)]
+pub struct RunEnd {
+    /// How the program ended.
+    pub status: Status,
+    /// How its pumps ended.
+    pub pumps: PumpEnds,
+}
+
 /// Runs a program between two pumps: what `input` reads it is given as its standard input, and what it writes on its standard output
-/// goes to `output`. The program's input is closed when the one pump ends. When both have ended the program is waited for, once. How the
-/// pumps end is not told.
+/// goes to `output`. The program's input is closed when the one pump ends. When both have ended the program is waited for, once. A pump
+/// that ended before its reader did is no error of the run.
 ///
 /// `watch` makes a watch of the input and of the pipe to the program, if there can be one: under it the input ends, too, where the program
 /// reads no more. Without one the pump of the input ends with its reader, or with the first write that the program does not take.
@@ -72,7 +90,7 @@ pub fn run_between<H, L, I, O, S, T, F>(
     run: (&Program, &Environment),
     lanes: (Lane<I, S, T>, Lane<O, S, T>),
     watch: F,
-) -> Result<Status, BetweenFault>
+) -> Result<RunEnd, BetweenFault>
 where
     H: Threads + Wait + Sync,
     F: FnOnce(&<L::Job as Job>::Input) -> Option<Watch>,
@@ -84,10 +102,18 @@ where
     S: LineStage + Send + Drop,
     T: Tap + Send + Drop,
     requires { F.IsAlwaysCallable watch }
+    ensures ended { IfOk result (λ end. (job : L.Job)
+        × IsRunOf L.Job.program L.Job.environment run.entry.0.now run.entry.1.now job × L.Job.ended job end.status) }
+    ensures input { IfOk result (λ end. Fed F.FnOnce I.remaining L.Job.Input.contents S.rest
+        T.watches T.sees T.ends watch lanes.0 end.pumps.input) }
+    ensures output { IfOk result (λ end. Drained L.Job.Output.remaining O.contents S.rest
+        T.watches T.sees T.ends lanes.1 end.pumps.output) }
+    ensures fault { IfErr result (λ why. IsNotStarted L.refuses launcher run.entry.0.now run.entry.1.now why
+        ⊎ ((job : L.Job) × IsRunOf L.Job.program L.Job.environment run.entry.0.now run.entry.1.now job)) }
 {
     let mut job = start_job(alloc, launcher, run.0, run.1)?;
-    let served = serve(rt, alloc, &mut job, lanes, watch);
-    end_of(job, served)
+    let pumps = serve(rt, alloc, &mut job, lanes, watch);
+    end_of(job, pumps)
 }
 
 /// Starts a program.
@@ -99,6 +125,7 @@ fn start_job<L: Launcher>(
 ) -> Result<L::Job, BetweenFault>
     ensures program { IfOk result (λ job. L.Job.program job ≡ program.now) }
     ensures environment { IfOk result (λ job. L.Job.environment job ≡ environment.now) }
+    ensures refused { IfErr result (IsNotStarted L.refuses launcher program.now environment.now) }
 {
     match launcher.start(alloc, program, environment) {
         Ok(job) => Ok(job),
@@ -107,15 +134,15 @@ fn start_job<L: Launcher>(
     }
 }
 
-/// Pumps both ways until both pumps have ended. It answers whether it could: not without the program's pipe ends and a thread for its
-/// input.
+/// Pumps both ways until both pumps have ended. It answers how they ended; `None` where it could not be without the program's pipe ends and
+/// a thread for its input.
 fn serve<H, J, I, O, S, T, F>(
     rt: &H,
     alloc: Global,
     job: &mut J,
     lanes: (Lane<I, S, T>, Lane<O, S, T>),
     watch: F,
-) -> bool
+) -> Option<PumpEnds>
 where
     H: Threads + Wait + Sync,
     F: FnOnce(&J::Input) -> Option<Watch>,
@@ -127,9 +154,15 @@ where
     S: LineStage + Send + Drop,
     T: Tap + Send + Drop,
     requires { F.IsAlwaysCallable watch }
+    ensures program { J.program job.new ≡ J.program job.old }
+    ensures environment { J.environment job.new ≡ J.environment job.old }
+    ensures input { IfSome result (λ pumps. Fed F.FnOnce I.remaining J.Input.contents S.rest
+        T.watches T.sees T.ends watch lanes.0 pumps.input) }
+    ensures output { IfSome result (λ pumps. Drained J.Output.remaining O.contents S.rest
+        T.watches T.sees T.ends lanes.1 pumps.output) }
 {
     let Ok((to, from)) = job.ends() else {
-        return false;
+        return None;
     };
     let (input, output) = lanes;
     let input = Lane {
@@ -137,20 +170,21 @@ where
         chain: input.chain,
         tap: input.tap,
     };
-    pump_both(rt, alloc, (input, to), (from, output)).is_some()
+    pump_both(rt, alloc, (input, to), (from, output))
 }
 
-/// The end of a program, which is waited for once, and abandoned where that fails. One that was not served, since its input got no thread, is
-/// given up.
-pub fn end_of<J: Job>(job: J, served: bool) -> Result<Status, BetweenFault>
-    ensures ended { IfOk result (J.ended job) }
-    ensures served { served ≡ false → result ≡ Err CannotStart }
+/// The end of a program, which is waited for once, and abandoned where that fails, with the ends of its pumps. One that was not served, since
+/// its input got no thread, has none, and is given up.
+pub fn end_of<J: Job>(job: J, pumps: Option<PumpEnds>) -> Result<RunEnd, BetweenFault>
+    ensures ended { IfOk result (λ end. J.ended job end.status) }
+    ensures pumps { IfOk result (λ end. pumps ≡ Some end.pumps) }
+    ensures served { pumps ≡ None → result ≡ Err CannotStart }
 {
-    if !served {
+    let Some(pumps) = pumps else {
         return Err(give_up(job));
-    }
+    };
     match wait_once(job) {
-        Ok(status) => Ok(status),
+        Ok(status) => Ok(RunEnd { status, pumps }),
         Err(WaitFault::Failed) => Err(BetweenFault::Device),
         Err(WaitFault::OutOfMemory) => Err(BetweenFault::OutOfMemory),
     }
@@ -178,14 +212,26 @@ fn give_up<J: Job>(mut job: J) -> BetweenFault
     BetweenFault::CannotStart
 }
 
+/// What the thread of a program's input promises of the end that it gives: its pump ran from this lane to this pipe.
+#[derive(Drop)]
+struct Feeding<I, P, S, T> {
+    input: Snapshot<Lane<I, S, T>>,
+    to: Snapshot<P>,
+}
+
+impl<I: Read, P: Write, S: LineStage, T: Tap> Promise<PumpEnd> for Feeding<I, P, S, T> {
+    ghost kept_by = { λ feeding end. Ran I.remaining P.contents S.rest T.watches T.sees T.ends
+        feeding.input.value.stream feeding.to.value feeding.input.value.chain feeding.input.value.tap end };
+}
+
 /// Pumps input to a program in a thread of its own, and its output in this one. Each of the program's pipe ends is closed when its pump
-/// ends. It answers how the pump of the output ended; `None` where no thread could be had: nothing was pumped then, and both ends are closed.
+/// ends. It answers how the pumps ended; `None` where no thread could be had: nothing was pumped then, and both ends are closed.
 fn pump_both<H, I, P, F, O, S, T>(
     rt: &H,
     alloc: Global,
     feeding: (Lane<I, S, T>, P),
     draining: (F, Lane<O, S, T>),
-) -> Option<PumpEnd>
+) -> Option<PumpEnds>
 where
     H: Threads + Wait + Sync,
     I: Read + Send + Drop,
@@ -194,20 +240,35 @@ where
     O: Write + Drop,
     S: LineStage + Send + Drop,
     T: Tap + Send + Drop,
-    ensures ran { IfSome result (λ pump. (end : F) × (lane : Lane O S T)
-        × Ran (ends_of F.remaining O.contents S.rest draining.0 draining.1.stream draining.1.chain)
-        (ends_of F.remaining O.contents S.rest end lane.stream lane.chain)
-        (shown_to T.watches T.sees T.ends draining.1.tap lane.tap) pump) }
+    ensures input { IfSome result (λ pumps. Ran I.remaining P.contents S.rest T.watches T.sees T.ends
+        feeding.0.stream feeding.1 feeding.0.chain feeding.0.tap pumps.input) }
+    ensures output { IfSome result (λ pumps. Ran F.remaining O.contents S.rest T.watches T.sees T.ends
+        draining.0 draining.1.stream draining.1.chain draining.1.tap pumps.output) }
 {
     let (input, to) = feeding;
     let (from, output) = draining;
-    thread::scope(thread::scope_env(), rt, move |scope| -> Option<PumpEnd> {
-        let feeder = scope.spawn(move || feed(alloc, input, to));
-        if feeder.is_err() {
-            return None;
-        }
-        Some(drain(alloc, from, output))
-    })
+    thread::scope(
+        thread::scope_env(),
+        rt,
+        move |scope| -> Option<PumpEnds>
+            requires { IsSend I.row × IsSend P.row × IsSend S.row × IsSend T.row }
+            ensures input { IfSome result (λ pumps. Ran I.remaining P.contents S.rest T.watches T.sees T.ends
+                input.stream to input.chain input.tap pumps.input) }
+            ensures output { IfSome result (λ pumps. Ran F.remaining O.contents S.rest T.watches T.sees T.ends
+                from output.stream output.chain output.tap pumps.output) }
+        {
+            let promise = Feeding {
+                input: Snapshot::of(&input),
+                to: Snapshot::of(&to),
+            };
+            let Ok(feeder) = scope.spawn_with(promise, move || feed(alloc, input, to)) else {
+                return None;
+            };
+            let output = drain(alloc, from, output);
+            let input = feeder.join(rt);
+            Some(PumpEnds { input, output })
+        },
+    )
 }
 
 /// Pumps what a lane reads into a program, and closes both.
@@ -221,10 +282,8 @@ where
     P: Drop,
     S: Drop,
     T: Drop,
-    ensures ran { (lane : Lane I S T) × (end : P)
-        × Ran (ends_of I.remaining P.contents S.rest input.stream to input.chain)
-        (ends_of I.remaining P.contents S.rest lane.stream end lane.chain)
-        (shown_to T.watches T.sees T.ends input.tap lane.tap) result }
+    ensures ran { Ran I.remaining P.contents S.rest T.watches T.sees T.ends
+        input.stream to input.chain input.tap result }
 {
     feed_from::<I, P, S, T, Brand>(alloc, input, to, Blank::new(1))
 }
@@ -243,10 +302,8 @@ where
     T: Drop,
     requires name { blank.name ≡ L.name }
     requires parts { (blank.parts ≡ L.parts) × (0 < blank.parts) }
-    ensures ran { (lane : Lane I S T) × (end : P)
-        × Ran (ends_of I.remaining P.contents S.rest input.stream to input.chain)
-        (ends_of I.remaining P.contents S.rest lane.stream end lane.chain)
-        (shown_to T.watches T.sees T.ends input.tap lane.tap) result }
+    ensures ran { Ran I.remaining P.contents S.rest T.watches T.sees T.ends
+        input.stream to input.chain input.tap result }
 {
     let (mut input, mut to) = (input, to);
     let mut reads = Steps::<L>::new(blank);
@@ -264,10 +321,8 @@ where
     O: Drop,
     S: Drop,
     T: Drop,
-    ensures ran { (end : F) × (lane : Lane O S T)
-        × Ran (ends_of F.remaining O.contents S.rest from output.stream output.chain)
-        (ends_of F.remaining O.contents S.rest end lane.stream lane.chain)
-        (shown_to T.watches T.sees T.ends output.tap lane.tap) result }
+    ensures ran { Ran F.remaining O.contents S.rest T.watches T.sees T.ends
+        from output.stream output.chain output.tap result }
 {
     drain_from::<F, O, S, T, Brand>(alloc, from, output, Blank::new(1))
 }
@@ -286,10 +341,8 @@ where
     T: Drop,
     requires name { blank.name ≡ L.name }
     requires parts { (blank.parts ≡ L.parts) × (0 < blank.parts) }
-    ensures ran { (end : F) × (lane : Lane O S T)
-        × Ran (ends_of F.remaining O.contents S.rest from output.stream output.chain)
-        (ends_of F.remaining O.contents S.rest end lane.stream lane.chain)
-        (shown_to T.watches T.sees T.ends output.tap lane.tap) result }
+    ensures ran { Ran F.remaining O.contents S.rest T.watches T.sees T.ends
+        from output.stream output.chain output.tap result }
 {
     let (mut from, mut output) = (from, output);
     let mut reads = Steps::<L>::new(blank);

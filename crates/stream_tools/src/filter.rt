@@ -1,17 +1,16 @@
 //! `addcr` and `delcr`: one stream through a chain.
 ghost use Rattle.std.specs.Prelude.{◌≡◌, [], ◌∷◌, IfOk, IfSome, OnOk};
 ghost use Rattle.std.specs.Io.KnownBytes.{Appends};
-ghost use Rattle.wrapper_chain.specs.Chains.{stages_of};
-ghost use Rattle.wrapper_chain.specs.Stages.{through};
-ghost use Rattle.wrapper_chain.specs.Wrapped.{added, deleted};
+ghost use Rattle.byte_streams.specs.Chains.{stages_of};
+ghost use Rattle.byte_streams.specs.Stages.{through};
+ghost use Rattle.byte_streams.specs.Wrapped.{added, deleted};
 ghost use Rattle.stream_tools.specs.Filters.{Came, EndWithNothing, answer_of};
 ghost use Rattle.stream_tools.specs.declared.filter.FilterFault.TheVariants.{OutOfMemory};
 
-use byte_pump::{NoTap, Why, pump};
+use byte_streams::{AddCr, Chain, DelCr, LineStage, NoTap, Why, pump};
 use std::alloc::{AllocError, Global};
 use std::io::{Read, Write};
 use thiserror::Error;
-use wrapper_chain::{AddCr, Chain, DelCr, LineStage};
 
 /// How many reads a pump of a tool makes at most.
 pub const TURNS: u64 = 1 << 40;

@@ -4,7 +4,7 @@ ghost use Rattle.std.specs.Prelude.{◌≡◌, false, is_some, ⊤, IfOk};
 use crate::process::{ChildProcess, NotStarted, start_process};
 use crate::search::SearchPath;
 use child_jobs::{Job, Launcher, NoEnds, Program, WaitFault};
-use rule_lookup::{StartFault, Status};
+use connection_facts::{StartFault, Status};
 use std::alloc::Global;
 use std::fs::Files;
 use std::io;

@@ -3,14 +3,16 @@
 
 pub mod between;
 pub mod filter;
+pub mod fixcrio;
 pub mod launcher;
 pub mod process;
+pub mod recordio;
 pub mod search;
 pub mod shared;
 pub mod started;
 pub mod tools;
 
-pub use between::{BetweenFault, Lane, run_between};
+pub use between::{BetweenFault, Lane, PumpEnds, RunEnd, run_between};
 pub use filter::{FilterFault, add_returns, delete_returns, run_filter};
 pub use launcher::{OsJob, OsLauncher};
 pub use process::NotStarted;

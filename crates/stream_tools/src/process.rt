@@ -2,12 +2,12 @@
 ghost use Rattle.std.specs.Prelude.{◌≡◌, ◌↔◌, ◌⊎◌, ℕ, pos, IsSome, Some};
 ghost use Rattle.std.specs.Process.{exit_code, exit_signal};
 ghost use Rattle.std.specs.IoError.{error_kind, raw_os_error};
-ghost use Rattle.rule_lookup.specs.declared.outcome.Status.TheVariants.{Code, Signal};
+ghost use Rattle.connection_facts.specs.declared.outcome.Status.TheVariants.{Code, Signal};
 ghost use Rattle.stream_tools.specs.Starts.{told_of};
 
 use crate::search::{SearchPath, put_path};
 use child_jobs::{Program, WaitFault};
-use rule_lookup::{StartFault, Status};
+use connection_facts::{StartFault, Status};
 use std::alloc::{AllocError, Global};
 use std::io::{Error, ErrorKind};
 use std::os::fd::RawFd;

@@ -1,5 +1,6 @@
-//! What a program is told when it is started: its words and its variables.
-ghost use Rattle.std.specs.Prelude.{◌≡◌, string_bytes, IfOk};
+//! What a program is given when it is started: its words and its variables.
+ghost use Rattle.std.specs.Prelude.{◌≡◌, ℕ, Bool, List, [], false, drop, slice_get, string_bytes, IfOk, IsTrue, OnOk, OnErr};
+ghost use Rattle.stream_tools.specs.Entries.{bytes_found, path_among, texts_around, variable_in, variable_of, with_entries, with_found};
 ghost use Rattle.stream_tools.specs.Programs.{program_by, text_in, texts_of};
 
 use child_jobs::Program;
@@ -8,47 +9,131 @@ use std::env::FillError;
 use std::rt::Env;
 use ucspi_env::Environment;
 
-/// The path by which the program was called, as the bytes that it is: word 0 of the command line, empty where there is none.
-pub fn program_path<E: Env>(alloc: Global, env: &E) -> Result<Vec<u8>, AllocError> {
-    match told(alloc, env, Entry::Word(0))? {
+/// What a process is given when it is started.
+pub trait Given {
+    /// Its words, each as the bytes that it is: the path by which it was called, and its arguments.
+    ghost words: { Self → List (List ℕ) };
+
+    /// The entries of its environment, each as the bytes that it is.
+    ghost entries: { Self → List (List ℕ) };
+
+    /// Whether it is known what they are.
+    ghost honest: { Bool };
+
+    /// The word at a place, from 0; `None` behind the last.
+    ///
+    /// # Errors
+    /// There was no memory.
+    fn word(&self, alloc: Global, place: usize) -> Result<Option<Vec<u8>>, AllocError>
+        ensures { IsTrue honest → IfOk result (λ found. bytes_found found ≡ slice_get (words self.now) place) };
+
+    /// The entry at a place, from 0; `None` behind the last.
+    ///
+    /// # Errors
+    /// There was no memory.
+    fn entry(&self, alloc: Global, place: usize) -> Result<Option<Vec<u8>>, AllocError>
+        ensures { IsTrue honest → IfOk result (λ found. bytes_found found ≡ slice_get (entries self.now) place) };
+}
+
+/// What the system gave this process. Nothing is known of it.
+#[derive(Drop)]
+pub struct SystemGiven<'a, E>(pub &'a E);
+
+impl<'a, E: Env> Given for SystemGiven<'a, E> {
+    ghost words = { λ _. [] };
+
+    ghost entries = { λ _. [] };
+
+    ghost honest = { false };
+
+    fn word(&self, alloc: Global, place: usize) -> Result<Option<Vec<u8>>, AllocError> {
+        told(alloc, self.0, Entry::Word(place))
+    }
+
+    fn entry(&self, alloc: Global, place: usize) -> Result<Option<Vec<u8>>, AllocError> {
+        told(alloc, self.0, Entry::Variable(place))
+    }
+}
+
+/// The path by which the program was called, as the bytes that it is: the first of its words, empty where there is none.
+///
+/// # Errors
+/// There was no memory.
+pub fn program_path<G: Given>(alloc: Global, given: &G) -> Result<Vec<u8>, AllocError>
+    ensures all { IsTrue G.honest → IfOk result (λ path. path.items ≡ path_among (G.words given.now)) }
+{
+    match given.word(alloc, 0)? {
         Some(path) => Ok(path),
         None => Ok(Vec::new(alloc)),
     }
 }
 
-/// The words of the command line after the program's name, each as the bytes that it is.
-pub fn command_words<E: Env>(alloc: Global, env: &E) -> Result<Vec<Vec<u8>>, AllocError> {
+/// All words of the command line after the path, each as the bytes that it is.
+///
+/// # Errors
+/// There was no memory.
+pub fn command_words<G: Given>(alloc: Global, given: &G) -> Result<Vec<Vec<u8>>, AllocError>
+    ensures all { IsTrue G.honest → IfOk result (λ words. texts_of words.items ≡ drop 1 (G.words given.now)) }
+{
     let mut words = Vec::new(alloc);
-    for i in 1..usize::MAX {
-        match told(alloc, env, Entry::Word(i))? {
+    for place in 1..usize::MAX {
+        match given.word(alloc, place)? {
             Some(word) => words.push(word)?,
             None => return Ok(words),
         }
     }
-    Ok(words)
+    Err(AllocError)
 }
 
-/// The variables that this process was given. One that is not UTF-8 counts as not given, and so does one without a name.
-pub fn inherited_variables<E: Env>(alloc: Global, env: &E) -> Result<Environment, AllocError> {
+/// All variables that a process was given. An entry that is not UTF-8 says none, and so does one without a name.
+///
+/// # Errors
+/// There was no memory.
+pub fn inherited_variables<G: Given>(alloc: Global, given: &G) -> Result<Environment, AllocError>
+    ensures all { IsTrue G.honest → IfOk result (λ variables. variables ≡ with_entries [] (G.entries given.now)) }
+{
     let mut variables = Environment::new(alloc);
-    for i in 0..usize::MAX {
-        let Some(entry) = told(alloc, env, Entry::Variable(i))? else {
-            return Ok(variables);
-        };
-        if let Some((name, value)) = variable_in(&entry) {
-            variables.put(alloc, name, value)?;
+    for place in 0..usize::MAX {
+        match given.entry(alloc, place)? {
+            Some(entry) => put_entry(alloc, &mut variables, &entry)?,
+            None => return Ok(variables),
         }
     }
-    Ok(variables)
+    Err(AllocError)
+}
+
+/// Puts the variable of an entry, where it says one.
+///
+/// # Errors
+/// There was no memory, and the variables are as before.
+fn put_entry(alloc: Global, variables: &mut Environment, entry: &[u8]) -> Result<(), AllocError>
+    ensures put { OnOk result (variables.new ≡ with_found variables.old (variable_in entry.now)) }
+    ensures unchanged { OnErr result (variables.new ≡ variables.old) }
+{
+    match variable_in(entry) {
+        Some((name, value)) => variables.put(alloc, name, value),
+        None => Ok(()),
+    }
 }
 
 /// The name and the value of an entry `NAME=VALUE`, which is UTF-8.
-fn variable_in(entry: &[u8]) -> Option<(&str, &str)> {
-    let (name, value) = str::from_utf8(entry).ok()?.split_once('=')?;
-    if name.is_empty() {
-        return None;
+fn variable_in(entry: &[u8]) -> Option<(&str, &str)>
+    ensures { texts_around result ≡ variable_in entry.now }
+{
+    match str::from_utf8(entry) {
+        Ok(text) => variable_of(text),
+        Err(_) => None,
     }
-    Some((name, value))
+}
+
+/// The name and the value of a text `NAME=VALUE`.
+fn variable_of(text: &str) -> Option<(&str, &str)>
+    ensures { texts_around result ≡ variable_of text.now }
+{
+    match text.split_once('=') {
+        Some((name, value)) if !name.is_empty() => Some((name, value)),
+        _ => None,
+    }
 }
 
 /// The program that words name: the first is its path, the others are its arguments. A word that is not UTF-8 counts as empty.

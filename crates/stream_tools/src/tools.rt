@@ -1,19 +1,15 @@
 //! The tools over the standard streams and the system's programs.
-ghost use Rattle.std.specs.Prelude.{◌≡◌, [], ◌∷◌, IfOk};
-ghost use Rattle.rule_lookup.specs.Peers.{given};
-ghost use Rattle.stream_tools.specs.Programs.{recorder_number};
-ghost use Rattle.wrapper_chain.specs.Chains.{stages_of};
-
-use crate::between::{BetweenFault, Lane, run_between};
-use crate::filter::{FilterFault, add_returns, chain_of, delete_returns};
+use crate::between::BetweenFault;
+use crate::filter::{FilterFault, add_returns, delete_returns};
+use crate::fixcrio::fix_between;
 use crate::launcher::OsLauncher;
+use crate::recordio::record_between;
 use crate::search::SearchPath;
 use crate::shared::SharedWriter;
 use crate::started::{inherited_variables, program_of};
-use byte_pump::{NoTap, Recorder, Tap};
+use byte_streams::{Patient, Watch};
 use child_jobs::Program;
-use patient_streams::{Patient, Watch};
-use rule_lookup::Status;
+use connection_facts::Status;
 use std::alloc::{AllocError, Global};
 use std::fs::Files;
 use std::io;
@@ -26,8 +22,6 @@ use std::sync::{Mutex, Wait};
 use std::thread::Threads;
 use std::time::Clock;
 use ucspi_env::Environment;
-use ucspi_words::number_in;
-use wrapper_chain::{Chain, FixCr, LineStage, Way};
 
 /// The descriptor of standard input.
 const STANDARD_INPUT: RawFd = 0;
@@ -55,7 +49,7 @@ pub fn run_delcr<R: Input + Print + AllocGlobal + Clock>(rt: &R) -> Result<(), F
 /// Runs a program whose lines get a carriage return where they have none, both ways.
 ///
 /// # Errors
-/// As of `run_between`.
+/// As of `fix_between`.
 pub fn run_fixcrio<R>(rt: &R, words: &[Vec<u8>]) -> Result<Status, BetweenFault>
 where
     R: Env + Input + Print + AllocGlobal + Processes + Threads + Wait + Sync + Clock + Net + Files,
@@ -63,21 +57,15 @@ where
 {
     let alloc = rt.alloc();
     let (program, variables) = told_run(alloc, rt, words)?;
-    let (input, output) = fix_chains(alloc)?;
     let search = SearchPath::own(alloc, rt)?;
-    run_streams(
-        rt,
-        &search,
-        (&program, &variables),
-        (input, NoTap),
-        (output, NoTap),
-    )
-}
-
-/// The chains of `fixcrio`, for the input and the output.
-fn fix_chains(alloc: Global) -> Result<(Chain<FixCr>, Chain<FixCr>), AllocError> {
-    let input = chain_of(alloc, FixCr::new())?;
-    Ok((input, chain_of(alloc, FixCr::new())?))
+    let launcher = OsLauncher::new(rt, &search);
+    let run = (&program, &variables);
+    let input = Patient::new(rt, rt.reader());
+    let output = Patient::new(rt, io::writer(rt));
+    let end = fix_between(rt, alloc, launcher, run, (input, output), |pipe| {
+        Watch::new(alloc, rt, STANDARD_INPUT, pipe.as_raw_fd())
+    })?;
+    Ok(end.status)
 }
 
 /// The program that words name, and the variables that this process was given.
@@ -87,44 +75,16 @@ fn told_run<E: Env>(
     words: &[Vec<u8>],
 ) -> Result<(Program, Environment), AllocError> {
     let program = program_of(alloc, words)?;
-    Ok((program, inherited_variables(alloc, env)?))
-}
-
-/// Runs a program between the standard streams, each of which passes these stages and is watched by this tap.
-fn run_streams<R, S, T>(
-    rt: &R,
-    search: &SearchPath,
-    run: (&Program, &Environment),
-    (input_chain, input_tap): (Chain<S>, T),
-    (output_chain, output_tap): (Chain<S>, T),
-) -> Result<Status, BetweenFault>
-where
-    R: Input + Print + AllocGlobal + Processes + Threads + Wait + Sync + Clock + Net + Files,
-    R::Reader: Send,
-    S: LineStage + Send + Drop,
-    T: Tap + Send + Drop,
-{
-    let alloc = rt.alloc();
-    let input = Lane {
-        stream: Patient::new(rt, rt.reader()),
-        chain: input_chain,
-        tap: input_tap,
-    };
-    let output = Lane {
-        stream: Patient::new(rt, io::writer(rt)),
-        chain: output_chain,
-        tap: output_tap,
-    };
-    let launcher = OsLauncher::new(rt, search);
-    run_between(rt, alloc, launcher, run, (input, output), |pipe| {
-        Watch::new(alloc, rt, STANDARD_INPUT, pipe.as_raw_fd())
-    })
+    Ok((
+        program,
+        inherited_variables(alloc, &crate::started::SystemGiven(env))?,
+    ))
 }
 
 /// Runs a program, and records what goes both ways on `errors`.
 ///
 /// # Errors
-/// As of `run_between`.
+/// As of `record_between`.
 pub fn run_recordio<R, E>(rt: &R, errors: E, words: &[Vec<u8>]) -> Result<Status, BetweenFault>
 where
     R: Env + Input + Print + AllocGlobal + Processes + Threads + Wait + Sync + Clock + Net + Files,
@@ -133,26 +93,18 @@ where
 {
     let alloc = rt.alloc();
     let (program, variables) = told_run(alloc, rt, words)?;
-    let number = recorder_number(variables.get("TCPREMOTEPORT"));
-    let errors = Mutex::new(errors);
-    let input = Recorder::new(alloc, number, Way::Input, SharedWriter::new(rt, &errors));
-    let output = Recorder::new(alloc, number, Way::Output, SharedWriter::new(rt, &errors));
     let search = SearchPath::own(alloc, rt)?;
-    run_streams(
-        rt,
-        &search,
-        (&program, &variables),
-        (Chain::<FixCr>::new(alloc, Vec::new(alloc)), input),
-        (Chain::<FixCr>::new(alloc, Vec::new(alloc)), output),
-    )
-}
-
-/// The number of a recorder, by the text of the peer's port: 0 where that is no port.
-fn recorder_number(port: Option<&str>) -> u64
-    ensures { result ≡ recorder_number (given port.entry) }
-{
-    match port {
-        Some(text) if text.len() <= 5 => number_in(text, 0, 65535).unwrap_or(0),
-        _ => 0,
-    }
+    let launcher = OsLauncher::new(rt, &search);
+    let run = (&program, &variables);
+    let input = Patient::new(rt, rt.reader());
+    let output = Patient::new(rt, io::writer(rt));
+    let errors = Mutex::new(errors);
+    let errors = (
+        SharedWriter::new(rt, &errors),
+        SharedWriter::new(rt, &errors),
+    );
+    let end = record_between(rt, alloc, launcher, run, (input, output), errors, |pipe| {
+        Watch::new(alloc, rt, STANDARD_INPUT, pipe.as_raw_fd())
+    })?;
+    Ok(end.status)
 }

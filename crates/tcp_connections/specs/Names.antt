@@ -1,7 +1,7 @@
 -- Which names the ends of a connection have.
 use Rattle.std.specs.Prelude.{ℕ, Bool, not, ◌&&◌, List, Option, Some, None, option_map, string_bytes, if◌then◌else◌}
 use Rattle.ucspi_env.specs.Hosts.{Hosts, name_of, confirms}
-use Rattle.tcp_connections.specs.declared.names.Names.{Names}
+use Rattle.tcp_connections.specs.declared.names.HostNames.{HostNames}
 
 -- the name that a table has of an address, where there is a table
 abbrev pub name_in : Option Hosts → List ℕ → Option (List ℕ)
@@ -19,7 +19,7 @@ wanted_name confirm None ip = None
 wanted_name confirm (Some hosts) ip = kept_name confirm hosts ip (name_of hosts ip)
 
 -- the name of the client at an address
-abbrev pub client_name : Names → (ip : List ℕ) → Option (List ℕ)
+abbrev pub client_name : HostNames → (ip : List ℕ) → Option (List ℕ)
 client_name names ip = if names.remote then wanted_name names.confirm names.hosts ip else None
 
 -- one name, or else another
@@ -28,5 +28,5 @@ or_else (Some name) other = Some name
 or_else None other = other
 
 -- the name of the server's end at an address: the one that was given, else the table's
-abbrev pub local_name : Names → (ip : List ℕ) → Option (List ℕ)
+abbrev pub local_name : HostNames → (ip : List ℕ) → Option (List ℕ)
 local_name names ip = or_else (option_map string_bytes names.local) (name_in names.hosts ip)

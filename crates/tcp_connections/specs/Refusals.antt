@@ -1,6 +1,6 @@
 -- Why a program was not started.
 use Rattle.std.specs.Prelude.{◌≡◌}
-use Rattle.rule_lookup.specs.declared.outcome.StartFault.{StartFault}
+use Rattle.connection_facts.specs.declared.outcome.StartFault.{StartFault}
 use Rattle.stream_tools.specs.declared.process.NotStarted.{NotStarted}
 
 -- what is told of a refusal that there may have been

@@ -1,20 +1,20 @@
 //! The streams of a connection, and its child from its start to its end.
-ghost use Rattle.std.specs.Prelude.{ℕ, IfOk, OnErr};
-ghost use Rattle.rule_lookup.specs.declared.outcome.Status.{Status as StatusOf};
+ghost use Rattle.std.specs.Prelude.{◌≡◌, ℕ, IfOk, OnErr, IfNone, IfSome};
+ghost use Rattle.child_jobs.specs.Runs.{IsSameRun};
+ghost use Rattle.connection_facts.specs.declared.outcome.Status.{Status as StatusOf};
+ghost use Rattle.tcp_connections.specs.Ends.{IsEndTold};
 
 use crate::accepting::{Follow, Patience, Shut};
 use crate::rounds::wait_in_rounds;
-use byte_pump::{NoTap, Recorder, Tap, pump};
-use child_jobs::{Job, Running};
-use child_table::Place;
-use rule_lookup::Status;
+use byte_streams::{Chain, LineStage, NoTap, Recorder, Tap, Way, pump};
+use child_jobs::{Job, Place, Running};
+use connection_facts::Status;
 use server_log::Log;
 use std::alloc::Global;
 use std::io::{Read, Write};
 use std::sync::ledger::Ledger;
 use std::sync::{Mutex, Wait};
 use stream_tools::SharedWriter;
-use wrapper_chain::{Chain, LineStage, Way};
 
 /// How many reads a pump makes at most.
 const TURNS: u64 = 1 << 40;
@@ -22,8 +22,6 @@ const TURNS: u64 = 1 << 40;
 /// The streams of a connection.
 #[derive(Drop)]
 pub struct Line<I, O, X> {
-    /// The connection's serial number.
-    pub serial: u64,
     /// The client's port.
     pub port: u16,
     /// What the client sends.
@@ -75,38 +73,22 @@ pub struct Chains<G> {
     pub output: Chain<G>,
 }
 
-/// A child that runs. One that is let go is abandoned, and stays counted for good.
-struct Held<L: Ledger, C: Job> {
-    running: Option<Running<L, C>>,
-}
-
-impl<L: Ledger, C: Job> Drop for Held<L, C> {
-    fn drop(self) {
-        let Held { running } = self;
-        if let Some(running) = running {
-            running.strand();
-        }
-    }
-}
-
-/// A child that runs and holds its connection itself.
+/// What a child says, on its way to the client, through a chain of line wrappers.
 #[derive(Drop)]
-pub struct Handed<L: Ledger, C: Job> {
-    held: Held<L, C>,
-    serial: u64,
-}
-
-/// A connection whose child runs, and what the child says, on its way to the client, through a chain of line wrappers.
-#[derive(Drop)]
-pub struct Talk<L: Ledger, C: Job, F, O, X, G> {
-    held: Held<L, C>,
-    serial: u64,
+pub struct Talk<F, O, X, G> {
     port: u16,
     from: F,
     writer: O,
     shut: X,
     chain: Chain<G>,
 }
+
+/// A child that runs, what the client sends and what the child says.
+pub type Begun<L, C, I, O, X, G> = (
+    Running<L, C>,
+    Upward<I, <C as Job>::Input, G>,
+    Talk<<C as Job>::Output, O, X, G>,
+);
 
 /// What passes on the streams of connections.
 #[derive(Drop)]
@@ -124,49 +106,16 @@ pub struct Attendant<'a, R, W> {
 }
 
 impl<R: Wait, W: Write> Attendant<'_, R, W> {
-    /// Lets a connection go that its child holds itself: it ends when its last holder closes it. The child is to be waited for by `see_out`.
-    pub fn hand_over<L, C, I, O, X>(
-        &self,
-        running: Running<L, C>,
-        line: Line<I, O, X>,
-    ) -> Handed<L, C>
-    where
-        L: Ledger,
-        C: Job,
-        I: Drop,
-        O: Drop,
-        X: Drop,
-    {
-        Handed {
-            held: Held {
-                running: Some(running),
-            },
-            serial: line.serial,
-        }
-    }
-
-    /// Waits for the child of a connection that it holds itself; the place is given back once it was waited for.
-    pub fn see_out<L, C, E>(&self, endings: &mut E, handed: Handed<L, C>)
-    where
-        L: Ledger,
-        C: Job,
-        E: Endings<L, C, Place = Place<L>, Child = Running<L, C>>,
-    {
-        let Handed { mut held, serial } = handed;
-        if let Some(running) = held.running.take() {
-            tell_end(endings, wait_in_rounds(running, false), serial);
-        }
-    }
-
     /// Takes the pipe ends of a child that runs: what the client sends goes to it by `pass_up`, and what it says goes to the client by
     /// `pass_down`. A child without pipe ends is ended by force, and the connection with it: there is nothing to pass on then.
     pub fn begin<L, C, E, I, O, X, G>(
         &self,
         endings: &mut E,
         mut running: Running<L, C>,
+        serial: u64,
         line: Line<I, O, X>,
         chains: Chains<G>,
-    ) -> Option<(Upward<I, C::Input, G>, Talk<L, C, C::Output, O, X, G>)>
+    ) -> Option<Begun<L, C, I, O, X, G>>
     where
         G: Drop,
         L: Ledger,
@@ -177,9 +126,11 @@ impl<R: Wait, W: Write> Attendant<'_, R, W> {
         I: Drop,
         O: Follow<C::Output> + Drop,
         X: Shut + Drop,
+        ensures same { IfSome result (λ begun. IsSameRun C.program C.environment running begun.0) }
+        ensures untold { IfSome result (λ _. endings.new ≡ endings.old) }
+        ensures told { IfNone result (IsEndTold E.tells_end E.tells_retired serial endings.old endings.new) }
     {
         let Line {
-            serial,
             port,
             reader,
             mut writer,
@@ -193,10 +144,6 @@ impl<R: Wait, W: Write> Attendant<'_, R, W> {
         writer.follow(&from, self.patience);
         let Chains { input, output } = chains;
         let talk = Talk {
-            held: Held {
-                running: Some(running),
-            },
-            serial,
             port,
             from,
             writer,
@@ -209,7 +156,7 @@ impl<R: Wait, W: Write> Attendant<'_, R, W> {
             to,
             chain: input,
         };
-        Some((upward, talk))
+        Some((running, upward, talk))
     }
 
     /// Passes on what the client sends until it ends or the child takes no more.
@@ -234,7 +181,13 @@ impl<R: Wait, W: Write> Attendant<'_, R, W> {
     }
 
     /// Passes on what the child says until it says no more; then ends the child, and the connection.
-    pub fn pass_down<L, C, E, F, O, X, G>(&self, endings: &mut E, talk: Talk<L, C, F, O, X, G>)
+    pub fn pass_down<L, C, E, F, O, X, G>(
+        &self,
+        endings: &mut E,
+        running: Running<L, C>,
+        serial: u64,
+        talk: Talk<F, O, X, G>,
+    )
     where
         L: Ledger,
         C: Job,
@@ -243,10 +196,9 @@ impl<R: Wait, W: Write> Attendant<'_, R, W> {
         O: Write + Drop,
         X: Shut + Drop,
         G: LineStage + Drop,
+        ensures told { IsEndTold E.tells_end E.tells_retired serial endings.old endings.new }
     {
         let Talk {
-            mut held,
-            serial,
             port,
             from,
             writer,
@@ -254,9 +206,7 @@ impl<R: Wait, W: Write> Attendant<'_, R, W> {
             chain,
         } = talk;
         self.pump_down(port, from, writer, chain);
-        if let Some(running) = held.running.take() {
-            end_child(endings, running, serial, false, &shut);
-        }
+        end_child(endings, running, serial, false, &shut);
     }
 
     // Pumps what a child says to its client; both ends are let go.
@@ -300,6 +250,17 @@ where
     pump(alloc, &mut reader, &mut writer, &mut chain, &mut tap, TURNS);
 }
 
+/// Waits for the child of a connection that it holds itself, and tells its end: its place is given back once it was waited for.
+pub fn see_out<L, C, E>(endings: &mut E, running: Running<L, C>, serial: u64)
+where
+    L: Ledger,
+    C: Job,
+    E: Endings<L, C, Place = Place<L>, Child = Running<L, C>>,
+    ensures told { IsEndTold E.tells_end E.tells_retired serial endings.old endings.new }
+{
+    tell_end(endings, wait_in_rounds(running, false), serial);
+}
+
 // Ends a child in its rounds, then its connection, and tells how the child ended: a log that is slow holds up no client.
 fn end_child<L, C, E, X>(
     endings: &mut E,
@@ -313,6 +274,7 @@ where
     C: Job,
     E: Endings<L, C, Place = Place<L>, Child = Running<L, C>>,
     X: Shut,
+    ensures told { IsEndTold E.tells_end E.tells_retired serial endings.old endings.new }
 {
     let ended = wait_in_rounds(running, by_force);
     shut.shut();
@@ -327,6 +289,7 @@ where
     E: Endings<L, C, Place = Place<L>, Child = Running<L, C>>,
     ensures ended { IfOk ended (λ end. E.tells_end endings.old serial end.1 endings.new) }
     ensures retired { OnErr ended (E.tells_retired endings.old serial endings.new) }
+    ensures told { IsEndTold E.tells_end E.tells_retired serial endings.old endings.new }
 {
     match ended {
         Ok((place, status)) => endings.ended(place, serial, status),

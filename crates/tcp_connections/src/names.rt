@@ -1,16 +1,16 @@
 //! The names of the two ends of a connection.
 ghost use Rattle.std.specs.Prelude.{◌≡◌, None, IfOk, map, option_map};
 ghost use Rattle.std.specs.Char.{to_ascii_lowercase};
-ghost use Rattle.rule_lookup.specs.Peers.{given};
+ghost use Rattle.connection_facts.specs.Peers.{given};
 ghost use Rattle.tcp_connections.specs.Names.{client_name, local_name};
 
-use rule_lookup::Peer;
+use connection_facts::Peer;
 use std::alloc::{AllocError, Global};
 use ucspi_env::{HostTable, Local};
 
 /// How the ends of a connection get their names (the page of `tcpserver`: `-h`, `-H`, `-l`, `-p`, `-P`).
 #[derive(Drop)]
-pub struct Names {
+pub struct HostNames {
     /// The host table (`-N`).
     pub hosts: Option<HostTable>,
     /// The name of the server's end, which may be empty (`-l`), in place of the table's.
@@ -21,7 +21,7 @@ pub struct Names {
     pub confirm: bool,
 }
 
-impl Names {
+impl HostNames {
     /// The client at an address and port, with its name where it has one.
     ///
     /// # Errors

@@ -2,9 +2,8 @@
 ghost use Rattle.std.specs.Prelude.{◌≡◌, IfOk, IfErr};
 ghost use Rattle.child_jobs.specs.Runs.{EndsAs, IsSameRun, job_of, place_of};
 
-use child_jobs::{Job, Running, finish};
-use child_table::Place;
-use rule_lookup::Status;
+use child_jobs::{Job, Place, Running, finish};
+use connection_facts::Status;
 use std::sync::ledger::Ledger;
 
 /// Waits for a child in up to three rounds. Before the second and the third it is killed; before the first too where that is asked for. Its

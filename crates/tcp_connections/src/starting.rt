@@ -5,7 +5,7 @@ ghost use Rattle.stream_tools.specs.declared.process.NotStarted.{NotStarted as R
 ghost use Rattle.ucspi_env.specs.Variables.{Variables};
 
 use child_jobs::{Job, Launcher, Program};
-use rule_lookup::StartFault;
+use connection_facts::StartFault;
 use std::alloc::Global;
 use std::sync::{Mutex, Wait};
 use stream_tools::NotStarted;

@@ -92,15 +92,15 @@ impl Reserve {
 
 /// So many of something, which is taken and given back.
 #[derive(Drop)]
-pub(crate) struct Store {
+pub(crate) struct Semaphore {
     left: Mutex<u64>,
     changed: Condvar,
 }
 
-impl Store {
+impl Semaphore {
     /// So many are left.
-    pub fn new(count: u64) -> Store {
-        Store {
+    pub fn new(count: u64) -> Semaphore {
+        Semaphore {
             left: Mutex::new(count),
             changed: Condvar::new(),
         }

@@ -1,14 +1,17 @@
 -- What was asked of a site.
-use Rattle.std.specs.Prelude.{◌≡◌, ℕ, Some, Result, Ok, Err, IfOk, IfErr}
+use Rattle.std.specs.Prelude.{◌≡◌, ℕ, Some, Result, Ok, Err}
 use Rattle.std.proofs.Common.{ap}
 use Rattle.server_events.specs.declared.event.Event.{Event}
-use Rattle.site_turns.specs.Receipts.{IsReceiptOf, refused_event}
-use Rattle.site_turns.specs.declared.receipt.OutOfTurn.{OutOfTurn}
-use Rattle.site_turns.specs.declared.receipt.Receipt.{Receipt}
-use Rattle.tcp_service.specs.SiteDesks.{asked}
+use Rattle.shared_site.specs.Receipts.{MakesOrNot}
+use Rattle.shared_site.specs.declared.receipt.Made.{Made}
+use Rattle.shared_site.specs.declared.receipt.OutOfTurn.{OutOfTurn}
+use Rattle.shared_site.specs.declared.receipt.Receipt.{Receipt}
+use Rattle.tcp_service.specs.SiteAgents.{IsAnswer, asked}
+
+by_cases : (r : Result Made OutOfTurn) (event : Event) (who before after : ℕ) → MakesOrNot event who before r after → asked (Some r) ≡ Some event
+by_cases (Ok made) event who before after its = ap (λ (r : Receipt). Some r.event) its.0
+by_cases (Err refusal) event who before after its = ap Some its.0
 
 -- in turn or not, the site was asked for this event
-pub asked_for : (r : Result Receipt OutOfTurn) (who : ℕ) (event : Event) → IfOk r (IsReceiptOf who event)
-    → IfErr r (λ (refusal : OutOfTurn). refused_event refusal ≡ event) → asked (Some r) ≡ Some event
-asked_for (Ok receipt) who event its other = ap Some its.names
-asked_for (Err refusal) who event its other = ap Some other
+pub asked_for : (r : Result Made OutOfTurn) (event : Event) → IsAnswer (MakesOrNot event) r → asked (Some r) ≡ Some event
+asked_for r event answer = by_cases r event answer.who answer.before answer.after answer.answered

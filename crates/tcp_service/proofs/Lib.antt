@@ -1,1 +1,3 @@
 pub mod Asked
+pub mod Shares
+pub mod Told

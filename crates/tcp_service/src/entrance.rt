@@ -1,34 +1,48 @@
 //! How a connection is let in: accepted, named, and counted.
-use crate::connection::{Reserved, Work};
-use child_table::Place;
+ghost use Rattle.std.specs.Prelude.{◌≡◌};
+ghost use Rattle.shared_site.specs.Callers.{caller_share};
+ghost use Rattle.tcp_connections.specs.Admissions.{LetsIn};
+ghost use Rattle.tcp_connections.specs.declared.admission_loop.AdmitOutcome.TheVariants.{Refused};
+
+use crate::connection::NewConnection;
+use crate::life::{Admitted, Register};
+use crate::opening::Rules;
+use child_jobs::Place;
+use connection_facts::{DropCause, Peer};
 use dir_calls::Dir;
 use event_journals::Journal;
-use rule_lookup::Peer;
-use server_log::Log;
-use server_yard::{AdmitFault, Premises};
-use site_lock::{Caller, Callers, Room, Site};
+use server_log::{Log, Told};
+use server_yard::{AdmitFault, Assumptions, Yard};
+use shared_site::turn::Dropped;
+use shared_site::{Caller, Callers, Made, Room, Turn, turns};
 use std::alloc::{AllocError, Global};
 use std::io::Write;
 use std::sync::{Mutex, Wait};
-use tcp_connections::{AcceptFault, Accepted, Acceptor, Door, Entry, Line, Names};
+use tcp_connections::{AcceptFault, Accepted, Acceptor, Admission, AdmitOutcome, HostNames, Line};
 use ucspi_env::Local;
 
-/// Lets the connections of an acceptor in, by a caller of a site.
+/// Lets the connections of an acceptor in, by a caller of a site that makes no other events: its share is how many were let in.
 #[derive(Drop)]
-pub(crate) struct Entrance<'a, A, L: Premises, N: Callers, D: Dir + Drop, J: Journal, R, W> {
-    pub rt: &'a R,
-    pub alloc: Global,
+pub(crate) struct SiteEntrance<
+    'a,
+    A,
+    L: Assumptions,
+    N: Callers,
+    D: Dir + Drop,
+    J: Journal,
+    U,
+    R,
+    W,
+> {
+    pub register: &'a Register<'a, L, N, D, J, U, R, W>,
     pub acceptor: &'a mut A,
-    pub site: &'a Site<L, N, D, J>,
-    pub caller: &'a Mutex<Caller<N>>,
-    pub names: &'a Names,
-    pub log: &'a Mutex<Log<W>>,
+    pub host: Caller<N>,
+    pub names: &'a HostNames,
 }
 
-// The streams of an accepted connection, with its serial number and the port of its client.
-fn line_of<I, O, X>(accepted: Accepted<I, O, X>, serial: u64, port: u16) -> Line<I, O, X> {
+// The streams of an accepted connection, with the port of its client.
+fn line_of<I, O, X>(accepted: Accepted<I, O, X>, port: u16) -> Line<I, O, X> {
     Line {
-        serial,
         port,
         reader: accepted.reader,
         writer: accepted.writer,
@@ -39,7 +53,7 @@ fn line_of<I, O, X>(accepted: Accepted<I, O, X>, serial: u64, port: u16) -> Line
 // The two ends of a connection, with their names.
 fn ends_of<I, O, X>(
     alloc: Global,
-    names: &Names,
+    names: &HostNames,
     accepted: &Accepted<I, O, X>,
 ) -> Result<(Peer, Local), AllocError> {
     let peer = names.peer(alloc, accepted.ip, accepted.port)?;
@@ -48,31 +62,43 @@ fn ends_of<I, O, X>(
 }
 
 // A connection has found no memory.
-fn refuse_for_memory<T, R: Wait, W: Write>(rt: &R, log: &Mutex<Log<W>>) -> Entry<T> {
+fn refuse_for_memory<T, R: Wait, W: Write>(rt: &R, log: &Mutex<Log<W>>) -> AdmitOutcome<T>
+    ensures refused { result ≡ Refused }
+{
     let _ = log.lock(rt).out_of_memory();
-    Entry::Refused
+    AdmitOutcome::Refused
 }
 
-impl<A, L, N, D, J, R, W> Door for Entrance<'_, A, L, N, D, J, R, W>
+impl<'a, A, L, N, D, J, U, R, W> Admission for SiteEntrance<'a, A, L, N, D, J, U, R, W>
 where
     A: Acceptor,
-    L: Premises + Send,
-    N: Callers,
-    D: Dir + Drop,
-    J: Journal,
-    R: Wait,
-    W: Write,
+    L: Assumptions + Send + Sync,
+    N: Callers + Send + Sync,
+    D: Dir + Send + Drop,
+    D::File: Send,
+    J: Journal + Send,
+    U: Rules<L, D::File> + Sync,
+    R: Wait + Sync,
+    W: Write + Send,
 {
-    type Work = Work<L, A::Reader, A::Writer, A::Shut>;
+    type Work = NewConnection<'a, L, N, D, J, U, R, W, A::Reader, A::Writer, A::Shut>;
 
-    fn has_room(&self) -> bool {
-        self.site.room(self.rt) == Room::Free
+    ghost let_in = { λ entrance. caller_share entrance.host };
+
+    fn wait_for_room(&self) -> bool {
+        self.register.site.room(self.register.rt) == Room::Free
     }
 
-    fn next(&mut self) -> Result<Entry<Work<L, A::Reader, A::Writer, A::Shut>>, AcceptFault> {
+    fn next(
+        &mut self,
+    ) -> Result<
+        AdmitOutcome<NewConnection<'a, L, N, D, J, U, R, W, A::Reader, A::Writer, A::Shut>>,
+        AcceptFault,
+    > {
+        let register = self.register;
         match self.acceptor.accept() {
-            Ok(accepted) => Ok(self.let_in(accepted)),
-            Err(AcceptFault::OutOfMemory) => Ok(refuse_for_memory(self.rt, self.log)),
+            Ok(accepted) => Ok(let_in(register, &mut self.host, self.names, accepted)),
+            Err(AcceptFault::OutOfMemory) => Ok(refuse_for_memory(register.rt, register.log)),
             Err(fault) => Err(fault),
         }
     }
@@ -82,55 +108,143 @@ where
     }
 }
 
-impl<A, L, N, D, J, R, W> Entrance<'_, A, L, N, D, J, R, W>
+// Lets a connection in; one that is refused is closed.
+fn let_in<'a, L, N, D, J, U, R, W, I, O, X>(
+    register: &'a Register<'a, L, N, D, J, U, R, W>,
+    host: &mut Caller<N>,
+    names: &HostNames,
+    accepted: Accepted<I, O, X>,
+) -> AdmitOutcome<NewConnection<'a, L, N, D, J, U, R, W, I, O, X>>
 where
-    L: Premises,
+    L: Assumptions,
+    N: Callers,
+    D: Dir + Drop,
+    J: Journal,
+    U: Rules<L, D::File>,
+    R: Wait,
+    W: Write,
+    I: Drop,
+    O: Drop,
+    X: Drop,
+    ensures came { LetsIn result (caller_share host.old) (caller_share host.new) }
+{
+    let Ok((peer, local)) = ends_of(register.alloc, names, &accepted) else {
+        return refuse_for_memory(register.rt, register.log);
+    };
+    let port = peer.port();
+    let (serial, place) = match admit(register, host, &peer) {
+        AdmitOutcome::In(admitted) => admitted,
+        AdmitOutcome::Refused => return AdmitOutcome::Refused,
+        AdmitOutcome::Spent => return AdmitOutcome::Spent,
+    };
+    AdmitOutcome::In(NewConnection {
+        admitted: Admitted {
+            register,
+            serial,
+            place,
+            peer,
+            local,
+        },
+        line: line_of(accepted, port),
+    })
+}
+
+// Counts a connection: its serial, and its place. Once the last number of an event is given nobody is let in any more.
+#[tactic(auto, using(crate::proofs::Shares::one_came, crate::proofs::Shares::none_came))]
+fn admit<L, N, D, J, U, R, W>(
+    register: &Register<'_, L, N, D, J, U, R, W>,
+    host: &mut Caller<N>,
+    peer: &Peer,
+) -> AdmitOutcome<(u64, Place<L>)>
+where
+    L: Assumptions,
     N: Callers,
     D: Dir + Drop,
     J: Journal,
     R: Wait,
     W: Write,
+    ensures came { LetsIn result (caller_share host.old) (caller_share host.new) }
 {
-    // Lets a connection in; one that is refused is closed.
-    fn let_in<I: Drop, O: Drop, X: Drop>(
-        &self,
-        accepted: Accepted<I, O, X>,
-    ) -> Entry<Work<L, I, O, X>> {
-        let Ok((peer, local)) = ends_of(self.alloc, self.names, &accepted) else {
-            return refuse_for_memory(self.rt, self.log);
-        };
-        let (serial, place) = match self.admit(&peer) {
-            Entry::In(admitted) => admitted,
-            Entry::Refused => return Entry::Refused,
-            Entry::Spent => return Entry::Spent,
-        };
-        Entry::In(Work {
-            reserved: Reserved { place: Some(place) },
-            line: line_of(accepted, serial, peer.port()),
-            peer,
-            local,
-        })
-    }
-
-    // Counts a connection: its serial, and its place. The log is locked meanwhile, so that its lines stand in the order of events.
-    fn admit(&self, peer: &Peer) -> Entry<(u64, Place<L>)> {
-        let mut log = self.log.lock(self.rt);
-        let mut caller = self.caller.lock(self.rt);
-        match self.site.admit(self.rt, &mut caller, peer) {
-            Ok((serial, place, _)) => {
-                let _ = log.admitted(serial, peer.ip(), self.site.live(self.rt));
-                Entry::In((serial, place))
+    let (rt, site, log) = (register.rt, register.site, register.log);
+    match site.turn(rt, host, TellingAdmission { peer, rt, log }) {
+        Ok((serial, place, made)) => {
+            if made.at() == u64::MAX {
+                let turn = Dropped {
+                    serial,
+                    place,
+                    cause: DropCause::Memory,
+                };
+                let _ = site.turn(rt, host, turn);
+                return AdmitOutcome::Spent;
             }
-            Err(AdmitFault::Full) => Entry::Refused,
-            Err(AdmitFault::Spent) => Entry::Spent,
-            Err(AdmitFault::FullForAddress) => {
-                let _ = log.address_full(peer.ip());
-                Entry::Refused
-            }
-            Err(AdmitFault::OutOfMemory) => {
-                let _ = log.out_of_memory();
-                Entry::Refused
-            }
+            AdmitOutcome::In((serial, place))
         }
+        Err(AdmitFault::Spent) => AdmitOutcome::Spent,
+        Err(_) => AdmitOutcome::Refused,
     }
+}
+
+// Lets a connection in, and tells the log so before the turn is over, or why it is refused.
+struct TellingAdmission<'a, R, W> {
+    peer: &'a Peer,
+    rt: &'a R,
+    log: &'a Mutex<Log<W>>,
+}
+
+impl<L, D, J, R, W> Turn<L, D, J> for TellingAdmission<'_, R, W>
+where
+    L: Assumptions,
+    D: Dir + Drop,
+    J: Journal,
+    R: Wait,
+    W: Write,
+{
+    ghost use Rattle.std.specs.Prelude.{◌≡◌, ⊤, IfOk, OnErr};
+    ghost use Rattle.event_journals.specs.Journals.{one_more};
+    ghost use Rattle.server_events.specs.declared.event.Event.TheVariants.{Admitted};
+    ghost use Rattle.shared_site.specs.Receipts.{receipt_after, receipt_of};
+
+    type Answer = Result<(u64, Place<L>, Made), AdmitFault>;
+
+    ghost may = { λ _. ⊤ };
+
+    ghost answers = { λ turn who before answer after.
+        IfOk answer (λ r. (receipt_of r.2 ≡ receipt_after before who (Admitted r.0 turn.peer.now)) × (after ≡ one_more before))
+        × OnErr answer (after ≡ before) };
+
+    fn run(
+        self,
+        yard: &mut Yard<L, D, J>,
+        caller: u64,
+    ) -> Result<(u64, Place<L>, Made), AdmitFault> {
+        let TellingAdmission { peer, rt, log } = self;
+        let admitted = turns::admit(yard, caller, peer);
+        tell_admission(rt, log, peer, yard.live(), &admitted);
+        admitted
+    }
+}
+
+// Tells the log of a connection that was let in, or why it was refused, where that has a line. So many are alive.
+fn tell_admission<L: Assumptions, R: Wait, W: Write>(
+    rt: &R,
+    log: &Mutex<Log<W>>,
+    peer: &Peer,
+    live: u64,
+    admitted: &Result<(u64, Place<L>, Made), AdmitFault>,
+) {
+    let mut log = log.lock(rt);
+    let ip = peer.ip();
+    let _ = match admitted {
+        Ok((serial, _, made)) => log.tell(
+            made.at(),
+            live,
+            Told::Admitted {
+                serial: *serial,
+                ip,
+            },
+        ),
+        Err(AdmitFault::FullForAddress) => log.address_full(ip),
+        Err(AdmitFault::OutOfMemory) => log.out_of_memory(),
+        Err(AdmitFault::Full | AdmitFault::Spent) => Ok(()),
+    };
 }

@@ -4,20 +4,20 @@
 
 mod connection;
 mod entrance;
-pub mod logged_desk;
+mod life;
 pub mod opening;
+mod over;
 pub mod service;
 pub mod serving;
-pub mod site_desk;
+pub mod site_agent;
 
-pub use logged_desk::{Living, LoggedDesk};
 pub use opening::{Rules, RulesHandle};
 pub use server_log::Log;
 pub use server_words::{Level, Mode};
-pub use service::{Service, Wrapping};
-pub use serving::serve;
-pub use site_desk::SiteDesk;
+pub use service::{ChainSource, Service};
+pub use serving::{Closed, Unfinished, serve};
+pub use site_agent::{LoggedAgent, SiteAgent};
 pub use tcp_connections::{
-    AcceptFault, Accepted, Acceptor, Chains, Follow, Names, NotStarted, Patience, Reserve,
+    AcceptFault, Accepted, Acceptor, Chains, Follow, HostNames, NotStarted, Patience, Reserve,
     ServeEnd, Shut, Starter, Supply,
 };

@@ -1,11 +1,11 @@
 //! How connections open the rules, each by a handle of its own.
+use connection_facts::Peer;
 use dir_calls::{DirFault, RulesFile};
-use rule_lookup::Peer;
-use server_yard::{Finding, Premises};
+use server_yard::{Assumptions, Finding};
 use std::alloc::{AllocError, Global};
 
 /// Where the rules stand that each connection opens for itself.
-pub trait Rules<L: Premises, F: RulesFile + Drop> {
+pub trait Rules<L: Assumptions, F: RulesFile + Drop> {
     /// What one connection opens them by.
     type Handle: RulesHandle<L, F> + Drop;
 
@@ -24,7 +24,7 @@ pub trait Rules<L: Premises, F: RulesFile + Drop> {
 }
 
 /// What one connection opens the rules by. Nobody else waits meanwhile.
-pub trait RulesHandle<L: Premises, F: RulesFile + Drop> {
+pub trait RulesHandle<L: Assumptions, F: RulesFile + Drop> {
     /// What stands under the rules name.
     ///
     /// # Errors

@@ -1,8 +1,11 @@
 //! What a server does for all of its connections.
+ghost use Rattle.std.specs.Prelude.{IfOk};
+ghost use Rattle.tcp_service.specs.Renewals.{IsNewChain};
+
+use byte_streams::LineStage;
 use server_words::Mode;
 use std::alloc::{AllocError, Global};
-use tcp_connections::{Chains, Names, Patience, Reserve, Supply};
-use wrapper_chain::LineStage;
+use tcp_connections::{Chains, HostNames, Patience, Reserve, Supply};
 
 /// What a server does for all of its connections.
 #[derive(Drop)]
@@ -10,7 +13,7 @@ pub struct Service {
     /// How many connections are let in before the server ends (`-k`); without a number it does not end by itself.
     pub count: Option<u32>,
     /// How the ends of a connection get their names.
-    pub names: Names,
+    pub names: HostNames,
     /// Whether programs hold their connections themselves (`-s`), or the server passes the bytes on (`-S`).
     pub mode: Mode,
     /// How long a client whose connection is pumped may take nothing of what its program left for it.
@@ -26,13 +29,15 @@ pub struct Service {
 }
 
 /// What makes the line wrappers of connections that are pumped.
-pub trait Wrapping {
+pub trait ChainSource {
     /// A wrapper.
-    type Stage: LineStage + Drop;
+    type LineWrapper: LineStage + Drop;
 
-    /// Those of one connection, which are new.
+    /// Those of one connection, which are new: nothing of another connection's text has passed them.
     ///
     /// # Errors
     /// There was no memory.
-    fn chains(&self, alloc: Global) -> Result<Chains<Self::Stage>, AllocError>;
+    fn chains(&self, alloc: Global) -> Result<Chains<Self::LineWrapper>, AllocError>
+        ensures input { IfOk result (λ chains. IsNewChain Self.LineWrapper.rest Self.LineWrapper.whole chains.input) }
+        ensures output { IfOk result (λ chains. IsNewChain Self.LineWrapper.rest Self.LineWrapper.whole chains.output) };
 }

@@ -10,7 +10,7 @@ use Rattle.std.proofs.lemmas.List.Elements.{All-nil, All-cons}
 use Rattle.std.proofs.lemmas.Str.{IsUtf8-from_ascii}
 use Rattle.std.proofs.lemmas.Str.Ascii.{IsAscii-from_all}
 use Rattle.rule_lookup.specs.Addresses.{ipv4_in}
-use Rattle.rule_lookup.specs.Peers.{given}
+use Rattle.connection_facts.specs.Peers.{given}
 use Rattle.ucspi_env.specs.HostMaps.{host_name_in}
 use Rattle.ucspi_env.specs.HostRows.{ignored, gives, bad, are_visible, is_host_name, lower, first_word, second_word, row_of_words, row_of_trimmed, gives_by, says_by}
 

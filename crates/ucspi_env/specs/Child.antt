@@ -4,7 +4,7 @@ use Rattle.std.specs.List.{fold}
 use Rattle.std.specs.Net.Text.{ipv4_text}
 use Rattle.rule_lines.specs.Settings.{Assignment}
 use Rattle.rule_lookup.specs.declared.decision.Decision.{Decision}
-use Rattle.rule_lookup.specs.Peers.{Client}
+use Rattle.connection_facts.specs.Peers.{Client}
 use Rattle.ucspi_env.specs.Ends.{LocalEnd}
 use Rattle.ucspi_env.specs.Variables.{Variable, Variables, with_values, without_value}
 

@@ -1,14 +1,15 @@
 //! The environment of a child.
 ghost use Rattle.std.specs.Prelude.{◌≡◌, map, decimal, codes, IfOk, OnOk};
 ghost use Rattle.std.specs.Net.Text.{ipv4_text};
-ghost use Rattle.rule_lookup.specs.Peers.{given};
+ghost use Rattle.connection_facts.specs.Peers.{given};
 ghost use Rattle.ucspi_env.specs.Child.{assigned, environment_of, of_connection, where_known, without_own};
 ghost use Rattle.ucspi_env.specs.Variables.{with_value, with_values};
 
 use crate::{Environment, Local};
+use connection_facts::Peer;
 use itoa::Buffer;
 use rule_lines::Setting;
-use rule_lookup::{Decision, Peer};
+use rule_lookup::Decision;
 use std::alloc::{AllocError, Global};
 use std::net::Ipv4Addr;
 

@@ -1,6 +1,6 @@
 //! Variables.
 ghost use Rattle.std.specs.Prelude.{◌≡◌, ◌==◌, [], length, slice_get, map, option_map, IfOk, OnOk, OnErr};
-ghost use Rattle.rule_lookup.specs.Peers.{given};
+ghost use Rattle.connection_facts.specs.Peers.{given};
 ghost use Rattle.ucspi_env.specs.Variables.{value_of, variable_of, with_value, without_value};
 
 use std::alloc::{AllocError, Global};

@@ -2,7 +2,7 @@
 ghost use Rattle.std.specs.Prelude.{◌≡◌, ◌⊎◌, ◌||◌, ℕ, List, Some, None, IfOk, IfErr, IfSome, OnOk, length};
 ghost use Rattle.rule_lines.specs.Lines.{trimmed};
 ghost use Rattle.rule_lookup.specs.Addresses.{ipv4_in};
-ghost use Rattle.rule_lookup.specs.Peers.{given};
+ghost use Rattle.connection_facts.specs.Peers.{given};
 ghost use Rattle.ucspi_env.specs.HostMaps.{HasHostName, host_name_in, key_of, option_or, row_said, row_read};
 ghost use Rattle.ucspi_env.specs.HostRows.{after_blanks, are_visible, first_bad, first_word, is_host_name, name_in, row_of_trimmed, rows_of, says_so, second_word};
 ghost use Rattle.ucspi_env.specs.Hosts.{SaysAs, confirms, name_of};

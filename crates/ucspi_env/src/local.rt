@@ -1,6 +1,6 @@
 //! The server's end of a connection.
 ghost use Rattle.std.specs.Prelude.{◌≡◌, IfOk, option_map, string_bytes};
-ghost use Rattle.rule_lookup.specs.Peers.{given};
+ghost use Rattle.connection_facts.specs.Peers.{given};
 ghost use Rattle.ucspi_env.specs.Ends.{LocalEnd};
 
 use std::alloc::{AllocError, Global};

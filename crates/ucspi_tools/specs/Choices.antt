@@ -6,8 +6,8 @@ use Rattle.memchr.specs.Find.{IsLastByte, is_byte}
 use Rattle.server_words.specs.declared.mode.Mode.{Mode}
 use Rattle.server_words.specs.declared.mode.Mode.TheVariants.{HandedOver, Pumped}
 use Rattle.stream_tools.specs.Programs.{texts_of}
-use Rattle.ucspi_tools.specs.declared.choice.Choice.{Choice}
-use Rattle.ucspi_tools.specs.declared.choice.Choice.TheVariants as choice
+use Rattle.ucspi_tools.specs.declared.choice.ToolChoice.{ToolChoice}
+use Rattle.ucspi_tools.specs.declared.choice.ToolChoice.TheVariants as choice
 use Rattle.ucspi_tools.specs.declared.tool.Tool.{Tool}
 use Rattle.ucspi_tools.specs.declared.tool.Tool.TheVariants.{Tcpserver, Rulesim, Tcprules, Tcprulescheck, Addcr, Delcr, Fixcrio, Recordio}
 
@@ -31,7 +31,7 @@ pub data Wanted : Type 0 where
   usage : Wanted
 
 -- what a choice that was read is
-abbrev pub wanted : Choice → Wanted
+abbrev pub wanted : ToolChoice → Wanted
 wanted (choice.Tcpserver mode words) = serves mode (texts_of words.now)
 wanted choice.Rulesim = simulates
 wanted (choice.Tcprules cdb tmp verbose) = installs verbose cdb.now tmp.now

@@ -1,7 +1,7 @@
 -- With which code a run of a tool exits.
 use Rattle.std.specs.Prelude.{ℕ, Bool, ◌&&◌, Result, Ok, Err, if◌then◌else◌}
-use Rattle.rule_lookup.specs.declared.outcome.Status.{Status}
-use Rattle.rule_lookup.specs.declared.outcome.Status.TheVariants.{Code, Signal}
+use Rattle.connection_facts.specs.declared.outcome.Status.{Status}
+use Rattle.connection_facts.specs.declared.outcome.Status.TheVariants.{Code, Signal}
 use Rattle.rules_tools.specs.declared.review.ReviewFault.{ReviewFault}
 use Rattle.rules_tools.specs.declared.review.ReviewFault.TheVariants as review
 use Rattle.rules_tools.specs.declared.tcprules.TcprulesFault.{TcprulesFault}
@@ -54,7 +54,8 @@ server_exit fault = 111
 
 -- 100 for wrong words; a stream or standard output that fails, a program that can't be run, and want of memory are faults of the system
 abbrev pub exit_of : ToolFault → ℕ
-exit_of (tool.Usage words) = 100
+exit_of (tool.UsageOf tool) = 100
+exit_of tool.Usage = 100
 exit_of (tool.Server fault) = server_exit fault
 exit_of (tool.Script fault) = script_exit fault
 exit_of (tool.Rules fault) = rules_exit fault

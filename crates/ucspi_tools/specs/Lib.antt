@@ -1,3 +1,5 @@
--- Which tool words ask for, and with which code a run of it exits.
+-- Which tool words ask for, with which code a run of it exits, what a run of the program is, and what the tools do over the system.
 pub mod Choices
 pub mod Exits
+pub mod Runs
+pub mod Systems

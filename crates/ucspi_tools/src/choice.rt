@@ -11,7 +11,7 @@ use server_words::Mode;
 
 /// What words ask for.
 #[derive(Clone, Copy, PartialEq, Eq, Debug)]
-pub enum Choice<'a> {
+pub enum ToolChoice<'a> {
     /// A run of `tcpserver`.
     Tcpserver {
         /// How connections are passed to programs where the words don't say it.
@@ -63,23 +63,23 @@ pub enum Choice<'a> {
     Usage,
 }
 
-impl Choice<'_> {
+impl ToolChoice<'_> {
     /// The tool that is asked for, if it is one.
     pub fn tool(&self) -> Option<Tool>
         ensures { result ≡ tool_in (wanted self.now) }
     {
         match self {
-            Choice::Tcpserver { .. } => Some(Tool::Tcpserver),
-            Choice::Rulesim => Some(Tool::Rulesim),
-            Choice::Tcprules { .. } => Some(Tool::Tcprules),
-            Choice::Review(_) => Some(Tool::Tcprules),
-            Choice::Tcprulescheck { .. } => Some(Tool::Tcprulescheck),
-            Choice::Addcr => Some(Tool::Addcr),
-            Choice::Delcr => Some(Tool::Delcr),
-            Choice::Fixcrio { .. } => Some(Tool::Fixcrio),
-            Choice::Recordio { .. } => Some(Tool::Recordio),
-            Choice::UsageOf(tool) => Some(*tool),
-            Choice::Version | Choice::Help | Choice::Usage => None,
+            ToolChoice::Tcpserver { .. } => Some(Tool::Tcpserver),
+            ToolChoice::Rulesim => Some(Tool::Rulesim),
+            ToolChoice::Tcprules { .. } => Some(Tool::Tcprules),
+            ToolChoice::Review(_) => Some(Tool::Tcprules),
+            ToolChoice::Tcprulescheck { .. } => Some(Tool::Tcprulescheck),
+            ToolChoice::Addcr => Some(Tool::Addcr),
+            ToolChoice::Delcr => Some(Tool::Delcr),
+            ToolChoice::Fixcrio { .. } => Some(Tool::Fixcrio),
+            ToolChoice::Recordio { .. } => Some(Tool::Recordio),
+            ToolChoice::UsageOf(tool) => Some(*tool),
+            ToolChoice::Version | ToolChoice::Help | ToolChoice::Usage => None,
         }
     }
 }
@@ -87,7 +87,7 @@ impl Choice<'_> {
 /// What a command line asks for: the path by which the program was called, and the words after it. Where the last part of that path is a
 /// tool's name, that is the tool, and all words are its own; else the first word names the tool. `tcpserver` hands connections over by its own
 /// name, and pumps them as a word of `ucspi`, where its words don't say it.
-pub fn choose<'a>(path: &[u8], words: &'a [Vec<u8>]) -> Choice<'a>
+pub fn choose<'a>(path: &[u8], words: &'a [Vec<u8>]) -> ToolChoice<'a>
     ensures { CallsFor path.now (texts_of words.now) (wanted result) }
 {
     match Tool::named(last_part(path)) {
@@ -107,11 +107,11 @@ fn last_part(path: &[u8]) -> &[u8]
 }
 
 /// What words ask for of which the first names the tool.
-fn choose_by_word(words: &[Vec<u8>]) -> Choice<'_>
+fn choose_by_word(words: &[Vec<u8>]) -> ToolChoice<'_>
     ensures { wanted result ≡ choice_by_word (texts_of words.now) }
 {
     let Some((tool, words)) = words.split_first() else {
-        return Choice::Rulesim;
+        return ToolChoice::Rulesim;
     };
     match Tool::named(tool) {
         Some(tool) => choose_tool(tool, words, Mode::Pumped),
@@ -125,66 +125,66 @@ const VERSION: &str = "--version";
 const HELP: &str = "--help";
 
 /// What a first word asks for that names no tool, and those behind it.
-fn choose_about<'a>(word: &[u8], words: &'a [Vec<u8>]) -> Choice<'a>
+fn choose_about<'a>(word: &[u8], words: &'a [Vec<u8>]) -> ToolChoice<'a>
     ensures { wanted result ≡ asked_by word.now (texts_of words.now) }
 {
     if !words.is_empty() {
-        Choice::Usage
+        ToolChoice::Usage
     } else if word == VERSION.as_bytes() {
-        Choice::Version
+        ToolChoice::Version
     } else if word == HELP.as_bytes() {
-        Choice::Help
+        ToolChoice::Help
     } else {
-        Choice::Usage
+        ToolChoice::Usage
     }
 }
 
 /// What the words of a tool ask for, of a server in this mode where they don't say it.
-fn choose_tool(tool: Tool, words: &[Vec<u8>], by_name: Mode) -> Choice<'_>
+fn choose_tool(tool: Tool, words: &[Vec<u8>], by_name: Mode) -> ToolChoice<'_>
     ensures { wanted result ≡ run_of by_name tool (texts_of words.now) }
 {
     match tool {
         Tool::Tcpserver => choose_texts(words, by_name),
-        Tool::Rulesim => choose_alone(Choice::Rulesim, tool, words),
-        Tool::Addcr => choose_alone(Choice::Addcr, tool, words),
-        Tool::Delcr => choose_alone(Choice::Delcr, tool, words),
+        Tool::Rulesim => choose_alone(ToolChoice::Rulesim, tool, words),
+        Tool::Addcr => choose_alone(ToolChoice::Addcr, tool, words),
+        Tool::Delcr => choose_alone(ToolChoice::Delcr, tool, words),
         Tool::Tcprules => choose_tcprules(words),
         Tool::Tcprulescheck => choose_tcprulescheck(words),
-        Tool::Fixcrio => choose_program(Choice::Fixcrio { words }, tool, words),
-        Tool::Recordio => choose_program(Choice::Recordio { words }, tool, words),
+        Tool::Fixcrio => choose_program(ToolChoice::Fixcrio { words }, tool, words),
+        Tool::Recordio => choose_program(ToolChoice::Recordio { words }, tool, words),
     }
 }
 
 /// The run of a tool that has no words of its own.
-fn choose_alone<'a>(run: Choice<'a>, tool: Tool, words: &[Vec<u8>]) -> Choice<'a>
+fn choose_alone<'a>(run: ToolChoice<'a>, tool: Tool, words: &[Vec<u8>]) -> ToolChoice<'a>
     ensures { wanted result ≡ alone (wanted run.entry) tool (texts_of words.now) }
 {
     if words.is_empty() {
         run
     } else {
-        Choice::UsageOf(tool)
+        ToolChoice::UsageOf(tool)
     }
 }
 
 /// The run of `tcpserver`, whose words have to be text.
-fn choose_texts(words: &[Vec<u8>], by_name: Mode) -> Choice<'_>
+fn choose_texts(words: &[Vec<u8>], by_name: Mode) -> ToolChoice<'_>
     ensures { wanted result ≡ tcpserver_by by_name (texts_of words.now) }
 {
     if are_texts(words) {
-        Choice::Tcpserver { by_name, words }
+        ToolChoice::Tcpserver { by_name, words }
     } else {
-        Choice::UsageOf(Tool::Tcpserver)
+        ToolChoice::UsageOf(Tool::Tcpserver)
     }
 }
 
 /// The run of a tool whose words are a program's.
-fn choose_program<'a>(run: Choice<'a>, tool: Tool, words: &[Vec<u8>]) -> Choice<'a>
+fn choose_program<'a>(run: ToolChoice<'a>, tool: Tool, words: &[Vec<u8>]) -> ToolChoice<'a>
     ensures { wanted result ≡ with_program (wanted run.entry) tool (texts_of words.now) }
 {
     if !words.is_empty() && are_texts(words) {
         run
     } else {
-        Choice::UsageOf(tool)
+        ToolChoice::UsageOf(tool)
     }
 }
 
@@ -211,7 +211,7 @@ fn is_text(word: &[u8]) -> bool
 }
 
 /// The run of `tcprules`.
-fn choose_tcprules(words: &[Vec<u8>]) -> Choice<'_>
+fn choose_tcprules(words: &[Vec<u8>]) -> ToolChoice<'_>
     ensures { wanted result ≡ tcprules_by (texts_of words.now) }
 {
     match strictness(words) {
@@ -241,18 +241,18 @@ fn strictness(words: &[Vec<u8>]) -> Option<bool>
 }
 
 /// The run over a text alone, for which the first of the words asks.
-fn choose_review(strict: bool, words: &[Vec<u8>]) -> Choice<'_>
+fn choose_review(strict: bool, words: &[Vec<u8>]) -> ToolChoice<'_>
     ensures { wanted result ≡ alone (reviews strict) Tool.Tcprules (drop 1 (texts_of words.now)) }
 {
     if words.len() > 1 {
-        Choice::UsageOf(Tool::Tcprules)
+        ToolChoice::UsageOf(Tool::Tcprules)
     } else {
-        Choice::Review(strict)
+        ToolChoice::Review(strict)
     }
 }
 
 /// The run of `tcprulescheck`.
-fn choose_tcprulescheck(words: &[Vec<u8>]) -> Choice<'_>
+fn choose_tcprulescheck(words: &[Vec<u8>]) -> ToolChoice<'_>
     ensures { wanted result ≡ tcprulescheck_by (texts_of words.now) }
 {
     let (verbose, paths) = split_verbose(words);
@@ -274,27 +274,27 @@ fn split_verbose(words: &[Vec<u8>]) -> (bool, &[Vec<u8>])
 }
 
 /// The run of `tcprules` for these paths.
-fn choose_installation(verbose: bool, paths: &[Vec<u8>]) -> Choice<'_>
+fn choose_installation(verbose: bool, paths: &[Vec<u8>]) -> ToolChoice<'_>
     ensures { wanted result ≡ tcprules_at verbose (texts_of paths.now) }
 {
     match paths {
         [cdb, tmp] => match (str::from_utf8(cdb), str::from_utf8(tmp)) {
-            (Ok(cdb), Ok(tmp)) => Choice::Tcprules { cdb, tmp, verbose },
-            _ => Choice::UsageOf(Tool::Tcprules),
+            (Ok(cdb), Ok(tmp)) => ToolChoice::Tcprules { cdb, tmp, verbose },
+            _ => ToolChoice::UsageOf(Tool::Tcprules),
         },
-        _ => Choice::UsageOf(Tool::Tcprules),
+        _ => ToolChoice::UsageOf(Tool::Tcprules),
     }
 }
 
 /// The run of `tcprulescheck` for this path.
-fn choose_check(verbose: bool, paths: &[Vec<u8>]) -> Choice<'_>
+fn choose_check(verbose: bool, paths: &[Vec<u8>]) -> ToolChoice<'_>
     ensures { wanted result ≡ tcprulescheck_at verbose (texts_of paths.now) }
 {
     match paths {
         [cdb] => match str::from_utf8(cdb) {
-            Ok(cdb) => Choice::Tcprulescheck { cdb, verbose },
-            Err(_) => Choice::UsageOf(Tool::Tcprulescheck),
+            Ok(cdb) => ToolChoice::Tcprulescheck { cdb, verbose },
+            Err(_) => ToolChoice::UsageOf(Tool::Tcprulescheck),
         },
-        _ => Choice::UsageOf(Tool::Tcprulescheck),
+        _ => ToolChoice::UsageOf(Tool::Tcprulescheck),
     }
 }

@@ -2,11 +2,11 @@
 ghost use Rattle.std.specs.Prelude.{◌≡◌};
 ghost use Rattle.ucspi_tools.specs.Exits.{check_exit, end_code, exit_of, review_exit, rules_exit, script_exit, server_exit, status_exit, warned_exit};
 
-use rule_lookup::Status;
+use crate::tool::Tool;
+use connection_facts::Status;
 use rules_tools::{CheckFault, ReviewFault, TcprulesFault};
 use script_tool::SimFault;
 use server_parts::ServerFault;
-use std::io;
 use std::io::{Cursor, Write};
 use stream_tools::{BetweenFault, FilterFault};
 use thiserror::Error;
@@ -26,9 +26,12 @@ const LINE: usize = 512;
 /// Why a run of a tool fails. It prints as what stands behind the tool's name.
 #[derive(Clone, Copy, PartialEq, Eq, Debug, Error)]
 pub enum ToolFault {
-    /// The words are not those that this line tells.
-    #[error("usage: {0}")]
-    Usage(&'static str),
+    /// The words are not those of this tool.
+    #[error("usage: {usage}", usage = .0.usage())]
+    UsageOf(Tool),
+    /// The words ask for no tool.
+    #[error("usage: ucspi TOOL ...")]
+    Usage,
     /// The server could not be started, or it ended by itself.
     #[error("{0}")]
     Server(#[from] ServerFault),
@@ -64,7 +67,7 @@ impl ToolFault {
         ensures { result ≡ exit_of self }
     {
         match self {
-            ToolFault::Usage(_) => BAD_INPUT,
+            ToolFault::UsageOf(_) | ToolFault::Usage => BAD_INPUT,
             ToolFault::Server(fault) => server_code(fault),
             ToolFault::Script(fault) => script_code(fault),
             ToolFault::Rules(fault) => rules_code(fault),
@@ -163,20 +166,12 @@ impl FaultLine {
     }
 }
 
-/// The exit code of a run of a tool, and the line of its fault, where it failed.
-pub fn end(name: &str, end: Result<u8, ToolFault>) -> (u8, Option<FaultLine>)
-    ensures { result.0 ≡ end_code end }
+/// The exit code of a run of the program: that of a tool, or of its fault.
+pub fn end_code(answer: Result<u8, ToolFault>) -> u8
+    ensures { result ≡ end_code answer }
 {
-    match end {
-        Ok(code) => (code, None),
-        Err(fault) => (fault.exit_code(), Some(FaultLine::of(name, fault))),
-    }
-}
-
-/// What a text that could not be written makes of a run.
-pub fn written(outcome: io::Result<()>) -> Result<(), ToolFault> {
-    match outcome {
-        Ok(()) => Ok(()),
-        Err(_) => Err(ToolFault::WriteFault),
+    match answer {
+        Ok(code) => code,
+        Err(fault) => fault.exit_code(),
     }
 }

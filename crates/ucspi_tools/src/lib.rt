@@ -3,18 +3,27 @@
 #![tactic(auto)]
 
 mod about;
+mod causes;
 pub mod choice;
 pub mod fault;
 pub mod program;
-mod rules;
+pub mod standard;
+pub mod system;
 pub mod tool;
+pub mod tools;
 
+pub use byte_streams::Patient;
 pub use program::run_program;
 pub use rules_tools::{
     CheckFailure, CheckFault, ReviewFault, RulesFailure, TcprulesFault, run_review, run_tcprules,
     run_tcprulescheck,
 };
-pub use script_tool::{SimFault, run_rulesim};
+pub use script_tool::{SimFault, run_rulesim, run_script};
+pub use server_tool::{Mode, run_tcpserver};
+pub use stream_tools::started::{Given, SystemGiven};
 pub use stream_tools::{
     BetweenFault, FilterFault, Lane, OsJob, OsLauncher, SharedWriter, run_between, run_filter,
+    run_fixcrio, run_recordio,
 };
+pub use system::SystemTools;
+pub use tools::Tools;

@@ -1,115 +1,99 @@
 //! The program `ucspi`: its words, and the tool that they ask for.
-use crate::about::{tell_tools, tell_version};
-use crate::choice::{Choice, choose};
-use crate::fault::{FaultLine, ToolFault, end, status_code, warned_code, written};
-use crate::rules::{Causes, check, install, review};
-use patient_streams::Patient;
-use script_tool::run_script;
-use server_tool::run_tcpserver;
-use std::fs::{File, Files};
-use std::io;
-use std::io::Write;
-use std::net::{Net, TcpStream};
-use std::process::{ChildStdin, OpenProcess, Processes};
-use std::rt::Env;
-use std::sync::Wait;
-use std::thread::Threads;
-use std::time::Clock;
-use stream_tools::started::{command_words, program_path};
-use stream_tools::{run_addcr, run_delcr, run_fixcrio, run_recordio};
+ghost use Rattle.std.specs.Prelude.{◌≡◌, IfOk};
+ghost use Rattle.stream_tools.specs.Programs.{texts_of};
+ghost use Rattle.ucspi_tools.specs.Choices.{wanted};
+ghost use Rattle.ucspi_tools.specs.Runs.{AreGiven, LacksMemory, Ran, Runs, RunsBy, Told, name_told};
+
+use crate::choice::{ToolChoice, choose};
+use crate::fault::{ToolFault, end_code};
+use crate::tools::Tools;
+use std::alloc::{AllocError, Global};
+use stream_tools::started::{Given, command_words, program_path};
 
 /// The program's name.
 const PROGRAM: &str = "ucspi";
 
-/// What the program's own usage line tells.
-const USAGE: &str = "ucspi TOOL ...";
-
-/// Runs the tool that the command line asks for, over the standard streams and the system's files and programs, and answers the exit
-/// code. `errors` is standard error. A standard stream that was left non-blocking is waited for, so that nothing is lost.
-pub fn run_program<R, E>(rt: &R, errors: E) -> u8
-where
-    R: Env + Input + Print + AllocGlobal,
-    R: Files<File = File> + Processes + Threads + Wait + Sync + Clock + Net<Stream = TcpStream>,
-    R::Reader: Send,
-    E: Write + Send + Copy,
-    R::Dir: Send + Sync,
-    R::Listener: Send + Sync,
-    R::Started: OpenProcess<Stdin = ChildStdin> + Send,
-    <R::Started as OpenProcess>::Stdout: Send,
-    <R::Started as OpenProcess>::Stderr: Send,
+/// Runs the tool that the name by which the program was called and its words ask for, and answers the exit code. A fault is told under the name of
+/// the tool, or under the program's.
+pub fn run_program<G: Given, T: Tools>(alloc: Global, given: &G, tools: &mut T) -> u8
+    requires { T.ready tools.old }
+    ensures runs { Runs G.honest (G.words given.now) T.does T.tells tools.old tools.new result }
 {
-    let alloc = rt.alloc();
-    let mut causes = Vec::new(alloc);
-    let (code, line) = match (program_path(alloc, rt), command_words(alloc, rt)) {
-        (Ok(path), Ok(words)) => run_chosen(rt, errors, &mut causes, &path, &words),
-        _ => end(PROGRAM, Err(ToolFault::OutOfMemory)),
-    };
-    let mut faults = Patient::new(rt, errors);
-    if let Some(line) = line {
-        let _ = faults.write_all(line.as_bytes());
+    match words_of(alloc, given) {
+        Ok((path, words)) => run_words(tools, &path, &words),
+        Err(_) => lack_memory(tools),
     }
-    let _ = faults.write_all(causes.as_slice());
-    code
 }
 
-/// Runs the tool that the path by which the program was called and its words ask for: the exit code, and the line of its fault.
-fn run_chosen<R, E>(
-    rt: &R,
-    errors: E,
-    causes: &mut Vec<u8>,
-    path: &[u8],
-    words: &[Vec<u8>],
-) -> (u8, Option<FaultLine>)
-where
-    R: Env + Input + Print + AllocGlobal,
-    R: Files<File = File> + Processes + Threads + Wait + Sync + Clock + Net<Stream = TcpStream>,
-    R::Reader: Send,
-    E: Write + Send + Copy,
-    R::Dir: Send + Sync,
-    R::Listener: Send + Sync,
-    R::Started: OpenProcess<Stdin = ChildStdin> + Send,
-    <R::Started as OpenProcess>::Stdout: Send,
-    <R::Started as OpenProcess>::Stderr: Send,
+/// The path by which the program was called, and its words.
+///
+/// # Errors
+/// There was no memory.
+fn words_of<G: Given>(alloc: Global, given: &G) -> Result<(Vec<u8>, Vec<Vec<u8>>), AllocError>
+    ensures { IfOk result (λ told. AreGiven G.honest (G.words given.now) told.0.items (texts_of told.1.items)) }
+{
+    let path = program_path(alloc, given)?;
+    let words = command_words(alloc, given)?;
+    Ok((path, words))
+}
+
+/// Tells that there was no memory for the words.
+fn lack_memory<T: Tools>(tools: &mut T) -> u8
+    ensures { LacksMemory T.tells tools.old tools.new result }
+{
+    let fault = ToolFault::OutOfMemory;
+    tools.tell(PROGRAM, fault);
+    fault.exit_code()
+}
+
+/// Runs the tool that a path and words ask for.
+fn run_words<T: Tools>(tools: &mut T, path: &[u8], words: &[Vec<u8>]) -> u8
+    requires { T.ready tools.old }
+    ensures { RunsBy T.does T.tells path.now (texts_of words.now) tools.old tools.new result }
 {
     let choice = choose(path, words);
-    let name = choice.tool().map_or(PROGRAM, |tool| tool.name());
-    end(name, run(rt, errors, causes, choice))
+    let answer = run(tools, choice);
+    end(tools, name_of(choice), answer);
+    end_code(answer)
 }
 
-/// Runs what words ask for, and answers the exit code. The line of a cause is left in `causes`, where words ask for it.
-fn run<R, E>(rt: &R, errors: E, causes: &mut Vec<u8>, choice: Choice<'_>) -> Result<u8, ToolFault>
-where
-    R: Env + Input + Print + AllocGlobal,
-    R: Files<File = File> + Processes + Threads + Wait + Sync + Clock + Net<Stream = TcpStream>,
-    R::Reader: Send,
-    E: Write + Send + Copy,
-    R::Dir: Send + Sync,
-    R::Listener: Send + Sync,
-    R::Started: OpenProcess<Stdin = ChildStdin> + Send,
-    <R::Started as OpenProcess>::Stdout: Send,
-    <R::Started as OpenProcess>::Stderr: Send,
+/// The name under which a fault is told of what words ask for.
+fn name_of(choice: ToolChoice<'_>) -> &'static str
+    ensures { result.now ≡ name_told (wanted choice.entry) }
 {
-    let mut log = Patient::new(rt, errors);
-    match choice {
-        Choice::Tcpserver { by_name, words } => run_tcpserver(rt, log, words, by_name, causes)?,
-        Choice::Rulesim => run_script(rt)?,
-        Choice::Tcprules { cdb, tmp, verbose } => {
-            let lines = causes;
-            install(rt, &mut log, (cdb, tmp), Causes { verbose, lines })?;
-        }
-        Choice::Review(strict) => return Ok(warned_code(strict, review(rt, &mut log)?)),
-        Choice::Tcprulescheck { cdb, verbose } => {
-            let lines = causes;
-            check(rt, cdb, Causes { verbose, lines })?;
-        }
-        Choice::Addcr => run_addcr(rt)?,
-        Choice::Delcr => run_delcr(rt)?,
-        Choice::Fixcrio { words } => return Ok(status_code(run_fixcrio(rt, words)?)),
-        Choice::Recordio { words } => return Ok(status_code(run_recordio(rt, log, words)?)),
-        Choice::Version => written(tell_version(&mut Patient::new(rt, io::writer(rt))))?,
-        Choice::Help => written(tell_tools(&mut Patient::new(rt, io::writer(rt))))?,
-        Choice::UsageOf(tool) => return Err(ToolFault::Usage(tool.usage())),
-        Choice::Usage => return Err(ToolFault::Usage(USAGE)),
+    match choice.tool() {
+        Some(tool) => tool.name(),
+        None => PROGRAM,
     }
-    Ok(0)
+}
+
+/// Tells a fault, where there is one.
+fn end<T: Tools>(tools: &mut T, name: &str, answer: Result<u8, ToolFault>)
+    ensures { Told T.tells name.now answer tools.old tools.new }
+{
+    if let Err(fault) = answer {
+        tools.tell(name, fault);
+    }
+}
+
+/// Runs what words ask for.
+fn run<T: Tools>(tools: &mut T, choice: ToolChoice<'_>) -> Result<u8, ToolFault>
+    requires { T.ready tools.old }
+    ensures { Ran T.does (wanted choice.entry) tools.old tools.new result }
+{
+    match choice {
+        ToolChoice::Tcpserver { by_name, words } => tools.tcpserver(by_name, words),
+        ToolChoice::Rulesim => tools.rulesim(),
+        ToolChoice::Tcprules { cdb, tmp, verbose } => tools.tcprules(verbose, cdb, tmp),
+        ToolChoice::Review(strict) => tools.review(strict),
+        ToolChoice::Tcprulescheck { cdb, verbose } => tools.tcprulescheck(verbose, cdb),
+        ToolChoice::Addcr => tools.addcr(),
+        ToolChoice::Delcr => tools.delcr(),
+        ToolChoice::Fixcrio { words } => tools.fixcrio(words),
+        ToolChoice::Recordio { words } => tools.recordio(words),
+        ToolChoice::Version => tools.version(),
+        ToolChoice::Help => tools.help(),
+        ToolChoice::UsageOf(tool) => Err(ToolFault::UsageOf(tool)),
+        ToolChoice::Usage => Err(ToolFault::Usage),
+    }
 }

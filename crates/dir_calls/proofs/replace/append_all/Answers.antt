@@ -12,12 +12,12 @@ use Rattle.dir_calls.proofs.replace.append_all.Goals as goal
 use Rattle.dir_calls.proofs.replace.append_all.Goals.{After-append}
 
 -- up to an append, whatever it answers
-stays : (g : Over) (c : After-append g) → IsTrue g.D.Dir.honest → (name : List ℕ) → KeepsWhatLasts g.D.Dir.state g.D.Dir.moment g.D.Dir.left_since name c.args.dir.now c.append.new.self
+stays : (g : Over) (c : After-append g) → IsTrue g.D.Dir.honest → (name : List ℕ) → KeepsWhatLasts g.D.Dir name c.args.dir.now c.append.new.self
 stays g c honest name olds lasts =
     let mid = c.loop-rest.dir in
     let rest = c.loop-rest.rest.now in
     let so_far = c.loop-rest.invariant.stays honest name olds lasts in
-    stays_on g.D.Dir.state g.D.Dir.moment g.D.Dir.left_since name olds c.args.dir.now mid c.append.new.self (λ n. appends (take n rest)) (appends rest) c.append.result
+    stays_on g.D.Dir name olds c.args.dir.now mid c.append.new.self (λ n. appends (take n rest)) (appends rest) c.append.result
     so_far (λ image left. g.met.D.Dir.only_now mid image honest left) (c.append.ensures.time honest) (c.append.ensures.does honest)
     (appends_keeps (g.D.Dir.state mid) name olds so_far.lasts rest) (λ n. appends_keeps (g.D.Dir.state mid) name olds so_far.lasts (take n rest))
 

@@ -16,21 +16,21 @@ use Rattle.dir_calls.proofs.replace.replace_file.Goals.{After-rename, After-sett
 
 -- up to the renaming
 renamed : (g : Over) (c : After-rename g) → IsTrue g.D.Dir.honest
-    → KeepsOrPuts g.D.Dir.state g.D.Dir.moment g.D.Dir.left_since c.args.name.now c.args.bytes.now c.args.dir.now c.rename.new.self
+    → KeepsOrPuts g.D.Dir c.args.name.now c.args.bytes.now c.args.dir.now c.rename.new.self
 renamed g c honest olds lasts =
     let mid = c.write_scratch.new.dir in
-    stays_moved g.D.Dir.state g.D.Dir.moment g.D.Dir.left_since c.args.scratch.now c.args.name.now c.args.bytes.now olds c.args.dir.now mid c.rename.new.self c.rename.result
+    stays_moved g.D.Dir c.args.scratch.now c.args.name.now c.args.bytes.now olds c.args.dir.now mid c.rename.new.self c.rename.result
     (c.write_scratch.ensures.stays honest c.args.name.now c.requires.differ olds lasts) (c.in_ok-write_scratch.ensures.written honest)
     (λ image left. g.met.D.Dir.only_now mid image honest left) (c.rename.ensures.time honest) (c.rename.ensures.does honest)
 
 -- and the settling
 settled : (g : Over) (c : After-settle g) → IsTrue g.D.Dir.honest → (olds : List (Option (List ℕ)))
-    → Stays g.D.Dir.state g.D.Dir.moment g.D.Dir.left_since c.args.name.now (Some c.args.bytes.now ∷ olds) c.args.dir.now c.rename.new.self
-    → Stays g.D.Dir.state g.D.Dir.moment g.D.Dir.left_since c.args.name.now (Some c.args.bytes.now ∷ olds) c.args.dir.now c.settle.new.self
+    → Stays g.D.Dir c.args.name.now (Some c.args.bytes.now ∷ olds) c.args.dir.now c.rename.new.self
+    → Stays g.D.Dir c.args.name.now (Some c.args.bytes.now ∷ olds) c.args.dir.now c.settle.new.self
 settled g c honest olds so_far =
     let mid = c.rename.new.self in
     let keeps = settles_keeps (g.D.Dir.state mid) c.args.name.now (Some c.args.bytes.now ∷ olds) so_far.lasts in
-    stays_on g.D.Dir.state g.D.Dir.moment g.D.Dir.left_since c.args.name.now (Some c.args.bytes.now ∷ olds) c.args.dir.now mid c.settle.new.self (λ _. settles) settles c.settle.result
+    stays_on g.D.Dir c.args.name.now (Some c.args.bytes.now ∷ olds) c.args.dir.now mid c.settle.new.self (λ _. settles) settles c.settle.result
     so_far (λ image left. g.met.D.Dir.only_now mid image honest left) (c.settle.ensures.time honest) (c.settle.ensures.does honest) keeps (λ _. keeps)
 
 pub returns-in_err-rename-clause-stays : goal.returns-in_err-rename-clause-stays
@@ -52,7 +52,7 @@ returns-clause-done g c = λ honest.
 
 pub returns-in_err-write_scratch-clause-stays : goal.returns-in_err-write_scratch-clause-stays
 returns-in_err-write_scratch-clause-stays g c = λ honest olds lasts.
-    stays_more g.D.Dir.state g.D.Dir.moment g.D.Dir.left_since c.args.name.now olds (Some c.args.bytes.now ∷ olds) c.args.dir.now c.write_scratch.new.dir (λ _ among. inr among)
+    stays_more g.D.Dir c.args.name.now olds (Some c.args.bytes.now ∷ olds) c.args.dir.now c.write_scratch.new.dir (λ _ among. inr among)
     (c.write_scratch.ensures.stays honest c.args.name.now c.requires.differ olds lasts)
 
 pub returns-in_err-write_scratch-clause-done : goal.returns-in_err-write_scratch-clause-done

@@ -15,20 +15,20 @@ use Rattle.dir_calls.proofs.replace.write_scratch.Goals.{After-fresh, After-appe
 
 -- up to the making
 made : (g : Over) (c : After-fresh g) → IsTrue g.D.Dir.honest → (name : List ℕ) → c.args.scratch.now ≢ name
-    → KeepsWhatLasts g.D.Dir.state g.D.Dir.moment g.D.Dir.left_since name c.args.dir.now c.fresh.new.self
+    → KeepsWhatLasts g.D.Dir name c.args.dir.now c.fresh.new.self
 made g c honest name differ olds lasts =
     let old = c.args.dir.now in
     let scratch = c.args.scratch.now in
     let keeps = makes_keeps (g.D.Dir.state old) name olds lasts scratch (λ same. differ (sym same)) in
-    stays_call g.D.Dir.state g.D.Dir.moment g.D.Dir.left_since name olds old c.fresh.new.self (λ _. makes scratch) (makes scratch) c.fresh.result
+    stays_call g.D.Dir name olds old c.fresh.new.self (λ _. makes scratch) (makes scratch) c.fresh.result
     (λ image left. g.met.D.Dir.only_now old image honest left) (c.fresh.ensures.time honest) (c.fresh.ensures.does honest) keeps (λ _. keeps)
 
 -- and the filling
 filled : (g : Over) (c : After-append_all g) → IsTrue g.D.Dir.honest → (name : List ℕ) (olds : List (Option (List ℕ)))
-    → Stays g.D.Dir.state g.D.Dir.moment g.D.Dir.left_since name olds c.args.dir.now c.fresh.new.self
-    → Stays g.D.Dir.state g.D.Dir.moment g.D.Dir.left_since name olds c.args.dir.now c.append_all.new.dir
+    → Stays g.D.Dir name olds c.args.dir.now c.fresh.new.self
+    → Stays g.D.Dir name olds c.args.dir.now c.append_all.new.dir
 filled g c honest name olds so_far =
-    stays_then g.D.Dir.state g.D.Dir.moment g.D.Dir.left_since name olds c.args.dir.now c.fresh.new.self c.append_all.new.dir so_far (c.append_all.ensures.stays honest name olds so_far.lasts)
+    stays_then g.D.Dir name olds c.args.dir.now c.fresh.new.self c.append_all.new.dir so_far (c.append_all.ensures.stays honest name olds so_far.lasts)
 
 pub returns-in_err-fresh-clause-stays : goal.returns-in_err-fresh-clause-stays
 returns-in_err-fresh-clause-stays g c = made g (goal.at.returns-in_err-fresh-clause-stays g c).After-fresh
@@ -52,7 +52,7 @@ returns-clause-stays g c = λ honest name differ olds lasts.
     let mid = c.append_all.new.dir in
     let so_far = filled g at.After-append_all honest name olds (made g at.After-fresh honest name differ olds lasts) in
     let keeps = syncs_keeps (g.D.Dir.state mid) name olds so_far.lasts in
-    stays_on g.D.Dir.state g.D.Dir.moment g.D.Dir.left_since name olds c.args.dir.now mid c.sync.new.self (λ _. syncs) syncs c.sync.result
+    stays_on g.D.Dir name olds c.args.dir.now mid c.sync.new.self (λ _. syncs) syncs c.sync.result
     so_far (λ image left. g.met.D.Dir.only_now mid image honest left) (c.sync.ensures.time honest) (c.sync.ensures.does honest) keeps (λ _. keeps)
 
 pub returns-in_err-fresh-clause-written : goal.returns-in_err-fresh-clause-written

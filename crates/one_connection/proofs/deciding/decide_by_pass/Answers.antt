@@ -1,4 +1,4 @@
--- A pass of a yard whose premises were met.
+-- A pass of a yard whose assumptions were met.
 use Rattle.std.proofs.Common.{rules}
 use Rattle.std.specs.Prelude.{IfErr}
 use Rattle.one_connection.specs.Openings.{FailsToDecide, opening_of}

@@ -8,7 +8,7 @@ dropped-requires g c =
     let h = c.requires.stands in record {
       stands = record {
         stage = h.stage;
-        there = subst (λ (i : ℕ). g.D.Desk.stands c.args.desk.now i c.args.serial c.args.peer.now h.stage) (sym (c.requires.index c.args.place)) h.there;
+        there = subst (λ (i : ℕ). g.D.Agent.stands c.args.agent.now i c.args.serial c.args.peer.now h.stage) (sym (c.requires.index c.args.place)) h.there;
         before_start = h.before_start;
       };
     }

@@ -2,8 +2,8 @@
 use Rattle.std.specs.Prelude.{ℕ, Bool, List, [], Option}
 use Rattle.std.specs.Io.KnownBytes.{Appends}
 use Rattle.std.proofs.Common.{inl, refl, rules, subst}
-use Rattle.rule_lookup.specs.declared.outcome.DropCause.{DropCause}
-use Rattle.rule_lookup.specs.declared.outcome.DropCause.TheVariants as cause
+use Rattle.connection_facts.specs.declared.outcome.DropCause.{DropCause}
+use Rattle.connection_facts.specs.declared.outcome.DropCause.TheVariants as cause
 use Rattle.server_events.specs.declared.event.Stage.TheVariants as stage
 use Rattle.one_connection.specs.Openings.{WasFound}
 use Rattle.one_connection.specs.Servings.{Drops, FailsFor, Greets, is_banner}
@@ -30,16 +30,16 @@ returns-in-Err-prepare-clause-greeted g c =
     let old = g.W.Write.contents c.args.writer.now in
     let new = g.W.Write.contents c.greet.new.writer in
     let wrote : Appends old new c.args.plan.now.banner = subst (λ banner. Appends old new banner) c.banner.ensures c.in_default.ensures.greeted in
-    let fails = FailsFor (WasFound (g.D.Desk.found c.prepare.new.desk) (g.D.Desk.finds c.args.desk.now)) g.D.Desk.honest g.D.Desk.sound c.args.peer.now in
-    greets_dropped old new c.args.plan.now.banner fails g.D.Desk.is_shared (g.D.Desk.failures c.args.desk.now) (g.D.Desk.failures c.prepare.new.desk) c.in-Err-prepare.cause wrote c.in-Err-prepare.ensures.dropped
+    let fails = FailsFor (WasFound (g.D.Agent.found c.prepare.new.agent) (g.D.Agent.finds c.args.agent.now)) g.D.Agent.honest g.D.Agent.sound c.args.peer.now in
+    greets_dropped old new c.args.plan.now.banner fails g.D.Agent.is_shared (g.D.Agent.failures c.args.agent.now) (g.D.Agent.failures c.prepare.new.agent) c.in-Err-prepare.cause wrote c.in-Err-prepare.ensures.dropped
 
 pub run-requires-clause-stands : goal.run-requires-clause-stands
 run-requires-clause-stands g c =
-    subst (λ verdict. g.D.Desk.stands c.prepare.new.desk c.args.place c.args.serial c.args.peer.now (stage.Decided verdict)) c.in-Allow.is c.in-Ok.ensures.decided
+    subst (λ verdict. g.D.Agent.stands c.prepare.new.agent c.args.place c.args.serial c.args.peer.now (stage.Decided verdict)) c.in-Allow.is c.in-Ok.ensures.decided
 
 pub returns-in-Err-clause-told : goal.returns-in-Err-clause-told
 returns-in-Err-clause-told g c = record {
-  before = c.args.desk.now;
+  before = c.args.agent.now;
   first = record { events = []; came = unopened (inl refl) };
   stage = stage.Admitted;
   stood = c.requires.admitted;

@@ -7,5 +7,5 @@ use Rattle.one_connection.proofs.serving.tell_failure.Goals as goal
 
 pub start_failed-requires : goal.start_failed-requires
 start_failed-requires g c = record {
-  stands = subst (λ (i : ℕ). g.D.Desk.stands c.args.desk.now i c.args.serial c.args.peer.now (stage.Decided Allow)) (sym (c.requires.index c.args.place)) c.requires.stands;
+  stands = subst (λ (i : ℕ). g.D.Agent.stands c.args.agent.now i c.args.serial c.args.peer.now (stage.Decided Allow)) (sym (c.requires.index c.args.place)) c.requires.stands;
 }

@@ -1,4 +1,4 @@
--- Serving by a yard: its desk's calls are the yard's.
+-- Serving by a yard: its agent's calls are the yard's.
 use Rattle.server_yard.specs.Yards.{yard_state}
 use Rattle.server_yard.proofs.Served.{served}
 use Rattle.one_connection.proofs.ServedByYards.{serves}
@@ -9,8 +9,8 @@ returns-clause-serves g c = λ honest.
     let told = c.serve_one.ensures.told in record {
       first = told.first.events;
       serves =
-          serves (λ desk. yard_state g.D.Dir.state desk.yard) _ _ c.args.serial (λ x y still. still.same honest) (λ x y it event made. made.step honest)
-          c.args.desk.now told.before told.first.events _ _ told.first.came (told.told.step honest);
+          serves (λ agent. yard_state agent.yard) _ _ c.args.serial (λ x y still. still.same honest) (λ x y it event made. made.step honest)
+          c.args.agent.now told.before told.first.events _ _ told.first.came (told.told.step honest);
     }
 
 pub returns-clause-headline : goal.returns-clause-headline

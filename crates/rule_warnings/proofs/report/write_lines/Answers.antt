@@ -9,7 +9,7 @@ use Rattle.rule_warnings.proofs.report.write_lines.Goals as goal
 
 pub loop-rest-init : goal.loop-rest-init
 loop-rest-init g c =
-    written-none c.args.limit c.args.text.now (line_under c.new-seen.result) (g.W.Write.contents c.args.writer.now) c.new-seen.ensures c.requires.faultless
+    written-none c.args.limit c.args.text.now (line_under c.in_ok-seen.seen) (g.W.Write.contents c.args.writer.now) c.in_ok-seen.ensures c.requires.faultless
 
 pub look_at-requires : goal.look_at-requires
 look_at-requires g c =

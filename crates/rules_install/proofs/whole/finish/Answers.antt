@@ -18,9 +18,9 @@ use Rattle.rules_install.proofs.whole.finish.Goals.{After-step}
 
 -- up to a step, whatever it answers
 stepped : (g : Over) (c : After-step g) → IsTrue g.D.Dir.honest
-    → Progress g.D.Dir.state g.D.Dir.moment g.D.Dir.left_since (installing c.args.install.now) (Some (next_phase (installing c.loop.install))) c.args.dir.now c.step.new.dir
+    → Progress g.D.Dir (installing c.args.install.now) (Some (next_phase (installing c.loop.install))) c.args.dir.now c.step.new.dir
 stepped g c honest =
-    progress_more g.D.Dir.state g.D.Dir.moment g.D.Dir.left_since (installing c.args.install.now) (installing c.loop.install) c.args.dir.now c.loop.dir c.step.new.dir
+    progress_more g.D.Dir (installing c.args.install.now) (installing c.loop.install) c.args.dir.now c.loop.dir c.step.new.dir
     c.loop.invariant.same (c.loop.invariant.progress honest) (c.step.ensures.old_or_new honest)
 
 pub loop-init : goal.loop-init
@@ -31,7 +31,7 @@ loop-init g c = record {
   series = λ honest undone. none;
   same = same_self (installing c.args.install.now);
   fits = c.requires.fits;
-  progress = λ honest. progress_none g.D.Dir.state g.D.Dir.moment g.D.Dir.left_since (installing c.args.install.now) c.args.dir.now (λ image left. g.met.D.Dir.only_now c.args.dir.now image honest left);
+  progress = λ honest. progress_none g.D.Dir (installing c.args.install.now) c.args.dir.now (λ image left. g.met.D.Dir.only_now c.args.dir.now image honest left);
   first = λ honest none. refl;
   failures = omega arith;
 }
@@ -64,13 +64,14 @@ returns-in_err-step-clause-stands g c = λ honest.
     (c.in_err-step.ensures.goes c.loop.invariant.is_open) (c.in_err-step.ensures.device honest) (c.in_err-step.ensures.changes honest c.loop.invariant.is_open (λ done. let ok = (c.in_err-step.ensures.after_done c.loop.invariant.is_open done).0 in absurd (cc)))))
 
 pub returns-in_err-step-clause-any_moment : goal.returns-in_err-step-clause-any_moment
-returns-in_err-step-clause-any_moment g c = λ honest olds lasts. (stepped g (goal.at.returns-in_err-step-clause-any_moment g c).After-step honest).any_moment olds lasts
+returns-in_err-step-clause-any_moment g c =
+    λ honest olds lasts. (stepped g (goal.at.returns-in_err-step-clause-any_moment g c).After-step honest).any_moment olds lasts
 
 pub returns-in_err-step-clause-lasts : goal.returns-in_err-step-clause-lasts
 returns-in_err-step-clause-lasts g c = λ honest olds lasts.
     let p = err_from_is_err_and c.from_residual.result c.from_residual.ensures.1 in
     rw (p.1, p.2)
-    (failed_lasts g.D.Dir.state g.D.Dir.moment g.D.Dir.left_since (installing c.args.install.now) (installing c.loop.install) (installing c.step.new.self) c.args.dir.now c.loop.dir c.step.new.dir c.in_err-step.field-0.0 olds
+    (failed_lasts g.D.Dir (installing c.args.install.now) (installing c.loop.install) (installing c.step.new.self) c.args.dir.now c.loop.dir c.step.new.dir c.in_err-step.field-0.0 olds
     c.loop.invariant.same (c.in_err-step.ensures.goes c.loop.invariant.is_open) c.in_err-step.ensures.settling
     (λ done. let ok = (c.in_err-step.ensures.after_done c.loop.invariant.is_open done).0 in absurd (cc))
     (c.in_err-step.ensures.changes honest c.loop.invariant.is_open (λ done. let ok = (c.in_err-step.ensures.after_done c.loop.invariant.is_open done).0 in absurd (cc)))
@@ -127,7 +128,7 @@ loop-preserved g c =
       same = same_then (installing c.args.install.now) (installing c.loop.install) (installing c.step.new.self) c.loop.invariant.same c.step.ensures.same;
       fits = c.step.ensures.fits;
       progress = λ honest.
-          subst (λ reached. Progress g.D.Dir.state g.D.Dir.moment g.D.Dir.left_since (installing c.args.install.now) reached c.args.dir.now c.step.new.dir) (sym goes.1)
+          subst (λ reached. Progress g.D.Dir (installing c.args.install.now) reached c.args.dir.now c.step.new.dir) (sym goes.1)
           (stepped g (goal.at.loop-preserved g c).After-step honest);
       first = λ honest none. (let some = goes.1 in absurd (cc));
       failures = omega (arith, c.loop.invariant.failures, c.step.ensures.failures);

@@ -19,7 +19,7 @@ invariant-loop g l = record {
   same : IsSame (installing l.initial.install) (installing l.install);
   fits : IsTrue g.D.Dir.honest → Fits (installing l.install) (g.D.Dir.state l.dir);
   progress : IsTrue g.D.Dir.honest
-      → Progress g.D.Dir.state g.D.Dir.moment g.D.Dir.left_since (installing l.initial.install) (installing l.install).reached l.initial.dir l.dir;
+      → Progress g.D.Dir (installing l.initial.install) (installing l.install).reached l.initial.dir l.dir;
   first : IsTrue g.D.Dir.honest → (installing l.install).reached ≡ None → g.D.Dir.state l.dir ≡ g.D.Dir.state l.initial.dir;
   failures : g.D.Dir.failed l.initial.dir ≤ g.D.Dir.failed l.dir;
 }

@@ -17,7 +17,7 @@ begins g c = c.in_ok-install.ensures.begun
 -- where no step was made
 pub returns-in_err-install-clause-any_moment : goal.returns-in_err-install-clause-any_moment
 returns-in_err-install-clause-any_moment g c = λ honest olds lasts.
-    none_left g.D.Dir.state g.D.Dir.moment g.D.Dir.left_since c.args.dir.now c.args.names.cdb (whole_file (pairs_of c.args.text.now)) olds
+    none_left g.D.Dir c.args.dir.now c.args.names.cdb (whole_file (pairs_of c.args.text.now)) olds
     (λ image left. g.met.D.Dir.only_now c.args.dir.now image honest left) lasts
 
 pub returns-clause-ends : goal.returns-clause-ends
@@ -28,7 +28,7 @@ returns-clause-unchanged g c = λ refused. absurd (not_refused (installing c.fin
 
 pub returns-clause-any_moment : goal.returns-clause-any_moment
 returns-clause-any_moment g c = λ honest.
-    subst (λ (s : Installing). RunKeeps g.D.Dir.state g.D.Dir.moment g.D.Dir.left_since s c.args.dir.now c.finish.new.dir)
+    subst (λ (s : Installing). RunKeeps g.D.Dir s c.args.dir.now c.finish.new.dir)
     (begins g (goal.at.returns-clause-any_moment g c).After-finish) (c.finish.ensures.any_moment honest)
 
 pub returns-clause-lasts : goal.returns-clause-lasts

@@ -17,5 +17,5 @@ returns-clause-stays g c = λ honest name differ contents lasts.
     let mid = c.take_away.new.self in
     let so_far = c.take_away.ensures.stays honest name differ contents lasts in
     let keeps = settles_keeps (g.D.Dir.state mid) name contents so_far.lasts in
-    stays_on g.D.Dir.state g.D.Dir.moment g.D.Dir.left_since name contents c.args.dir.now mid c.settle.new.self (λ _. settles) settles c.settle.result
+    stays_on g.D.Dir name contents c.args.dir.now mid c.settle.new.self (λ _. settles) settles c.settle.result
     so_far (λ image left. g.met.D.Dir.only_now mid image honest left) (c.settle.ensures.time honest) (c.settle.ensures.does honest) keeps (λ _. keeps)

@@ -1,4 +1,4 @@
-use Rattle.std.proofs.Common.{sym, ap, ◌∙◌}
+use Rattle.std.proofs.Common.{refl, sym, ap, ◌∙◌}
 use Rattle.std.specs.Prelude.{Ok, Err}
 use Rattle.std.proofs.lemmas.Result.{err_from_is_err_and}
 use Rattle.rules_install.specs.Installing.{Installing}
@@ -13,7 +13,7 @@ returns-in_err-scratch-clause-installs g c =
     let input = g.R.Read.remaining c.args.reader.now in
     let d = folder_dir c.args.folder.now in
     rw (p.1, p.2)
-    (unchanged g.D.Dir.honest g.D.Dir.state g.D.Dir.moment g.D.Dir.left_since g.D.Dir.failed g.T.Turns.lock_name (g.T.Turns.refused (folder_turns c.args.folder.now)) input c.args.names d _
+    (unchanged _ c.args.names _ refl
     (λ is image left. g.met.D.Dir.only_now d image is left) (memory_fails input))
 
 pub returns-in_err-install-clause-installs : goal.returns-in_err-install-clause-installs
@@ -22,7 +22,7 @@ returns-in_err-install-clause-installs g c =
     let input = g.R.Read.remaining c.args.reader.now in
     let d = folder_dir c.args.folder.now in
     rw (p.1, p.2)
-    (unchanged g.D.Dir.honest g.D.Dir.state g.D.Dir.moment g.D.Dir.left_since g.D.Dir.failed g.T.Turns.lock_name (g.T.Turns.refused (folder_turns c.args.folder.now)) input c.args.names d c.in_err-install.field-0.0
+    (unchanged _ c.args.names c.in_err-install.field-0.0 refl
     (λ is image left. g.met.D.Dir.only_now d image is left) c.in_err-install.ensures.refused)
 
 pub returns-in_err-install-clause-of_text : goal.returns-in_err-install-clause-of_text
@@ -45,9 +45,8 @@ returns-in_err-install_begun-clause-installs g c =
     let p = err_from_is_err_and c.from_residual-in_err-install_begun.result c.from_residual-in_err-install_begun.ensures.1 in
     let e = c.in_err-install_begun.ensures in
     rw (p.1, p.2)
-    (installs g.D.Dir.honest g.D.Dir.state g.D.Dir.moment g.D.Dir.left_since g.D.Dir.failed g.T.Turns.lock_name (g.T.Turns.refused (folder_turns c.install_begun.new.folder)) (g.R.Read.remaining c.args.reader.now) c.args.names
-    c.decides.ensures (installing c.in_ok-install.install) (folder_dir c.args.folder.now) (folder_dir c.install_begun.new.folder) (Err c.in_err-install_begun.field-0.0) c.in_ok-install.ensures.compiled
-    (record { ends = e.ends; series = e.series; any_moment = e.any_moment; lasts = e.lasts; done = e.done; written = e.written; device = e.device; blames = e.blames }))
+    (installs _ c.args.names c.decides.ensures (installing c.in_ok-install.install) (Err c.in_err-install_begun.field-0.0) c.in_ok-install.ensures.compiled
+    (record { ends = e.ends; series = e.series; any_moment = e.any_moment; lasts = e.lasts; done = e.done; written = e.written; device = e.device; blames = e.blames; removed = e.removed }))
 
 pub returns-in_err-install_begun-clause-untouched : goal.returns-in_err-install_begun-clause-untouched
 returns-in_err-install_begun-clause-untouched g c = λ refusal.
@@ -62,6 +61,5 @@ returns-in_err-install_begun-clause-of_text g c =
 pub returns-clause-installs : goal.returns-clause-installs
 returns-clause-installs g c =
     let e = c.in_ok-install_begun.ensures in
-    installs g.D.Dir.honest g.D.Dir.state g.D.Dir.moment g.D.Dir.left_since g.D.Dir.failed g.T.Turns.lock_name (g.T.Turns.refused (folder_turns c.install_begun.new.folder)) (g.R.Read.remaining c.args.reader.now) c.args.names
-    c.decides.ensures (installing c.in_ok-install.install) (folder_dir c.args.folder.now) (folder_dir c.install_begun.new.folder) (Ok c.in_ok-install_begun.field-0) c.in_ok-install.ensures.compiled
-    (record { ends = e.ends; series = e.series; any_moment = e.any_moment; lasts = e.lasts; done = e.done; written = e.written; device = e.device; blames = e.blames })
+    installs _ c.args.names c.decides.ensures (installing c.in_ok-install.install) (Ok c.in_ok-install_begun.field-0) c.in_ok-install.ensures.compiled
+    (record { ends = e.ends; series = e.series; any_moment = e.any_moment; lasts = e.lasts; done = e.done; written = e.written; device = e.device; blames = e.blames; removed = e.removed })

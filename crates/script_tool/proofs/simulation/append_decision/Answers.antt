@@ -1,6 +1,6 @@
 use Rattle.std.proofs.Common.{◌++◌, ap, ◌∙◌}
 use Rattle.std.proofs.lemmas.Result.{on_ok_weaker}
-use Rattle.answer_lines.specs.Answers.{answer_lines}
+use Rattle.rule_lookup.specs.Answers.{answer_lines}
 use Rattle.rule_lookup.specs.declared.decision.Decision.{Decision}
 use Rattle.script_tool.proofs.simulation.append_decision.Goals as goal
 

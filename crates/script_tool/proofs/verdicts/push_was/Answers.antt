@@ -4,7 +4,7 @@ use Rattle.byte_text.proofs.Appends.{first, next, last}
 use Rattle.script_tool.specs.Logs.{was_text}
 use Rattle.script_tool.proofs.AskLemmas.{OnOk-part}
 use Rattle.script_tool.proofs.verdicts.push_was.Goals as goal
-use Rattle.verdict_lines.specs.Meanings.{told_of}
+use Rattle.script_words.specs.Meanings.{told_of}
 
 pub returns : goal.returns
 returns c =

@@ -1,5 +1,5 @@
 use Rattle.server_log.specs.Events.{cause_lines, error}
-use Rattle.status_lines.specs.Texts.{drop_text}
+use Rattle.server_log.specs.Texts.{drop_text}
 use Rattle.server_log.proofs.LogLemmas.{adds_both_is}
 use Rattle.server_log.proofs.lines.add_given_up.Goals as goal
 

@@ -1,7 +1,7 @@
 use Rattle.std.proofs.Common.{◌≡◌, ◌++◌}
 use Rattle.std.specs.Prelude.{encode_utf8}
 use Rattle.byte_text.proofs.Appends.{first, next, last, renamed}
-use Rattle.server_words.proofs.CutParts.{cut_first, cut_later}
+use Rattle.byte_text.proofs.CutParts.{cut_first, cut_later}
 use Rattle.server_words.proofs.fault.push_letter.Goals as goal
 
 pub returns-in_err-push_text : goal.returns-in_err-push_text

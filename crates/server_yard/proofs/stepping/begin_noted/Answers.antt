@@ -8,7 +8,7 @@ use Rattle.rules_install.specs.Installs.{installing}
 use Rattle.rules_install.specs.declared.Phase.{Phase}
 use Rattle.rules_install.specs.declared.Phase.TheVariants.{Done}
 use Rattle.server_events.specs.declared.event.Event.TheVariants as event
-use Rattle.server_yard.specs.Rosters.{roll_of}
+use Rattle.server_yard.specs.Registers.{roll_of}
 use Rattle.server_yard.specs.Stepping.{fault_event}
 use Rattle.server_yard.proofs.Noting.{forgotten, quiet_then_some, some_then_quiet}
 use Rattle.server_yard.proofs.stepping.begin_noted.Goals as goal
@@ -18,24 +18,22 @@ returns-in_err-keep_list-clause-stops g c = λ honest w image at left. inr (g.me
 
 pub returns-in-Ok-clause-noted : goal.returns-in-Ok-clause-noted
 returns-in-Ok-clause-noted g c =
-    let j = g.J.Journal in
-    quiet_then_some j.told j.count j.stored (Some (event.Stepped c.in-Ok.phase)) (roll_of c.args.roster.now) (roll_of c.keep_list.new.self) (roll_of c.step_noted.new.roster) c.in_ok-keep_list.ensures.quiet c.in-Ok.ensures.noted
+    quiet_then_some (Some (event.Stepped c.in-Ok.phase)) (roll_of c.args.register.now) (roll_of c.keep_list.new.self) (roll_of c.step_noted.new.register) c.in_ok-keep_list.ensures.quiet c.in-Ok.ensures.noted
 
 pub returns-in-Ok-clause-kept : goal.returns-in-Ok-clause-kept
 returns-in-Ok-clause-kept g c =
-    c.in-Ok.ensures.lists ∙ c.in_ok-keep_list.ensures.kept ∙ ap (λ rules. option_map (λ all. all ++ rules ∷ []) (g.J.Journal.lists c.args.roster.now.journal)) c.list.ensures
+    c.in-Ok.ensures.lists ∙ c.in_ok-keep_list.ensures.kept ∙ ap (λ rules. option_map (λ all. all ++ rules ∷ []) (roll_of c.args.register.now).books.lists) c.list.ensures
 
 pub returns-in-Ok-clause-seats : goal.returns-in-Ok-clause-seats
 returns-in-Ok-clause-seats g c = λ i. c.in-Ok.ensures.seats i ∙ c.in_ok-keep_list.ensures.seats i
 
 pub returns-in-Err-clause-noted : goal.returns-in-Err-clause-noted
 returns-in-Err-clause-noted g c =
-    let j = g.J.Journal in
-    some_then_quiet j.told j.count j.stored (fault_event c.in-Err.fault) (roll_of c.args.roster.now) (roll_of c.step_noted.new.roster) (roll_of c.forget_list.new.self) (quiet_then_some j.told j.count j.stored (fault_event c.in-Err.fault) (roll_of c.args.roster.now) (roll_of c.keep_list.new.self) (roll_of c.step_noted.new.roster) c.in_ok-keep_list.ensures.quiet c.in-Err.ensures.noted) c.forget_list.ensures.quiet
+    some_then_quiet (fault_event c.in-Err.fault) (roll_of c.args.register.now) (roll_of c.step_noted.new.register) (roll_of c.forget_list.new.self) (quiet_then_some (fault_event c.in-Err.fault) (roll_of c.args.register.now) (roll_of c.keep_list.new.self) (roll_of c.step_noted.new.register) c.in_ok-keep_list.ensures.quiet c.in-Err.ensures.noted) c.forget_list.ensures.quiet
 
 pub returns-in-Err-clause-err : goal.returns-in-Err-clause-err
 returns-in-Err-clause-err g c =
-    c.forget_list.ensures.forgotten ∙ ap (λ o. option_map without_last o) (c.in-Err.ensures.lists ∙ c.in_ok-keep_list.ensures.kept) ∙ forgotten (g.J.Journal.lists c.args.roster.now.journal) c.list.result.now
+    c.forget_list.ensures.forgotten ∙ ap (λ o. option_map without_last o) (c.in-Err.ensures.lists ∙ c.in_ok-keep_list.ensures.kept) ∙ forgotten (roll_of c.args.register.now).books.lists c.list.result.now
 
 pub returns-in-Err-clause-seats : goal.returns-in-Err-clause-seats
 returns-in-Err-clause-seats g c = λ i. c.forget_list.ensures.seats i ∙ c.in-Err.ensures.seats i ∙ c.in_ok-keep_list.ensures.seats i

@@ -1,6 +1,6 @@
-use Rattle.wrapper_chain.specs.Chains.{stages_of}
-use Rattle.wrapper_chain.specs.Wrapped.{deleted}
-use Rattle.wrapper_chain.specs.Stages.{deleted_from}
+use Rattle.byte_streams.specs.Chains.{stages_of}
+use Rattle.byte_streams.specs.Wrapped.{deleted}
+use Rattle.byte_streams.specs.Stages.{deleted_from}
 use Rattle.stream_tools.proofs.FilterLemmas.{came_by, deleted_nothing, one_stage, whole}
 use Rattle.stream_tools.proofs.filter.delete_returns.Goals as goal
 

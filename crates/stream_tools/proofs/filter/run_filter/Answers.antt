@@ -1,4 +1,4 @@
-use Rattle.wrapper_chain.specs.Chains.{stages_of}
+use Rattle.byte_streams.specs.Chains.{stages_of}
 use Rattle.stream_tools.proofs.FilterLemmas.{came, passed, through_nothing}
 use Rattle.stream_tools.proofs.filter.run_filter.Goals as goal
 

@@ -1,5 +1,5 @@
 use Rattle.std.proofs.Common.{◌∙◌, ap}
-use Rattle.rule_lookup.specs.Peers.{given}
+use Rattle.connection_facts.specs.Peers.{given}
 use Rattle.ucspi_env.proofs.WordLemmas.{host_name_read}
 use Rattle.ucspi_env.proofs.hosts.host_name.Goals as goal
 

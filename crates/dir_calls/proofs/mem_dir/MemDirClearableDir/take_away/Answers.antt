@@ -4,7 +4,6 @@ use Rattle.dir_calls.specs.Calls.{closed, without}
 use Rattle.dir_calls.specs.Directory.{Directory, number_of}
 use Rattle.dir_calls.specs.Folder.{directory_of}
 use Rattle.dir_calls.specs.Lasting.{LastsAmong}
-use Rattle.dir_calls.specs.MemDir.{mem_left_since, mem_moment, mem_state}
 use Rattle.dir_calls.specs.Past.{LeftSince, left_now, past_call}
 use Rattle.dir_calls.proofs.History.{elapses_taken}
 use Rattle.dir_calls.proofs.Lasting.{image_has}
@@ -40,7 +39,7 @@ returns-clause-stays c = λ other differ contents lasts.
     let d = directory_of m.folder in
     let e = directory_of c.leave.new.self in
     let does : e ≡ closed (without d name) = search rules in
-    removal_stays mem_state mem_moment mem_left_since name other contents m _ differ lasts
+    removal_stays _ name other contents m _ differ lasts
     (λ image left. left_now (map past_call m.past.items) d image left)
     (elapses_taken m.past.items c.and-past.result.items m.folder name e c.and-past.ensures)
     (taken_fails d e name does)

@@ -5,7 +5,6 @@ use Rattle.dir_calls.specs.Images.{IsImage}
 use Rattle.dir_calls.specs.Calls.{makes, closed, without}
 use Rattle.dir_calls.specs.Outcomes.{Fails}
 use Rattle.dir_disk.specs.OsDir.{SparesOthers, kept_back}
-use Rattle.dir_disk.specs.OsParts.{os_left_since, os_moment, os_state}
 use Rattle.dir_disk.specs.DiskSteps.{AllOrNone, StepElapses}
 use Rattle.dir_disk.specs.KeptImages.{kept_image}
 use Rattle.dir_calls.proofs.Removals.{gone, removal_stays}
@@ -64,7 +63,7 @@ returns-clause-stays g c = λ honest other differ contents lasts.
     let time : StepElapses g.D.Disk.state g.D.Disk.moment g.D.Disk.left_since s.disk c.remove_name-outcome.new.disk =
     step_after g.D.Disk.state g.D.Disk.moment g.D.Disk.left_since s.disk c.give_up.new.disk c.remove_name-outcome.new.disk (c.give_up.ensures.time honest)
     (λ image is. closed_from d image (subst (λ (x : Directory). IsImage x image) (c.give_up.ensures.done honest) is)) (c.remove_name-outcome.ensures.time honest) in
-    removal_stays (os_state g.D.Disk.state) (os_moment g.D.Disk.moment) (os_left_since g.D.Disk.left_since) name other contents s _ differ lasts
+    removal_stays _ name other contents s _ differ lasts
     (λ image left. kept_image g.D.Disk.number d s.scratch s.written p image (s.holds honest) (g.met.D.Disk.only_now s.disk image honest left))
     (call_elapses g.D.Disk.state g.D.Disk.moment g.D.Disk.left_since s.disk c.remove_name-outcome.new.disk (makes name) (kept_back p d) (kept_back q f) time
     (λ image is. kept_image g.D.Disk.number d s.scratch s.written p image (s.holds honest) is) (λ image is. subst (λ (x : Directory). IsImage x image) nowhere is))

@@ -14,7 +14,7 @@ pub returns : goal.returns
 returns g c =
     let s = installing c.args.self.now in
     let d = g.D.Dir.state c.args.dir.now in
-    call_steps g.D.Dir.honest g.D.Dir.state g.D.Dir.moment g.D.Dir.left_since g.D.Dir.failed Synced s syncs c.args.dir.now c.sync-outcome.new.self c.sync-outcome.result
+    call_steps g.D.Dir Synced s syncs c.args.dir.now c.sync-outcome.new.self c.sync-outcome.result
     (record {
       only = λ honest image left. g.met.D.Dir.only_now c.args.dir.now image honest left;
       does = c.sync-outcome.ensures.does;

@@ -26,7 +26,7 @@ use Rattle.rules_install.proofs.install.Install.fill.Goals.{After-append}
 pub returns-in_err-make_piece-clause-step : goal.returns-in_err-make_piece-clause-step
 returns-in_err-make_piece-clause-step g c =
     let p = err_from_is_err_and c.from_residual.result c.from_residual.ensures.1 in
-    still_steps g.D.Dir.honest g.D.Dir.state g.D.Dir.moment g.D.Dir.left_since g.D.Dir.failed (installing c.args.self.now) (installing c.make_piece.new.self) c.args.dir.now c.from_residual.result
+    still_steps g.D.Dir (installing c.args.self.now) (installing c.make_piece.new.self) c.args.dir.now c.from_residual.result
     c.make_piece.ensures.same (p.1 ∙ ap Err p.2) c.requires.fits (λ image honest left. g.met.D.Dir.only_now c.args.dir.now image honest left)
 
 pub returns-in_err-make_piece-clause-more : goal.returns-in_err-make_piece-clause-more
@@ -35,11 +35,12 @@ returns-in_err-make_piece-clause-more g c =
     rw p.1 tt
 
 pub put_pointers-requires-clause-fits : goal.put_pointers-requires-clause-fits
-put_pointers-requires-clause-fits g c = λ honest. subst (λ (s : Installing). Fits s (g.D.Dir.state c.args.dir.now)) (sym c.make_piece.ensures.same) (c.requires.fits honest)
+put_pointers-requires-clause-fits g c =
+    λ honest. subst (λ (s : Installing). Fits s (g.D.Dir.state c.args.dir.now)) (sym c.make_piece.ensures.same) (c.requires.fits honest)
 
 pub returns-then-self-len-clause-step : goal.returns-then-self-len-clause-step
 returns-then-self-len-clause-step g c =
-    subst (λ (s : Installing). StepsTo g.D.Dir.honest g.D.Dir.state g.D.Dir.moment g.D.Dir.left_since g.D.Dir.failed Filling s (installing c.put_pointers.new.self) c.args.dir.now c.put_pointers.new.dir c.put_pointers.result)
+    subst (λ (s : Installing). StepsTo g.D.Dir Filling s (installing c.put_pointers.new.self) c.args.dir.now c.put_pointers.new.dir c.put_pointers.result)
     c.make_piece.ensures.same c.put_pointers.ensures.step
 
 pub returns-then-self-len-clause-more : goal.returns-then-self-len-clause-more
@@ -49,21 +50,24 @@ returns-then-self-len-clause-more g c =
 
 -- what is appended is all that is left of the piece
 piece_is : (g : Over) (c : After-append g) → take (length c.deref.result.now - c.make_piece.new.self.taken) (drop c.make_piece.new.self.taken c.deref.result.now) ≡ drop c.make_piece.new.self.taken c.make_piece.new.self.rest.items
-piece_is g c = take_rest c.deref.result.now c.make_piece.new.self.taken ∙ ap (λ (l : List ℕ). drop c.make_piece.new.self.taken l) c.deref.ensures.value
+piece_is g c =
+    take_rest c.deref.result.now c.make_piece.new.self.taken ∙ ap (λ (l : List ℕ). drop c.make_piece.new.self.taken l) c.deref.ensures.value
 
 -- the installation is still being filled
 next_is : (g : Over) (c : After-append g) → next_phase (installing c.make_piece.new.self) ≡ Filling
 next_is g c = ap next_phase c.make_piece.ensures.same ∙ c.requires.next
 
 -- no more is appended than is left
-count_within : (g : Over) (c : After-append g) (count : ℕ) → c.append.result ≡ Ok count → count ≤ length (drop c.make_piece.new.self.taken c.make_piece.new.self.rest.items)
+count_within : (g : Over) (c : After-append g) (count : ℕ) → c.append.result ≡ Ok count
+    → count ≤ length (drop c.make_piece.new.self.taken c.make_piece.new.self.rest.items)
 count_within g c count is = subst (λ (l : List ℕ). count ≤ length l) (piece_is g c) (IfOk-at_ok (λ n. n ≤ length piece) is c.append.ensures.taken)
   where
     piece : List ℕ
     piece = take (length c.deref.result.now - c.make_piece.new.self.taken) (drop c.make_piece.new.self.taken c.deref.result.now)
 
 -- so the file has as many bytes
-file_has : (g : Over) (c : After-append g) (count : ℕ) → c.append.result ≡ Ok count → c.make_piece.new.self.filled + count ≤ length (blank_file c.make_piece.new.self.pieces)
+file_has : (g : Over) (c : After-append g) (count : ℕ) → c.append.result ≡ Ok count
+    → c.make_piece.new.self.filled + count ≤ length (blank_file c.make_piece.new.self.pieces)
 file_has g c count is =
     let self = c.make_piece.new.self in
     filled_within self.filled count (drop self.taken self.rest.items) (from_piece self.pieces self.next) (blank_file self.pieces) self.rest_is (count_within g c count is) self.filled_fits
@@ -92,8 +96,9 @@ invariant_of-self g c =
 
 -- the step that the append makes, whatever it answers
 append_step : (g : Over) (c : After-append g) (s' : Installing) (result : Result Phase InstallFault)
-    → s' ≡ advanced (longer_by (installing c.make_piece.new.self)) (installing c.make_piece.new.self) c.append.result → result ≡ answer_of Filling c.append.result
-    → StepsTo g.D.Dir.honest g.D.Dir.state g.D.Dir.moment g.D.Dir.left_since g.D.Dir.failed Filling (installing c.args.self.now) s' c.args.dir.now c.append.new.self result
+    → s' ≡ advanced (longer_by (installing c.make_piece.new.self)) (installing c.make_piece.new.self) c.append.result
+    → result ≡ answer_of Filling c.append.result
+    → StepsTo g.D.Dir Filling (installing c.args.self.now) s' c.args.dir.now c.append.new.self result
 append_step g c s' result s'_is result_is =
     let self = c.make_piece.new.self in
     let s = installing self in
@@ -103,8 +108,8 @@ append_step g c s' result s'_is result_is =
     let fits = λ (honest : IsTrue g.D.Dir.honest). subst (λ (i : Installing). Fits i d) (sym c.make_piece.ensures.same) (c.requires.fits honest) in
     let is_open : s.over ≡ false = ap (λ (i : Installing). i.over) c.make_piece.ensures.same ∙ c.requires.is_open in
     let left : piece ++ from_piece self.pieces self.next ≡ drop self.filled (blank_file self.pieces) = ap (λ (l : List ℕ). l ++ from_piece self.pieces self.next) (piece_is g c) ∙ self.rest_is in
-    subst (λ (i : Installing). StepsTo g.D.Dir.honest g.D.Dir.state g.D.Dir.moment g.D.Dir.left_since g.D.Dir.failed Filling i s' c.args.dir.now c.append.new.self result) c.make_piece.ensures.same
-    (filling_steps g.D.Dir.honest g.D.Dir.state g.D.Dir.moment g.D.Dir.left_since g.D.Dir.failed s c.args.dir.now c.append.new.self
+    subst (λ (i : Installing). StepsTo g.D.Dir Filling i s' c.args.dir.now c.append.new.self result) c.make_piece.ensures.same
+    (filling_steps g.D.Dir s c.args.dir.now c.append.new.self
     (λ count. appends (take count piece)) (appends piece) (longer_by s) c.append.result s' result s'_is result_is
     (λ count. record { rules = refl; names = refl; is_open = is_open })
     (inl (piece, refl)) (λ count. inl (take count piece, refl))
@@ -120,7 +125,8 @@ append_step g c s' result s'_is result_is =
 
 -- where it succeeds, less is left to fill
 append_more : (g : Over) (c : After-append g) (s' : Installing) (result : Result Phase InstallFault)
-    → s' ≡ advanced (longer_by (installing c.make_piece.new.self)) (installing c.make_piece.new.self) c.append.result → result ≡ answer_of Filling c.append.result
+    → s' ≡ advanced (longer_by (installing c.make_piece.new.self)) (installing c.make_piece.new.self) c.append.result
+    → result ≡ answer_of Filling c.append.result
     → OnOk result (fillings_left s'.rules s'.filled s'.patched < fillings_left c.args.self.now.pieces c.args.self.now.filled c.args.self.now.patched)
 append_more g c s' result s'_is result_is =
     let self = c.make_piece.new.self in

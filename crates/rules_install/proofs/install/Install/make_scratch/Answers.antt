@@ -20,9 +20,9 @@ returns g c =
     let s = installing c.args.self.now in
     let d = g.D.Dir.state c.args.dir.now in
     let blank = c.args.self.now.not_begun (fresh_next s.reached s.patched c.requires.next) in
-    let one = subst (λ name. OneCall g.D.Dir.honest g.D.Dir.state g.D.Dir.moment g.D.Dir.left_since g.D.Dir.failed (makes name) c.args.dir.now c.fresh-outcome.new.self c.fresh-outcome.result) c.tmp.ensures.name
+    let one = subst (λ name. OneCall g.D.Dir (makes name) c.args.dir.now c.fresh-outcome.new.self c.fresh-outcome.result) c.tmp.ensures.name
     (record { only = λ honest image left. g.met.D.Dir.only_now c.args.dir.now image honest left; does = c.fresh-outcome.ensures.does; time = c.fresh-outcome.ensures.time; counted = c.fresh-outcome.ensures.counted; sure = λ honest fault is. among_two fault (of_err c.fresh-outcome.result fault (Contains (Device ∷ NoMemory ∷ [])) c.fresh-outcome.ensures.faults is) }) in
-    call_steps g.D.Dir.honest g.D.Dir.state g.D.Dir.moment g.D.Dir.left_since g.D.Dir.failed Fresh s (makes s.names.tmp) c.args.dir.now c.fresh-outcome.new.self c.fresh-outcome.result
+    call_steps g.D.Dir Fresh s (makes s.names.tmp) c.args.dir.now c.fresh-outcome.new.self c.fresh-outcome.result
     one (installing c.note.new.self) c.note.result c.requires.is_open refl (λ is. absurd (cc)) c.requires.fits
     (λ honest. fresh_fits s d blank.0 blank.1)
     (λ honest olds lasts. makes_keeps d s.names.cdb olds lasts s.names.tmp c.tmp.ensures.other)

@@ -22,7 +22,7 @@ HasAll s = s.filled ≡ length (blank_file s.rules)
 pub returns-in_err-header-clause-step : goal.returns-in_err-header-clause-step
 returns-in_err-header-clause-step g c =
     let p = err_from_is_err_and c.from_residual.result c.from_residual.ensures.1 in
-    still_steps g.D.Dir.honest g.D.Dir.state g.D.Dir.moment g.D.Dir.left_since g.D.Dir.failed (installing c.args.self.now) (installing c.make_header.new.self) c.args.dir.now c.from_residual.result
+    still_steps g.D.Dir (installing c.args.self.now) (installing c.make_header.new.self) c.args.dir.now c.from_residual.result
     c.make_header.ensures.same (p.1 ∙ ap Err p.2)
     c.requires.fits (λ image honest left. g.met.D.Dir.only_now c.args.dir.now image honest left)
 
@@ -71,7 +71,7 @@ returns-clause-step g c =
     let d = g.D.Dir.state c.args.dir.now in
     let header = c.deref.result.now in
     let header_is = c.deref.ensures.value ∙ c.in_ok-header.ensures.header in
-    filling_steps g.D.Dir.honest g.D.Dir.state g.D.Dir.moment g.D.Dir.left_since g.D.Dir.failed s c.args.dir.now c.patch-outcome.new.self
+    filling_steps g.D.Dir s c.args.dir.now c.patch-outcome.new.self
     (λ _. patches 0 header) (patches 0 header) (λ _. record s { patched = true }) c.patch-outcome.result (installing c.note.new.self) c.note.result
     (noted_is g c) c.note.ensures.answer
     (λ x. record { rules = refl; names = refl; is_open = c.requires.is_open })

@@ -16,7 +16,7 @@ fill-requires-clause-next g c = next_filled (installing c.args.self.now) c.in-So
 pub returns-then-self : goal.returns-then-self
 returns-then-self g c =
     let s = installing c.args.self.now in
-    let ends = over_ends g.D.Dir.honest g.D.Dir.state g.D.Dir.moment g.D.Dir.left_since g.D.Dir.failed s c.args.dir.now c.if-self.true
+    let ends = over_ends g.D.Dir s c.args.dir.now c.if-self.true
     (λ honest image left. g.met.D.Dir.only_now c.args.dir.now image honest left) c.requires.fits in
     record {
       same = ends.same;
@@ -42,7 +42,7 @@ returns-in_default g c =
     let s = installing c.args.self.now in
     let next = next_is s None c.in_default.is in
     let s' = installing c.make_scratch.new.self in
-    let ends = step_ends g.D.Dir.honest g.D.Dir.state g.D.Dir.moment g.D.Dir.left_since g.D.Dir.failed s Fresh s' c.args.dir.now c.make_scratch.new.dir c.make_scratch.result c.if-self.false next
+    let ends = step_ends g.D.Dir s Fresh s' c.args.dir.now c.make_scratch.new.dir c.make_scratch.result c.if-self.false next
     (not_done s.reached s.patched Fresh next tt) c.make_scratch.ensures
     (λ fills. absurd (no_filling Fresh s s' c.make_scratch.result c.make_scratch.ensures.goes tt fills)) in
     record {
@@ -69,7 +69,7 @@ returns-then-self-2 g c =
     let s = installing c.args.self.now in
     let next = next_filled s c.in-Some.reached true c.in-Some.is c.in-Fresh.is c.if-self-2.true in
     let s' = installing c.close.new.self in
-    let ends = step_ends g.D.Dir.honest g.D.Dir.state g.D.Dir.moment g.D.Dir.left_since g.D.Dir.failed s Synced s' c.args.dir.now c.close.new.dir c.close.result c.if-self.false next
+    let ends = step_ends g.D.Dir s Synced s' c.args.dir.now c.close.new.dir c.close.result c.if-self.false next
     (not_done s.reached s.patched Synced next tt) c.close.ensures
     (λ fills. absurd (no_filling Synced s s' c.close.result c.close.ensures.goes tt fills)) in
     record {
@@ -96,7 +96,7 @@ returns-in-Synced g c =
     let s = installing c.args.self.now in
     let next = next_is s (Some Synced) (c.in-Some.is ∙ ap Some c.in-Synced.is) in
     let s' = installing c.put_in_place.new.self in
-    let ends = step_ends g.D.Dir.honest g.D.Dir.state g.D.Dir.moment g.D.Dir.left_since g.D.Dir.failed s Named s' c.args.dir.now c.put_in_place.new.dir c.put_in_place.result c.if-self.false next
+    let ends = step_ends g.D.Dir s Named s' c.args.dir.now c.put_in_place.new.dir c.put_in_place.result c.if-self.false next
     (not_done s.reached s.patched Named next tt) c.put_in_place.ensures
     (λ fills. absurd (no_filling Named s s' c.put_in_place.result c.put_in_place.ensures.goes tt fills)) in
     record {
@@ -123,7 +123,7 @@ returns-in-Named g c =
     let s = installing c.args.self.now in
     let next = next_is s (Some Named) (c.in-Some.is ∙ ap Some c.in-Named.is) in
     let s' = installing c.settle_names.new.self in
-    let ends = step_ends g.D.Dir.honest g.D.Dir.state g.D.Dir.moment g.D.Dir.left_since g.D.Dir.failed s Done s' c.args.dir.now c.settle_names.new.dir c.settle_names.result c.if-self.false next
+    let ends = step_ends g.D.Dir s Done s' c.args.dir.now c.settle_names.new.dir c.settle_names.result c.if-self.false next
     (named_not_done s.reached (c.in-Some.is ∙ ap Some c.in-Named.is)) c.settle_names.ensures
     (λ fills. absurd (no_filling Done s s' c.settle_names.result c.settle_names.ensures.goes tt fills)) in
     record {
@@ -150,7 +150,7 @@ returns-else-self-2 g c =
     let s = installing c.args.self.now in
     let next = next_filled s c.in-Some.reached false c.in-Some.is c.in-Fresh.is c.if-self-2.false in
     let s' = installing c.fill.new.self in
-    let ends = step_ends g.D.Dir.honest g.D.Dir.state g.D.Dir.moment g.D.Dir.left_since g.D.Dir.failed s Filling s' c.args.dir.now c.fill.new.dir c.fill.result c.if-self.false next
+    let ends = step_ends g.D.Dir s Filling s' c.args.dir.now c.fill.new.dir c.fill.result c.if-self.false next
     (not_done s.reached s.patched Filling next tt) c.fill.ensures.step
     (of_ok c.fill.result Filling (fillings_left s'.rules s'.filled s'.patched < fillings_left s.rules s.filled s.patched) c.fill.ensures.more) in
     record {
@@ -175,7 +175,7 @@ returns-else-self-2 g c =
 pub returns-in-Done : goal.returns-in-Done
 returns-in-Done g c =
     let s = installing c.args.self.now in
-    let ends = done_ends g.D.Dir.honest g.D.Dir.state g.D.Dir.moment g.D.Dir.left_since g.D.Dir.failed s c.args.dir.now c.if-self.false (c.in-Some.is ∙ ap Some c.in-Done.is)
+    let ends = done_ends g.D.Dir s c.args.dir.now c.if-self.false (c.in-Some.is ∙ ap Some c.in-Done.is)
     (λ honest image left. g.met.D.Dir.only_now c.args.dir.now image honest left) c.requires.fits in
     record {
       same = ends.same;

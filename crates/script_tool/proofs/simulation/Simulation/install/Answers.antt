@@ -6,7 +6,7 @@ use Rattle.rules_install.specs.Whole.{MayBeInstalled, RefusesText}
 use Rattle.script_tool.specs.Kept.{HasTexts, IsAt}
 use Rattle.script_tool.specs.Sim.{Refusal, installed_texts, profile, refusal_of, told}
 use Rattle.script_tool.specs.Texts.{at_phases}
-use Rattle.answer_lines.proofs.AppendLemmas.{on_ok_added}
+use Rattle.rule_lookup.proofs.AppendLemmas.{on_ok_added}
 use Rattle.script_tool.proofs.InstallLemmas.{IsInstalling-begun, MayBeInstalling-none, OnOk-refused, refusal_of-none}
 use Rattle.script_tool.proofs.simulation.Simulation.install.Goals as goal
 

@@ -2,7 +2,7 @@ use Rattle.std.proofs.Common.{List, ℕ, ◌++◌, Option, Some, sym, ap, ◌∙
 use Rattle.std.proofs.lemmas.Map.Text.{btree_map_updates_text}
 use Rattle.std.proofs.lemmas.Result.{on_ok_weaker}
 use Rattle.script_tool.specs.Sim.{opened}
-use Rattle.answer_lines.proofs.AppendLemmas.{on_ok_added}
+use Rattle.rule_lookup.proofs.AppendLemmas.{on_ok_added}
 use Rattle.script_tool.proofs.ReaderLemmas.{IsOf-some, Reads-with_reader}
 use Rattle.script_tool.proofs.simulation.Simulation.open_reader.Goals as goal
 

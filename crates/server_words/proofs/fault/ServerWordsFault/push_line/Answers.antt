@@ -1,5 +1,5 @@
 use Rattle.byte_text.proofs.Appends.{first, next, last}
-use Rattle.server_words.proofs.CutParts.{cut_first, cut_later}
+use Rattle.byte_text.proofs.CutParts.{cut_first, cut_later}
 use Rattle.server_words.proofs.fault.ServerWordsFault.push_line.Goals as goal
 
 pub returns-in_err-push_text : goal.returns-in_err-push_text

@@ -10,15 +10,14 @@ use Rattle.server_yard.proofs.yard.Yard.admit.Goals as goal
 pub invariant_of-self : goal.invariant_of-self
 invariant_of-self g c =
     let old = c.args.self.now in
-    let j = g.J.Journal in
     let peer = c.args.peer.now in
-    let way = admitted_or_not j.told j.count j.stored peer _ _ c.admit.result c.admit.ensures.noted c.admit.ensures.serial c.admit.ensures.refused in
+    let way = admitted_or_not peer _ _ c.admit.result c.admit.ensures.noted c.admit.ensures.serial c.admit.ensures.refused in
     record {
       honest = old.honest;
-      phase = ⊎_elim (λ x. old.phase ∙ sym (ap (λ (u : ServerState). u.phase) x.1.happens ∙ phase_stays old.roster.state (event.Admitted x.0 peer) refl)) (λ quiet. old.phase ∙ sym (ap (λ (u : ServerState). u.phase) quiet.stays)) way;
+      phase = ⊎_elim (λ x. old.phase ∙ sym (ap (λ (u : ServerState). u.phase) x.1.happens ∙ phase_stays old.register.state (event.Admitted x.0 peer) refl)) (λ quiet. old.phase ∙ sym (ap (λ (u : ServerState). u.phase) quiet.stays)) way;
       going = old.going;
       finds = old.finds;
-      installed = λ met. ∥∥₁_map (old.installed met) (λ k. ⊎_elim (λ x. kept_on refl c.admit.ensures.lists refl refl refl (one_more_of j.told j.count j.stored (event.Admitted x.0 peer) (yard_roll old) _ old.roster.small x.2 x.1) k)
+      installed = λ met. ∥∥₁_map (old.installed met) (λ k. ⊎_elim (λ x. kept_on refl c.admit.ensures.lists refl refl refl (one_more_of (event.Admitted x.0 peer) (yard_roll old) _ old.register.small x.2 x.1) k)
           (λ quiet. kept_quiet quiet.tells quiet.counts quiet.stores c.admit.ensures.lists quiet.stays refl refl refl k) way);
     }
 

@@ -5,4 +5,4 @@ use Rattle.server_yard.proofs.yard.Yard.consistent.Goals as goal
 pub returns : goal.returns
 returns g c = λ met.
     let self = c.args.self.now in
-    find_whole (yard_books self) (yard_state g.D.Dir.state self) (self.installed met)
+    find_whole (yard_books self) (yard_state self) (self.installed met)

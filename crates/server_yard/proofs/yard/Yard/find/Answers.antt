@@ -96,17 +96,17 @@ returns-in_err-file-clause-whole g c = λ met.
 pub returns-in_err-file-clause-state : goal.returns-in_err-file-clause-state
 returns-in_err-file-clause-state g c = λ honest.
     let old = c.args.self.now in
-    ap (λ (d : Directory). let y : YardState = record { directory = d; rules = rules_of old.rules; server = old.roster.state; installing = installing_of old.installation } in y) (c.open.ensures.same honest)
+    ap (λ (d : Directory). let y : YardState = record { directory = d; rules = rules_of old.rules; server = old.register.state; installing = installing_of old.installation } in y) (c.open.ensures.same honest)
 
 pub returns-in-Some-2-clause-state : goal.returns-in-Some-2-clause-state
 returns-in-Some-2-clause-state g c = λ honest.
     let old = c.args.self.now in
-    ap (λ (d : Directory). let y : YardState = record { directory = d; rules = rules_of old.rules; server = old.roster.state; installing = installing_of old.installation } in y) (c.open.ensures.same honest)
+    ap (λ (d : Directory). let y : YardState = record { directory = d; rules = rules_of old.rules; server = old.register.state; installing = installing_of old.installation } in y) (c.open.ensures.same honest)
 
 pub returns-in-None-clause-state : goal.returns-in-None-clause-state
 returns-in-None-clause-state g c = λ honest.
     let old = c.args.self.now in
-    ap (λ (d : Directory). let y : YardState = record { directory = d; rules = rules_of old.rules; server = old.roster.state; installing = installing_of old.installation } in y) (c.open.ensures.same honest)
+    ap (λ (d : Directory). let y : YardState = record { directory = d; rules = rules_of old.rules; server = old.register.state; installing = installing_of old.installation } in y) (c.open.ensures.same honest)
 
 pub returns-in-Some-2-clause-found : goal.returns-in-Some-2-clause-found
 returns-in-Some-2-clause-found g c = λ honest.

@@ -11,10 +11,10 @@ use Rattle.rules_install.specs.declared.Phase.TheVariants.{Fresh}
 use Rattle.rules_install.specs.declared.fault.InstallFault.{InstallFault}
 use Rattle.server_events.specs.declared.event.Event.{Event}
 use Rattle.server_events.specs.declared.event.Event.TheVariants.{Stepped}
-use Rattle.server_yard.specs.Installed.{IsKeptBy}
+use Rattle.server_yard.specs.Installed.{KeepsHistory}
 use Rattle.server_yard.specs.Kept.{IsGoing, installing_of, rules_of}
 use Rattle.server_yard.specs.Rolls.{Notes}
-use Rattle.server_yard.specs.Rosters.{books_of, roll_of}
+use Rattle.server_yard.specs.Registers.{books_of, roll_of}
 use Rattle.server_yard.specs.Standing.{LeadsOn, LeadsSome, YardState}
 use Rattle.server_yard.specs.Stepping.{kept_then}
 use Rattle.server_yard.specs.Yards.{yard_state}
@@ -42,7 +42,6 @@ returns-in_default-clause-stops g c = λ honest files w image at left. inr (g.me
 pub invariant_of-self : goal.invariant_of-self
 invariant_of-self g c =
     let old = c.args.self.now in
-    let j = g.J.Journal in
     let state = g.D.Dir.state in
     let s = installing c.args.install in
     let may = c.in-Some.ensures.some.0 in
@@ -63,17 +62,16 @@ invariant_of-self g c =
       finds = λ honest x same. subst (λ (u : Installing). Fits u (state made.new.dir)) (same_some t x same) (c.in-Ok.ensures.fits honest);
       installed = λ met. ∥∥₁_map (old.installed met) (λ k.
           let honest = old.honest met in
-          subst (λ (q : Phase). IsKeptBy (books_of made.new.roster) (record (yard_state state old) { directory = state made.new.dir; server = made.new.roster.state; installing = kept_then t (Ok q) })) is
-          (kept_stepped (yard_state state old) made.new.roster.state (state made.new.dir) s t (next_phase s) k
-          (has_new k.installed.world (state old.dir) rules s r.0 k.installed.has_directory k.installed.has_rules r.1 r.2 may.unbegun) (λ q h. h.1 ∙ ap (λ (x : Phase). Some x) (sym h.0)) p old.roster.speaker
-          (one_more_of j.told j.count j.stored (Stepped p) (roll_of old.roster) (roll_of made.new.roster) old.roster.small tt noted) goes (c.in-Ok.ensures.leads honest)
-          ((λ fresh. c.in-Ok.ensures.kept ∙ ap (λ (rs : List Rule). option_map (λ (all : List (List Rule)). all ++ rs ∷ []) (j.lists (roll_of old.roster).journal)) (sym c.in-Ok.ensures.same.rules)), λ other. absurd (other is))));
+          subst (λ (q : Phase). KeepsHistory (books_of made.new.register) (record (yard_state old) { directory = state made.new.dir; server = made.new.register.state; installing = kept_then t (Ok q) })) is
+          (kept_stepped (yard_state old) made.new.register.state (state made.new.dir) s t (next_phase s) k
+          (has_new k.installed.world (state old.dir) rules s r.0 k.installed.has_directory k.installed.has_rules r.1 r.2 may.unbegun) (λ q h. h.1 ∙ ap (λ (x : Phase). Some x) (sym h.0)) p old.register.speaker
+          (one_more_of (Stepped p) (roll_of old.register) (roll_of made.new.register) old.register.small tt noted) goes (c.in-Ok.ensures.leads honest)
+          ((λ fresh. c.in-Ok.ensures.kept ∙ ap (λ (rs : List Rule). option_map (λ (all : List (List Rule)). all ++ rs ∷ []) (roll_of old.register).books.lists) (sym c.in-Ok.ensures.same.rules)), λ other. absurd (other is))));
     }
 
 pub invariant_of-self-then-is_of_disk : goal.invariant_of-self-then-is_of_disk
 invariant_of-self-then-is_of_disk g c =
     let old = c.args.self.now in
-    let j = g.J.Journal in
     let state = g.D.Dir.state in
     let s = installing c.args.install in
     let may = c.in-Some.ensures.some.0 in
@@ -85,13 +83,13 @@ invariant_of-self-then-is_of_disk g c =
     let rules = rules_of old.rules in
     record {
       honest = old.honest;
-      phase = sym (disk_phase j.told j.count j.stored fault (roll_of old.roster) (roll_of made.new.roster) disk c.in-Err.ensures.noted);
+      phase = sym (disk_phase fault (roll_of old.register) (roll_of made.new.register) disk c.in-Err.ensures.noted);
       going = λ x same. absurd (none_not_some x same);
       finds = λ honest x same. absurd (none_not_some x same);
       installed = λ met. ∥∥₁_map (old.installed met) (λ k.
           let honest = old.honest met in
-          kept_fault j.told j.count j.stored j.lists (state old.dir) (state made.new.dir) rules (installing_of old.installation) s t fault (roll_of old.roster) (roll_of made.new.roster) k
-          (has_new k.installed.world (state old.dir) rules s r.0 k.installed.has_directory k.installed.has_rules r.1 r.2 may.unbegun) old.roster.small disk c.in-Err.ensures.noted (c.in-Err.ensures.device honest) c.in-Err.ensures.err (c.in-Err.ensures.leads honest));
+          kept_fault (state old.dir) (state made.new.dir) rules (installing_of old.installation) s t fault (roll_of old.register) (roll_of made.new.register) k
+          (has_new k.installed.world (state old.dir) rules s r.0 k.installed.has_directory k.installed.has_rules r.1 r.2 may.unbegun) old.register.small disk c.in-Err.ensures.noted (c.in-Err.ensures.device honest) c.in-Err.ensures.err (c.in-Err.ensures.leads honest));
     }
 
 pub returns-then-is_of_disk-clause-over : goal.returns-then-is_of_disk-clause-over
@@ -110,7 +108,6 @@ returns-then-is_of_disk-clause-kept g c =
 pub returns-then-is_of_disk-clause-step : goal.returns-then-is_of_disk-clause-step
 returns-then-is_of_disk-clause-step g c = λ honest.
     let old = c.args.self.now in
-    let j = g.J.Journal in
     let state = g.D.Dir.state in
     let s = installing c.args.install in
     let may = c.in-Some.ensures.some.0 in
@@ -119,10 +116,10 @@ returns-then-is_of_disk-clause-step g c = λ honest.
     let fault = c.in-Err.fault in
     let disk = sym c.is_of_disk.ensures ∙ c.if-is_of_disk.true in
     let r = named_rules (rules_of old.rules) s.names.cdb may.for_rules in
-    let y = yard_state state old in
-    let z : YardState = record { directory = state made.new.dir; rules = rules_of old.rules; server = made.new.roster.state; installing = None } in
+    let y = yard_state old in
+    let z : YardState = record { directory = state made.new.dir; rules = rules_of old.rules; server = made.new.register.state; installing = None } in
     step_leads y z s t (next_phase s) (Err fault) (it_new y s r.0 r.1 r.2 may.unbegun) c.in-Err.ensures.goes (c.in-Err.ensures.device honest) (c.in-Err.ensures.leads honest)
-    (steps_to j.told j.count j.stored t y z (Err fault) (roll_of old.roster) (roll_of made.new.roster) c.in-Err.ensures.noted refl refl refl (sym (disk_then t fault disk)))
+    (steps_to t y z (Err fault) (roll_of old.register) (roll_of made.new.register) c.in-Err.ensures.noted refl refl refl (sym (disk_then t fault disk)))
     (λ none. absurd (disk_event fault disk none))
 
 pub returns-then-is_of_disk-clause-stops : goal.returns-then-is_of_disk-clause-stops
@@ -131,7 +128,7 @@ returns-then-is_of_disk-clause-stops g c = λ honest files w image at left.
     let s = installing c.args.install in
     let may = c.in-Some.ensures.some.0 in
     let r = named_rules (rules_of old.rules) s.names.cdb may.for_rules in
-    c.in-Err.ensures.stops honest w image (it_new (yard_state g.D.Dir.state old) s r.0 r.1 r.2 may.unbegun files w at) left
+    c.in-Err.ensures.stops honest w image (it_new (yard_state old) s r.0 r.1 r.2 may.unbegun files w at) left
 
 pub returns-then-is_of_disk-clause-back : goal.returns-then-is_of_disk-clause-back
 returns-then-is_of_disk-clause-back g c =
@@ -141,12 +138,10 @@ returns-then-is_of_disk-clause-back g c =
 pub invariant_of-self-else-is_of_disk : goal.invariant_of-self-else-is_of_disk
 invariant_of-self-else-is_of_disk g c =
     let old = c.args.self.now in
-    let j = g.J.Journal in
-    let state = g.D.Dir.state in
     let made = c.begin_noted in
     let fault = c.in-Err.fault in
     let other = sym c.is_of_disk.ensures ∙ c.if-is_of_disk.false in
-    let quiet = quiet_of j.told j.count j.stored fault (roll_of old.roster) (roll_of made.new.roster) other c.in-Err.ensures.noted in
+    let quiet = quiet_of fault (roll_of old.register) (roll_of made.new.register) other c.in-Err.ensures.noted in
     record {
       honest = old.honest;
       phase = old.phase ∙ sym (ap (λ (u : ServerState). u.phase) quiet.stays);
@@ -158,7 +153,6 @@ invariant_of-self-else-is_of_disk g c =
 pub returns-in-Ok-clause-step : goal.returns-in-Ok-clause-step
 returns-in-Ok-clause-step g c = λ honest.
     let old = c.args.self.now in
-    let j = g.J.Journal in
     let state = g.D.Dir.state in
     let s = installing c.args.install in
     let may = c.in-Some.ensures.some.0 in
@@ -167,11 +161,11 @@ returns-in-Ok-clause-step g c = λ honest.
     let p = c.in-Ok.field-0 in
     let is = c.in-Ok.ensures.goes.0 ∙ first_is s may.unbegun in
     let r = named_rules (rules_of old.rules) s.names.cdb may.for_rules in
-    let y = yard_state state old in
-    let z : YardState = record { directory = state made.new.dir; rules = rules_of old.rules; server = made.new.roster.state; installing = Some t } in
+    let y = yard_state old in
+    let z : YardState = record { directory = state made.new.dir; rules = rules_of old.rules; server = made.new.register.state; installing = Some t } in
     subst (λ (q : Phase). LeadsOn (Stepped q) y z) is
     (step_leads y z s t (next_phase s) (Ok p) (it_new y s r.0 r.1 r.2 may.unbegun) c.in-Ok.ensures.goes tt (c.in-Ok.ensures.leads honest)
-    (steps_to j.told j.count j.stored t y z (Ok p) (roll_of old.roster) (roll_of made.new.roster) c.in-Ok.ensures.noted refl refl refl (sym (ap (λ (q : Phase). kept_then t (Ok q)) is)))
+    (steps_to t y z (Ok p) (roll_of old.register) (roll_of made.new.register) c.in-Ok.ensures.noted refl refl refl (sym (ap (λ (q : Phase). kept_then t (Ok q)) is)))
     (λ none. absurd (none_not_some (Stepped p) (sym none))))
 
 pub returns-in-Ok-clause-stops : goal.returns-in-Ok-clause-stops
@@ -180,15 +174,14 @@ returns-in-Ok-clause-stops g c = λ honest files w image at left.
     let s = installing c.args.install in
     let may = c.in-Some.ensures.some.0 in
     let r = named_rules (rules_of old.rules) s.names.cdb may.for_rules in
-    c.in-Ok.ensures.stops honest w image (it_new (yard_state g.D.Dir.state old) s r.0 r.1 r.2 may.unbegun files w at) left
+    c.in-Ok.ensures.stops honest w image (it_new (yard_state old) s r.0 r.1 r.2 may.unbegun files w at) left
 
 pub returns-in-Ok-clause-noted : goal.returns-in-Ok-clause-noted
 returns-in-Ok-clause-noted g c =
     let old = c.args.self.now in
-    let j = g.J.Journal in
     let s = installing c.args.install in
     let is = c.in-Ok.ensures.goes.0 ∙ first_is s c.in-Some.ensures.some.0.unbegun in
-    subst (λ (q : Phase). Notes j.told j.count j.stored (Stepped q) (roll_of old.roster) (roll_of c.begin_noted.new.roster)) is c.in-Ok.ensures.noted
+    subst (λ (q : Phase). Notes (Stepped q) (roll_of old.register) (roll_of c.begin_noted.new.register)) is c.in-Ok.ensures.noted
 
 pub returns-else-is_of_disk-clause-over : goal.returns-else-is_of_disk-clause-over
 returns-else-is_of_disk-clause-over g c =
@@ -206,14 +199,13 @@ returns-else-is_of_disk-clause-kept g c =
 pub returns-else-is_of_disk-clause-step : goal.returns-else-is_of_disk-clause-step
 returns-else-is_of_disk-clause-step g c = λ honest.
     let old = c.args.self.now in
-    let j = g.J.Journal in
     let state = g.D.Dir.state in
     let made = c.begin_noted in
     let fault = c.in-Err.fault in
     let other = sym c.is_of_disk.ensures ∙ c.if-is_of_disk.false in
-    let quiet = quiet_of j.told j.count j.stored fault (roll_of old.roster) (roll_of made.new.roster) other c.in-Err.ensures.noted in
-    let y = yard_state state old in
-    let z : YardState = record { directory = state made.new.dir; rules = rules_of old.rules; server = made.new.roster.state; installing = installing_of old.installation } in
+    let quiet = quiet_of fault (roll_of old.register) (roll_of made.new.register) other c.in-Err.ensures.noted in
+    let y = yard_state old in
+    let z : YardState = record { directory = state made.new.dir; rules = rules_of old.rules; server = made.new.register.state; installing = installing_of old.installation } in
     subst (λ (o : Option Event). LeadsSome o y z) (sym (none_event fault other)) (states y z (c.in-Err.ensures.still honest (none_event fault other)) refl quiet.stays refl)
 
 pub returns-else-is_of_disk-clause-stops : goal.returns-else-is_of_disk-clause-stops
@@ -222,7 +214,7 @@ returns-else-is_of_disk-clause-stops g c = λ honest files w image at left.
     let s = installing c.args.install in
     let may = c.in-Some.ensures.some.0 in
     let r = named_rules (rules_of old.rules) s.names.cdb may.for_rules in
-    c.in-Err.ensures.stops honest w image (it_new (yard_state g.D.Dir.state old) s r.0 r.1 r.2 may.unbegun files w at) left
+    c.in-Err.ensures.stops honest w image (it_new (yard_state old) s r.0 r.1 r.2 may.unbegun files w at) left
 
 pub returns-else-is_of_disk-clause-back : goal.returns-else-is_of_disk-clause-back
 returns-else-is_of_disk-clause-back g c =

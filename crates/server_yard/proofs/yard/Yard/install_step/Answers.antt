@@ -6,10 +6,10 @@ use Rattle.rules_install.specs.Installing.{Fits, Installing, next_phase}
 use Rattle.rules_install.specs.Installs.{installing}
 use Rattle.rules_install.specs.declared.Phase.TheVariants.{Done}
 use Rattle.rules_install.specs.declared.fault.InstallFault.TheVariants.{Over}
-use Rattle.server_yard.specs.Installed.{IsKeptBy}
+use Rattle.server_yard.specs.Installed.{KeepsHistory}
 use Rattle.server_yard.specs.Kept.{installing_of, is_kept, phase_of, rules_of}
 use Rattle.server_yard.specs.Rolls.{NotesSome}
-use Rattle.server_yard.specs.Rosters.{books_of, roll_of}
+use Rattle.server_yard.specs.Registers.{books_of, roll_of}
 use Rattle.server_yard.specs.Standing.{HasUnderWay, LeadsSome, YardState}
 use Rattle.server_yard.specs.Stepping.{GoesAsStep, event_of_step, kept_after_step}
 use Rattle.server_yard.specs.Yards.{kept_under, yard_roll, yard_state}
@@ -66,7 +66,6 @@ invariant_of-self-in-AtDone g c =
 pub invariant_of-self-in-UnderWay : goal.invariant_of-self-in-UnderWay
 invariant_of-self-in-UnderWay g c =
     let old = c.args.self.now in
-    let j = g.J.Journal in
     let state = g.D.Dir.state in
     let s = installing c.in-UnderWay.install in
     let inst = ap installing_of (sym c.in-UnderWay.ensures.value) in
@@ -78,16 +77,16 @@ invariant_of-self-in-UnderWay g c =
     let r = some_rules (rules_of old.rules) going.follows in
     record {
       honest = old.honest;
-      phase = ap phase_of kept ∙ phase_then j.told j.count j.stored s t (next_phase s) result (roll_of old.roster) (roll_of made.new.roster) made.ensures.noted made.ensures.goes (sym (ap phase_of inst) ∙ old.phase);
+      phase = ap phase_of kept ∙ phase_then s t (next_phase s) result (roll_of old.register) (roll_of made.new.register) made.ensures.noted made.ensures.goes (sym (ap phase_of inst) ∙ old.phase);
       going = λ x is. going_then s t (next_phase s) result (rules_of old.rules) made.ensures.same going.for_rules going.follows (λ none. going) made.ensures.goes x (sym kept ∙ is);
       finds = λ honest x is. subst (λ (u : Installing). Fits u (state made.new.dir)) (kept_is t x result (sym kept ∙ is)) (made.ensures.fits honest);
       installed = λ met. ∥∥₁_map (old.installed met) (λ k.
           let honest = old.honest met in
           let far = subst (λ (o : Option Installing). HasUnderWay k.installed.world o) inst k.installed.has_installing in
-          subst (λ (o : Option Installing). IsKeptBy (books_of made.new.roster) (record (yard_state state old) { directory = state made.new.dir; server = made.new.roster.state; installing = o })) (sym kept)
-          (kept_result j.told j.count j.stored j.lists (state old.dir) (state made.new.dir) (rules_of old.rules) (installing_of old.installation) s t (next_phase s) result (roll_of old.roster) (roll_of made.new.roster) k inst
+          subst (λ (o : Option Installing). KeepsHistory (books_of made.new.register) (record (yard_state old) { directory = state made.new.dir; server = made.new.register.state; installing = o })) (sym kept)
+          (kept_result (state old.dir) (state made.new.dir) (rules_of old.rules) (installing_of old.installation) s t (next_phase s) result (roll_of old.register) (roll_of made.new.register) k inst
           (has_kept k.installed.world (state old.dir) (rules_of old.rules) s r.0 k.installed.has_directory k.installed.has_rules r.1 (going.for_rules r.0 r.1) far)
-          old.roster.small made.ensures.noted made.ensures.goes (made.ensures.device honest) (made.ensures.leads honest) (made.ensures.still honest) (later s going.begun) made.ensures.lists));
+          old.register.small made.ensures.noted made.ensures.goes (made.ensures.device honest) (made.ensures.leads honest) (made.ensures.still honest) (later s going.begun) made.ensures.lists));
     }
 
 pub returns-in-UnderWay-clause-over : goal.returns-in-UnderWay-clause-over
@@ -107,18 +106,16 @@ returns-in-UnderWay-clause-after_done g c = λ kept none. absurd (none_not_some 
 pub returns-in-UnderWay-clause-noted : goal.returns-in-UnderWay-clause-noted
 returns-in-UnderWay-clause-noted g c =
     let old = c.args.self.now in
-    let j = g.J.Journal in
     let made = c.step_noted-result in
     let here = c.if-number-self.false in
     let is : old.begun ≡ c.args.number = grind (arith, here) in
     let number = eq-eqb old.begun c.args.number is in
     let under = ap (λ (b : Bool). if b then installing_of old.installation else None) number ∙ ap installing_of (sym c.in-UnderWay.ensures.value) in
-    subst (λ (o : Option Installing). NotesSome j.told j.count j.stored (event_of_step o made.result) (yard_roll old) (roll_of made.new.roster)) (sym under) made.ensures.noted
+    subst (λ (o : Option Installing). NotesSome (event_of_step o made.result) (yard_roll old) (roll_of made.new.register)) (sym under) made.ensures.noted
 
 pub returns-in-UnderWay-clause-step : goal.returns-in-UnderWay-clause-step
 returns-in-UnderWay-clause-step g c = λ honest.
     let old = c.args.self.now in
-    let j = g.J.Journal in
     let state = g.D.Dir.state in
     let s = installing c.in-UnderWay.install in
     let inst = ap installing_of (sym c.in-UnderWay.ensures.value) in
@@ -131,12 +128,12 @@ returns-in-UnderWay-clause-step g c = λ honest.
     let number = eq-eqb old.begun c.args.number is in
     let under = ap (λ (b : Bool). if b then installing_of old.installation else None) number ∙ inst in
     let r = some_rules (rules_of old.rules) going.follows in
-    let y = yard_state state old in
-    let z : YardState = record { directory = state made.new.dir; rules = rules_of old.rules; server = made.new.roster.state; installing = installing_of c.after.result } in
+    let y = yard_state old in
+    let z : YardState = record { directory = state made.new.dir; rules = rules_of old.rules; server = made.new.register.state; installing = installing_of c.after.result } in
     subst (λ (o : Option Installing). LeadsSome (event_of_step o result) y z) (sym under)
     (step_leads y z s t (next_phase s) result (it_kept y s r.0 r.1 (going.for_rules r.0 r.1) inst) made.ensures.goes (made.ensures.device honest) (made.ensures.leads honest)
-    (steps_to j.told j.count j.stored t y z result (roll_of old.roster) (roll_of made.new.roster) made.ensures.noted refl refl refl c.after.ensures.installing)
-    (still_state j.told j.count j.stored s t (next_phase s) y z result (roll_of old.roster) (roll_of made.new.roster) made.ensures.noted made.ensures.goes refl refl refl inst c.after.ensures.installing (made.ensures.still honest)))
+    (steps_to t y z result (roll_of old.register) (roll_of made.new.register) made.ensures.noted refl refl refl c.after.ensures.installing)
+    (still_state s t (next_phase s) y z result (roll_of old.register) (roll_of made.new.register) made.ensures.noted made.ensures.goes refl refl refl inst c.after.ensures.installing (made.ensures.still honest)))
 
 pub returns-in-UnderWay-clause-stops : goal.returns-in-UnderWay-clause-stops
 returns-in-UnderWay-clause-stops g c = λ honest files w image at left.
@@ -145,7 +142,7 @@ returns-in-UnderWay-clause-stops g c = λ honest files w image at left.
     let inst = ap installing_of (sym c.in-UnderWay.ensures.value) in
     let going = old.going s inst in
     let r = some_rules (rules_of old.rules) going.follows in
-    c.step_noted-result.ensures.stops honest w image (it_kept (yard_state g.D.Dir.state old) s r.0 r.1 (going.for_rules r.0 r.1) inst files w at) left
+    c.step_noted-result.ensures.stops honest w image (it_kept (yard_state old) s r.0 r.1 (going.for_rules r.0 r.1) inst files w at) left
 
 pub returns-in-UnderWay-clause-goes : goal.returns-in-UnderWay-clause-goes
 returns-in-UnderWay-clause-goes g c =
@@ -208,11 +205,11 @@ returns-then-number-self-clause-stops g c = λ honest files w image at left. inr
 pub returns-then-number-self-clause-noted : goal.returns-then-number-self-clause-noted
 returns-then-number-self-clause-noted g c =
     let old = c.args.self.now in
-    let j = g.J.Journal in
-    over_notes j.told j.count j.stored (kept_under old c.args.number) (yard_roll old) (yard_roll old) (record { stays = refl; speaks = refl; tells = refl; counts = refl; stores = refl })
+    over_notes (kept_under old c.args.number) (yard_roll old) (yard_roll old) (record { stays = refl; speaks = refl; tells = refl; counts = refl; stores = refl })
 
 pub returns-then-number-self-clause-step : goal.returns-then-number-self-clause-step
-returns-then-number-self-clause-step g c = λ honest. over_leads (kept_under c.args.self.now c.args.number) (yard_state g.D.Dir.state c.args.self.now) (yard_state g.D.Dir.state c.args.self.now) refl
+returns-then-number-self-clause-step g c =
+    λ honest. over_leads (kept_under c.args.self.now c.args.number) (yard_state c.args.self.now) (yard_state c.args.self.now) refl
 
 pub returns-in-Idle-clause-begun : goal.returns-in-Idle-clause-begun
 returns-in-Idle-clause-begun g c = refl
@@ -242,7 +239,7 @@ returns-in-Idle-clause-after_done g c = λ kept none.
 pub returns-in-Idle-clause-step : goal.returns-in-Idle-clause-step
 returns-in-Idle-clause-step g c = λ honest.
     let old = c.args.self.now in
-    let y = yard_state g.D.Dir.state old in
+    let y = yard_state old in
     let z : YardState = record y { installing = installing_of c.replace.new.dest } in
     over_leads (kept_under old c.args.number) y z (states y z refl refl refl (ap installing_of (c.replace.ensures.after ∙ c.in-Idle.ensures.value)))
 
@@ -260,8 +257,7 @@ returns-in-Idle-clause-kept g c =
 pub returns-in-Idle-clause-noted : goal.returns-in-Idle-clause-noted
 returns-in-Idle-clause-noted g c =
     let old = c.args.self.now in
-    let j = g.J.Journal in
-    over_notes j.told j.count j.stored (kept_under old c.args.number) (yard_roll old) (yard_roll old) (record { stays = refl; speaks = refl; tells = refl; counts = refl; stores = refl })
+    over_notes (kept_under old c.args.number) (yard_roll old) (yard_roll old) (record { stays = refl; speaks = refl; tells = refl; counts = refl; stores = refl })
 
 pub returns-in-AtDone-clause-begun : goal.returns-in-AtDone-clause-begun
 returns-in-AtDone-clause-begun g c = refl
@@ -290,15 +286,14 @@ returns-in-AtDone-clause-over g c =
 pub returns-in-AtDone-clause-noted : goal.returns-in-AtDone-clause-noted
 returns-in-AtDone-clause-noted g c =
     let old = c.args.self.now in
-    let j = g.J.Journal in
     let under = none_under (old.begun == c.args.number) (installing_of old.installation) (ap installing_of (sym c.in-AtDone.ensures.value)) in
-    subst (λ (o : Option Installing). NotesSome j.told j.count j.stored (event_of_step o (Ok Done)) (yard_roll old) (yard_roll old)) (sym under)
+    subst (λ (o : Option Installing). NotesSome (event_of_step o (Ok Done)) (yard_roll old) (yard_roll old)) (sym under)
     (record { stays = refl; speaks = refl; tells = refl; counts = refl; stores = refl })
 
 pub returns-in-AtDone-clause-step : goal.returns-in-AtDone-clause-step
 returns-in-AtDone-clause-step g c = λ honest.
     let old = c.args.self.now in
-    let y = yard_state g.D.Dir.state old in
+    let y = yard_state old in
     let z : YardState = record y { installing = None } in
     let under = none_under (old.begun == c.args.number) (installing_of old.installation) (ap installing_of (sym c.in-AtDone.ensures.value)) in
     subst (λ (o : Option Installing). LeadsSome (event_of_step o (Ok Done)) y z) (sym under) (states y z refl refl refl (ap installing_of c.in-AtDone.ensures.value))

@@ -5,33 +5,30 @@ use Rattle.server_events.specs.Steps.{MayLeave}
 use Rattle.server_events.specs.declared.event.Event.TheVariants as event
 use Rattle.server_yard.specs.Standing.{YardState}
 use Rattle.server_yard.specs.Yards.{yard_over, yard_state}
-use Rattle.server_yard.proofs.Keeping.{goes_to, is_some-map, same_over}
+use Rattle.server_yard.proofs.Keeping.{goes_over, goes_to, is_some-map, same_over}
 use Rattle.server_yard.proofs.Matching.{GoesTo, opened_leads}
 use Rattle.server_yard.proofs.yard.Yard.open.Goals as goal
 
 pub returns-clause-step : goal.returns-clause-step
 returns-clause-step g c = λ honest.
     let old = c.args.self.now in
-    let j = g.J.Journal in
-    let state = g.D.Dir.state in
     let n = c.args.serial in
     let f = g.D.File.RulesFile in
     let bytes = option_map f.bytes c.in_ok-file.file in
     let there = c.is_some.ensures ∙ sym (is_some-map f.bytes c.in_ok-file.file) in
-    let goes = goes_to state j.told j.count j.stored j.lists (event.Opened n c.is_some.result) c.find.new.self c.advance.new.self c.advance.ensures.noted c.advance.ensures.same in
-    let from = subst (λ (y : YardState). GoesTo y (yard_state state c.advance.new.self) (event.Opened n c.is_some.result)) (c.in_ok-file.ensures.state honest) goes in
-    opened_leads _ _ n bytes (subst (λ (b : Bool). GoesTo (yard_state state old) (yard_state state c.advance.new.self) (event.Opened n b)) there from) (c.in_ok-file.ensures.found honest)
+    let goes = goes_to (event.Opened n c.is_some.result) c.find.new.self c.advance.new.self c.advance.ensures.noted c.advance.ensures.same in
+    let from = subst (λ (y : YardState). GoesTo y (yard_state c.advance.new.self) (event.Opened n c.is_some.result)) (c.in_ok-file.ensures.state honest) goes in
+    opened_leads _ _ n bytes (subst (λ (b : Bool). GoesTo (yard_state old) (yard_state c.advance.new.self) (event.Opened n b)) there from) (c.in_ok-file.ensures.found honest)
 
 pub returns-clause-beside : goal.returns-clause-beside
 returns-clause-beside g c = λ d stands.
     let old = c.args.self.now in
-    let j = g.J.Journal in
     let n = c.args.serial in
     let f = g.D.File.RulesFile in
     let bytes = option_map f.bytes c.in_ok-file.file in
     let there = c.is_some.ensures ∙ sym (is_some-map f.bytes c.in_ok-file.file) in
-    let goes = goes_to (λ x. d) j.told j.count j.stored j.lists (event.Opened n c.is_some.result) c.find.new.self c.advance.new.self c.advance.ensures.noted c.advance.ensures.same in
-    let from = subst (λ (y : YardState). GoesTo y (yard_over d c.advance.new.self) (event.Opened n c.is_some.result)) (same_over j.lists d old c.find.new.self c.find.ensures.roll c.find.ensures.same) goes in
+    let goes = goes_over d (event.Opened n c.is_some.result) c.find.new.self c.advance.new.self c.advance.ensures.noted c.advance.ensures.same in
+    let from = subst (λ (y : YardState). GoesTo y (yard_over d c.advance.new.self) (event.Opened n c.is_some.result)) (same_over d old c.find.new.self c.find.ensures.roll c.find.ensures.same) goes in
     opened_leads _ _ n bytes (subst (λ (b : Bool). GoesTo (yard_over d old) (yard_over d c.advance.new.self) (event.Opened n b)) there from) stands
 
 pub returns-clause-stops : goal.returns-clause-stops

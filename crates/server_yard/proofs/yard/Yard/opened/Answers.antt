@@ -2,27 +2,24 @@ use Rattle.std.proofs.Common.{Bool, sym, subst, ◌∙◌}
 use Rattle.std.specs.Prelude.{option_map}
 use Rattle.server_events.specs.declared.event.Event.TheVariants as event
 use Rattle.server_yard.specs.Yards.{yard_over, yard_state}
-use Rattle.server_yard.proofs.Keeping.{goes_to, is_some-map}
+use Rattle.server_yard.proofs.Keeping.{goes_over, goes_to, is_some-map}
 use Rattle.server_yard.proofs.Matching.{GoesTo, opened_leads}
 use Rattle.server_yard.proofs.yard.Yard.opened.Goals as goal
 
 pub returns-clause-step : goal.returns-clause-step
 returns-clause-step g c = λ honest. λ stands.
     let old = c.args.self.now in
-    let j = g.J.Journal in
-    let state = g.D.Dir.state in
     let n = c.args.serial in
     let f = g.D.File.RulesFile in
     let there = c.is_some.ensures ∙ sym (is_some-map f.bytes c.args.finding.file) in
-    let goes = goes_to state j.told j.count j.stored j.lists (event.Opened n c.is_some.result) old c.advance.new.self c.advance.ensures.noted c.advance.ensures.same in
-    opened_leads _ _ n (option_map f.bytes c.args.finding.file) (subst (λ (b : Bool). GoesTo (yard_state state old) (yard_state state c.advance.new.self) (event.Opened n b)) there goes) stands
+    let goes = goes_to (event.Opened n c.is_some.result) old c.advance.new.self c.advance.ensures.noted c.advance.ensures.same in
+    opened_leads _ _ n (option_map f.bytes c.args.finding.file) (subst (λ (b : Bool). GoesTo (yard_state old) (yard_state c.advance.new.self) (event.Opened n b)) there goes) stands
 
 pub returns-clause-beside : goal.returns-clause-beside
 returns-clause-beside g c = λ d stands.
     let old = c.args.self.now in
-    let j = g.J.Journal in
     let n = c.args.serial in
     let f = g.D.File.RulesFile in
     let there = c.is_some.ensures ∙ sym (is_some-map f.bytes c.args.finding.file) in
-    let goes = goes_to (λ x. d) j.told j.count j.stored j.lists (event.Opened n c.is_some.result) old c.advance.new.self c.advance.ensures.noted c.advance.ensures.same in
+    let goes = goes_over d (event.Opened n c.is_some.result) old c.advance.new.self c.advance.ensures.noted c.advance.ensures.same in
     opened_leads _ _ n (option_map f.bytes c.args.finding.file) (subst (λ (b : Bool). GoesTo (yard_over d old) (yard_over d c.advance.new.self) (event.Opened n b)) there goes) stands

@@ -13,16 +13,15 @@ pub invariant_of-self : goal.invariant_of-self
 invariant_of-self g c =
     let old = c.args.self.now in
     let noted = c.retire.ensures.noted in
-    let j = g.J.Journal in
     let e = event.Retired (number_at (yard_seat old (place_of c.args.running))) in
     let own = refl in
     let fits = tt in
     record {
       honest = old.honest;
-      phase = old.phase ∙ sym (ap (λ (u : ServerState). u.phase) noted.happens ∙ phase_stays old.roster.state e own);
+      phase = old.phase ∙ sym (ap (λ (u : ServerState). u.phase) noted.happens ∙ phase_stays old.register.state e own);
       going = old.going;
       finds = old.finds;
-      installed = λ met. ∥∥₁_map (old.installed met) (λ k. kept_on own c.retire.ensures.lists refl refl refl (one_more_of j.told j.count j.stored e (yard_roll old) _ old.roster.small fits noted) k);
+      installed = λ met. ∥∥₁_map (old.installed met) (λ k. kept_on own c.retire.ensures.lists refl refl refl (one_more_of e (yard_roll old) _ old.register.small fits noted) k);
     }
 
 pub returns-clause-step : goal.returns-clause-step

@@ -9,7 +9,7 @@ pub returns-clause-step : goal.returns-clause-step
 returns-clause-step g c = λ honest.
     let old = c.args.self.now in
     let same = c.number-serial.ensures ∙ ap (λ (i : ℕ). number_at (yard_seat old i)) c.index.ensures in
-    subst (λ (n : ℕ). LeadsOn (event.StartFailed n c.args.fault) (yard_state g.D.Dir.state old) (yard_state g.D.Dir.state c.leave.new.self)) same (c.leave.ensures.step honest)
+    subst (λ (n : ℕ). LeadsOn (event.StartFailed n c.args.fault) (yard_state old) (yard_state c.leave.new.self)) same (c.leave.ensures.step honest)
 
 pub returns-clause-beside : goal.returns-clause-beside
 returns-clause-beside g c = λ d.

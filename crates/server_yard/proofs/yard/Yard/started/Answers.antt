@@ -3,24 +3,22 @@ use Rattle.server_events.specs.declared.event.Event.TheVariants as event
 use Rattle.server_yard.specs.Rolls.{number_at}
 use Rattle.server_yard.specs.Standing.{LeadsOn}
 use Rattle.server_yard.specs.Yards.{yard_over, yard_seat, yard_state}
-use Rattle.server_yard.proofs.Keeping.{goes_to}
+use Rattle.server_yard.proofs.Keeping.{goes_over, goes_to}
 use Rattle.server_yard.proofs.Matching.{plain_leads}
 use Rattle.server_yard.proofs.yard.Yard.started.Goals as goal
 
 pub returns-clause-step : goal.returns-clause-step
 returns-clause-step g c = λ honest.
     let old = c.args.self.now in
-    let j = g.J.Journal in
     let same = c.number-serial.ensures ∙ ap (λ (i : ℕ). number_at (yard_seat old i)) (c.index.ensures ∙ c.place.ensures) in
     let e = event.Started c.number-serial.result in
-    subst (λ (n : ℕ). LeadsOn (event.Started n) (yard_state g.D.Dir.state old) (yard_state g.D.Dir.state c.advance.new.self)) same
-    (plain_leads _ _ e refl refl (goes_to g.D.Dir.state j.told j.count j.stored j.lists e old c.advance.new.self c.advance.ensures.noted c.advance.ensures.same))
+    subst (λ (n : ℕ). LeadsOn (event.Started n) (yard_state old) (yard_state c.advance.new.self)) same
+    (plain_leads _ _ e refl refl (goes_to e old c.advance.new.self c.advance.ensures.noted c.advance.ensures.same))
 
 pub returns-clause-beside : goal.returns-clause-beside
 returns-clause-beside g c = λ d.
     let old = c.args.self.now in
-    let j = g.J.Journal in
     let same = c.number-serial.ensures ∙ ap (λ (i : ℕ). number_at (yard_seat old i)) (c.index.ensures ∙ c.place.ensures) in
     let e = event.Started c.number-serial.result in
     subst (λ (n : ℕ). LeadsOn (event.Started n) (yard_over d old) (yard_over d c.advance.new.self)) same
-    (plain_leads _ _ e refl refl (goes_to (λ x. d) j.told j.count j.stored j.lists e old c.advance.new.self c.advance.ensures.noted c.advance.ensures.same))
+    (plain_leads _ _ e refl refl (goes_over d e old c.advance.new.self c.advance.ensures.noted c.advance.ensures.same))

@@ -1,7 +1,7 @@
 use Rattle.std.proofs.Common.{[], refl, sym, ap}
+use Rattle.event_journals.specs.Journals.{Books}
 use Rattle.server_events.specs.ServerState.{ServerState}
 use Rattle.server_yard.specs.Kept.{rules_of}
-use Rattle.server_yard.specs.Rolls.{Roll}
 use Rattle.server_yard.proofs.Histories.{history_same, none_yet}
 use Rattle.server_yard.proofs.Installs.{installed_same, none_installed}
 use Rattle.server_yard.proofs.Keeping.{none_not_some}
@@ -9,10 +9,9 @@ use Rattle.server_yard.proofs.yard.Yard.with_address_limit.Goals as goal
 
 pub invariant_of-result : goal.invariant_of-result
 invariant_of-result g c =
-    let made = c.in_ok-new.ensures.made in
     let j = g.J.Journal in
-    let server = ap (λ (r : Roll _). r.server) made in
-    let journal = ap (λ (r : Roll _). r.journal) made in
+    let server = c.in_ok-new.ensures.empty in
+    let books = ap j.books c.in_ok-new.ensures.journal in
     let none = c.requires.journal in
     record {
       honest = λ met. (c.requires.begins met).0;
@@ -21,7 +20,7 @@ invariant_of-result g c =
       finds = λ honest s is. absurd (none_not_some s is);
       installed = λ met. ∣ record {
         history = [];
-        is_history = history_same (ap j.told journal) (ap j.count journal) (ap j.stored journal) server [] (none_yet _ _ _ c.args.limit c.args.per_address none.tells none.stores);
-        installed = installed_same (ap j.lists journal) refl refl (ap (λ (u : ServerState). u.phase) server) refl refl (none_installed (j.lists c.args.journal) (g.D.Dir.state c.args.dir) (rules_of c.args.rules) c.args.limit c.args.per_address none.no_rules (c.requires.begins met).1);
+        is_history = history_same (ap (λ (b : Books). b.report) books) (ap (λ (b : Books). b.count) books) (ap (λ (b : Books). b.notes) books) server [] (none_yet _ c.args.limit c.args.per_address none.tells none.stores);
+        installed = installed_same (ap (λ (b : Books). b.lists) books) refl refl (ap (λ (u : ServerState). u.phase) server) refl refl (none_installed (j.books c.args.journal).lists (g.D.Dir.state c.args.dir) (rules_of c.args.rules) c.args.limit c.args.per_address none.no_rules (c.requires.begins met).1);
       } ∣₁;
     }

@@ -1,6 +1,6 @@
 use Rattle.std.proofs.Common.{ap, ◌∙◌, Some, option_map}
 use Rattle.std.specs.Prelude.{string_bytes}
-use Rattle.rule_lookup.specs.Peers.{given}
+use Rattle.connection_facts.specs.Peers.{given}
 use Rattle.ucspi_env.specs.Variables.{Variables, value_of}
 use Rattle.ucspi_env.proofs.VariableLemmas.{variables-lookup}
 use Rattle.ucspi_env.proofs.environment.Environment.get.Goals as goal

@@ -1,4 +1,0 @@
-pub mod PassLemmas
-pub mod RecordLemmas
-pub mod TurnLemmas
-pub mod WriteLemmas

@@ -1,0 +1,246 @@
+-- What goes through a chain in one turn.
+use Rattle.std.proofs.Common.{◌≡◌, ℕ, ◌<◌, ◌≤◌, Bool, false, List, [], ◌∷◌, ◌++◌, length, take, Result, Ok, Err, refl, sym, ap, subst, ◌∙◌, inl, inr, append_assoc, arith}
+use Rattle.std.specs.Prelude.{IfErr}
+use Rattle.std.specs.List.{concat}
+use Rattle.std.proofs.lemmas.List.{append-nil}
+use Rattle.std.proofs.lemmas.Result.{MatchResult-at_ok}
+use Rattle.std.specs.declared.option.Option.{Option}
+use Rattle.std.specs.Io.KnownBytes.{Appends, Consumes, IsAtEnd, Keeps, ReadConsumes}
+use Rattle.std.proofs.KnownBytes.{Appends-nil, Consumes-kept, Consumes-nil}
+use Rattle.byte_streams.specs.Stages.{Feeds, Gives, through}
+use Rattle.byte_streams.specs.declared.recording.Way.{Way}
+use Rattle.byte_streams.specs.declared.recording.Way.TheVariants.{Input, Output}
+use Rattle.byte_streams.specs.Pumps.{Gave, IsWritten, is_end, pieces_by}
+use Rattle.byte_streams.specs.Taps.{IsTold, SeesAll, Shown, shown_to}
+use Rattle.byte_streams.specs.Turns.{CountsMore, IsOfWriter, Moment, Passes, Turned, Wrote, pieces_of, why_of}
+use Rattle.byte_streams.specs.declared.pumping.Why.{Why}
+use Rattle.byte_streams.specs.declared.pumping.Why.TheVariants.{End, ReadFault, WriteFault, ZeroWrite, TurnsOver, Failed, OutOfMemory}
+
+-- ---- what a chain gives
+
+-- a chain of no stages gives what it takes
+pub gives_same : {S : Type 0} (rest : S → List ℕ → List ℕ) {stages : List S} → stages ≡ [] → (piece : List ℕ) → Gives (through rest stages) (through rest stages) piece piece
+gives_same rest none piece = subst (λ stages. Gives (through rest stages) (through rest stages) piece piece) (sym none) (λ later. refl)
+
+-- what was added to nothing, and is lent, is what the chain gave
+pub added_to_none : {before after lent given : List ℕ} → before ≡ [] → after ≡ before ++ given → lent ≡ after → lent ≡ given
+added_to_none {given = given} none added is = is ∙ added ∙ ap (λ l. l ++ given) none
+
+pub gives_added : {chain chain' : List ℕ → List ℕ} {piece before after lent : List ℕ} → before ≡ [] → Feeds chain chain' piece before after → lent ≡ after → Gives chain chain' piece lent
+gives_added {chain} {chain'} {piece} none feeds is =
+    subst (Gives chain chain' piece) (sym (added_to_none none feeds.added is)) feeds.gives
+
+gave_now : (result : Result (Unit {0}) Why) (left : Option (List ℕ)) (chain chain' : List ℕ → List ℕ) (text given : List ℕ) → IfErr result IsOfWriter → Gives chain chain' text given → Gave (why_of result) left chain chain' text given
+gave_now (Ok _) left chain chain' text given reason gives = gives
+gave_now (Err End) left chain chain' text given reason gives = absurd reason
+gave_now (Err ReadFault) left chain chain' text given reason gives = absurd reason
+gave_now (Err WriteFault) left chain chain' text given reason gives = inl gives
+gave_now (Err ZeroWrite) left chain chain' text given reason gives = inl gives
+gave_now (Err TurnsOver) left chain chain' text given reason gives = absurd reason
+gave_now (Err Failed) left chain chain' text given reason gives = absurd reason
+gave_now (Err OutOfMemory) left chain chain' text given reason gives = absurd reason
+
+gave_rest : (why : Why) (left : Option (List ℕ)) (chain chain' : List ℕ → List ℕ) (given : List ℕ) → IsOfWriter why → IsAtEnd left → given ≡ chain [] → Gave why left chain chain' [] given
+gave_rest End left chain chain' given reason at_end is = absurd reason
+gave_rest ReadFault left chain chain' given reason at_end is = absurd reason
+gave_rest WriteFault left chain chain' given reason at_end is = inr (at_end, is)
+gave_rest ZeroWrite left chain chain' given reason at_end is = inr (at_end, is)
+gave_rest TurnsOver left chain chain' given reason at_end is = absurd reason
+gave_rest Failed left chain chain' given reason at_end is = absurd reason
+gave_rest OutOfMemory left chain chain' given reason at_end is = absurd reason
+
+-- ---- what a tap is shown
+
+pub concat-append : (front back : List (List ℕ)) → concat (front ++ back) ≡ concat front ++ concat back
+concat-append [] back = refl
+concat-append (piece ∷ front) back =
+    ap (λ l. piece ++ l) (concat-append front back) ∙ sym (append_assoc piece (concat front) (concat back))
+
+pub SeesAll-append : {T : Type 0} (sees : T → List ℕ → T → Type 0) (tap mid tap' : T) (front back : List (List ℕ)) → SeesAll sees tap front mid → SeesAll sees mid back tap' → SeesAll sees tap (front ++ back) tap'
+SeesAll-append {T} sees tap mid tap' [] back first then = subst (λ (t : T). SeesAll sees t back tap') first then
+SeesAll-append sees tap mid tap' (piece ∷ front) back first then =
+    (first.0, first.1, SeesAll-append sees first.0 mid tap' front back first.2 then)
+
+-- the pieces of one turn: the one that was read, and the one that the chain gave
+joined_both : (way : Way) (text given : List ℕ) → concat (pieces_of way Input text ++ pieces_of way Output given) ≡ pieces_by way text given
+joined_both Input text given = append-nil text
+joined_both Output text given = append-nil given
+
+few_both : (way : Way) (text given : List ℕ) → length (pieces_of way Input text ++ pieces_of way Output given) ≤ 1
+few_both Input text given = omega arith
+few_both Output text given = omega arith
+
+joined_read : (way : Way) (text : List ℕ) → concat (pieces_of way Input text) ≡ pieces_by way text []
+joined_read Input text = append-nil text
+joined_read Output text = refl
+
+few_one : (way other : Way) (piece : List ℕ) → length (pieces_of way other piece) ≤ 1
+few_one Input Input piece = omega arith
+few_one Input Output piece = omega arith
+few_one Output Input piece = omega arith
+few_one Output Output piece = omega arith
+
+joined_given : (way : Way) (given : List ℕ) → concat (pieces_of way Output given) ≡ pieces_by way [] given
+joined_given Input given = refl
+joined_given Output given = append-nil given
+
+nothing_joined : (way : Way) → [] ≡ pieces_by way [] []
+nothing_joined Input = refl
+nothing_joined Output = refl
+
+no_end : (result : Result (Unit {0}) Why) → IfErr result IsOfWriter → is_end (why_of result) ≡ false
+no_end (Ok _) reason = refl
+no_end (Err End) reason = absurd reason
+no_end (Err ReadFault) reason = refl
+no_end (Err WriteFault) reason = refl
+no_end (Err ZeroWrite) reason = refl
+no_end (Err TurnsOver) reason = refl
+no_end (Err Failed) reason = refl
+no_end (Err OutOfMemory) reason = refl
+
+not_told : {T : Type 0} (ends : T → T → Type 0) {at_end : Bool} (tap : T) → at_end ≡ false → IsTold ends at_end tap tap
+not_told ends tap goes_on = subst (λ at_end. IsTold ends at_end tap tap) (sym goes_on) refl
+
+-- ---- a turn
+
+-- what was written and counted, where nothing was
+wrote_nothing : (old new : Moment) → new.ends.writer ≡ old.ends.writer → Appends old.ends.writer new.ends.writer []
+wrote_nothing old new same = subst (λ writer. Appends old.ends.writer writer []) (sym same) (Appends-nil old.ends.writer)
+
+counted_nothing : (old new : ℕ) → new ≡ old → CountsMore old new []
+counted_nothing old new same = λ fits. omega (arith, same)
+
+module _ {T : Type 0} (watches : T → Way) (sees : T → List ℕ → T → Type 0) (ends : T → T → Type 0) where
+  -- a piece went through, and the writer took what it could
+  pub passes_given : (tap mid tap' : T) {old new : Moment} (text given : List ℕ) {result : Result (Unit {0}) Why}
+      → SeesAll sees tap (pieces_of (watches tap) Input text) mid → watches mid ≡ watches tap → SeesAll sees mid (pieces_of (watches mid) Output given) tap'
+      → Gives old.ends.chain new.ends.chain text given → Wrote old.ends.writer new.ends.writer given result old.given new.given
+      → Passes text old new (shown_to watches sees ends tap tap') 1 (why_of result)
+  passes_given tap mid tap' {old} {new} text given {result} read same gave gives wrote =
+      let way = watches tap in
+      record {
+        given = given;
+        written = wrote.written;
+        pieces = pieces_of way Input text ++ pieces_of way Output given;
+        writes = wrote.writes;
+        counts_written = wrote.counts_written;
+        gave = gave_now result new.ends.reader old.ends.chain new.ends.chain text given wrote.reason gives;
+        all = wrote.all;
+        shown = (tap', SeesAll-append sees tap mid tap' (pieces_of way Input text) (pieces_of way Output given) read (subst (λ w. SeesAll sees mid (pieces_of w Output given) tap') same gave), not_told ends tap' (no_end result wrote.reason));
+        joined = joined_both way text given;
+        few = few_both way text given;
+      }
+
+  -- the chain had no memory for a piece
+  pub passes_none : (tap tap' : T) {old new : Moment} {text : List ℕ}
+      → SeesAll sees tap (pieces_of (watches tap) Input text) tap' → new.ends.writer ≡ old.ends.writer → new.given ≡ old.given
+      → Passes text old new (shown_to watches sees ends tap tap') 1 OutOfMemory
+  passes_none tap tap' {old} {new} {text} read writer put = record {
+    given = [];
+    written = [];
+    pieces = pieces_of (watches tap) Input text;
+    writes = wrote_nothing old new writer;
+    counts_written = counted_nothing old.given new.given put;
+    gave = (λ later. old.ends.chain (text ++ later), λ later. refl);
+    all = refl;
+    shown = (tap', read, refl);
+    joined = joined_read (watches tap) text;
+    few = few_one (watches tap) Input text;
+  }
+
+  -- nothing went through
+  pub passes_nothing : (tap : T) {old new : Moment} (most : ℕ) (why : Why) → new.ends.writer ≡ old.ends.writer → new.given ≡ old.given
+      → Gave why new.ends.reader old.ends.chain new.ends.chain [] [] → IsWritten why [] [] → is_end why ≡ false
+      → Passes [] old new (shown_to watches sees ends tap tap) most why
+  passes_nothing tap {old} {new} most why writer put gave all goes_on = record {
+    given = [];
+    written = [];
+    pieces = [];
+    writes = wrote_nothing old new writer;
+    counts_written = counted_nothing old.given new.given put;
+    gave = gave;
+    all = all;
+    shown = (tap, refl, not_told ends tap goes_on);
+    joined = nothing_joined (watches tap);
+    few = omega arith;
+  }
+
+  -- the writer did not take all of the chain's rest
+  pub passes_rest : (tap tap' : T) {old new : Moment} {given : List ℕ} {why : Why}
+      → SeesAll sees tap (pieces_of (watches tap) Output given) tap' → given ≡ old.ends.chain []
+      → Wrote old.ends.writer new.ends.writer given (Err why) old.given new.given → IsAtEnd new.ends.reader
+      → Passes [] old new (shown_to watches sees ends tap tap') 1 why
+  passes_rest tap tap' {old} {new} {given} {why} gave is wrote at_end = record {
+    given = given;
+    written = wrote.written;
+    pieces = pieces_of (watches tap) Output given;
+    writes = wrote.writes;
+    counts_written = wrote.counts_written;
+    gave = gave_rest why new.ends.reader old.ends.chain new.ends.chain given wrote.reason at_end is;
+    all = wrote.all;
+    shown = (tap', gave, not_told ends tap' (no_end (Err why) wrote.reason));
+    joined = joined_given (watches tap) given;
+    few = few_one (watches tap) Output given;
+  }
+
+  -- it took all, and the tap was told
+  pub passes_end : (tap tap' tap'' : T) {old new : Moment} {given : List ℕ}
+      → SeesAll sees tap (pieces_of (watches tap) Output given) tap' → ends tap' tap'' → given ≡ old.ends.chain []
+      → Wrote old.ends.writer new.ends.writer given (Ok tt) old.given new.given → IsAtEnd new.ends.reader
+      → Passes [] old new (shown_to watches sees ends tap tap'') 1 End
+  passes_end tap tap' tap'' {given = given} gave told is wrote at_end = record {
+    given = given;
+    written = wrote.written;
+    pieces = pieces_of (watches tap) Output given;
+    writes = wrote.writes;
+    counts_written = wrote.counts_written;
+    gave = (at_end, is);
+    all = wrote.all;
+    shown = (tap', gave, told);
+    joined = joined_given (watches tap) given;
+    few = few_one (watches tap) Output given;
+  }
+
+  -- a read that failed took nothing
+  pub turned_nothing : (tap : T) {old new : Moment} (steps : ℕ) (why : Why)
+      → Keeps old.ends.reader new.ends.reader → new.ends.writer ≡ old.ends.writer → new.taken ≡ old.taken → new.given ≡ old.given
+      → Gave why new.ends.reader old.ends.chain new.ends.chain [] [] → IsWritten why [] [] → is_end why ≡ false
+      → Turned old new (shown_to watches sees ends tap tap) steps why
+  turned_nothing tap {old} {new} steps why keeps writer taken put gave all goes_on = record {
+    text = [];
+    reads = Consumes-kept old.ends.reader old.ends.reader new.ends.reader [] (Consumes-nil old.ends.reader) keeps;
+    counts_text = counted_nothing old.taken new.taken taken;
+    passes = passes_nothing tap steps why writer put gave all goes_on;
+  }
+
+-- whatever the reader had left before
+pub passes_after : {text : List ℕ} {old new : Moment} {tap : Shown} {most : ℕ} {why : Why} (reader : Option (List ℕ))
+    → Passes text old new tap most why
+    → Passes text (record old { ends = record { reader = reader; writer = old.ends.writer; chain = old.ends.chain } }) new tap most why
+passes_after reader passes = record {
+  given = passes.given;
+  written = passes.written;
+  pieces = passes.pieces;
+  writes = passes.writes;
+  counts_written = passes.counts_written;
+  gave = passes.gave;
+  all = passes.all;
+  shown = passes.shown;
+  joined = passes.joined;
+  few = passes.few;
+}
+
+-- a read that gave no byte found the end, and then the stream was ended
+pub turned_end : {E : Type 0} {old new : Moment} {tap : Shown} {why : Why} {n : ℕ} (result : Result ℕ E) (buffer : List ℕ)
+    → result ≡ Ok n → n ≡ 0 → ReadConsumes old.ends.reader new.ends.reader result buffer → 0 < length buffer → new.taken ≡ old.taken
+    → (IsAtEnd new.ends.reader → Passes [] old new tap 1 why) → Turned old new tap 1 why
+turned_end {old = old} {new} result buffer took none read room same passes =
+    let reader = old.ends.reader in
+    let reader' = new.ends.reader in
+    let consumed = MatchResult-at_ok (λ k. Consumes reader reader' (take k buffer) × (k ≡ 0 → 0 < length buffer → IsAtEnd reader')) (λ _. Keeps reader reader') 0 (took ∙ ap Ok none) read in
+    record {
+      text = [];
+      reads = consumed.0;
+      counts_text = counted_nothing old.taken new.taken same;
+      passes = passes (consumed.1 refl room);
+    }

@@ -1,0 +1,136 @@
+-- Texts that go through stages one behind the other.
+use Rattle.std.proofs.Common.{◌≡◌, ℕ, zero, suc, ◌+◌, ◌<◌, ◌≤◌, List, [], ◌∷◌, ◌++◌, length, take, drop, map, set, get_or, refl, sym, ap, subst, ◌∙◌, append_assoc, arith, add-one, drop-cons, take-suc-set, length-set}
+use Rattle.std.proofs.lemmas.List.{append-nil, drop-set-lt, drop_all, map-append, take_all}
+use Rattle.std.specs.Prelude.{Err, Ok, OnOk, Result}
+use Rattle.std.specs.declared.alloc.AllocError.{AllocError}
+use Rattle.std.proofs.Math.Seq.{take-append_seam}
+use Rattle.byte_streams.specs.Stages.{Feeds, through}
+
+-- what is written through some stages hangs on what each of them writes
+through-map : {S : Type 0} (rest : S → List ℕ → List ℕ) (stages : List S) → through rest stages ≡ through (λ f. f) (map rest stages)
+through-map rest [] = refl
+through-map rest (stage ∷ stages) = ap (λ f. λ text. f (rest stage text)) (through-map rest stages)
+
+pub through_same : {S : Type 0} (one two : S → List ℕ → List ℕ) (stages others : List S) → map one stages ≡ map two others → through one stages ≡ through two others
+through_same one two stages others same = through-map one stages ∙ ap (through (λ f. f)) same ∙ sym (through-map two others)
+
+module _ {S : Type 0} (rest : S → List ℕ → List ℕ) where
+  pub through-append : (one two : List S) (text : List ℕ) → through rest (one ++ two) text ≡ through rest two (through rest one text)
+  through-append [] two text = refl
+  through-append (stage ∷ one) two text = through-append one two (rest stage text)
+
+  -- a piece went through the stages before a place, and what they wrote of it did not go further yet
+  abbrev pub Flows : (olds news : List S) → ℕ → (piece from : List ℕ) → Type 0
+  Flows olds news place piece from = (later : List ℕ) → through rest olds (piece ++ later) ≡ through rest (drop place news) (from ++ through rest (take place news) later)
+
+  -- a stage at a place, and those behind it
+  stage_at : (stages : List S) (place : ℕ) (d : S) → place < length stages → (text : List ℕ) → through rest (drop place stages) text ≡ through rest (drop (place + 1) stages) (rest (get_or stages place d) text)
+  stage_at stages place d inside text =
+      ap (λ tail. through rest tail text) (drop-cons stages place d inside)
+      ∙ ap (λ n. through rest (drop n stages) (rest (get_or stages place d) text)) (sym (add-one place))
+
+  drop_behind : (stages : List S) (place : ℕ) (s : S) → drop (place + 1) (set stages place s) ≡ drop (place + 1) stages
+  drop_behind stages place s = drop-set-lt (place + 1) stages place s (omega arith)
+
+  front_with : (stages : List S) (place : ℕ) (s : S) → place < length stages → (text : List ℕ) → through rest (take (place + 1) (set stages place s)) text ≡ rest s (through rest (take place stages) text)
+  front_with stages place s inside text =
+      ap (λ front. through rest front text) (ap (λ n. take n (set stages place s)) (add-one place) ∙ take-suc-set stages place s inside)
+      ∙ through-append (take place stages) (s ∷ []) text
+
+  -- the stage at the place took what came so far
+  pub flows_more : (olds news : List S) (place : ℕ) (d s : S) (piece from into : List ℕ) → place < length news → Flows olds news place piece from → Feeds (rest (get_or news place d)) (rest s) from [] into → Flows olds (set news place s) (place + 1) piece into
+  flows_more olds news place d s piece from into inside flows feeds = λ later.
+      let front = through rest (take place news) later in
+      let given_is : feeds.given ≡ into = sym feeds.added in
+      flows later
+      ∙ stage_at news place d inside (from ++ front)
+      ∙ ap (through rest (drop (place + 1) news)) (feeds.gives front ∙ ap (λ x. x ++ rest s front) given_is)
+      ∙ ap (λ tail. through rest tail (into ++ rest s front)) (sym (drop_behind news place s))
+      ∙ ap (λ x. through rest (drop (place + 1) (set news place s)) (into ++ x)) (sym (front_with news place s inside later))
+
+  -- the last stage took it
+  pub flows_last : (olds news : List S) (place : ℕ) (d s : S) (piece from before after : List ℕ) → place + 1 ≡ length news → Flows olds news place piece from → Feeds (rest (get_or news place d)) (rest s) from before after → Feeds (through rest olds) (through rest (set news place s)) piece before after
+  flows_last olds news place d s piece from before after last flows feeds = record {
+    given = feeds.given;
+    added = feeds.added;
+    gives = λ later.
+        let inside : place < length news = omega arith in
+        let front = through rest (take place news) later in
+        flows later
+        ∙ stage_at news place d inside (from ++ front)
+        ∙ ap (λ tail. through rest tail (rest (get_or news place d) (from ++ front))) (drop_all (place + 1) news (omega arith))
+        ∙ feeds.gives front
+        ∙ ap (λ x. feeds.given ++ x) (sym (front_with news place s inside later) ∙ ap (λ stages. through rest stages later) (take_all (place + 1) (set news place s) (omega (arith, length-set {A = S}))));
+  }
+
+  -- at the end of the text
+  pub ends_more : (olds news : List S) (place : ℕ) (d s : S) (from into before : List ℕ) → place < length news → through rest olds before ≡ through rest (drop place news) from → into ≡ rest (get_or news place d) from → through rest olds before ≡ through rest (drop (place + 1) (set news place s)) into
+  ends_more olds news place d s from into before inside so_far is =
+      so_far ∙ stage_at news place d inside from
+      ∙ ap (through rest (drop (place + 1) news)) (sym is)
+      ∙ ap (λ tail. through rest tail into) (sym (drop_behind news place s))
+
+-- ---- one stage for another
+
+module _ {S : Type 0} {V : Type 0} (f : S → V) where
+  pub map-set : (stages : List S) (place : ℕ) (d s : S) → f s ≡ f (get_or stages place d) → map f (set stages place s) ≡ map f stages
+  map-set [] place d s same = refl
+  map-set (stage ∷ stages) zero d s same = ap (λ v. v ∷ map f stages) same
+  map-set (stage ∷ stages) (suc place) d s same = ap (λ vs. f stage ∷ vs) (map-set stages place d s same)
+
+-- ---- the same, of a stage as a loop finds it
+
+module _ {S : Type 0} where
+  pub wholes_more : {V : Type 0} (olds news : List S) (place : ℕ) (d s : S) (f : S → V) → f s ≡ f (get_or news place d) → map f news ≡ map f olds → map f (set news place s) ≡ map f olds
+  wholes_more olds news place d s f same so_far = map-set f news place d s same ∙ so_far
+
+  pub through_wholes : (olds news : List S) (place : ℕ) (d s : S) (f : S → List ℕ → List ℕ) → f s ≡ f (get_or news place d) → map f news ≡ map f olds → through f (set news place s) ≡ through f olds
+  through_wholes olds news place d s f same so_far =
+      through_same f f (set news place s) olds (wholes_more olds news place d s f same so_far)
+
+  pub flow_step : (olds news : List S) (place : ℕ) (d s : S) (rest : S → List ℕ → List ℕ) (piece from lent empty into final : List ℕ) → place < length news → Flows rest olds news place piece from → lent ≡ from → empty ≡ [] → Feeds (rest (get_or news place d)) (rest s) lent empty into → final ≡ into → Flows rest olds (set news place s) (place + 1) piece final
+  flow_step olds news place d s rest piece from lent empty into final inside flows lent_is empty_is feeds final_is =
+      flows_more rest olds news place d s piece from final inside flows (record {
+        given = feeds.given;
+        added = final_is ∙ feeds.added ∙ ap (λ x. x ++ feeds.given) empty_is;
+        gives = λ later. ap (λ x. rest (get_or news place d) (x ++ later)) (sym lent_is) ∙ feeds.gives later;
+      })
+
+  pub flow_end : (result : Result (Unit {0}) AllocError) (olds news : List S) (place last : ℕ) (d s : S) (rest : S → List ℕ → List ℕ) (piece from lent before after : List ℕ) → place ≡ last → last + 1 ≡ length news → Flows rest olds news place piece from → lent ≡ from → OnOk result (Feeds (rest (get_or news last d)) (rest s) lent before after) → OnOk result (Feeds (through rest olds) (through rest (set news last s)) piece before after)
+  flow_end (Err _) olds news place last d s rest piece from lent before after here ends flows lent_is feeds = tt
+  flow_end (Ok _) olds news place last d s rest piece from lent before after here ends flows lent_is feeds =
+      flows_last rest olds news last d s piece from before after ends (subst (λ n. Flows rest olds news n piece from) here flows) (record {
+        given = feeds.given;
+        added = feeds.added;
+        gives = λ later. ap (λ x. rest (get_or news last d) (x ++ later)) (sym lent_is) ∙ feeds.gives later;
+      })
+
+  pub ends_step : (olds news : List S) (place : ℕ) (d s : S) (rest : S → List ℕ → List ℕ) (before from lent empty into final : List ℕ) → place < length news → through rest olds before ≡ through rest (drop place news) from → lent ≡ from → empty ≡ [] → into ≡ empty ++ rest (get_or news place d) lent → final ≡ into → through rest olds before ≡ through rest (drop (place + 1) (set news place s)) final
+  ends_step olds news place d s rest before from lent empty into final inside so_far lent_is empty_is into_is final_is =
+      ends_more rest olds news place d s from final before inside so_far
+      (final_is ∙ into_is ∙ ap (λ x. x ++ rest (get_or news place d) lent) empty_is ∙ ap (rest (get_or news place d)) lent_is)
+
+  -- the stages before the place are as at the beginning of a text
+  pub renewed_more : {V : Type 0} (olds news : List S) (place : ℕ) (d s : S) (rest whole : S → V) → place < length news → rest s ≡ whole (get_or news place d) → map rest (take place news) ++ map whole (drop place news) ≡ map whole olds → map rest (take (place + 1) (set news place s)) ++ map whole (drop (place + 1) (set news place s)) ≡ map whole olds
+  renewed_more olds news place d s rest whole inside same so_far =
+      let before = map rest (take place news) in
+      let behind = map whole (drop (place + 1) news) in
+      ap (λ l. map rest l ++ map whole (drop (place + 1) (set news place s))) (ap (λ n. take n (set news place s)) (add-one place) ∙ take-suc-set news place s inside)
+      ∙ ap (λ l. map rest (take place news ++ s ∷ []) ++ map whole l) (drop-set-lt (place + 1) news place s (omega arith))
+      ∙ ap (λ l. l ++ behind) (map-append rest (take place news) (s ∷ []))
+      ∙ append_assoc before (rest s ∷ []) behind
+      ∙ ap (λ v. before ++ v ∷ behind) same
+      ∙ ap (λ l. before ++ map whole l) (ap (λ n. get_or news place d ∷ drop n news) (add-one place) ∙ sym (drop-cons news place d inside))
+      ∙ so_far
+
+  pub renewed_end : (olds news : List S) (place : ℕ) (rest whole : S → List ℕ → List ℕ) → length news ≤ place → map rest (take place news) ++ map whole (drop place news) ≡ map whole olds → through rest news ≡ through whole olds
+  renewed_end olds news place rest whole all so_far =
+      through_same rest whole news olds
+      (sym (append-nil (map rest news))
+      ∙ ap (λ l. map rest l ++ []) (sym (take_all place news all))
+      ∙ ap (λ l. map rest (take place news) ++ map whole l) (sym (drop_all place news all))
+      ∙ so_far)
+
+-- what was lent of a vector stands in it again
+pub lent_back : {S : Type 0} (news olds : List S) (n : ℕ) → n ≡ length news → take n (news ++ drop (length news) olds) ≡ news
+lent_back news olds n same = ap (λ k. take k (news ++ drop (length news) olds)) same ∙ take-append_seam news (drop (length news) olds)

@@ -1,0 +1,21 @@
+use Rattle.std.proofs.Common.{arith}
+use Rattle.byte_streams.proofs.ThroughLemmas.{renewed_end, renewed_more, through_same, wholes_more}
+use Rattle.byte_streams.proofs.chain.renew_all.Goals as goal
+
+pub loop-place-preserved : goal.loop-place-preserved
+loop-place-preserved g c = record {
+  renewed = renewed_more c.args.stages.now c.loop-place.stages c.loop-place.place c.index-stages-place.result c.renew.new.self
+      g.S.LineStage.rest g.S.LineStage.whole
+      (omega arith) c.renew.ensures.renewed c.loop-place.invariant.renewed;
+  wholes = wholes_more c.args.stages.now c.loop-place.stages c.loop-place.place c.index-stages-place.result c.renew.new.self
+      g.S.LineStage.whole c.renew.ensures.same c.loop-place.invariant.wholes;
+}
+
+pub returns-clause-renewed : goal.returns-clause-renewed
+returns-clause-renewed g c =
+    renewed_end c.args.stages.now c.loop-place.stages c.loop-place.place
+    g.S.LineStage.rest g.S.LineStage.whole
+    (omega arith) c.loop-place.invariant.renewed
+
+pub returns-clause-wholes : goal.returns-clause-wholes
+returns-clause-wholes g c = through_same _ _ _ _ c.loop-place.invariant.wholes

@@ -1,0 +1,27 @@
+-- What a tap sees.
+use Rattle.std.specs.Prelude.{◌≡◌, Bool, true, false, ℕ, List, [], ◌∷◌}
+use Rattle.byte_streams.specs.declared.recording.Way.{Way}
+
+-- it was shown these pieces, in this order, each once
+abbrev pub SeesAll : {T : Type 0} → (T → List ℕ → T → Type 0) → T → List (List ℕ) → T → Type 0
+SeesAll sees old [] new = new ≡ old
+SeesAll {T} sees old (piece ∷ pieces) new = (mid : T) × sees old piece mid × SeesAll sees mid pieces new
+
+-- it was told that the stream has ended, where it has
+abbrev pub IsTold : {T : Type 0} → (T → T → Type 0) → Bool → T → T → Type 0
+IsTold ends true old new = ends old new
+IsTold ends false old new = new ≡ old
+
+-- it was shown these pieces, and then told of the end, if the stream has ended
+abbrev pub Watches : {T : Type 0} → (T → List ℕ → T → Type 0) → (T → T → Type 0) → Bool → T → List (List ℕ) → T → Type 0
+Watches {T} sees ends at_end old pieces new = (mid : T) × SeesAll sees old pieces mid × IsTold ends at_end mid new
+
+-- a tap from one moment to another: the way that it watches, and what being shown pieces made of it, where the stream has ended or has not
+pub record Shown : Type 1 where
+  pub way : Way
+  pub shows : Bool → List (List ℕ) → Type 0
+
+-- that of this tap, old and new; the functions say which way it watches, what it sees, and what it is told of the end
+abbrev pub shown_to : {T : Type 0} → (T → Way) → (T → List ℕ → T → Type 0) → (T → T → Type 0) → T → T → Shown
+shown_to watches sees ends old new =
+    record { way = watches old; shows = λ at_end pieces. Watches sees ends at_end old pieces new }

@@ -1,0 +1,2 @@
+-- The other ends of connections.
+pub mod Peers

@@ -1,4 +1,0 @@
-pub mod Meeting
-pub mod Leading
-pub mod Stopping
-pub mod Along

@@ -1,3 +1,0 @@
--- Installations in worlds.
-pub mod UnderWay
-pub mod Series

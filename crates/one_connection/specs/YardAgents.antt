@@ -1,0 +1,61 @@
+-- A yard as the agent of a connection.
+use Rattle.std.specs.Prelude.{◌≡◌, ◌++◌, ◌∷◌, ℕ, IsTrue, List, [], Some, None}
+use Rattle.dir_calls.specs.declared.dir.Dir as dir
+use Rattle.dir_calls.specs.declared.rules_file.RulesFile as file
+use Rattle.event_journals.specs.declared.journal.Journal as journal
+use Rattle.connection_facts.specs.Peers.{Client}
+use Rattle.server_events.specs.ServerState.{stage_of}
+use Rattle.server_events.specs.Worlds.{missing_by, peer_of}
+use Rattle.server_events.specs.declared.event.Event.{Event}
+use Rattle.server_events.specs.declared.event.Event.TheVariants.{Opened, Decided}
+use Rattle.server_events.specs.declared.event.Stage.{Stage}
+use Rattle.server_yard.specs.Rolls.{IsQuiet, Notes}
+use Rattle.server_yard.specs.Serving.{IsReachedOn, Serves}
+use Rattle.server_yard.specs.Standing.{LeadsDecided, LeadsOn, LeadsOpened, YardState, standing_of}
+use Rattle.server_yard.specs.Yards.{yard_roll, yard_rules, yard_seat, yard_server, yard_state}
+use Rattle.server_yard.specs.declared.assumptions.Assumptions as assumptions
+use Rattle.server_yard.specs.declared.yard.Yard.{Yard}
+use Rattle.one_connection.specs.Openings.{Opening}
+
+-- By what a connection found an event leads on: it opened the rules, and keeps that from now on; or it is decided by that.
+abbrev pub LeadsBy : Opening → Event → (old new : YardState) → Type 0
+LeadsBy it (Opened n there) old new = LeadsOpened n it.bytes old new
+LeadsBy it (Decided n decision) old new = LeadsDecided n it.bytes decision old new
+LeadsBy it event old new = LeadsOn event old new
+
+-- a yard with this ledger, this directory, this journal and these files, and what their traits tell of them
+module _ {L D J F : Type 0} {p : assumptions.Ghosts L} {d : dir.Ghosts D F} {f : file.Ghosts F} {j : journal.Ghosts J} where
+  -- a place is that of the connection with this serial and this peer, which has this stage
+  pub record StandsAt (yard : Yard L D J F p d f j) (place serial : ℕ) (peer : Client) (stage : Stage) : Type 0 where
+    pub seat : yard_seat yard place ≡ Some serial
+    pub has_peer : peer_of serial (yard_server yard).connections ≡ Some peer
+    pub has_stage : stage_of serial (yard_server yard).connections ≡ Some stage
+
+  -- no connection with this serial is alive
+  abbrev pub IsGoneFrom : Yard L D J F p d f j → ℕ → Type 0
+  IsGoneFrom yard serial = stage_of serial (yard_server yard).connections ≡ None
+
+  -- what stands under the rules name of its directory, where that is honest; and what is decided where nothing does
+  pub record FindsOf (yard : Yard L D J F p d f j) (found : Opening) : Type 0 where
+    pub standing : IsTrue d.honest → found.bytes ≡ standing_of (yard_state yard)
+    pub missing : found.missing ≡ missing_by (yard_rules yard)
+
+  -- a yard notes the event of a call, which leads on so over an honest directory
+  pub record MakesEvent (leads : YardState → YardState → Type 0) (event : Event) (old new : Yard L D J F p d f j) : Type 0 where
+    pub noted : Notes event (yard_roll old) (yard_roll new)
+    pub step : IsTrue d.honest → leads (yard_state old) (yard_state new)
+
+  -- it notes none, and over an honest directory is as before for every world
+  pub record MakesNone (old new : Yard L D J F p d f j) : Type 0 where
+    pub quiet : IsQuiet (yard_roll old) (yard_roll new)
+    pub same : IsTrue d.honest → yard_state new ≡ yard_state old
+
+-- the calls that serve a connection lead from one yard to another, and this is the last of their events
+pub record ServesTo (n : ℕ) (last : Event) (old new : YardState) : Type 0 where
+  pub first : List Event
+  pub serves : Serves n old (first ++ last ∷ []) new
+
+-- and so a history of the headline goes on by their events
+pub record GoesOnTo (history : List Event) (last : Event) (new : YardState) : Type 0 where
+  pub first : List Event
+  pub reached : IsReachedOn (history ++ (first ++ last ∷ [])) new

@@ -1,0 +1,18 @@
+use Rattle.byte_text.proofs.Appends.{first, next, last}
+use Rattle.byte_text.proofs.CutParts.{cut_first, cut_later}
+use Rattle.server_log.proofs.fields.push_host.Goals as goal
+
+pub returns-in_err-push_field : goal.returns-in_err-push_field
+returns-in_err-push_field c =
+    cut_first _ c.args.out.now.items c.push_field.new.out.items c.from_residual.result c.from_residual.ensures.0 c.in_err-push_field.ensures
+
+pub returns-in_err-push_text : goal.returns-in_err-push_text
+returns-in_err-push_text c =
+    let so_far_1 = first c.args.out.now.items _ c.in_ok-push_field.ensures in
+    cut_later _ c.push_text.new.out.items c.from_residual-in_err-push_text.result c.from_residual-in_err-push_text.ensures.0 so_far_1 c.in_err-push_text.ensures
+
+pub returns : goal.returns
+returns c =
+    let so_far_1 = first c.args.out.now.items _ c.in_ok-push_field.ensures in
+    let so_far_2 = next _ so_far_1 c.in_ok-push_text.ensures in
+    last _ c.push_address.new.out.items c.push_address.result so_far_2 c.push_address.ensures

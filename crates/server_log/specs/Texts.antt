@@ -1,0 +1,81 @@
+-- The lines of the server's log, as bytes.
+use Rattle.std.specs.Prelude.{ℕ, List, [], ◌++◌, Option, Some, None, codes, decimal}
+use Rattle.std.specs.Net.Text.{ipv4_text}
+use Rattle.byte_text.specs.Fields.{field_text}
+use Rattle.rule_lines.specs.declared.instr.Verdict.{Verdict}
+use Rattle.rule_lines.specs.declared.instr.Verdict.TheVariants.{Allow, Deny}
+use Rattle.connection_facts.specs.Peers.{Client}
+use Rattle.connection_facts.specs.declared.outcome.DropCause.{DropCause}
+use Rattle.connection_facts.specs.declared.outcome.DropCause.TheVariants.{Denied, Banner, Directory, ReadFault, Damaged, Memory, NoThread}
+use Rattle.connection_facts.specs.declared.outcome.StartFault.{StartFault}
+use Rattle.connection_facts.specs.declared.outcome.StartFault.TheVariants.{NotFound, Refused, Other, OutOfMemory}
+use Rattle.connection_facts.specs.declared.outcome.Status.{Status}
+use Rattle.connection_facts.specs.declared.outcome.Status.TheVariants.{Code, Signal}
+use Rattle.ucspi_env.specs.Ends.{LocalEnd}
+
+-- a field that may be absent
+abbrev pub field : Option (List ℕ) → List ℕ
+field None = []
+field (Some bytes) = field_text bytes
+
+abbrev pub status_line : ℕ → ℕ → List ℕ
+status_line live limit = codes "tcpserver: status: " ++ decimal live ++ codes "/" ++ decimal limit ++ codes "\n"
+
+abbrev pub pid_line : ℕ → List ℕ → List ℕ
+pid_line serial ip = codes "tcpserver: pid " ++ decimal serial ++ codes " from " ++ ipv4_text ip ++ codes "\n"
+
+abbrev pub verdict_word : Verdict → List ℕ
+verdict_word Allow = codes "ok "
+verdict_word Deny = codes "deny "
+
+-- an end of a connection: the name of its host, its address, and what stands before its port
+abbrev pub local_text : LocalEnd → List ℕ
+local_text local = field local.host ++ codes ":" ++ ipv4_text local.ip ++ codes ":" ++ decimal local.port
+
+abbrev pub remote_text : Client → List ℕ
+remote_text peer = field peer.host ++ codes ":" ++ ipv4_text peer.ip ++ codes ":" ++ field peer.info ++ codes ":" ++ decimal peer.port
+
+abbrev pub verdict_text : Verdict → ℕ → LocalEnd → Client → List ℕ
+verdict_text verdict serial local peer =
+    codes "tcpserver: " ++ verdict_word verdict ++ decimal serial ++ codes " " ++ local_text local ++ codes " " ++ remote_text peer ++ codes "\n"
+
+abbrev pub status_text : Status → List ℕ
+status_text (Code code) = decimal code
+status_text Signal = codes "signal"
+
+abbrev pub end_text : ℕ → Status → List ℕ
+end_text serial status = codes "tcpserver: end " ++ decimal serial ++ codes " status " ++ status_text status ++ codes "\n"
+
+abbrev pub retired_text : ℕ → List ℕ
+retired_text serial = codes "tcpserver: retired " ++ decimal serial ++ codes "\n"
+
+-- the words for a cause; a denied connection has none, and no line
+abbrev pub cause_text : DropCause → Option (List ℕ)
+cause_text Denied = None
+cause_text Banner = Some (codes "banner fault")
+cause_text Directory = Some (codes "directory fault")
+cause_text ReadFault = Some (codes "rules read fault")
+cause_text Damaged = Some (codes "rules damaged")
+cause_text Memory = Some (codes "out of memory")
+cause_text NoThread = Some (codes "no thread")
+
+abbrev pub drop_by : ℕ → Option (List ℕ) → List ℕ
+drop_by serial None = []
+drop_by serial (Some cause) = codes "tcpserver: drop " ++ decimal serial ++ codes " " ++ cause ++ codes "\n"
+
+abbrev pub drop_text : ℕ → DropCause → List ℕ
+drop_text serial cause = drop_by serial (cause_text cause)
+
+-- the words for a fault of a start; none is that of a child that gave no pipe ends
+abbrev pub fault_text : Option StartFault → List ℕ
+fault_text (Some NotFound) = codes "not found"
+fault_text (Some Refused) = codes "refused"
+fault_text (Some Other) = codes "failed"
+fault_text (Some OutOfMemory) = codes "out of memory"
+fault_text None = codes "no pipe ends"
+
+abbrev pub start_text : ℕ → Option StartFault → List ℕ
+start_text serial fault = codes "tcpserver: start " ++ decimal serial ++ codes " " ++ fault_text fault ++ codes "\n"
+
+abbrev pub full_text : List ℕ → List ℕ
+full_text ip = codes "tcpserver: drop " ++ ipv4_text ip ++ codes " address full\n"

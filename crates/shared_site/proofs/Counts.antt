@@ -1,0 +1,31 @@
+-- What a turn makes of the number of events, after its caller spoke: one more or none.
+use Rattle.std.proofs.Common.{◌≡◌, ℕ, List, ap, inl, inr, ◌∙◌}
+use Rattle.std.specs.Prelude.{None, Option, Some}
+use Rattle.event_journals.specs.Journals.{one_more}
+use Rattle.event_journals.specs.declared.journal.Noted.{Noted}
+use Rattle.server_events.specs.declared.event.Event.{Event}
+use Rattle.server_events.specs.declared.report.Report.{Report}
+use Rattle.server_yard.specs.Rolls.{IsQuiet, Notes, NotesSome, Roll}
+use Rattle.shared_site.specs.Receipts.{CountsAtMostOne}
+use Rattle.shared_site.specs.Turns.{spoken_by}
+
+-- an event that is noted is one more
+pub one_counted : (who : ℕ) (event : Event) (old mid new : Roll)
+    → mid ≡ spoken_by who old → Notes event mid new → CountsAtMostOne old.books.count new.books.count
+one_counted who event old mid new speaks noted =
+    inr (noted.counts ∙ ap (λ (r : Roll). one_more r.books.count) speaks)
+
+-- to speak is none
+pub none_counted : (who : ℕ) (old mid : Roll) → mid ≡ spoken_by who old → CountsAtMostOne old.books.count mid.books.count
+none_counted who old mid speaks = inl (ap (λ (r : Roll). r.books.count) speaks)
+
+-- and so is a call of which no event was noted
+pub quiet_counted : (who : ℕ) (old mid new : Roll)
+    → mid ≡ spoken_by who old → IsQuiet mid new → CountsAtMostOne old.books.count new.books.count
+quiet_counted who old mid new speaks quiet = inl (quiet.counts ∙ ap (λ (r : Roll). r.books.count) speaks)
+
+-- one event or none
+pub some_counted : (who : ℕ) (event : Option Event) (old mid new : Roll)
+    → mid ≡ spoken_by who old → NotesSome event mid new → CountsAtMostOne old.books.count new.books.count
+some_counted who None old mid new speaks noted = quiet_counted who old mid new speaks noted
+some_counted who (Some event) old mid new speaks noted = one_counted who event old mid new speaks noted

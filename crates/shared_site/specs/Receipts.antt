@@ -1,0 +1,47 @@
+-- What a caller has of an event: that it made it, or found it out of turn; and the receipt.
+use Rattle.std.specs.Prelude.{◌≡◌, ◌⊎◌, ℕ, Option, Some, None, Result, Ok, Err}
+use Rattle.event_journals.specs.Journals.{one_more}
+use Rattle.server_events.specs.declared.event.Event.{Event}
+use Rattle.server_events.specs.declared.event.Event.TheVariants.{Admitted, Decided}
+use Rattle.shared_site.specs.declared.receipt.EventSnapshot.{EventSnapshot}
+use Rattle.shared_site.specs.declared.receipt.Made.{Made}
+use Rattle.shared_site.specs.declared.receipt.OutOfTurn.{OutOfTurn}
+use Rattle.shared_site.specs.declared.receipt.Receipt.{Receipt}
+
+-- the receipt of a caller's event at a place, and of one that follows so many events
+abbrev pub receipt_at : ℕ → ℕ → Event → Receipt
+receipt_at at who event = record { caller = who; at = at; event = event; seal = tt }
+
+abbrev pub receipt_after : ℕ → ℕ → Event → Receipt
+receipt_after count who event = receipt_at (one_more count) who event
+
+-- the event that a snapshot shows
+abbrev pub shown_event : EventSnapshot → Event
+shown_event (EventSnapshot.Admitted serial peer) = Admitted serial.value peer.value
+shown_event (EventSnapshot.Decided serial decision) = Decided serial.value decision.value
+shown_event (EventSnapshot.Other event) = event.value
+
+-- the event that was made, and its receipt
+abbrev pub made_event : Made → Event
+made_event made = shown_event made.shown
+
+abbrev pub receipt_of : Made → Receipt
+receipt_of made = receipt_at made.at made.caller (made_event made)
+
+-- the event that was out of turn
+abbrev pub refused_event : OutOfTurn → Event
+refused_event refusal = shown_event refusal.asked
+
+-- a turn makes one event more or none; a journal that only counts stays at its last number
+abbrev pub CountsAtMostOne : (old new : ℕ) → Type 0
+CountsAtMostOne old new = (new ≡ old) ⊎ (new ≡ one_more old)
+
+-- one more where an event was made, and else none
+abbrev pub CountsMade : Option Made → (before after : ℕ) → Type 0
+CountsMade None before after = after ≡ before
+CountsMade (Some made) before after = after ≡ one_more before
+
+-- the caller with this number made this event, the next after so many; or it was out of turn, and no event was made
+abbrev pub MakesOrNot : Event → (who before : ℕ) → Result Made OutOfTurn → (after : ℕ) → Type 0
+MakesOrNot event who before (Ok made) after = (receipt_of made ≡ receipt_after before who event) × (after ≡ one_more before)
+MakesOrNot event who before (Err refusal) after = (refused_event refusal ≡ event) × (after ≡ before)

@@ -1,0 +1,79 @@
+//! Receipts against the history.
+ghost use Rattle.std.specs.Prelude.{◌≡◌, ◌↔◌, ◌<◌, IsTrue, IfErr, OnOk, length};
+ghost use Rattle.event_journals.specs.Full.{full_events, full_notes};
+ghost use Rattle.server_yard.specs.Yards.{yard_journal};
+ghost use Rattle.shared_site.specs.Audits.{AreRight, AreRightBefore, IsAbove, IsFirstWrong, IsRight, Rise, StandsAtItsPlace};
+
+use crate::receipt::Receipt;
+use dir_calls::Dir;
+use event_journals::{Full, is_same_event};
+use server_yard::{Assumptions, Yard};
+use thiserror::Error;
+
+/// The first receipt that is wrong, counted from 0.
+#[derive(Clone, Copy, PartialEq, Eq, Debug, Error)]
+#[error("receipt {0} is wrong")]
+pub struct Mismatch(pub usize);
+
+/// Whether each receipt is the event and the caller at its place in the history, and above its caller's earlier ones in the list. Then
+/// no place stands in the list twice.
+///
+/// It takes no memory. For each receipt it goes back in the list to its caller's last one before: at most as many steps as there are
+/// receipts for each caller, and few where each caller's stand together.
+///
+/// The history is stored as it is counted, so that a number of events that is known, as `Site::close` tells it, is that of the notes.
+///
+/// # Errors
+/// The first receipt that isn't.
+pub fn audit<L: Assumptions, D: Dir + Drop>(
+    yard: &Yard<L, D, Full>,
+    receipts: &[Receipt],
+) -> Result<(), Mismatch>
+    ensures ok { OnOk result (AreRight (full_notes (yard_journal yard.now)) receipts.now) }
+    ensures wrong { IfErr result (λ m. IsFirstWrong (full_notes (yard_journal yard.now)) receipts.now m.0) }
+    ensures counted { full_events (yard_journal yard.now) ≡ length (full_notes (yard_journal yard.now)) }
+{
+    yard.history();
+    // this tells the proof that they fit into 64 bits
+    let _ = yard.journal().stored();
+    for i in 0..receipts.len() {
+        if !is_right(yard.journal(), receipts, i) {
+            return Err(Mismatch(i));
+        }
+    }
+    Ok(())
+}
+
+fn is_right(journal: &Full, receipts: &[Receipt], i: usize) -> bool
+    requires within { i < length receipts.now }
+    requires others { AreRightBefore (full_notes journal.now) receipts.now i }
+    ensures { IsTrue result ↔ IsRight (full_notes journal.now) receipts.now i }
+{
+    let receipt = &receipts[i];
+    stands_at_its_place(journal, receipt) && is_above(&receipts[..i], receipt)
+}
+
+fn stands_at_its_place(journal: &Full, receipt: &Receipt) -> bool
+    ensures { IsTrue result ↔ StandsAtItsPlace (full_notes journal.now) receipt.now }
+{
+    match journal.get(receipt.at) {
+        Some(note) => note.caller == receipt.caller && is_same_event(&note.event, &receipt.event),
+        None => false,
+    }
+}
+
+// Whether a place is above those of its caller's earlier ones, which rise: above the last of them is enough.
+fn is_above(earlier: &[Receipt], receipt: &Receipt) -> bool
+    requires { Rise earlier.now }
+    ensures { IsTrue result ↔ IsAbove earlier.now receipt.now }
+{
+    let mut left = earlier.len();
+    while left > 0 {
+        left -= 1;
+        let one = &earlier[left];
+        if one.caller == receipt.caller {
+            return one.at < receipt.at;
+        }
+    }
+    true
+}

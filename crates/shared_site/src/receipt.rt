@@ -1,0 +1,91 @@
+//! What a caller has of an event that it asked for.
+ghost use Rattle.std.specs.Prelude.{◌≡◌};
+
+use connection_facts::Peer;
+use rule_lookup::Decision;
+use server_events::Event;
+use std::snapshot::Snapshot;
+
+/// An event as clauses see it, without what it owns: it takes no memory, and nothing is copied for it.
+#[derive(Drop)]
+pub enum EventSnapshot {
+    /// A connection with this serial and this peer was let in.
+    Admitted(Snapshot<u64>, Snapshot<Peer>),
+    /// The connection with this serial was decided so.
+    Decided(Snapshot<u64>, Snapshot<Decision>),
+    /// Any event that owns nothing.
+    Other(Snapshot<Event>),
+}
+
+impl EventSnapshot {
+    ghost use Rattle.shared_site.specs.Receipts.{shown_event};
+
+    /// An event that is at hand.
+    pub(crate) fn of(event: &Event) -> EventSnapshot
+        ensures { shown_event result ≡ event.now }
+    {
+        EventSnapshot::Other(Snapshot::of(event))
+    }
+}
+
+/// That a caller made an event, at a place of the history. Only the calls of `turns` make one. Who audits makes its receipt of it.
+#[derive(Drop)]
+pub struct Made {
+    pub(crate) caller: u64,
+    pub(crate) at: u64,
+    pub(crate) shown: EventSnapshot,
+}
+
+impl Made {
+    ghost use Rattle.shared_site.specs.Receipts.{made_event, receipt_of};
+
+    /// The event's place in the whole history of the yard, from 1.
+    pub fn at(&self) -> u64
+        ensures { result ≡ (receipt_of self.now).at }
+    {
+        self.at
+    }
+
+    /// Its receipt, by the event itself.
+    pub fn receipt(self, event: Event) -> Receipt
+        requires its_event { made_event self ≡ event }
+        ensures { result ≡ receipt_of self }
+    {
+        Receipt {
+            caller: self.caller,
+            at: self.at,
+            event,
+            seal: (),
+        }
+    }
+}
+
+/// Which event a caller made, and where it stands in the history. It is made of what `turns` answered alone.
+#[derive(Debug, Drop)]
+pub struct Receipt {
+    /// The caller's number, from 1.
+    pub caller: u64,
+    /// The event's place in the whole history of the yard, from 1.
+    pub at: u64,
+    /// What happened.
+    pub event: Event,
+    // nobody else makes a receipt
+    pub(crate) seal: (),
+}
+
+/// That an event that a caller asked for was out of turn, and did not happen. Only the calls of `turns` make one.
+#[derive(Drop)]
+pub struct OutOfTurn {
+    asked: EventSnapshot,
+}
+
+impl OutOfTurn {
+    ghost use Rattle.shared_site.specs.Receipts.{refused_event, shown_event};
+
+    /// That this event was.
+    pub(crate) fn of(asked: EventSnapshot) -> OutOfTurn
+        ensures { refused_event result ≡ shown_event asked }
+    {
+        OutOfTurn { asked }
+    }
+}

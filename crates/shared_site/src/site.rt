@@ -1,0 +1,185 @@
+//! A yard under one lock, for many threads.
+ghost use Rattle.std.specs.Prelude.{◌≡◌, ◌+◌, ◌<◌, ◌↔◌, IsOk, IfOk, IfErr, vec_len};
+ghost use Rattle.server_yard.specs.Yards.{yard_books};
+ghost use Rattle.shared_site.specs.Callers.{AreNew, CountsForIts, total_share};
+
+use crate::caller::{Caller, Callers};
+use crate::guarded::Guarded;
+use crate::turn::Turn;
+use dir_calls::Dir;
+use event_journals::Journal;
+use server_yard::{Assumptions, Yard};
+use std::alloc::{AllocError, Global};
+use std::sync::ledger::{Blank, Share};
+use std::sync::{Condvar, Mutex, Wait};
+
+/// Why nobody has to wait for a place any longer.
+#[derive(Clone, Copy, PartialEq, Eq, Debug)]
+pub enum Room {
+    /// Fewer connections are alive than may be.
+    Free,
+    /// All places are retired, and none will ever be free.
+    AllRetired,
+}
+
+/// A yard that many threads call, each with a caller of its own, one turn after another: each event is that of one turn.
+#[derive(Drop)]
+pub struct Site<L: Assumptions, N: Callers, D: Dir + Drop, J: Journal> {
+    guarded: Mutex<Guarded<L, N, D, J>>,
+    freed: Condvar,
+    callers: u64,
+    ghost all: { callers ≡ N.all },
+    ghost some: { 0 < callers },
+}
+
+impl<L: Assumptions, N: Callers, D: Dir + Drop, J: Journal> Site<L, N, D, J> {
+    /// A site with so many callers, numbered from 1, each with a share of 0. `blank` has as many parts.
+    ///
+    /// # Errors
+    /// There was no memory. The yard is handed back.
+    pub fn new(
+        alloc: Global,
+        blank: Blank,
+        yard: Yard<L, D, J>,
+        callers: u64,
+    ) -> Result<(Site<L, N, D, J>, Vec<Caller<N>>), (Yard<L, D, J>, AllocError)>
+        requires name { blank.name ≡ N.name }
+        requires parts { (blank.parts ≡ N.parts) × (blank.parts ≡ callers) × (N.all ≡ callers) }
+        requires some { 0 < callers }
+        requires before { N.before ≡ (yard_books yard).count }
+        ensures callers { IfOk result (λ r. AreNew callers r.1.items) }
+        ensures back { IfErr result (λ r. r.0 ≡ yard) }
+    {
+        let (events, mut rest) = blank.open::<N>();
+        let made = match make_callers(alloc, &mut rest, callers) {
+            Ok(made) => made,
+            Err(error) => return Err((yard, error)),
+        };
+        let site = Site {
+            guarded: Mutex::new(Guarded { yard, events }),
+            freed: Condvar::new(),
+            callers,
+        };
+        Ok((site, made))
+    }
+
+    /// A turn of a caller: waits for the lock, runs it on the yard with the caller's number, and lets go. The caller's share grows by its event, if
+    /// it makes one. Those who wait for room are woken where there is some since then; nobody waits for anything else under the lock than the
+    /// turn itself does.
+    pub fn turn<R: Wait, T: Turn<L, D, J>>(
+        &self,
+        rt: &R,
+        caller: &mut Caller<N>,
+        turn: T,
+    ) -> T::Answer
+        requires may { T.may turn }
+        ensures counted { CountsForIts (T.answers turn) result caller.old caller.new }
+    {
+        let (answer, makes_room) = turn_under(&mut self.guarded.lock(rt), caller, turn);
+        if makes_room {
+            self.freed.notify_all();
+        }
+        answer
+    }
+
+    /// How many connections are alive, retired ones too.
+    pub fn live<R: Wait>(&self, rt: &R) -> u64 {
+        self.guarded.lock(rt).yard.live()
+    }
+
+    /// Waits until fewer connections are alive than may be, or all places are retired. It is no event.
+    pub fn room<R: Wait>(&self, rt: &R) -> Room {
+        let guarded = self
+            .freed
+            .wait_while(rt, self.guarded.lock(rt), |guarded| guarded.is_taken());
+        if guarded.yard.live() < guarded.yard.limit() {
+            Room::Free
+        } else {
+            Room::AllRetired
+        }
+    }
+
+    /// The yard, once all callers are back. Its history is then as long as it was when the site was made, and all shares together.
+    ///
+    /// # Errors
+    /// They aren't all of them. The site and the callers are handed back.
+    pub fn close(
+        self,
+        callers: Vec<Caller<N>>,
+    ) -> Result<Yard<L, D, J>, (Site<L, N, D, J>, Vec<Caller<N>>)>
+        requires parts { N.all ≡ N.parts }
+        ensures all { IsOk result ↔ (vec_len callers ≡ N.all) }
+        ensures history { IfOk result (λ yard. (yard_books yard).count ≡ N.before + total_share callers.items) }
+        ensures back { IfErr result (λ r. (r.0 ≡ self) × (r.1 ≡ callers)) }
+    {
+        if callers.len() as u64 != self.callers {
+            return Err((self, callers));
+        }
+        let Site {
+            guarded,
+            freed: _,
+            callers: _,
+        } = self;
+        let Guarded { yard, mut events } = guarded.into_inner();
+        let mut all = merged(callers);
+        events.audit(&mut all);
+        Ok(yard)
+    }
+}
+
+// A turn, and whether it made room where there was none.
+fn turn_under<L: Assumptions, N: Callers, D: Dir + Drop, J: Journal, T: Turn<L, D, J>>(
+    guarded: &mut Guarded<L, N, D, J>,
+    caller: &mut Caller<N>,
+    turn: T,
+) -> (T::Answer, bool)
+    requires may { T.may turn }
+    ensures counted { CountsForIts (T.answers turn) result.0 caller.old caller.new }
+{
+    let was_taken = guarded.is_taken();
+    let answer = guarded.turn(caller, turn);
+    (answer, was_taken && !guarded.is_taken())
+}
+
+// So many callers, each with one part and a share of 0.
+#[tactic(auto, using(crate::proofs::Counting::new_more))]
+fn make_callers<N: Callers>(
+    alloc: Global,
+    rest: &mut Share<N>,
+    count: u64,
+) -> Result<Vec<Caller<N>>, AllocError>
+    requires { (rest.old.parts ≡ count) × (rest.old.amount ≡ 0) }
+    ensures { IfOk result (λ callers. AreNew count callers.items) }
+{
+    let mut callers = Vec::new(alloc);
+    for k in 0..count {
+        let share = rest.split_off(1, 0);
+        callers.push(Caller {
+            number: k + 1,
+            share,
+        })?;
+    }
+    Ok(callers)
+}
+
+// All callers' parts and amounts in one share.
+fn merged<N: Callers>(callers: Vec<Caller<N>>) -> Share<N>
+    requires { 0 < vec_len callers }
+    ensures parts { result.parts ≡ vec_len callers }
+    ensures amount { result.amount ≡ total_share callers.items }
+{
+    let mut callers = callers;
+    let Some(
+        Caller {
+            number: _,
+            share: mut all,
+        },
+    ) = callers.pop()
+    else {
+        unreachable!()
+    };
+    while let Some(Caller { number: _, share }) = callers.pop() {
+        all.merge(share);
+    }
+    all
+}

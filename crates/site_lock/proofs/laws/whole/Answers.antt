@@ -1,5 +1,0 @@
-use Rattle.site_turns.proofs.Auditing.{whole_history}
-use Rattle.site_lock.proofs.laws.whole.Goals as goal
-
-pub returns : goal.returns
-returns c = λ notes receipts before right as_many others. whole_history notes receipts before right as_many others

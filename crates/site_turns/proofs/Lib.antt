@@ -1,3 +1,0 @@
-pub mod Spoken
-pub mod Placed
-pub mod Auditing

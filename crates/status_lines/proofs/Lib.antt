@@ -1,3 +1,0 @@
--- Lemmas on fields.
-pub mod CutParts
-pub mod FieldTexts

@@ -1,7 +1,0 @@
-use Rattle.std.proofs.Common.{◌≡◌, ◌++◌, map, take}
-use Rattle.status_lines.specs.Texts.{mark}
-use Rattle.status_lines.proofs.fields.push_marked.Given as goal
-
--- the bytes so far stand there, marked
-abbrev pub invariant-loop-byte : goal.invariant-loop-byte
-invariant-loop-byte l = l.out.items ≡ l.initial.out.items ++ map mark (take l.byte-index l.printed)

@@ -1,2 +1,0 @@
--- The lines of the server's log.
-pub mod Texts

@@ -1,0 +1,97 @@
+//! `recordio`: a program both of whose streams are recorded.
+ghost use Rattle.std.specs.Prelude.{◌≡◌, ◌⊎◌, IfErr, IfOk, codes};
+ghost use Rattle.byte_streams.specs.declared.tap.Recorder.{Recorder};
+ghost use Rattle.connection_facts.specs.Peers.{given};
+ghost use Rattle.ucspi_env.specs.Variables.{value_of};
+ghost use Rattle.byte_streams.specs.declared.stages.FixCr.{FixCr};
+ghost use Rattle.byte_streams.specs.declared.recording.Way.TheVariants.{Input, Output};
+ghost use Rattle.stream_tools.specs.Lanes.{Drained, Fed, IsNotStarted, IsRecording, IsRunOf};
+ghost use Rattle.stream_tools.specs.Programs.{recorder_number};
+ghost use Rattle.stream_tools.specs.declared.between.Lane.{Lane};
+
+use crate::between::{BetweenFault, Lane, RunEnd, run_between};
+use byte_streams::{Chain, FixCr, LineStage, Recorder, Tap, Watch, Way};
+use child_jobs::{Job, Launcher, Program};
+use server_words::number_in;
+use std::alloc::Global;
+use std::io::{Read, Write};
+use std::sync::Wait;
+use std::thread::Threads;
+use ucspi_env::Environment;
+
+/// `recordio`: runs a program between two streams, and records what goes by on two writers, with the number that is the peer's port among
+/// the variables.
+///
+/// # Errors
+/// As of `run_between`.
+pub fn record_between<H, L, I, O, W, F>(
+    rt: &H,
+    alloc: Global,
+    launcher: L,
+    run: (&Program, &Environment),
+    streams: (I, O),
+    errors: (W, W),
+    watch: F,
+) -> Result<RunEnd, BetweenFault>
+where
+    H: Threads + Wait + Sync,
+    F: FnOnce(&<L::Job as Job>::Input) -> Option<Watch>,
+    L: Launcher,
+    <L::Job as Job>::Input: Send + Drop,
+    <L::Job as Job>::Output: Drop,
+    I: Read + Send + Drop,
+    O: Write + Drop,
+    W: Write + Send + Drop,
+    requires { F.IsAlwaysCallable watch }
+    ensures ended { IfOk result (λ end. (job : L.Job)
+        × IsRunOf L.Job.program L.Job.environment run.entry.0.now run.entry.1.now job × L.Job.ended job end.status) }
+    ensures input { IfOk result (λ end. (lane : Lane I FixCr (Recorder W))
+        × IsRecording (recorder_number (value_of run.entry.1.now (codes "TCPREMOTEPORT"))) Input errors.0 streams.0 lane
+        × Fed F.FnOnce I.remaining L.Job.Input.contents ⟦<FixCr as LineStage>⟧.rest
+        ⟦<Recorder<W> as Tap>⟧.watches ⟦<Recorder<W> as Tap>⟧.sees ⟦<Recorder<W> as Tap>⟧.ends watch lane end.pumps.input) }
+    ensures output { IfOk result (λ end. (lane : Lane O FixCr (Recorder W))
+        × IsRecording (recorder_number (value_of run.entry.1.now (codes "TCPREMOTEPORT"))) Output errors.1 streams.1 lane
+        × Drained L.Job.Output.remaining O.contents ⟦<FixCr as LineStage>⟧.rest
+        ⟦<Recorder<W> as Tap>⟧.watches ⟦<Recorder<W> as Tap>⟧.sees ⟦<Recorder<W> as Tap>⟧.ends lane end.pumps.output) }
+    ensures fault { IfErr result (λ why. IsNotStarted L.refuses launcher run.entry.0.now run.entry.1.now why
+        ⊎ ((job : L.Job) × IsRunOf L.Job.program L.Job.environment run.entry.0.now run.entry.1.now job)) }
+{
+    let number = number_told(run.1);
+    let input = record_lane(alloc, streams.0, number, Way::Input, errors.0);
+    let output = record_lane(alloc, streams.1, number, Way::Output, errors.1);
+    run_between(rt, alloc, launcher, run, (input, output), watch)
+}
+
+/// A lane over a stream that changes nothing, which is recorded with this number and way.
+fn record_lane<E, W: Write>(
+    alloc: Global,
+    stream: E,
+    number: u64,
+    way: Way,
+    errors: W,
+) -> Lane<E, FixCr, Recorder<W>>
+    ensures { IsRecording number way errors stream result }
+{
+    Lane {
+        stream,
+        chain: Chain::new(alloc, Vec::new(alloc)),
+        tap: Recorder::new(alloc, number, way, errors),
+    }
+}
+
+/// The number of a recorder, by the peer's port among these variables.
+fn number_told(variables: &Environment) -> u64
+    ensures { result ≡ recorder_number (value_of variables.now (codes "TCPREMOTEPORT")) }
+{
+    recorder_number(variables.get("TCPREMOTEPORT"))
+}
+
+/// The number of a recorder, by the text of the peer's port: 0 where that is no port.
+fn recorder_number(port: Option<&str>) -> u64
+    ensures { result ≡ recorder_number (given port.entry) }
+{
+    match port {
+        Some(text) if text.len() <= 5 => number_in(text, 0, 65535).unwrap_or(0),
+        _ => 0,
+    }
+}

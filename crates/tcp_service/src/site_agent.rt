@@ -1,0 +1,469 @@
+//! The agent of one connection: its calls are turns of one caller of a site, and each event is told to the log before its turn is over.
+ghost use Rattle.std.specs.Prelude.{◌≡◌, None};
+
+use crate::opening::{Rules, RulesHandle};
+use byte_text::words_of_error;
+use child_jobs::{Job, Place, Plan, Running};
+use connection_facts::{DropCause, Peer, StartFault, Status};
+use dir_calls::Dir;
+use event_journals::Journal;
+use one_connection::{Agent, cause_of_open, decide_by_pass};
+use rule_lookup::{DecideFault, Decision};
+use server_log::{Cause, Log, Told};
+use server_yard::{Assumptions, Finding, Pass, Yard};
+use shared_site::turn::{Decided, Dropped, Ended, Opened, Retired, StartFailed, Started};
+use shared_site::{Caller, Callers, Made, OutOfTurn, Site, Turn};
+use std::alloc::Global;
+use std::io::Write;
+use std::snapshot::Snapshot;
+use std::sync::{Mutex, Wait};
+use tcp_connections::Endings;
+use ucspi_env::Local;
+
+/// What an agent has of its site: each of its calls is a turn of one caller, which agents share. The event is made in turn, or it was not its turn; the
+/// last answer is kept, which says how far the connection has come, and what was found when the rules were opened.
+///
+/// The rules are opened by a handle of the connection's own, before the site is asked: no other connection waits meanwhile. Where the assumptions are
+/// met the file that was found is compiled of rules.
+#[derive(Drop)]
+pub struct SiteAgent<
+    'a,
+    L: Assumptions,
+    N: Callers,
+    D: Dir + Drop,
+    J: Journal,
+    R,
+    O: Rules<L, D::File>,
+> {
+    rt: &'a R,
+    site: &'a Site<L, N, D, J>,
+    caller: &'a Mutex<Caller<N>>,
+    rules: &'a O,
+    serial: u64,
+    // what the connection opened the rules by
+    handle: Option<O::Handle>,
+    // and what it found
+    found: Option<Snapshot<Pass<L, D::File>>>,
+    // what the site answered last
+    last: Option<Result<Made, OutOfTurn>>,
+}
+
+impl<'a, L, N, D, J, R, O> SiteAgent<'a, L, N, D, J, R, O>
+where
+    L: Assumptions,
+    N: Callers,
+    D: Dir + Drop,
+    J: Journal,
+    R: Wait,
+    O: Rules<L, D::File>,
+{
+    /// What the connection with this serial has of this caller and these rules. Nothing was asked for it yet.
+    pub fn new(
+        rt: &'a R,
+        site: &'a Site<L, N, D, J>,
+        caller: &'a Mutex<Caller<N>>,
+        rules: &'a O,
+        serial: u64,
+    ) -> SiteAgent<'a, L, N, D, J, R, O>
+        ensures own { result.serial ≡ serial }
+        ensures unasked { result.last ≡ None }
+    {
+        SiteAgent {
+            rt,
+            site,
+            caller,
+            rules,
+            serial,
+            handle: None,
+            found: None,
+            last: None,
+        }
+    }
+}
+
+// A turn whose event is told to the log before it is over: so lines stand in the order of events. A line that can't be written is left out.
+struct Telling<'a, T, R, W> {
+    turn: T,
+    told: Told<'a>,
+    rt: &'a R,
+    log: &'a Mutex<Log<W>>,
+}
+
+impl<L, D, J, T, R, W> Turn<L, D, J> for Telling<'_, T, R, W>
+where
+    L: Assumptions,
+    D: Dir + Drop,
+    J: Journal,
+    T: Turn<L, D, J, Answer = Result<Made, OutOfTurn>>,
+    R: Wait,
+    W: Write,
+{
+    type Answer = Result<Made, OutOfTurn>;
+
+    ghost may = { λ telling. T.may telling.turn };
+
+    ghost answers = { λ telling. T.answers telling.turn };
+
+    fn run(self, yard: &mut Yard<L, D, J>, caller: u64) -> Result<Made, OutOfTurn> {
+        let Telling {
+            turn,
+            told,
+            rt,
+            log,
+        } = self;
+        let answer = turn.run(yard, caller);
+        if let Ok(made) = &answer {
+            let _ = log.lock(rt).tell(made.at(), yard.live(), told);
+        }
+        answer
+    }
+}
+
+impl<L, N, D, J, R, O> SiteAgent<'_, L, N, D, J, R, O>
+where
+    L: Assumptions,
+    N: Callers,
+    D: Dir + Drop,
+    J: Journal,
+    R: Wait,
+    O: Rules<L, D::File>,
+{
+    ghost use Rattle.std.specs.Prelude.{◌≡◌, ◌-◌, ◌^◌, Some, true, IfErr, IfOk, OnErr, is_some};
+    ghost use Rattle.one_connection.specs.Openings.{FailsToOpen, kept_opening, opening_of};
+    ghost use Rattle.server_events.specs.declared.event.Event.TheVariants as event;
+    ghost use Rattle.server_yard.specs.Passes.{pass_file, pass_serial};
+    ghost use Rattle.tcp_service.specs.SiteAgents.{IsAnswer, made};
+
+    // A turn of the caller.
+    fn turn<T: Turn<L, D, J>>(&self, turn: T) -> T::Answer
+        requires may { T.may turn }
+        ensures answered { IsAnswer (T.answers turn) result }
+    {
+        let mut caller = self.caller.lock(self.rt);
+        self.site.turn(self.rt, &mut caller, turn)
+    }
+
+    // The connection has found this. Out of turn counts as a fault of the directory.
+    fn opened(
+        &mut self,
+        serial: u64,
+        finding: Finding<L, D::File>,
+    ) -> Result<Pass<L, D::File>, DropCause>
+        ensures its { IfOk result (λ pass. pass_serial pass ≡ serial) }
+        ensures keeps { IfOk result (λ pass. kept_opening D.File.bytes self.new.found ≡ Some (opening_of D.File.bytes pass)) }
+        ensures told { IfOk result (λ pass. made self.new.last ≡ Some (event.Opened serial (is_some (pass_file pass)))) }
+        ensures refused { OnErr result (self.new.last ≡ self.old.last) }
+        ensures own { self.new.serial ≡ self.old.serial }
+        ensures cause { IfErr result (FailsToOpen true (2 ^ 64 - 1) (2 ^ 64 - 1)) }
+    {
+        let turn: Opened<L, D> = Opened { serial, finding };
+        match self.turn(turn) {
+            Some((pass, made)) => {
+                self.found = Some(Snapshot::of(&pass));
+                self.last = Some(Ok(made));
+                Ok(pass)
+            }
+            None => Err(DropCause::Directory),
+        }
+    }
+}
+
+// What the log tells of why a connection was given up: what the system was asked for, or what is damaged, and how that failed.
+#[derive(Drop)]
+enum Reason {
+    // the rules could not be opened or read; the system's words
+    Rules(String),
+    // the rule with this address is damaged
+    Rule(String),
+}
+
+impl Reason {
+    fn cause<'a>(&'a self, rules: &'a str) -> Cause<'a> {
+        match self {
+            Reason::Rules(why) => Cause::new(rules.as_bytes(), why.as_str()),
+            Reason::Rule(address) => Cause::new(address.as_bytes(), "damaged rule"),
+        }
+    }
+}
+
+/// The agent of one connection, with a log.
+#[derive(Drop)]
+pub struct LoggedAgent<'a, K, R, W> {
+    /// The runtime.
+    pub rt: &'a R,
+    /// What gives memory.
+    pub alloc: Global,
+    /// What it has of its site.
+    pub agent: K,
+    /// The log.
+    pub log: &'a Mutex<Log<W>>,
+    /// The connection's serial number.
+    pub serial: u64,
+    /// The server's end of the connection.
+    pub local: &'a Local,
+    /// What connections are served by.
+    pub plan: &'a Plan,
+    /// The path of the rules file as it was given.
+    pub rules: &'a str,
+    /// The system's number of the error by which it refused the program, if it did.
+    pub refusal: &'a Mutex<Option<i32>>,
+}
+
+impl<L, N, D, J, R, O, W> LoggedAgent<'_, SiteAgent<'_, L, N, D, J, R, O>, R, W>
+where
+    L: Assumptions,
+    N: Callers,
+    D: Dir + Drop,
+    J: Journal,
+    R: Wait,
+    O: Rules<L, D::File>,
+{
+    // Why the rules could not be opened or read, or which rule is damaged.
+    fn reason_of(&self, cause: DropCause, peer: &Peer) -> Option<Reason> {
+        match cause {
+            DropCause::Directory | DropCause::ReadFault => {
+                let error = self.agent.handle.as_ref()?.error()?;
+                Some(Reason::Rules(words_of_error(self.alloc, error).ok()?))
+            }
+            DropCause::Damaged => {
+                let address = self.agent.rules.damaged_rule(self.alloc, peer)?;
+                Some(Reason::Rule(address))
+            }
+            _ => None,
+        }
+    }
+}
+
+impl<L, N, D, J, R, O, W, C> Endings<L, C>
+    for LoggedAgent<'_, SiteAgent<'_, L, N, D, J, R, O>, R, W>
+where
+    L: Assumptions,
+    N: Callers,
+    D: Dir + Drop,
+    J: Journal,
+    R: Wait,
+    O: Rules<L, D::File>,
+    W: Write,
+    C: Job,
+{
+    ghost use Rattle.std.specs.Prelude.{◌≡◌, Some};
+    ghost use Rattle.server_events.specs.declared.event.Event.TheVariants as event;
+    ghost use Rattle.tcp_service.specs.SiteAgents.{asked};
+
+    type Place = Place<L>;
+
+    type Child = Running<L, C>;
+
+    ghost tells_end = { λ _ serial status after. asked after.agent.last ≡ Some (event.Ended serial status) };
+
+    ghost tells_retired = { λ _ serial after. asked after.agent.last ≡ Some (event.Retired serial) };
+
+    #[tactic(auto, using(crate::proofs::Asked::asked_for))]
+    fn ended(&mut self, place: Place<L>, serial: u64, status: Status) {
+        let turn = Ended {
+            serial,
+            place,
+            status,
+        };
+        let told = Told::Ended { serial, status };
+        let (rt, log) = (self.rt, self.log);
+        let answer = self.agent.turn(Telling {
+            turn,
+            told,
+            rt,
+            log,
+        });
+        self.agent.last = Some(answer);
+    }
+
+    #[tactic(auto, using(crate::proofs::Asked::asked_for))]
+    fn retired(&mut self, running: Running<L, C>, serial: u64) {
+        let turn = Retired { serial, running };
+        let told = Told::Retired { serial };
+        let (rt, log) = (self.rt, self.log);
+        let answer = self.agent.turn(Telling {
+            turn,
+            told,
+            rt,
+            log,
+        });
+        self.agent.last = Some(answer);
+    }
+}
+
+impl<L, N, D, J, R, O, W> Agent<L> for LoggedAgent<'_, SiteAgent<'_, L, N, D, J, R, O>, R, W>
+where
+    L: Assumptions,
+    N: Callers,
+    D: Dir + Drop,
+    J: Journal,
+    R: Wait,
+    O: Rules<L, D::File>,
+    W: Write,
+{
+    ghost use Rattle.std.specs.Prelude.{◌≡◌, ◌-◌, ◌^◌, true, false, Some, IfOk, IfErr, OnOk, OnErr};
+    ghost use Rattle.one_connection.specs.Openings.{Decides, FailsToDecide, RefusesDecision, kept_opening, opening_of};
+    ghost use Rattle.server_events.specs.declared.event.Event.TheVariants as event;
+    ghost use Rattle.server_events.specs.declared.event.Stage.TheVariants as stage;
+    ghost use Rattle.server_yard.specs.Passes.{IsDecidedBy, pass_missing, pass_serial};
+    ghost use Rattle.tcp_service.specs.SiteAgents.{FindsWhole, IsGoneBy, IsMissingBy, StandsBy, asked};
+
+    type Place = Place<L>;
+
+    type Pass = Pass<L, D::File>;
+
+    ghost index = { λ place. place };
+
+    ghost opening = { λ pass. opening_of D.File.bytes pass };
+
+    ghost serial = { λ pass. pass_serial pass };
+
+    ghost honest = { D.File.honest };
+
+    ghost sound = { D.File.sound };
+
+    ghost stands = { λ logged _ serial _ at. StandsBy logged.agent.last logged.agent.serial serial at };
+
+    ghost is_gone = { λ logged serial. IsGoneBy logged.agent.last serial };
+
+    ghost finds = { λ _ found. FindsWhole L.met found };
+
+    ghost found = { λ logged. kept_opening D.File.bytes logged.agent.found };
+
+    ghost tells = { λ _ event after. asked after.agent.last ≡ Some event };
+
+    ghost tells_by = { λ _ _ event after. asked after.agent.last ≡ Some event };
+
+    ghost still = { λ logged after. after.agent.last ≡ logged.agent.last };
+
+    ghost is_missing = { λ logged missing. IsMissingBy (kept_opening D.File.bytes logged.agent.found) missing };
+
+    ghost failures = { λ _. 2 ^ 64 - 1 };
+
+    ghost is_shared = { true };
+
+    fn open(
+        &mut self,
+        alloc: Global,
+        _place: &Place<L>,
+        serial: u64,
+        _peer: &Peer,
+    ) -> Result<Pass<L, D::File>, DropCause> {
+        let Ok(mut handle) = self.agent.rules.handle(alloc) else {
+            return Err(DropCause::Memory);
+        };
+        let found = handle.open(alloc);
+        self.agent.handle = Some(handle);
+        match found {
+            Ok(finding) => self.agent.opened(serial, finding),
+            Err(fault) => Err(cause_of_open(fault)),
+        }
+    }
+
+    fn decide(alloc: Global, pass: &Pass<L, D::File>, peer: &Peer) -> Result<Decision, DecideFault>
+        ensures decided { IfOk result (Decides D.File.honest D.File.sound (opening_of D.File.bytes pass.now) peer.now) }
+        ensures refused { IfErr result
+            (FailsToDecide D.File.honest D.File.sound (opening_of D.File.bytes pass.now) peer.now) }
+    {
+        decide_by_pass(alloc, pass, peer)
+    }
+
+    fn decided(
+        &mut self,
+        _alloc: Global,
+        _place: &Place<L>,
+        pass: Pass<L, D::File>,
+        peer: &Peer,
+        decision: Decision,
+    ) -> Result<(), DropCause>
+        requires stands { StandsBy self.old.agent.last self.old.agent.serial (pass_serial pass) stage.Opened }
+        requires missing { IsMissingBy (kept_opening D.File.bytes self.old.agent.found) (pass_missing pass) }
+        requires decides { IsDecidedBy D.File.honest D.File.sound D.File.bytes pass peer.now decision }
+        ensures decided { OnOk result
+            (StandsBy self.new.agent.last self.new.agent.serial (pass_serial pass) (stage.Decided decision.verdict)) }
+        ensures told { OnOk result (asked self.new.agent.last ≡ Some (event.Decided (pass_serial pass) decision)) }
+        ensures refused { OnErr result (StandsBy self.new.agent.last self.new.agent.serial (pass_serial pass) stage.Opened) }
+        ensures quiet { OnErr result (self.new.agent.last ≡ self.old.agent.last) }
+        ensures cause { IfErr result (RefusesDecision true) }
+        ensures keeps { kept_opening D.File.bytes self.new.agent.found ≡ kept_opening D.File.bytes self.old.agent.found }
+        ensures failures { 2 ^ 64 - 1 ≡ 2 ^ 64 - 1 }
+    {
+        let told = Told::Decided {
+            serial: self.serial,
+            verdict: decision.verdict,
+            local: self.local,
+            peer,
+        };
+        let turn: Decided<'_, L, D> = Decided {
+            pass,
+            peer,
+            decision,
+        };
+        let (rt, log) = (self.rt, self.log);
+        let answer = self.agent.turn(Telling {
+            turn,
+            told,
+            rt,
+            log,
+        });
+        match answer {
+            Ok(made) => {
+                self.agent.last = Some(Ok(made));
+                Ok(())
+            }
+            Err(_) => Err(DropCause::Directory),
+        }
+    }
+
+    #[tactic(auto, using(crate::proofs::Asked::asked_for))]
+    fn started<C: Job>(&mut self, running: &Running<L, C>, serial: u64, _peer: &Peer) {
+        let answer = self.agent.turn(Started { serial, running });
+        self.agent.last = Some(answer);
+    }
+
+    #[tactic(auto, using(crate::proofs::Asked::asked_for))]
+    fn start_failed(&mut self, place: Place<L>, serial: u64, _peer: &Peer, fault: StartFault) {
+        let error = self.refusal.lock(self.rt).take();
+        let why = error.and_then(|error| words_of_error(self.alloc, error).ok());
+        let program = self.plan.program().path().as_bytes();
+        let cause = why.as_ref().map(|why| Cause::new(program, why.as_str()));
+        let told = Told::StartFailed {
+            serial,
+            fault,
+            cause,
+        };
+        let turn = StartFailed {
+            serial,
+            place,
+            fault,
+        };
+        let (rt, log) = (self.rt, self.log);
+        let answer = self.agent.turn(Telling {
+            turn,
+            told,
+            rt,
+            log,
+        });
+        self.agent.last = Some(answer);
+    }
+
+    #[tactic(auto, using(crate::proofs::Asked::asked_for))]
+    fn dropped(&mut self, place: Place<L>, serial: u64, peer: &Peer, cause: DropCause) {
+        let reason = self.reason_of(cause, peer);
+        let why = reason.as_ref().map(|reason| reason.cause(self.rules));
+        let told = Told::Dropped { serial, cause, why };
+        let turn = Dropped {
+            serial,
+            place,
+            cause,
+        };
+        let (rt, log) = (self.rt, self.log);
+        let answer = self.agent.turn(Telling {
+            turn,
+            told,
+            rt,
+            log,
+        });
+        self.agent.last = Some(answer);
+    }
+}

@@ -1,0 +1,139 @@
+//! Look-ups in a compiled file.
+ghost use Rattle.std.specs.Prelude.{[], false};
+
+use crate::words::next_number;
+use cdb_read::CdbFile;
+use dir_calls::{DeviceFault, MemFile, RulesFile};
+use rule_lines::{FindFault, PairSource};
+use std::alloc::Global;
+use std::cell::Cell;
+use std::env::Args;
+use test_parts::Answer;
+
+/// What a file was asked, and gave.
+#[derive(Drop)]
+struct Log {
+    reads: Cell<u64>,
+    bytes: Cell<usize>,
+}
+
+impl Log {
+    fn new() -> Log {
+        Log {
+            reads: Cell::new(0),
+            bytes: Cell::new(0),
+        }
+    }
+}
+
+/// A file in memory that notes what it gives: at most so many bytes at a time, and a fault at the read with this number, counted from 1.
+#[derive(Drop)]
+struct NotedFile<'a> {
+    file: MemFile,
+    log: &'a Log,
+    most: usize,
+    failing: u64,
+}
+
+impl RulesFile for NotedFile<'_> {
+    ghost bytes = { λ _. [] };
+
+    ghost honest = { false };
+
+    ghost sound = { false };
+
+    ghost sound_is_honest = { λ sound. sound };
+
+    fn len(&self) -> u64 {
+        self.file.len()
+    }
+
+    fn read_at(&self, place: u64, buf: &mut [u8]) -> Result<usize, DeviceFault> {
+        let read = self.log.reads.get().saturating_add(1);
+        self.log.reads.set(read);
+        if self.failing == read {
+            return Err(DeviceFault);
+        }
+        let room = buf.len().min(self.most);
+        let count = self.file.read_at(place, &mut buf[..room])?;
+        let given = self.log.bytes.get();
+        self.log.bytes.set(given.saturating_add(count));
+        Ok(count)
+    }
+}
+
+/// Looks a key up in a file of these bytes.
+fn look_up(
+    alloc: Global,
+    log: &Log,
+    bytes: &[u8],
+    most: usize,
+    failing: u64,
+    key: &str,
+) -> Result<Option<Vec<u8>>, FindFault> {
+    let source = CdbFile::new(NotedFile {
+        file: MemFile::new(Vec::from_slice(alloc, bytes)?),
+        log,
+        most,
+        failing,
+    });
+    source.find(alloc, key.as_bytes())
+}
+
+/// Adds what was found.
+fn append_value(found: Result<Option<Vec<u8>>, FindFault>, out: &mut Answer) {
+    match found {
+        Ok(Some(value)) => {
+            out.text("value ");
+            out.raw(&value);
+            out.text("\n");
+        }
+        Ok(None) => out.line("none"),
+        Err(fault) => out.show_line(&fault),
+    }
+}
+
+/// How many bytes a read gives at most, and which one fails, as the next words say.
+fn next_limits(words: &mut Args) -> Option<(usize, u64)> {
+    let most = next_number(words)?;
+    let failing = next_number(words)?;
+    Some((usize::try_from(most).unwrap_or(usize::MAX), failing))
+}
+
+/// What is found under a key, by reads of at most so many bytes, of which one may fail.
+pub fn append_found(alloc: Global, words: &mut Args, given: &[u8], out: &mut Answer) {
+    match (words.next(), next_limits(words)) {
+        (Some(key), Some((most, failing))) => {
+            let found = look_up(alloc, &Log::new(), given, most, failing, key.as_str());
+            append_value(found, out);
+        }
+        _ => out.fail(),
+    }
+}
+
+/// How many reads a look-up makes, and how many bytes they give.
+pub fn append_reads(alloc: Global, words: &mut Args, given: &[u8], out: &mut Answer) {
+    let Some(key) = words.next() else {
+        return out.fail();
+    };
+    let log = Log::new();
+    let _found = look_up(alloc, &log, given, usize::MAX, 0, key.as_str());
+    out.number(log.reads.get());
+    out.count(" reads of ", log.bytes.get() as u64);
+    out.line(" bytes");
+}
+
+/// What is found under a key in each file that has only the first bytes of this one, from none on.
+pub fn append_cuts(alloc: Global, words: &mut Args, given: &[u8], out: &mut Answer) {
+    match words.next() {
+        Some(key) => append_all_cuts(alloc, key.as_str(), given, out),
+        None => out.fail(),
+    }
+}
+
+fn append_all_cuts(alloc: Global, key: &str, given: &[u8], out: &mut Answer) {
+    for len in 0..given.len() {
+        let found = look_up(alloc, &Log::new(), &given[..len], usize::MAX, 0, key);
+        append_value(found, out);
+    }
+}

@@ -1,0 +1,124 @@
+//! Calls of one chain: a number feeds so many of the next bytes; `finish`, `renew` and `is_empty` are the chain's own; `show` adds what was
+//! written; `back` goes back to the text's beginning, with nothing written; and `pump` is of the module `pumps`.
+use crate::streams::pumps::pump_next;
+use crate::streams::words::next_size;
+use byte_streams::{AddCr, BoxedStage, Chain, ChainFault, DelCr, FixCr};
+use std::alloc::Global;
+use std::env::Args;
+use std::io;
+use std::io::{Error, ErrorKind};
+use test_parts::Answer;
+
+/// A chain, a text, what is left of it, and what was written.
+#[derive(Drop)]
+pub struct Stream<'a> {
+    pub chain: Chain<BoxedStage>,
+    text: &'a [u8],
+    pub left: &'a [u8],
+    pub out: Vec<u8>,
+}
+
+/// A kind of stage.
+#[derive(Clone, Copy)]
+enum Kind {
+    AddCr,
+    DelCr,
+    FixCr,
+}
+
+/// A word is missing, or none of those that may stand there.
+fn bad_word() -> Error {
+    Error::from(ErrorKind::InvalidInput)
+}
+
+/// Makes all calls, on a chain of so many stages as the next word says, which the words after it name.
+pub fn run_calls(alloc: Global, text: &[u8], words: &mut Args, out: &mut Answer) {
+    if call_chain(alloc, text, words, out).is_err() {
+        out.fail();
+    }
+}
+
+/// Makes the chain, and all calls on it. It hands no boxed stage out, so that its contract holds whatever a stage is.
+fn call_chain(alloc: Global, text: &[u8], words: &mut Args, out: &mut Answer) -> io::Result<()> {
+    let mut stages: Vec<BoxedStage> = Vec::new(alloc);
+    for _ in 0..next_size(words).ok_or(bad_word())? {
+        match next_kind(words).ok_or(bad_word())? {
+            Kind::AddCr => stages.push(Box::new(alloc, AddCr)?)?,
+            Kind::DelCr => stages.push(Box::new(alloc, DelCr::new())?)?,
+            Kind::FixCr => stages.push(Box::new(alloc, FixCr::new())?)?,
+        }
+    }
+    let mut stream = Stream {
+        chain: Chain::new(alloc, stages),
+        text,
+        left: text,
+        out: Vec::new(alloc),
+    };
+    call_all(alloc, &mut stream, words, out);
+    Ok(())
+}
+
+/// The kind of stage that the next word names.
+fn next_kind(words: &mut Args) -> Option<Kind> {
+    match words.next()?.as_str() {
+        "addcr" => Some(Kind::AddCr),
+        "delcr" => Some(Kind::DelCr),
+        "fixcrio" => Some(Kind::FixCr),
+        _ => None,
+    }
+}
+
+/// Makes the calls that the words that are left ask for, up to one that fails.
+fn call_all(alloc: Global, stream: &mut Stream<'_>, words: &mut Args, out: &mut Answer) {
+    for _ in 0..u64::MAX {
+        let Some(word) = words.next() else {
+            break;
+        };
+        call(alloc, stream, word.as_str(), words, out);
+        if out.has_failed() {
+            break;
+        }
+    }
+}
+
+/// Makes a call, and adds its answer.
+fn call(alloc: Global, stream: &mut Stream<'_>, word: &str, words: &mut Args, out: &mut Answer) {
+    match word {
+        "finish" => add_done(stream.chain.finish(&mut stream.out), out),
+        "is_empty" => out.line(if stream.chain.is_empty() {
+            "true"
+        } else {
+            "false"
+        }),
+        "show" => out.debug_line(&stream.out),
+        "pump" => pump_next(alloc, stream, words, out),
+        "renew" => {
+            stream.chain.renew();
+            out.line("done");
+        }
+        "back" => {
+            stream.left = stream.text;
+            stream.out.clear();
+            out.line("done");
+        }
+        size => feed(stream, size, out),
+    }
+}
+
+/// Feeds so many of the bytes that are left.
+fn feed(stream: &mut Stream<'_>, size: &str, out: &mut Answer) {
+    let Ok(size) = size.parse::<usize>() else {
+        return out.fail();
+    };
+    let (piece, left) = stream.left.split_at(size.min(stream.left.len()));
+    stream.left = left;
+    add_done(stream.chain.feed(piece, &mut stream.out), out);
+}
+
+/// Adds that a call is done, or why it took nothing.
+fn add_done(done: Result<(), ChainFault>, out: &mut Answer) {
+    match done {
+        Ok(()) => out.line("done"),
+        Err(fault) => out.show_line(&fault),
+    }
+}

@@ -1,0 +1,88 @@
+//! A reader and a writer that give and take pieces of a size, and stop at a call.
+ghost use Rattle.std.specs.Prelude.{◌≤◌, IfOk};
+
+use crate::streams::words::next_size;
+use std::env::Args;
+use std::io;
+use std::io::{Error, ErrorKind, Read, Write};
+
+/// At most so many bytes are moved by a call. The call of a number, from 1 on, stops instead: it fails, or moves nothing.
+#[derive(Drop)]
+pub struct GivenPieces {
+    most: usize,
+    pub calls: usize,
+    stop: Option<ErrorKind>,
+    stop_at: usize,
+}
+
+/// The next words: how many bytes, how a call stops, and which one.
+pub fn next_pieces(words: &mut Args) -> Option<GivenPieces> {
+    let most = next_size(words)?;
+    let stop = next_stop(words)?;
+    let stop_at = next_size(words)?;
+    Some(GivenPieces {
+        most,
+        calls: 0,
+        stop,
+        stop_at,
+    })
+}
+
+/// The next word, how a call stops.
+fn next_stop(words: &mut Args) -> Option<Option<ErrorKind>> {
+    match words.next()?.as_str() {
+        "fails" => Some(Some(ErrorKind::Other)),
+        "interrupted" => Some(Some(ErrorKind::Interrupted)),
+        "nothing" => Some(None),
+        _ => None,
+    }
+}
+
+impl GivenPieces {
+    /// How many of these bytes the next call moves.
+    fn next_count(&mut self, bytes: usize) -> io::Result<usize>
+        ensures { IfOk result (λ count. count ≤ bytes) }
+    {
+        self.calls = self.calls.saturating_add(1);
+        if self.calls != self.stop_at {
+            return Ok(bytes.min(self.most));
+        }
+        match self.stop {
+            Some(kind) => Err(Error::from(kind)),
+            None => Ok(0),
+        }
+    }
+}
+
+/// Gives a text.
+#[derive(Drop)]
+pub struct Source<'a> {
+    pub text: &'a [u8],
+    pub pieces: GivenPieces,
+}
+
+impl Read for Source<'_> {
+    fn read(&mut self, buffer: &mut [u8]) -> io::Result<usize> {
+        let count = self.pieces.next_count(buffer.len())?;
+        self.text.read(&mut buffer[..count])
+    }
+}
+
+/// Keeps what it takes.
+#[derive(Drop)]
+pub struct Target {
+    pub bytes: Vec<u8>,
+    pub pieces: GivenPieces,
+}
+
+impl Write for Target {
+    fn write(&mut self, bytes: &[u8]) -> io::Result<usize> {
+        let count = self.pieces.next_count(bytes.len())?;
+        self.bytes.extend_from_slice(&bytes[..count])?;
+        Ok(count)
+    }
+
+    fn flush(&mut self) -> io::Result<()> {
+        Ok(())
+    }
+}

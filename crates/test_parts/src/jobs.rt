@@ -1,0 +1,116 @@
+//! Jobs that run no program, and end as they are told to.
+ghost use Rattle.std.specs.Prelude.{◌≡◌, Some, false, ⊤};
+
+use child_jobs::{Job, Launcher, NoEnds, Program, WaitFault};
+use connection_facts::{StartFault, Status};
+use std::alloc::Global;
+use std::io;
+use std::io::{Read, Write};
+use std::snapshot::Snapshot;
+use ucspi_env::Environment;
+
+/// A pipe end of no pipe.
+#[derive(Drop)]
+pub struct NoPipe;
+
+impl Read for NoPipe {
+    fn read(&mut self, _buf: &mut [u8]) -> io::Result<usize> {
+        Ok(0)
+    }
+}
+
+impl Write for NoPipe {
+    fn write(&mut self, buf: &[u8]) -> io::Result<usize> {
+        Ok(buf.len())
+    }
+
+    fn flush(&mut self) -> io::Result<()> {
+        Ok(())
+    }
+}
+
+/// A job that has ended already, with this status; or one that can't be waited for.
+pub struct EndedJob {
+    status: Option<Status>,
+    program: Snapshot<Program>,
+    environment: Snapshot<Environment>,
+}
+
+impl Job for EndedJob {
+    type Input = NoPipe;
+
+    type Output = NoPipe;
+
+    ghost program = { λ job. job.program.value };
+
+    ghost environment = { λ job. job.environment.value };
+
+    ghost has_ends = { λ _. false };
+
+    ghost killed = { λ _ _ _. ⊤ };
+
+    ghost ended = { λ job status. job.status ≡ Some status };
+
+    fn ends(&mut self) -> Result<(NoPipe, NoPipe), NoEnds> {
+        Err(NoEnds)
+    }
+
+    fn kill(&mut self) -> Result<(), WaitFault> {
+        Ok(())
+    }
+
+    fn wait(self) -> Result<Status, (EndedJob, WaitFault)> {
+        match self.status {
+            Some(status) => {
+                self.abandon();
+                Ok(status)
+            }
+            None => Err((self, WaitFault::Failed)),
+        }
+    }
+
+    fn abandon(self) {
+        let EndedJob {
+            status: _,
+            program: _,
+            environment: _,
+        } = self;
+    }
+}
+
+/// Starts such jobs: with a status, without one, or none at all.
+#[derive(Clone, Copy, PartialEq, Eq, Debug)]
+pub enum EndedJobs {
+    /// They have ended.
+    Ending(Status),
+    /// They can't be waited for.
+    Unwaitable,
+    /// None is started.
+    Failing(StartFault),
+}
+
+impl Launcher for EndedJobs {
+    ghost use Rattle.test_parts.specs.EndedJobs.{FailsWith};
+
+    type Job = EndedJob;
+
+    ghost refuses = { λ jobs _ _ fault. FailsWith jobs fault };
+
+    fn start(
+        self,
+        _alloc: Global,
+        program: &Program,
+        environment: &Environment,
+    ) -> Result<EndedJob, StartFault> {
+        let status = match self {
+            EndedJobs::Ending(status) => Some(status),
+            EndedJobs::Unwaitable => None,
+            EndedJobs::Failing(fault) => return Err(fault),
+        };
+        Ok(EndedJob {
+            status,
+            program: Snapshot::of(program),
+            environment: Snapshot::of(environment),
+        })
+    }
+}

@@ -1,0 +1,136 @@
+//! What the small programs of the tests answer to the words they are called with.
+#![tactic(auto)]
+
+pub mod connections;
+pub mod jobs;
+pub mod rules;
+pub mod yards;
+
+pub use connections::{decide_for, finish_for, give_up, open_for, start_for};
+pub use jobs::{EndedJob, EndedJobs, NoPipe};
+pub use rules::{names, rules_name, stuck, with_rules};
+use std::alloc::{AllocError, Global};
+use std::fmt::{Debug, Display};
+use std::io;
+use std::io::{Error, ErrorKind, Write};
+pub use yards::yard_over;
+
+/// The bytes of an answer, and whether it has failed: a call could not be made, as its words ask for nothing, or memory lacked for a part.
+#[derive(Drop)]
+pub struct Answer {
+    bytes: Vec<u8>,
+    has_failed: bool,
+}
+
+impl Answer {
+    /// No bytes.
+    pub fn new(alloc: Global) -> Answer {
+        Answer {
+            bytes: Vec::new(alloc),
+            has_failed: false,
+        }
+    }
+    /// Whether it has failed.
+    pub fn has_failed(&self) -> bool {
+        self.has_failed
+    }
+    /// Notes that it has failed.
+    pub fn fail(&mut self) {
+        self.has_failed = true;
+    }
+    /// Notes whether memory lacked for a step.
+    pub fn note(&mut self, done: Result<(), AllocError>) {
+        self.has_failed |= done.is_err();
+    }
+    /// Takes all bytes back where it has failed.
+    pub fn keep_whole(&mut self) {
+        if self.has_failed {
+            self.bytes.clear();
+        }
+    }
+    /// Prints the bytes.
+    ///
+    /// # Errors
+    /// It has failed, or the standard output did.
+    pub fn print<R: Print>(&self, rt: &R) -> io::Result<()> {
+        io::writer(rt).write_all(self.bytes.as_slice())?;
+        if self.has_failed {
+            return Err(Error::from(ErrorKind::InvalidInput));
+        }
+        Ok(())
+    }
+    /// Adds some bytes.
+    pub fn raw(&mut self, bytes: &[u8]) {
+        self.has_failed |= self.bytes.extend_from_slice(bytes).is_err();
+    }
+    /// Adds the bytes that a step made, if it did.
+    pub fn made(&mut self, bytes: Result<Vec<u8>, AllocError>) {
+        match bytes {
+            Ok(bytes) => self.raw(&bytes),
+            Err(_) => self.fail(),
+        }
+    }
+    /// Adds a text.
+    pub fn text(&mut self, text: &str) {
+        self.raw(text.as_bytes());
+    }
+    /// Ends a line.
+    pub fn end_line(&mut self) {
+        self.raw(b"\n");
+    }
+    /// Adds a text, and ends the line.
+    pub fn line(&mut self, text: &str) {
+        self.text(text);
+        self.end_line();
+    }
+    /// Adds texts as lines.
+    pub fn lines(&mut self, texts: &[String]) {
+        for text in texts {
+            self.line(text.as_str());
+        }
+    }
+    /// Adds a number.
+    pub fn number(&mut self, number: u64) {
+        self.has_failed |= write!(self.bytes, "{number}").is_err();
+    }
+    /// Adds a number, and ends the line.
+    pub fn number_line(&mut self, number: u64) {
+        self.number(number);
+        self.end_line();
+    }
+    /// Adds a text and a number.
+    pub fn count(&mut self, text: &str, number: u64) {
+        self.text(text);
+        self.number(number);
+    }
+    /// Adds a text and a number, and ends the line.
+    pub fn count_line(&mut self, text: &str, number: u64) {
+        self.count(text, number);
+        self.end_line();
+    }
+    /// Adds a value as `{}` shows it.
+    pub fn show<T: Display>(&mut self, value: &T) {
+        self.has_failed |= write!(self.bytes, "{value}").is_err();
+    }
+    /// Adds a value as `{}` shows it, and ends the line.
+    pub fn show_line<T: Display>(&mut self, value: &T) {
+        self.show(value);
+        self.end_line();
+    }
+    /// Adds a value as `{:?}` shows it.
+    pub fn debug<T: Debug>(&mut self, value: &T) {
+        self.has_failed |= write!(self.bytes, "{value:?}").is_err();
+    }
+    /// Adds a value as `{:?}` shows it, and ends the line.
+    pub fn debug_line<T: Debug>(&mut self, value: &T) {
+        self.debug(value);
+        self.end_line();
+    }
+    /// Adds that a call is done, or its fault, as a line.
+    pub fn done<E: Display + Drop>(&mut self, done: Result<(), E>) {
+        match done {
+            Ok(()) => self.line("done"),
+            Err(fault) => self.show_line(&fault),
+        }
+    }
+}

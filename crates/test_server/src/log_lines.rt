@@ -1,0 +1,92 @@
+//! The lines of the log, of each event.
+use connection_facts::{DropCause, Peer, PeerFault, StartFault, Status};
+use rule_lines::Verdict;
+use server_log::{Cause, Log, LogFault, Told};
+use server_words::Level;
+use std::alloc::Global;
+use std::io;
+use std::io::Write;
+use ucspi_env::Local;
+
+/// The level with a name; silence has none.
+fn level_of(name: &str) -> Level {
+    match name {
+        "all" => Level::All,
+        "errors" => Level::Errors,
+        _ => Level::Quiet,
+    }
+}
+
+/// Tells a log of this level, with a limit of 40, of a connection that goes well, of each fault, and of a connection that was denied. It is written
+/// where only so many bytes are taken. Prints whether all was taken, and what was written.
+pub fn print_log<R: Print>(rt: &R, alloc: Global, level: &str, room: usize) -> io::Result<()> {
+    let mut written = vec![in alloc; 0u8; room]?;
+    let mut log = Log::new(alloc, written.as_mut_slice(), level_of(level), 40);
+    let is_taken = tell(alloc, &mut log);
+    drop(log);
+    let lines = str::from_utf8(&written).unwrap_or_default();
+    println!(rt; "{}", if is_taken { "taken" } else { "not taken" })?;
+    print!(rt; "{}", lines.trim_end_matches('\0'))
+}
+
+/// Whether a log has taken the lines of all events.
+fn tell<W: Write>(alloc: Global, log: &mut Log<W>) -> bool {
+    match peer(alloc) {
+        Ok((local, peer)) => tell_progress(log, &local, &peer).is_ok() && tell_faults(log).is_ok(),
+        Err(_) => false,
+    }
+}
+
+/// The ends of a connection.
+fn peer(alloc: Global) -> Result<(Local, Peer), PeerFault> {
+    let host = String::from_str(alloc, "mail.example")?;
+    let peer = Peer::new(alloc, [10, 0, 2, 7], 41190, Some("relay.example"), None)?;
+    Ok((Local::new([10, 0, 0, 1], 25, Some(host)), peer))
+}
+
+/// Tells a log of a connection that goes well.
+fn tell_progress<W: Write>(log: &mut Log<W>, local: &Local, peer: &Peer) -> Result<(), LogFault> {
+    log.no_names()?;
+    log.status(0)?;
+    let serial = 1;
+    let ip = peer.ip();
+    log.tell(1, 1, Told::Admitted { serial, ip })?;
+    let decided = Told::Decided {
+        serial,
+        verdict: Verdict::Allow,
+        local,
+        peer,
+    };
+    log.tell(3, 1, decided)?;
+    let status = Status::Code(0);
+    log.tell(5, 0, Told::Ended { serial, status })
+}
+
+/// Tells it of each fault, and of a connection that was denied; and of an event that comes too late.
+fn tell_faults<W: Write>(log: &mut Log<W>) -> Result<(), LogFault> {
+    let failed = Told::StartFailed {
+        serial: 2,
+        fault: StartFault::NotFound,
+        cause: Some(Cause::new(b"smtpd", "No such file or directory")),
+    };
+    log.tell(9, 3, failed)?;
+    log.no_pipe_ends(3)?;
+    log.tell(14, 2, Told::Retired { serial: 4 })?;
+    let dropped = Told::Dropped {
+        serial: 5,
+        cause: DropCause::Directory,
+        why: Some(Cause::new(b"rules.cdb", "Permission denied")),
+    };
+    log.tell(16, 1, dropped)?;
+    let denied = Told::Dropped {
+        serial: 6,
+        cause: DropCause::Denied,
+        why: None,
+    };
+    log.tell(20, 0, denied)?;
+    if log.tell(14, 0, Told::Retired { serial: 4 }) != Err(LogFault::OutOfOrder) {
+        return Err(LogFault::WriteFault);
+    }
+    log.address_full([10, 0, 2, 7])?;
+    log.out_of_memory()
+}

@@ -1,0 +1,293 @@
+//! Connections and jobs that answer as they are told to.
+ghost use Rattle.std.specs.Prelude.{is_some, ⊤};
+
+use child_jobs::{Job, Launcher, NoEnds, Program, WaitFault};
+use connection_facts::{StartFault, Status};
+use std::alloc::Global;
+use std::io::{Read, Write};
+use std::snapshot::Snapshot;
+use std::sync::atomic::{AtomicU64, Ordering};
+use std::sync::{Mutex, Wait};
+use std::time::{Clock, Duration};
+use std::{io, thread};
+use stream_tools::SharedWriter;
+use tcp_service::{AcceptFault, Accepted, Acceptor, Follow, NotStarted, Patience, Shut, Starter};
+use ucspi_env::{Environment, Local};
+
+/// How many milliseconds a job waits for another one's start at most.
+const PATIENCE: u64 = 10_000;
+
+/// A stream that has ended, and takes all that is written.
+#[derive(Drop)]
+pub struct Silent;
+
+impl Read for Silent {
+    fn read(&mut self, _buf: &mut [u8]) -> io::Result<usize> {
+        Ok(0)
+    }
+}
+
+impl Write for Silent {
+    fn write(&mut self, buf: &[u8]) -> io::Result<usize> {
+        Ok(buf.len())
+    }
+
+    fn flush(&mut self) -> io::Result<()> {
+        Ok(())
+    }
+}
+
+impl Shut for Silent {
+    fn shut(&self) {}
+}
+
+impl<F> Follow<F> for Silent {
+    fn follow(&mut self, _source: &F, _patience: Patience) {}
+}
+
+/// So many connections that find no memory, then so many of port 1024 at 127.0.0.1:25, in turn from so many addresses, of which 127.0.0.1 comes last,
+/// and after them faults alone.
+#[derive(Drop)]
+pub struct Clients {
+    pub lost: u64,
+    pub left: u64,
+    pub addresses: u8,
+}
+
+impl Acceptor for Clients {
+    type Reader = Silent;
+
+    type Writer = Silent;
+
+    type Shut = Silent;
+
+    fn accept(&mut self) -> Result<Accepted<Silent, Silent, Silent>, AcceptFault> {
+        if let Some(lost) = self.lost.checked_sub(1) {
+            self.lost = lost;
+            return Err(AcceptFault::OutOfMemory);
+        }
+        self.left = self.left.checked_sub(1).ok_or(AcceptFault::Other)?;
+        let last = (self.left % u64::from(self.addresses.max(1))) as u8;
+        Ok(Accepted {
+            reader: Silent,
+            writer: Silent,
+            shut: Silent,
+            ip: [127, 0, 0, last.saturating_add(1)],
+            port: 1024,
+            local: Local::new([127, 0, 0, 1], 25, None),
+        })
+    }
+
+    fn error(&self) -> Option<i32> {
+        None
+    }
+
+    fn close(&mut self) {
+        self.left = 0;
+    }
+}
+
+/// What each program says.
+const SAID: &[u8] = b"up\nend";
+
+/// What became of jobs: how often they were started, or were to be, how often they were killed and waited for, and what they were given.
+#[derive(Drop)]
+pub struct ServedTally {
+    pub starts: AtomicU64,
+    pub kills: AtomicU64,
+    pub waits: AtomicU64,
+    pub given: Mutex<Vec<u8>>,
+}
+
+impl ServedTally {
+    /// That of no jobs.
+    pub fn new(alloc: Global) -> ServedTally {
+        ServedTally {
+            starts: AtomicU64::new(0),
+            kills: AtomicU64::new(0),
+            waits: AtomicU64::new(0),
+            given: Mutex::new(Vec::new(alloc)),
+        }
+    }
+}
+
+/// What a job answers, in letters: `n`, `r`, `o` or `m` where its program is not found, is refused, can't be started for another reason or finds
+/// no memory; `e` where it has pipe ends; `k` where it can be killed, `x` where there is no memory for that. Behind `=` stands a letter for each
+/// wait: a digit for an end with that code, `s` for one by a signal, `a` for an end with 0 that comes only once another job was started, `m` for
+/// want of memory, and any other one, as for all waits that follow, for a wait that fails.
+#[derive(Clone, Copy)]
+struct Script<'a> {
+    letters: &'a str,
+    waits: &'a [u8],
+}
+
+impl<'a> Script<'a> {
+    fn new(word: &'a str) -> Script<'a> {
+        let (letters, waits) = word.split_once('=').unwrap_or((word, ""));
+        Script {
+            letters,
+            waits: waits.as_bytes(),
+        }
+    }
+
+    // Whether the program is started.
+    fn start(&self) -> Result<(), StartFault> {
+        match self.letters {
+            "n" => Err(StartFault::NotFound),
+            "r" => Err(StartFault::Refused),
+            "o" => Err(StartFault::Other),
+            "m" => Err(StartFault::OutOfMemory),
+            _ => Ok(()),
+        }
+    }
+
+    // What a kill answers.
+    fn kill(&self) -> Result<(), WaitFault> {
+        if self.letters.contains('k') {
+            Ok(())
+        } else if self.letters.contains('x') {
+            Err(WaitFault::OutOfMemory)
+        } else {
+            Err(WaitFault::Failed)
+        }
+    }
+}
+
+/// Starts jobs by these scripts, in the order in which they are started, the last for all that follow.
+#[derive(Drop)]
+pub struct Scripts<'a, R> {
+    pub rt: &'a R,
+    pub words: &'a [String],
+    pub tally: &'a ServedTally,
+}
+
+/// A job by a script.
+pub struct ScriptedJob<'a, R> {
+    rt: &'a R,
+    script: Script<'a>,
+    ends: Option<(SharedWriter<'a, R, Vec<u8>>, &'static [u8])>,
+    waited: usize,
+    tally: &'a ServedTally,
+    program: Snapshot<Program>,
+    environment: Snapshot<Environment>,
+}
+
+impl<'a, R: Clock + Wait> Launcher for Scripts<'a, R> {
+    type Job = ScriptedJob<'a, R>;
+
+    ghost refuses = { λ _ _ _ _. ⊤ };
+
+    fn start(
+        self,
+        _alloc: Global,
+        program: &Program,
+        environment: &Environment,
+    ) -> Result<ScriptedJob<'a, R>, StartFault> {
+        let number = self.tally.starts.fetch_add(1, Ordering::SeqCst) as usize;
+        let last = self.words.last().ok_or(StartFault::Other)?;
+        let script = Script::new(self.words.get(number).unwrap_or(last).as_str());
+        script.start()?;
+        let ends = (SharedWriter::new(self.rt, &self.tally.given), SAID);
+        Ok(ScriptedJob {
+            rt: self.rt,
+            script,
+            ends: script.letters.contains('e').then_some(ends),
+            waited: 0,
+            tally: self.tally,
+            program: Snapshot::of(program),
+            environment: Snapshot::of(environment),
+        })
+    }
+}
+
+impl<'a, R: Clock + Wait> Starter<Silent> for Scripts<'a, R> {
+    type Job = ScriptedJob<'a, R>;
+
+    ghost refuses = { λ _ _ _ _ _. ⊤ };
+
+    fn start_for(
+        &self,
+        alloc: Global,
+        _connection: &Silent,
+        program: &Program,
+        environment: &Environment,
+    ) -> Result<ScriptedJob<'a, R>, NotStarted> {
+        let scripts = Scripts {
+            rt: self.rt,
+            words: self.words,
+            tally: self.tally,
+        };
+        Ok(scripts.start(alloc, program, environment)?)
+    }
+}
+
+impl<R: Clock> ScriptedJob<'_, R> {
+    // Waits until another job was started too. Whether it was in time.
+    fn has_company(&self) -> bool {
+        for _ in 0..PATIENCE {
+            if self.tally.starts.load(Ordering::SeqCst) > 1 {
+                return true;
+            }
+            thread::sleep(self.rt, Duration::from_millis(1));
+        }
+        false
+    }
+}
+
+impl<'a, R: Clock + Wait> Job for ScriptedJob<'a, R> {
+    type Input = SharedWriter<'a, R, Vec<u8>>;
+
+    type Output = &'static [u8];
+
+    ghost program = { λ job. job.program.value };
+
+    ghost environment = { λ job. job.environment.value };
+
+    ghost has_ends = { λ job. is_some job.ends };
+
+    ghost killed = { λ _ _ _. ⊤ };
+
+    ghost ended = { λ _ _. ⊤ };
+
+    fn ends(&mut self) -> Result<(SharedWriter<'a, R, Vec<u8>>, &'static [u8]), NoEnds> {
+        self.ends.take().ok_or(NoEnds)
+    }
+
+    fn kill(&mut self) -> Result<(), WaitFault> {
+        self.tally.kills.fetch_add(1, Ordering::SeqCst);
+        self.script.kill()
+    }
+
+    fn wait(mut self) -> Result<Status, (ScriptedJob<'a, R>, WaitFault)> {
+        self.ends = None;
+        self.tally.waits.fetch_add(1, Ordering::SeqCst);
+        let letter = self.script.waits.get(self.waited).copied();
+        self.waited = self.waited.saturating_add(1);
+        let end = match letter {
+            Some(digit @ b'0'..=b'9') => Ok(Status::Code(digit - b'0')),
+            Some(b's') => Ok(Status::Signal),
+            Some(b'a') if self.has_company() => Ok(Status::Code(0)),
+            Some(b'm') => Err(WaitFault::OutOfMemory),
+            _ => Err(WaitFault::Failed),
+        };
+        match end {
+            Ok(status) => {
+                self.abandon();
+                Ok(status)
+            }
+            Err(fault) => Err((self, fault)),
+        }
+    }
+
+    fn abandon(self) {
+        let ScriptedJob {
+            rt: _,
+            script: _,
+            ends: _,
+            waited: _,
+            tally: _,
+            program: _,
+            environment: _,
+        } = self;
+    }
+}

@@ -1,0 +1,259 @@
+//! A server without a rules file, over a directory in memory.
+ghost use Rattle.std.specs.Prelude.{◌≡◌, ◌<◌, false, IfOk, vec_len};
+ghost use Rattle.shared_site.specs.Callers.{total_share};
+
+use crate::history::history_lines;
+use crate::scripts::{Clients, Scripts, ServedTally};
+use byte_streams::{Chain, FixCr};
+use child_jobs::{Plan, Program};
+use connection_facts::Peer;
+use dir_calls::{DirFault, MemDir, MemFile};
+use event_journals::{Full, Journal};
+use server_words::Level;
+use server_yard::{Assumptions, Finding, Yard};
+use shared_site::{Caller, Callers, Site};
+use std::alloc::{AllocError, Global};
+use std::io;
+use std::marker::Brand;
+use std::sync::atomic::Ordering;
+use std::sync::ledger::Blank;
+use std::sync::{Mutex, Wait};
+use std::thread::Threads;
+use std::time::{Clock, Duration};
+use tcp_service::{
+    ChainSource, Chains, HostNames, Log, Mode, Patience, Reserve, Rules, RulesHandle, ServeEnd,
+    Service, Supply, serve,
+};
+use ucspi_env::Environment;
+
+/// What is asked of a server.
+#[derive(Clone, Copy)]
+pub struct Asked {
+    /// How many connections may be alive.
+    pub limit: u64,
+    /// How many of them from one address.
+    pub per_address: u64,
+    /// From so many addresses they come, in turn.
+    pub addresses: u8,
+    /// How many come first, and find no memory.
+    pub lost: u64,
+    /// How many there are then.
+    pub clients: u64,
+    /// How many it lets in before it ends.
+    pub count: Option<u32>,
+}
+
+/// That there is no rules file.
+#[derive(Clone, Copy)]
+struct NoRules;
+
+impl<L: Assumptions> Rules<L, MemFile> for NoRules {
+    type Handle = NoRules;
+
+    fn handle(&self, _alloc: Global) -> Result<NoRules, AllocError> {
+        Ok(NoRules)
+    }
+
+    fn path(&self) -> &str {
+        ""
+    }
+
+    fn damaged_rule(&self, _alloc: Global, _peer: &Peer) -> Option<String> {
+        None
+    }
+}
+
+impl<L: Assumptions> RulesHandle<L, MemFile> for NoRules {
+    fn open(&mut self, _alloc: Global) -> Result<Finding<L, MemFile>, DirFault> {
+        Ok(Finding::new(None))
+    }
+
+    fn error(&self) -> Option<i32> {
+        None
+    }
+}
+
+/// How a server ended, how many connections were alive then, and its history.
+#[derive(Drop)]
+struct Ending {
+    end: ServeEnd,
+    live: u64,
+    is_finished: bool,
+    history: String,
+}
+
+/// Serves connections by jobs of these scripts, under a full log, until the server ends. Prints how it ended, how many connections were alive
+/// then and how often jobs were killed; its history, where that is asked for; and the log.
+pub fn print_served<R>(
+    rt: &R,
+    alloc: Global,
+    asked: Asked,
+    scripts: &[String],
+    with_history: bool,
+) -> io::Result<()>
+where
+    R: Print + Threads + Wait + Clock + Sync,
+    requires { (0 < asked.limit) × (asked.limit < 10001) }
+{
+    let tally = ServedTally::new(alloc);
+    let launcher = Scripts {
+        rt,
+        words: scripts,
+        tally: &tally,
+    };
+    let mut lines = Vec::new(alloc);
+    let (places, parts) = (Blank::new(asked.limit), Blank::new(2));
+    let ending = serve_by::<R, Brand, Brand>(
+        rt, alloc, asked, &launcher, &mut lines, places, parts,
+    )?;
+    let kills = tally.kills.load(Ordering::SeqCst);
+    let Ending {
+        end,
+        live,
+        is_finished,
+        history,
+    } = ending;
+    let rest = if is_finished { "" } else { ", unfinished" };
+    let log = str::from_utf8(&lines).unwrap_or_default();
+    println!(rt; "{end:?}, {live} alive, {kills} kills{rest}")?;
+    if with_history {
+        println!(rt; "{history}")?;
+    }
+    print!(rt; "{log}")
+}
+
+/// The server, over a yard and a site of its own.
+fn serve_by<R, L: Assumptions + Send + Sync, N: Callers + Send + Sync>(
+    rt: &R,
+    alloc: Global,
+    asked: Asked,
+    launcher: &Scripts<'_, R>,
+    lines: &mut Vec<u8>,
+    places: Blank,
+    parts: Blank,
+) -> io::Result<Ending>
+where
+    R: Threads + Wait + Clock + Sync,
+    requires limit { (0 < asked.limit) × (asked.limit < 10001) }
+    requires places { (places.name ≡ L.name) × (places.parts ≡ L.parts) × (places.parts ≡ asked.limit) }
+    requires met { L.met ≡ false }
+    requires parts { (parts.name ≡ N.name) × (parts.parts ≡ N.parts) × (parts.parts ≡ 2) }
+    requires callers { (N.all ≡ 2) × (N.before ≡ 0) }
+{
+    let (site, callers) = site_of::<L, N>(alloc, asked, places, parts)?;
+    let log = Mutex::new(Log::new(alloc, lines, Level::All, asked.limit));
+    let mut acceptor = Clients {
+        lost: asked.lost,
+        left: asked.clients,
+        addresses: asked.addresses,
+    };
+    let served = serve(
+        rt,
+        alloc,
+        &mut acceptor,
+        site,
+        callers,
+        &NoRules,
+        &Unwrapped,
+        launcher,
+        &plan(alloc),
+        &service(asked),
+        &log,
+    );
+    match served {
+        Ok(closed) => ending_of(alloc, closed.end, &closed.yard, true),
+        Err(unfinished) => ending_of(alloc, unfinished.end, &unfinished.yard, false),
+    }
+}
+
+/// How a server ended that left this yard.
+fn ending_of<L: Assumptions>(
+    alloc: Global,
+    end: ServeEnd,
+    yard: &Yard<L, MemDir, Full>,
+    is_finished: bool,
+) -> io::Result<Ending> {
+    let history = history_lines(alloc, yard.journal())?;
+    Ok(Ending {
+        end,
+        live: yard.live(),
+        is_finished,
+        history,
+    })
+}
+
+/// A site over an empty directory, and its callers.
+fn site_of<L: Assumptions, N: Callers>(
+    alloc: Global,
+    asked: Asked,
+    places: Blank,
+    parts: Blank,
+) -> io::Result<(Site<L, N, MemDir, Full>, Vec<Caller<N>>)>
+    requires limit { (0 < asked.limit) × (asked.limit < 10001) }
+    requires places { (places.name ≡ L.name) × (places.parts ≡ L.parts) × (places.parts ≡ asked.limit) }
+    requires met { L.met ≡ false }
+    requires parts { (parts.name ≡ N.name) × (parts.parts ≡ N.parts) × (parts.parts ≡ 2) }
+    requires callers { (N.all ≡ 2) × (N.before ≡ 0) }
+    ensures new { IfOk result (λ made. (vec_len made.1 ≡ 2) × (total_share made.1.items ≡ 0)) }
+{
+    let yard = Yard::<L, MemDir, Full>::with_address_limit(
+        alloc,
+        places,
+        MemDir::new(alloc),
+        None,
+        asked.limit,
+        asked.per_address,
+        Full::new(alloc),
+    );
+    let Ok(yard) = yard else {
+        return Err(io::Error::from(io::ErrorKind::OutOfMemory));
+    };
+    match Site::<L, N, MemDir, Full>::new(alloc, parts, yard, 2) {
+        Ok(made) => Ok(made),
+        Err(_) => Err(io::Error::from(io::ErrorKind::OutOfMemory)),
+    }
+}
+
+/// No line wrappers.
+#[derive(Drop)]
+struct Unwrapped;
+
+impl ChainSource for Unwrapped {
+    type LineWrapper = FixCr;
+
+    fn chains(&self, alloc: Global) -> Result<Chains<FixCr>, AllocError> {
+        Ok(Chains {
+            input: Chain::new(alloc, Vec::new(alloc)),
+            output: Chain::new(alloc, Vec::new(alloc)),
+        })
+    }
+}
+
+fn plan(alloc: Global) -> Plan {
+    Plan::new(
+        Program::new(String::new(alloc), Vec::new(alloc)),
+        Environment::new(alloc),
+        Vec::new(alloc),
+    )
+}
+
+fn service(asked: Asked) -> Service {
+    Service {
+        count: asked.count,
+        names: HostNames {
+            hosts: None,
+            local: None,
+            remote: true,
+            confirm: false,
+        },
+        mode: Mode::Pumped,
+        patience: Patience {
+            idle: Duration::from_secs(60),
+            all: Duration::from_secs(600),
+        },
+        recording: false,
+        connections: asked.limit as usize,
+        supply: Supply::unlimited(),
+        reserve: Reserve::new(),
+    }
+}

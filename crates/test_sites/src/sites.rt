@@ -1,0 +1,60 @@
+//! Sites over a directory in memory, from the start to the audit.
+ghost use Rattle.std.specs.Prelude.{◌≡◌, ◌<◌, IsPermutation, IsTrue, map};
+ghost use Rattle.dir_calls.specs.MemDir.{mem_state};
+ghost use Rattle.event_journals.specs.Full.{full_notes};
+ghost use Rattle.server_yard.specs.Kept.{rules_of};
+ghost use Rattle.server_yard.specs.Standing.{Begins};
+ghost use Rattle.server_yard.specs.Yards.{yard_journal};
+ghost use Rattle.shared_site.specs.Audits.{note_of};
+
+use dir_calls::{MemDir, Name};
+use event_journals::Full;
+use rule_lookup::Missing;
+use server_yard::{Assumptions, Yard};
+use shared_site::{Caller, Callers, Receipt, Site, close_and_audit};
+use std::alloc::Global;
+use std::process::Abort;
+use std::sync::ledger::Blank;
+
+/// A site over a directory, and its callers.
+pub(crate) fn new_site<L: Assumptions, N: Callers, R: Abort>(
+    rt: &R,
+    alloc: Global,
+    places: Blank,
+    parts: Blank,
+    dir: MemDir,
+    rules: Option<(Name, Missing)>,
+    limit: u64,
+    callers: u64,
+) -> (Site<L, N, MemDir, Full>, Vec<Caller<N>>)
+    requires places { (places.name ≡ L.name) × (places.parts ≡ L.parts) × (places.parts ≡ limit) }
+    requires begins { IsTrue L.met → Begins (mem_state dir) (rules_of rules) }
+    requires parts { (parts.name ≡ N.name) × (parts.parts ≡ N.parts) × (parts.parts ≡ callers) }
+    requires callers { (N.all ≡ callers) × (N.before ≡ 0) × (0 < callers) }
+{
+    let journal = Full::new(alloc);
+    let Ok(yard) = Yard::<L, MemDir, Full>::new(alloc, places, dir, rules, limit, journal) else {
+        panic!(rt; "the limit is above 0")
+    };
+    match Site::<L, N, MemDir, Full>::new(alloc, parts, yard, callers) {
+        Ok(made) => made,
+        Err(_) => panic!(rt; "there is memory for callers"),
+    }
+}
+
+/// The yard of a site whose callers are all back; their receipts are its whole history.
+pub(crate) fn close<L: Assumptions, N: Callers, R: Abort>(
+    rt: &R,
+    site: Site<L, N, MemDir, Full>,
+    callers: Vec<Caller<N>>,
+    receipts: &[Receipt],
+) -> Yard<L, MemDir, Full>
+    requires { N.all ≡ N.parts }
+    ensures { IsPermutation (map note_of receipts.now) (full_notes (yard_journal result)) }
+{
+    match close_and_audit(site, callers, receipts) {
+        Ok((yard, Ok(()))) => yard,
+        Ok((_, Err(_))) => panic!(rt; "the receipts are the history"),
+        Err(_) => panic!(rt; "all callers are back"),
+    }
+}

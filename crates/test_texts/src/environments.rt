@@ -1,0 +1,79 @@
+//! Environments, servers' ends and host tables.
+use crate::arguments::{Arguments, put};
+use connection_facts::Peer;
+use rule_lookup::Decision;
+use std::alloc::Global;
+use test_parts::Answer;
+use ucspi_env::{Environment, HostTable, build};
+
+/// Adds the environment of a child that inherits the variables.
+pub fn push_built(
+    alloc: Global,
+    given: &Arguments<'_>,
+    peer: &Peer,
+    decision: &Decision,
+    out: &mut Answer,
+) {
+    let Ok(local) = given.local(alloc) else {
+        return out.fail();
+    };
+    match build(alloc, given.variables(), &local, peer, decision) {
+        Ok(built) => push_all(given, &built, out),
+        Err(_) => out.fail(),
+    }
+}
+
+/// Adds the variables, and then a copy of them to which one more was put.
+pub fn push_variables(alloc: Global, given: &Arguments<'_>, out: &mut Answer) {
+    let Ok(mut copy) = given.variables().copy(alloc) else {
+        return out.fail();
+    };
+    if let Some(more) = given.known("put") {
+        out.note(put(alloc, &mut copy, more));
+    }
+    push_all(given, given.variables(), out);
+    push_all(given, &copy, out);
+}
+
+/// Adds how many variables there are, whether there is none, each at its place, what is behind the last, and one by its name.
+fn push_all(given: &Arguments<'_>, variables: &Environment, out: &mut Answer) {
+    out.number(variables.len() as u64);
+    out.text(" ");
+    out.show(&variables.is_empty());
+    out.text("\n");
+    for place in 0..variables.len() {
+        out.debug_line(&variables.at(place));
+    }
+    out.debug_line(&variables.at(variables.len()));
+    out.debug_line(&variables.get(given.text("name")));
+}
+
+/// Adds a server's end.
+pub fn push_local(alloc: Global, given: &Arguments<'_>, out: &mut Answer) {
+    let Ok(local) = given.local(alloc) else {
+        return out.fail();
+    };
+    out.debug(&local.ip());
+    out.count(" ", local.port() as u64);
+    out.text(" ");
+    out.debug_line(&local.host());
+}
+
+/// Adds the name that a host table gives an address, or whether it says that a name has the address.
+pub fn push_hosts(alloc: Global, given: &Arguments<'_>, out: &mut Answer) {
+    match HostTable::read(alloc, given.input()) {
+        Ok(table) => push_host(given, &table, out),
+        Err(fault) => out.show_line(&fault),
+    }
+}
+
+fn push_host(given: &Arguments<'_>, table: &HostTable, out: &mut Answer) {
+    let ip = given.address("ip");
+    match given.known("name") {
+        Some(name) => {
+            out.show(&table.confirms(name, ip));
+            out.text("\n");
+        }
+        None => out.debug_line(&table.name_of(ip)),
+    }
+}

@@ -1,0 +1,102 @@
+//! Makes one call of rule texts, decisions, environments, host tables, lines of the log or option words, and prints the answer. The first word
+//! names the call, and the words after it are its arguments, as `port=25`; those of `options` are option words, those of `letters` letters and
+//! then option words, and those of `encode` settings. With no words it does nothing.
+#![tactic(auto)]
+
+mod arguments;
+mod environments;
+mod log_lines;
+mod lookups;
+mod option_words;
+mod rules;
+mod sources;
+
+use arguments::Arguments;
+use std::alloc::Global;
+use std::env::Args;
+use std::io;
+use std::io::Read;
+use test_parts::Answer;
+
+/// Adds the answer of a call.
+fn answer_call(alloc: Global, call: &str, words: &[String], input: &[u8], out: &mut Answer) {
+    match call {
+        "options" => option_words::push_options(alloc, words, out),
+        "letters" => option_words::push_letters(alloc, words, out),
+        "encode" => rules::push_encoded(alloc, words, out),
+        _ => answer_words(alloc, call, words, input, out),
+    }
+}
+
+/// Adds the answer of a call whose words are named arguments.
+fn answer_words(alloc: Global, call: &str, words: &[String], input: &[u8], out: &mut Answer) {
+    let mut given = Arguments::new(alloc, input);
+    out.note(given.add_all(alloc, words));
+    answer_rules(alloc, call, &given, out);
+}
+
+/// Adds the answer of a call of rules, or else of another one.
+fn answer_rules(alloc: Global, call: &str, given: &Arguments<'_>, out: &mut Answer) {
+    match call {
+        "addresses" | "codes" | "pair" | "find" => rules::push_lists(alloc, call, given, out),
+        "decode" => rules::push_decoded(alloc, given, out),
+        "limits" => rules::push_limits(out),
+        "address" => lookups::push_address(given, out),
+        _ => answer_ends(alloc, call, given, out),
+    }
+}
+
+/// Adds the answer of a call of the ends of a connection, or else of another one.
+fn answer_ends(alloc: Global, call: &str, given: &Arguments<'_>, out: &mut Answer) {
+    match call {
+        "peer" | "forms" | "decide" | "build" | "ok" | "deny" => {
+            lookups::push_lookup(alloc, call, given, out);
+        }
+        "variables" => environments::push_variables(alloc, given, out),
+        "local" => environments::push_local(alloc, given, out),
+        "hosts" => environments::push_hosts(alloc, given, out),
+        _ => answer_texts(alloc, call, given, out),
+    }
+}
+
+/// Adds the answer of a call of option words or of lines of the log.
+fn answer_texts(alloc: Global, call: &str, given: &Arguments<'_>, out: &mut Answer) {
+    match call {
+        "meanings" => option_words::push_meanings(given, out),
+        "number" => option_words::push_number(given, out),
+        "memory" => option_words::push_faults(out),
+        "whole" => log_lines::push_whole(alloc, given, out),
+        _ => log_lines::push_line(alloc, call, given, out),
+    }
+}
+
+/// Takes the words that follow, and the standard input.
+fn take_all<R: Input>(
+    rt: &R,
+    more: &mut Args,
+    words: &mut Vec<String>,
+    input: &mut Vec<u8>,
+) -> io::Result<()> {
+    for word in more {
+        words.push(word)?;
+    }
+    rt.reader().read_to_end(input)?;
+    Ok(())
+}
+
+/// Makes the call that the first word names, with the words that follow, and prints its answer.
+///
+/// # Errors
+/// There was no memory for the answer, or the standard input or output failed.
+pub fn run<R: Input + Print>(rt: &R, alloc: Global, more: &mut Args) -> io::Result<()> {
+    let Some(call) = more.next() else {
+        return Ok(());
+    };
+    let mut words = Vec::new(alloc);
+    let mut input = Vec::new(alloc);
+    let mut out = Answer::new(alloc);
+    take_all(rt, more, &mut words, &mut input)?;
+    answer_call(alloc, call.as_str(), &words, &input, &mut out);
+    out.keep_whole();
+    out.print(rt)
+}

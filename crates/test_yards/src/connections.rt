@@ -1,0 +1,151 @@
+//! Connections one after the other, which end in five ways by turns.
+ghost use Rattle.std.specs.Prelude.{◌≡◌};
+ghost use Rattle.server_yard.specs.Kept.{HasNoEvents};
+
+use crate::shown::{Lists, add_report, peer_of};
+use child_jobs::Place;
+use connection_facts::{DropCause, Peer, StartFault, Status};
+use dir_calls::MemDir;
+use event_journals::Journal;
+use rule_lines::Verdict;
+use rule_lookup::Missing;
+use server_yard::{Assumptions, Yard};
+use std::alloc::Global;
+use std::io;
+use std::sync::ledger::Blank;
+use test_parts::{
+    Answer, EndedJobs, decide_for, finish_for, give_up, open_for, start_for, stuck, with_rules,
+    yard_over,
+};
+
+/// The last kind of connection is denied.
+const RULES: &[u8] = b"10.0.4.:deny\n:allow\n";
+
+/// Serves so many connections, and adds their report, the number of their events, and those that the journal lists.
+pub fn run_connections<L: Assumptions, J: Journal + Lists>(
+    alloc: Global,
+    blank: Blank,
+    journal: J,
+    connections: u64,
+    out: &mut Answer,
+)
+    requires name { blank.name ≡ L.name }
+    requires parts { (blank.parts ≡ L.parts) × (blank.parts ≡ connections) }
+    requires journal { HasNoEvents (J.books journal) }
+{
+    match yard_of::<L, J>(alloc, blank, journal, connections) {
+        Ok(mut yard) => {
+            serve_all(alloc, &mut yard, connections, out);
+            drop(yard);
+        }
+        Err(_) => out.fail(),
+    }
+}
+
+/// A yard whose directory has the rules.
+fn yard_of<L: Assumptions, J: Journal>(
+    alloc: Global,
+    blank: Blank,
+    journal: J,
+    limit: u64,
+) -> io::Result<Yard<L, MemDir, J>>
+    requires name { blank.name ≡ L.name }
+    requires parts { (blank.parts ≡ L.parts) × (blank.parts ≡ limit) }
+    requires journal { HasNoEvents (J.books journal) }
+{
+    let dir = with_rules(alloc, RULES)?;
+    yard_over(alloc, blank, dir, Missing::Drop, limit, journal)
+}
+
+/// Serves the connections by a yard, and adds what its journal tells.
+fn serve_all<L: Assumptions, J: Journal + Lists>(
+    alloc: Global,
+    yard: &mut Yard<L, MemDir, J>,
+    connections: u64,
+    out: &mut Answer,
+) {
+    for number in 0..connections {
+        serve(alloc, yard, (number % 5) as u8, out);
+    }
+    let journal = yard.journal();
+    add_report(&journal.report(), journal.events(), out);
+    journal.add_events(out);
+}
+
+/// Serves one connection from its admission to its end, which is by the kind.
+fn serve<L: Assumptions, J: Journal>(
+    alloc: Global,
+    yard: &mut Yard<L, MemDir, J>,
+    kind: u8,
+    out: &mut Answer,
+) {
+    let Some(peer) = peer_of(alloc, kind) else {
+        return out.fail();
+    };
+    match yard.admit(&peer) {
+        Ok((serial, place)) => serve_admitted(alloc, yard, serial, place, &peer, kind, out),
+        Err(_) => out.fail(),
+    }
+    drop(peer);
+}
+
+/// Serves a connection that was let in.
+fn serve_admitted<L: Assumptions, J: Journal>(
+    alloc: Global,
+    yard: &mut Yard<L, MemDir, J>,
+    serial: u64,
+    place: Place<L>,
+    peer: &Peer,
+    kind: u8,
+    out: &mut Answer,
+) {
+    match decided(alloc, yard, serial, peer, kind) {
+        Ok(None) => run_child(alloc, yard, place, kind),
+        Ok(Some(cause)) => give_up(yard, place, cause),
+        Err(_) => {
+            place.strand();
+            out.fail();
+        }
+    }
+}
+
+/// Why a connection that opened the rules is given up, unless it is allowed; the first kind is not decided.
+fn decided<L: Assumptions, J: Journal>(
+    alloc: Global,
+    yard: &mut Yard<L, MemDir, J>,
+    serial: u64,
+    peer: &Peer,
+    kind: u8,
+) -> io::Result<Option<DropCause>> {
+    let Ok(pass) = open_for(alloc, yard, serial)? else {
+        return Err(stuck());
+    };
+    if kind == 0 {
+        return Ok(Some(DropCause::Directory));
+    }
+    match decide_for(alloc, yard, pass, peer)? {
+        Verdict::Allow => Ok(None),
+        Verdict::Deny => Ok(Some(DropCause::Denied)),
+    }
+}
+
+/// The jobs of a kind of connection, which can't be started, have ended, or can't be waited for.
+fn jobs_of(kind: u8) -> EndedJobs {
+    match kind {
+        1 => EndedJobs::Failing(StartFault::NotFound),
+        2 => EndedJobs::Ending(Status::Code(3)),
+        _ => EndedJobs::Unwaitable,
+    }
+}
+
+/// Starts a child, and waits for it.
+fn run_child<L: Assumptions, J: Journal>(
+    alloc: Global,
+    yard: &mut Yard<L, MemDir, J>,
+    place: Place<L>,
+    kind: u8,
+) {
+    if let Some(running) = start_for(alloc, yard, place, jobs_of(kind)) {
+        finish_for(yard, running);
+    }
+}

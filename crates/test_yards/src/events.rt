@@ -1,0 +1,99 @@
+//! Lists of events, which stand on standard input as in a script of `rulesim`: what they come to, and what journals tell of them.
+use crate::shown::{add_event, add_report};
+use event_journals::{Counts, Full, Journal};
+use script_words::{Command, read_command};
+use server_events::{Event, replay};
+use std::alloc::Global;
+use std::io::Read;
+use test_parts::Answer;
+
+/// Reads the events on standard input, and adds what they come to or what a journal tells of them, as the name says; the numbers are two limits,
+/// or first the greatest caller.
+pub fn run_events<R: Input>(
+    rt: &R,
+    alloc: Global,
+    name: &str,
+    number: u64,
+    second: u64,
+    out: &mut Answer,
+) {
+    let mut input = Vec::new(alloc);
+    let mut events = Vec::new(alloc);
+    if rt.reader().read_to_end(&mut input).is_err() || !read_events(alloc, &input, &mut events) {
+        return out.fail();
+    }
+    match name {
+        "replay" => add_replayed(alloc, number, second, &events, out),
+        "count_events" => note_all(&mut Counts::new(), events, number, out),
+        _ => add_stored(alloc, events, number, out),
+    }
+}
+
+/// Adds the events in lines to others, or answers that one of them is none.
+fn read_events(alloc: Global, lines: &[u8], events: &mut Vec<Event>) -> bool {
+    let Ok(lines) = str::from_utf8(lines) else {
+        return false;
+    };
+    for line in lines.split('\n') {
+        if !line.is_empty() && !read_event(alloc, line, events) {
+            return false;
+        }
+    }
+    true
+}
+
+/// Adds the event in a line to others, or answers that it is none.
+fn read_event(alloc: Global, line: &str, events: &mut Vec<Event>) -> bool {
+    match read_command(alloc, line.as_bytes()) {
+        Ok(Command::Event(event)) => events.push(event).is_ok(),
+        _ => false,
+    }
+}
+
+/// Adds what the events come to under two limits, or why they come to nothing.
+fn add_replayed(alloc: Global, limit: u64, per_address: u64, events: &[Event], out: &mut Answer) {
+    match replay(alloc, limit, per_address, events) {
+        Ok(report) => add_report(&report, events.len() as u64, out),
+        Err(fault) => out.show_line(&fault),
+    }
+}
+
+/// Notes the events, by callers from 1 to a greatest one in turn, and adds their report and their number.
+fn note_all<J: Journal>(journal: &mut J, events: Vec<Event>, callers: u64, out: &mut Answer) {
+    let mut caller = 0;
+    for event in events {
+        caller = if caller < callers { caller + 1 } else { 1 };
+        note(journal, event, caller, out);
+    }
+    add_report(&journal.report(), journal.events(), out);
+}
+
+/// Notes an event.
+fn note<J: Journal>(journal: &mut J, event: Event, caller: u64, out: &mut Answer) {
+    match journal.reserve(1) {
+        Ok(()) => journal.note(event, caller),
+        Err(_) => out.fail(),
+    }
+}
+
+/// The same by a journal that stores them; and then what it has at each place, from the one before the first to the one after the last.
+fn add_stored(alloc: Global, events: Vec<Event>, callers: u64, out: &mut Answer) {
+    let mut full = Full::new(alloc);
+    note_all(&mut full, events, callers, out);
+    for at in 0..full.events().saturating_add(2) {
+        add_noted(&full, at, out);
+    }
+}
+
+/// Adds what a journal has at a place.
+fn add_noted(full: &Full, at: u64, out: &mut Answer) {
+    match full.get(at) {
+        Some(noted) => {
+            out.count("caller ", noted.caller);
+            out.text(": ");
+            add_event(&noted.event, out);
+            out.end_line();
+        }
+        None => out.line("none"),
+    }
+}

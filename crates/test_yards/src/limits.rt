@@ -1,0 +1,48 @@
+//! A limit of 0, and a full yard.
+ghost use Rattle.std.specs.Prelude.{◌≡◌, false};
+
+use crate::shown::peer_of;
+use connection_facts::Peer;
+use dir_calls::MemDir;
+use event_journals::Counts;
+use server_yard::{Assumptions, Yard};
+use std::alloc::Global;
+use std::sync::ledger::Blank;
+use test_parts::Answer;
+
+/// Adds what a yard with a limit answers when it is made, and what two connections then get.
+pub fn run_limit<L: Assumptions>(alloc: Global, blank: Blank, limit: u64, out: &mut Answer)
+    requires name { blank.name ≡ L.name }
+    requires parts { (blank.parts ≡ L.parts) × (blank.parts ≡ limit) }
+    requires unmet { L.met ≡ false }
+{
+    let dir = MemDir::new(alloc);
+    match Yard::<L, MemDir, Counts>::new(alloc, blank, dir, None, limit, Counts::new()) {
+        Ok(mut yard) => {
+            admit_two(alloc, &mut yard, out);
+            drop(yard);
+        }
+        Err(fault) => out.show_line(&fault),
+    }
+}
+
+/// Adds what two connections from one address get, and how many are alive then.
+fn admit_two<L: Assumptions>(alloc: Global, yard: &mut Yard<L, MemDir, Counts>, out: &mut Answer) {
+    let Some(peer) = peer_of(alloc, 1) else {
+        return out.fail();
+    };
+    admit(yard, &peer, out);
+    admit(yard, &peer, out);
+    out.count_line("live ", yard.live());
+}
+
+/// Lets a connection in, and adds its serial or why it isn't let in. It stays in for good.
+fn admit<L: Assumptions>(yard: &mut Yard<L, MemDir, Counts>, peer: &Peer, out: &mut Answer) {
+    match yard.admit(peer) {
+        Ok((serial, place)) => {
+            place.strand();
+            out.count_line("admitted ", serial);
+        }
+        Err(fault) => out.show_line(&fault),
+    }
+}

@@ -1,4 +1,0 @@
-pub mod LetterLemmas
-pub mod OptionLemmas
-pub mod RuleLemmas
-pub mod WordLemmas

@@ -1,5 +1,0 @@
-use Rattle.verdict_lines.proofs.PartLemmas.{cut_once}
-use Rattle.verdict_lines.proofs.parts.cut.Goals as goal
-
-pub returns : goal.returns
-returns c = cut_once c.args.at c.args.text.now c.split_once.result c.requires c.split_once.ensures.cases
