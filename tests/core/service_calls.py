@@ -133,13 +133,23 @@ def told_by(log):
     return events
 
 
+def audit(calls, events, receipts, told):
+    """Each receipt of an event that the log tells is the event and the caller at its place in the history, and they come in the order of the log."""
+    stand = [events[int(at) - 1] == [caller, name, serial] for at, caller, name, serial in receipts]
+    calls.holds("each receipt stands at its place in the history", all(stand), stand.count(False))
+    places = [int(receipt[0]) for receipt in receipts]
+    calls.holds("no receipt comes twice or late", all(one < next for one, next in zip(places, places[1:])), len(places))
+    kept = [(name, int(serial)) for _, _, name, serial in receipts]
+    calls.holds("the log tells the event of each receipt and no other", kept == told and len(kept) > 6000, "%d and %d" % (len(kept), len(told)))
+
+
 def check_history(program, calls):
     """Two thousand connections of forty at once and three from an address: the log tells the very events of the server's history, in their order."""
     scripts = ["ek=%d" % (n % 10) for n in range(90)] + ["n", "m", "k=s", "ek=fs", "ek=ff3", "r", "ek", "k", "ek"] + ["ek=7"]
     words = ["history", "40", "0", "10000000", "2000", "3", "30"] + scripts * 3
     code, printed = probes.run([program] + words)
     end, _, rest = printed.partition(b"\n")
-    history, _, log = rest.partition(b"\n\n")
+    history, receipts, log = (rest.split(b"\n\n", 2) + [b"", b""])[:3]
     calls.holds("two thousand connections end", (code, end.split(b", ")[:2]) == (0, [b"Count", b"9 alive"]), (code, end))
     events = [line.split() for line in history.decode().splitlines()]
     first = [(name, int(serial)) for caller, name, serial in events if caller == "1"]
@@ -147,6 +157,7 @@ def check_history(program, calls):
     all_told = [(name, int(serial)) for _, name, serial in events]
     told = [event for event in all_told if event[0] not in ("opened", "started")]
     calls.holds("the log tells each event in its order", told_by(log) == told, "%d of %d" % (len(told_by(log)), len(told)))
+    audit(calls, events, [line.split() for line in receipts.decode().splitlines()], told_by(log))
     lives = {}
     for name, serial in all_told:
         lives.setdefault(serial, []).append(name)

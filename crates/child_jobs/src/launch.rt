@@ -7,7 +7,7 @@ ghost use Rattle.ucspi_env.specs.Variables.{Variables};
 ghost use Rattle.child_jobs.specs.Programs.{ProgramText};
 
 use connection_facts::{StartFault, Status};
-use std::alloc::{AllocError, Global};
+use std::alloc::Global;
 use std::io::{Read, Write};
 use std::marker::Model;
 use thiserror::Error;
@@ -50,20 +50,6 @@ impl Program {
         ensures { map string_bytes result.now ≡ self.now.args }
     {
         self.args.as_slice()
-    }
-
-    /// An equal program.
-    pub fn copy(&self, alloc: Global) -> Result<Program, AllocError>
-        ensures { IfOk result (λ copy. copy ≡ self.now) }
-    {
-        let mut args = Vec::new(alloc);
-        for arg in &self.args {
-            args.push(String::from_str(alloc, arg.as_str())?)?;
-        }
-        Ok(Program {
-            path: String::from_str(alloc, self.path.as_str())?,
-            args,
-        })
     }
 }
 

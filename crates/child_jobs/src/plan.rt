@@ -1,8 +1,7 @@
 //! What a server does with its connections.
-ghost use Rattle.std.specs.Prelude.{◌≡◌, IfOk};
+ghost use Rattle.std.specs.Prelude.{◌≡◌};
 
 use crate::launch::Program;
-use std::alloc::{AllocError, Global};
 use std::marker::Model;
 use ucspi_env::Environment;
 
@@ -62,16 +61,5 @@ impl Plan {
         ensures { result.now ≡ self.now.banner }
     {
         self.banner.as_slice()
-    }
-
-    /// An equal plan.
-    pub fn copy(&self, alloc: Global) -> Result<Plan, AllocError>
-        ensures { IfOk result (λ copy. copy ≡ self.now) }
-    {
-        Ok(Plan {
-            program: self.program.copy(alloc)?,
-            inherited: self.inherited.copy(alloc)?,
-            banner: self.banner.to_vec(alloc)?,
-        })
     }
 }

@@ -34,6 +34,9 @@ pub enum ServerFault {
     /// No child of any place could be waited for.
     #[error("no places left")]
     NoPlaces,
+    /// A connection is alive that no thread has, and that is not retired: the server has lost it.
+    #[error("lost connection")]
+    LostConnection,
     /// There was no memory for the server itself.
     #[error("out of memory")]
     OutOfMemory,

@@ -419,11 +419,10 @@ where
         &server.service,
         &server.log,
     );
-    let end = match served {
-        Ok(closed) => closed.end,
-        Err(unfinished) => unfinished.end,
-    };
-    end_of(end, acceptor.error())
+    match served {
+        Ok(closed) => end_of(closed.end, acceptor.error()),
+        Err(_) => Err(ServerFailure::from(ServerFault::LostConnection)),
+    }
 }
 
 // How the tool ends, by the system's last error of accepting.

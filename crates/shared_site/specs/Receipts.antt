@@ -1,5 +1,6 @@
 -- What a caller has of an event: that it made it, or found it out of turn; and the receipt.
-use Rattle.std.specs.Prelude.{◌≡◌, ◌⊎◌, ℕ, Option, Some, None, Result, Ok, Err}
+use Rattle.std.specs.Prelude.{◌≡◌, ◌⊎◌, ℕ, Option, Some, None, Result, Ok, Err, IfOk, OnErr}
+use Rattle.connection_facts.specs.Peers.{Client}
 use Rattle.event_journals.specs.Journals.{one_more}
 use Rattle.server_events.specs.declared.event.Event.{Event}
 use Rattle.server_events.specs.declared.event.Event.TheVariants.{Admitted, Decided}
@@ -45,3 +46,8 @@ CountsMade (Some made) before after = after ≡ one_more before
 abbrev pub MakesOrNot : Event → (who before : ℕ) → Result Made OutOfTurn → (after : ℕ) → Type 0
 MakesOrNot event who before (Ok made) after = (receipt_of made ≡ receipt_after before who event) × (after ≡ one_more before)
 MakesOrNot event who before (Err refusal) after = (refused_event refusal ≡ event) × (after ≡ before)
+
+-- the caller with this number let this client in, by the next event after so many; or no event was made
+abbrev pub AdmitsOrNot : {P F : Type 0} → Client → (who before : ℕ) → Result (ℕ × P × Made) F → (after : ℕ) → Type 0
+AdmitsOrNot client who before answer after =
+    IfOk answer (λ r. (receipt_of r.2 ≡ receipt_after before who (Admitted r.0 client)) × (after ≡ one_more before)) × OnErr answer (after ≡ before)

@@ -4,7 +4,7 @@
 pub mod audit;
 pub mod caller;
 pub mod closing;
-mod guarded;
+pub mod install_turns;
 pub mod laws;
 pub mod receipt;
 pub mod site;

@@ -1,16 +1,15 @@
 //! A yard under one lock, for many threads.
-ghost use Rattle.std.specs.Prelude.{◌≡◌, ◌+◌, ◌<◌, ◌↔◌, IsOk, IfOk, IfErr, vec_len};
-ghost use Rattle.server_yard.specs.Yards.{yard_books};
+ghost use Rattle.std.specs.Prelude.{◌≡◌, ◌+◌, ◌<◌, ◌≤◌, ◌↔◌, IsOk, IsTrue, IfOk, IfErr, length, vec_len};
+ghost use Rattle.server_yard.specs.Yards.{yard_books, yard_server};
 ghost use Rattle.shared_site.specs.Callers.{AreNew, CountsForIts, total_share};
 
 use crate::caller::{Caller, Callers};
-use crate::guarded::Guarded;
 use crate::turn::Turn;
 use dir_calls::Dir;
 use event_journals::Journal;
 use server_yard::{Assumptions, Yard};
 use std::alloc::{AllocError, Global};
-use std::sync::ledger::{Blank, Share};
+use std::sync::ledger::{Blank, Book, Share};
 use std::sync::{Condvar, Mutex, Wait};
 
 /// Why nobody has to wait for a place any longer.
@@ -20,6 +19,38 @@ pub enum Room {
     Free,
     /// All places are retired, and none will ever be free.
     AllRetired,
+}
+
+// A yard, and the count of the events since the site was made.
+#[derive(Drop)]
+struct Guarded<L: Assumptions, N: Callers, D: Dir + Drop, J: Journal> {
+    yard: Yard<L, D, J>,
+    events: Book<N>,
+    // all shares together are the events since then
+    ghost counted: { N.before + events.total ≡ (yard_books yard).count },
+}
+
+impl<L: Assumptions, N: Callers, D: Dir + Drop, J: Journal> Guarded<L, N, D, J> {
+    // Runs a turn of a caller, and counts by the journal how many events it made.
+    fn turn<T: Turn<L, D, J>>(&mut self, caller: &mut Caller<N>, turn: T) -> T::Answer
+        requires may { T.may turn }
+        ensures counted { CountsForIts (T.answers turn) result caller.old caller.new }
+    {
+        let before = self.yard.journal().events();
+        let answer = turn.run(&mut self.yard, caller.number);
+        let made = self.yard.journal().events() - before;
+        self.events.add(&mut caller.share, made);
+        answer
+    }
+
+    // Whether no place is free, but one may be yet.
+    fn is_taken(&self) -> bool
+        ensures { IsTrue result ↔ (((yard_server self.now.yard).limit ≤ length (yard_server self.now.yard).connections)
+            × ((yard_books self.now.yard).report.retired < (yard_server self.now.yard).limit)) }
+    {
+        self.yard.live() >= self.yard.limit()
+            && self.yard.journal().report().retired < self.yard.limit()
+    }
 }
 
 /// A yard that many threads call, each with a caller of its own, one turn after another: each event is that of one turn.

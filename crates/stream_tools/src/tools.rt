@@ -6,7 +6,7 @@ use crate::launcher::OsLauncher;
 use crate::recordio::record_between;
 use crate::search::SearchPath;
 use crate::shared::SharedWriter;
-use crate::started::{inherited_variables, program_of};
+use crate::started::{SystemGiven, inherited_variables, program_of};
 use byte_streams::{Patient, Watch};
 use child_jobs::Program;
 use connection_facts::Status;
@@ -77,7 +77,7 @@ fn told_run<E: Env>(
     let program = program_of(alloc, words)?;
     Ok((
         program,
-        inherited_variables(alloc, &crate::started::SystemGiven(env))?,
+        inherited_variables(alloc, &SystemGiven(env))?,
     ))
 }
 

@@ -3,7 +3,7 @@ use Rattle.std.proofs.Common.{◌≡◌, ◌≢◌, ◌+◌, ◌-◌, ◌^◌, �
 use Rattle.std.proofs.lemmas.List.Sums.{sum_by-append}
 use Rattle.event_journals.specs.Journals.{one_more}
 use Rattle.server_events.specs.declared.event.Event.{Event}
-use Rattle.shared_site.specs.Receipts.{receipt_after, receipt_of}
+use Rattle.shared_site.specs.Receipts.{made_event, receipt_after, receipt_of}
 use Rattle.shared_site.specs.declared.receipt.Made.{Made}
 use Rattle.shared_site.specs.declared.receipt.Receipt.{Receipt}
 use Rattle.shared_site.specs.Callers.{caller_share, total_share}
@@ -48,3 +48,7 @@ one_came made event who before after old new is other then counted =
 -- and of one without an event
 pub none_came : (before after old new : ℕ) → after ≡ before → new + before ≡ old + after → new ≡ old
 none_came before after old new then counted = omega (arith, then, counted)
+
+-- the event that was made is the one that the answer tells
+pub own_came : (made : Made) (event : Event) (who before : ℕ) → receipt_of made ≡ receipt_after before who event → made_event made ≡ event
+own_came made event who before is = ap (λ (r : Receipt). r.event) is

@@ -1,8 +1,18 @@
--- What was told last of a connection.
-use Rattle.std.specs.Prelude.{◌≡◌, ◌⊎◌, ℕ, Option, Some, option_and_then}
+-- How the life of a connection begins, and what was told last of it.
+use Rattle.std.specs.Prelude.{◌≡◌, ◌⊎◌, ℕ, Option, Some, ⊤, option_and_then}
+use Rattle.connection_facts.specs.Peers.{Client}
 use Rattle.server_events.specs.declared.event.Event.{Event}
-use Rattle.server_events.specs.declared.event.Event.TheVariants.{Retired}
+use Rattle.server_events.specs.declared.event.Event.TheVariants.{Admitted, Retired}
 use Rattle.server_yard.specs.Seating.{leaver}
+use Rattle.shared_site.specs.Receipts.{made_event}
+use Rattle.shared_site.specs.declared.receipt.Made.{Made}
+use Rattle.tcp_connections.specs.declared.admission_loop.AdmitOutcome.{AdmitOutcome}
+use Rattle.tcp_connections.specs.declared.admission_loop.AdmitOutcome.TheVariants.{In}
+
+-- where a client is let in, the event that was made is the admission of it, by the serial that it has
+abbrev pub AdmitsOwn : {P : Type 0} → AdmitOutcome (ℕ × P × Made) → Client → Type 0
+AdmitsOwn (In r) client = made_event r.2 ≡ Admitted r.0 client
+AdmitsOwn outcome client = ⊤
 
 -- the last that was asked of the site is the end of the connection with a serial: that it goes, or is retired
 abbrev pub IsEndOf : Option Event → (serial : ℕ) → Type 0

@@ -2,6 +2,7 @@
 ghost use Rattle.std.specs.Prelude.{◌≡◌, IfOk, IfErr};
 
 use crate::life::{Admitted, Started};
+use crate::observer::Observer;
 use crate::opening::Rules;
 use crate::over::Over;
 use crate::service::ChainSource;
@@ -28,7 +29,7 @@ pub(crate) struct NewConnection<
     J: Journal,
     U: Rules<L, D::File>,
     R: Wait,
-    W: Write,
+    W: Observer,
     I,
     O,
     X,
@@ -47,7 +48,7 @@ pub(crate) struct Begun<
     J: Journal,
     U: Rules<L, D::File>,
     R: Wait,
-    W: Write,
+    W: Observer,
     C: Job,
     F,
     O,
@@ -66,11 +67,11 @@ type Beginning<'a, L, N, D, J, U, R, W, C, I, O, X, G> = (
 
 /// What the threads of all connections share.
 #[derive(Drop)]
-pub(crate) struct Server<'a, S, M, R, W> {
+pub(crate) struct Server<'a, S, M, R, W: Observer> {
     pub wrapping: &'a M,
     pub starter: &'a S,
     pub mode: Mode,
-    pub attendant: Attendant<'a, R, W>,
+    pub attendant: Attendant<'a, R, W::Writer>,
 }
 
 impl<S, M, R, W, G> Server<'_, S, M, R, W>
@@ -78,7 +79,7 @@ where
     M: ChainSource<LineWrapper = G>,
     G: LineStage + Drop,
     R: Wait,
-    W: Write,
+    W: Observer,
 {
     // The line wrappers of a connection, where it is pumped.
     fn chains(&self) -> Result<Option<Chains<G>>, AllocError> {
@@ -184,7 +185,8 @@ where
     M: ChainSource<LineWrapper = G>,
     G: LineStage + Send + Drop,
     R: Wait + Sync,
-    W: Write + Send,
+    W: Observer + Sync,
+    W::Writer: Send,
     I: Read + Send + Drop,
     O: Write + Follow<<S::Job as Job>::Output> + Send + Drop,
     X: Shut + Send + Drop,

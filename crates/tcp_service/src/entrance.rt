@@ -3,21 +3,22 @@ ghost use Rattle.std.specs.Prelude.{◌≡◌};
 ghost use Rattle.shared_site.specs.Callers.{caller_share};
 ghost use Rattle.tcp_connections.specs.Admissions.{LetsIn};
 ghost use Rattle.tcp_connections.specs.declared.admission_loop.AdmitOutcome.TheVariants.{Refused};
+ghost use Rattle.tcp_service.specs.Lives.{AdmitsOwn};
 
 use crate::connection::NewConnection;
 use crate::life::{Admitted, Register};
+use crate::observer::{Observer, tell};
 use crate::opening::Rules;
 use child_jobs::Place;
 use connection_facts::{DropCause, Peer};
 use dir_calls::Dir;
 use event_journals::Journal;
-use server_log::{Log, Told};
+use server_log::Told;
 use server_yard::{AdmitFault, Assumptions, Yard};
-use shared_site::turn::Dropped;
-use shared_site::{Caller, Callers, Made, Room, Turn, turns};
+use shared_site::turns::{Admit, Dropped};
+use shared_site::{Caller, Callers, Made, Room, Turn};
 use std::alloc::{AllocError, Global};
-use std::io::Write;
-use std::sync::{Mutex, Wait};
+use std::sync::Wait;
 use tcp_connections::{AcceptFault, Accepted, Acceptor, Admission, AdmitOutcome, HostNames, Line};
 use ucspi_env::Local;
 
@@ -62,10 +63,10 @@ fn ends_of<I, O, X>(
 }
 
 // A connection has found no memory.
-fn refuse_for_memory<T, R: Wait, W: Write>(rt: &R, log: &Mutex<Log<W>>) -> AdmitOutcome<T>
+fn refuse_for_memory<T, R: Wait, W: Observer>(rt: &R, observer: &W) -> AdmitOutcome<T>
     ensures refused { result ≡ Refused }
 {
-    let _ = log.lock(rt).out_of_memory();
+    let _ = observer.log().lock(rt).out_of_memory();
     AdmitOutcome::Refused
 }
 
@@ -79,7 +80,8 @@ where
     J: Journal + Send,
     U: Rules<L, D::File> + Sync,
     R: Wait + Sync,
-    W: Write + Send,
+    W: Observer + Sync,
+    W::Writer: Send,
 {
     type Work = NewConnection<'a, L, N, D, J, U, R, W, A::Reader, A::Writer, A::Shut>;
 
@@ -98,7 +100,7 @@ where
         let register = self.register;
         match self.acceptor.accept() {
             Ok(accepted) => Ok(let_in(register, &mut self.host, self.names, accepted)),
-            Err(AcceptFault::OutOfMemory) => Ok(refuse_for_memory(register.rt, register.log)),
+            Err(AcceptFault::OutOfMemory) => Ok(refuse_for_memory(register.rt, register.observer)),
             Err(fault) => Err(fault),
         }
     }
@@ -122,17 +124,17 @@ where
     J: Journal,
     U: Rules<L, D::File>,
     R: Wait,
-    W: Write,
+    W: Observer,
     I: Drop,
     O: Drop,
     X: Drop,
     ensures came { LetsIn result (caller_share host.old) (caller_share host.new) }
 {
     let Ok((peer, local)) = ends_of(register.alloc, names, &accepted) else {
-        return refuse_for_memory(register.rt, register.log);
+        return refuse_for_memory(register.rt, register.observer);
     };
     let port = peer.port();
-    let (serial, place) = match admit(register, host, &peer) {
+    let (serial, place, made) = match admit(register, host, &peer) {
         AdmitOutcome::In(admitted) => admitted,
         AdmitOutcome::Refused => return AdmitOutcome::Refused,
         AdmitOutcome::Spent => return AdmitOutcome::Spent,
@@ -144,29 +146,31 @@ where
             place,
             peer,
             local,
+            made,
         },
         line: line_of(accepted, port),
     })
 }
 
 // Counts a connection: its serial, and its place. Once the last number of an event is given nobody is let in any more.
-#[tactic(auto, using(crate::proofs::Shares::one_came, crate::proofs::Shares::none_came))]
+#[tactic(auto, using(crate::proofs::Shares::one_came, crate::proofs::Shares::none_came, crate::proofs::Shares::own_came))]
 fn admit<L, N, D, J, U, R, W>(
     register: &Register<'_, L, N, D, J, U, R, W>,
     host: &mut Caller<N>,
     peer: &Peer,
-) -> AdmitOutcome<(u64, Place<L>)>
+) -> AdmitOutcome<(u64, Place<L>, Made)>
 where
     L: Assumptions,
     N: Callers,
     D: Dir + Drop,
     J: Journal,
     R: Wait,
-    W: Write,
+    W: Observer,
     ensures came { LetsIn result (caller_share host.old) (caller_share host.new) }
+    ensures own { AdmitsOwn result peer.now }
 {
-    let (rt, site, log) = (register.rt, register.site, register.log);
-    match site.turn(rt, host, TellingAdmission { peer, rt, log }) {
+    let (rt, site, observer) = (register.rt, register.site, register.observer);
+    match site.turn(rt, host, TellingAdmission { peer, rt, observer }) {
         Ok((serial, place, made)) => {
             if made.at() == u64::MAX {
                 let turn = Dropped {
@@ -177,7 +181,7 @@ where
                 let _ = site.turn(rt, host, turn);
                 return AdmitOutcome::Spent;
             }
-            AdmitOutcome::In((serial, place))
+            AdmitOutcome::In((serial, place, made))
         }
         Err(AdmitFault::Spent) => AdmitOutcome::Spent,
         Err(_) => AdmitOutcome::Refused,
@@ -188,7 +192,7 @@ where
 struct TellingAdmission<'a, R, W> {
     peer: &'a Peer,
     rt: &'a R,
-    log: &'a Mutex<Log<W>>,
+    observer: &'a W,
 }
 
 impl<L, D, J, R, W> Turn<L, D, J> for TellingAdmission<'_, R, W>
@@ -197,54 +201,49 @@ where
     D: Dir + Drop,
     J: Journal,
     R: Wait,
-    W: Write,
+    W: Observer,
 {
-    ghost use Rattle.std.specs.Prelude.{◌≡◌, ⊤, IfOk, OnErr};
-    ghost use Rattle.event_journals.specs.Journals.{one_more};
-    ghost use Rattle.server_events.specs.declared.event.Event.TheVariants.{Admitted};
-    ghost use Rattle.shared_site.specs.Receipts.{receipt_after, receipt_of};
+    ghost use Rattle.std.specs.Prelude.{⊤};
+    ghost use Rattle.shared_site.specs.Receipts.{AdmitsOrNot};
 
     type Answer = Result<(u64, Place<L>, Made), AdmitFault>;
 
     ghost may = { λ _. ⊤ };
 
-    ghost answers = { λ turn who before answer after.
-        IfOk answer (λ r. (receipt_of r.2 ≡ receipt_after before who (Admitted r.0 turn.peer.now)) × (after ≡ one_more before))
-        × OnErr answer (after ≡ before) };
+    ghost answers = { λ turn. AdmitsOrNot turn.peer.now };
 
     fn run(
         self,
         yard: &mut Yard<L, D, J>,
         caller: u64,
     ) -> Result<(u64, Place<L>, Made), AdmitFault> {
-        let TellingAdmission { peer, rt, log } = self;
-        let admitted = turns::admit(yard, caller, peer);
-        tell_admission(rt, log, peer, yard.live(), &admitted);
+        let TellingAdmission { peer, rt, observer } = self;
+        let admitted = Admit { peer }.run(yard, caller);
+        tell_admission(rt, observer, peer, yard.live(), &admitted);
         admitted
     }
 }
 
-// Tells the log of a connection that was let in, or why it was refused, where that has a line. So many are alive.
-fn tell_admission<L: Assumptions, R: Wait, W: Write>(
+// Tells of a connection that was let in, or why it was refused, where that has a line. So many are alive.
+fn tell_admission<L: Assumptions, R: Wait, W: Observer>(
     rt: &R,
-    log: &Mutex<Log<W>>,
+    observer: &W,
     peer: &Peer,
     live: u64,
     admitted: &Result<(u64, Place<L>, Made), AdmitFault>,
 ) {
-    let mut log = log.lock(rt);
     let ip = peer.ip();
-    let _ = match admitted {
-        Ok((serial, _, made)) => log.tell(
-            made.at(),
-            live,
-            Told::Admitted {
-                serial: *serial,
-                ip,
-            },
-        ),
-        Err(AdmitFault::FullForAddress) => log.address_full(ip),
-        Err(AdmitFault::OutOfMemory) => log.out_of_memory(),
-        Err(AdmitFault::Full | AdmitFault::Spent) => Ok(()),
-    };
+    match admitted {
+        Ok((serial, _, made)) => {
+            let serial = *serial;
+            tell(rt, observer, made, live, Told::Admitted { serial, ip });
+        }
+        Err(AdmitFault::FullForAddress) => {
+            let _ = observer.log().lock(rt).address_full(ip);
+        }
+        Err(AdmitFault::OutOfMemory) => {
+            let _ = observer.log().lock(rt).out_of_memory();
+        }
+        Err(AdmitFault::Full | AdmitFault::Spent) => {}
+    }
 }

@@ -5,12 +5,14 @@
 mod connection;
 mod entrance;
 mod life;
+mod observer;
 pub mod opening;
 mod over;
 pub mod service;
 pub mod serving;
 pub mod site_agent;
 
+pub use observer::Observer;
 pub use opening::{Rules, RulesHandle};
 pub use server_log::Log;
 pub use server_words::{Level, Mode};

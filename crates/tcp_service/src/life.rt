@@ -2,9 +2,12 @@
 //! end itself.
 ghost use Rattle.std.specs.Prelude.{◌≡◌, None, IfOk, IfErr};
 ghost use Rattle.child_jobs.specs.Runs.{IsSameRun, place_of};
+ghost use Rattle.server_events.specs.declared.event.Event.TheVariants as event;
+ghost use Rattle.shared_site.specs.Receipts.{made_event};
 
+use crate::observer::Observer;
 use crate::opening::Rules;
-use crate::over::{LifeDesk, Over};
+use crate::over::{LifeAgent, Over};
 use crate::site_agent::{LoggedAgent, SiteAgent};
 use byte_streams::LineStage;
 use child_jobs::{Job, Place, Plan, Running};
@@ -12,9 +15,8 @@ use connection_facts::{DropCause, Peer};
 use dir_calls::Dir;
 use event_journals::Journal;
 use one_connection::{Agent, Served, serve_one};
-use server_log::Log;
 use server_yard::Assumptions;
-use shared_site::{Caller, Callers, Site};
+use shared_site::{Caller, Callers, Made, Site};
 use std::alloc::Global;
 use std::io::{Read, Write};
 use std::sync::{Mutex, Wait};
@@ -24,7 +26,7 @@ use tcp_connections::{
 };
 use ucspi_env::Local;
 
-/// Where the lives of connections are told: a site, by one caller of it, and a log.
+/// Where the lives of connections are told: a site, by one caller of it, and who observes that.
 #[derive(Drop)]
 pub(crate) struct Register<'a, L: Assumptions, N: Callers, D: Dir + Drop, J: Journal, U, R, W> {
     pub rt: &'a R,
@@ -33,11 +35,11 @@ pub(crate) struct Register<'a, L: Assumptions, N: Callers, D: Dir + Drop, J: Jou
     pub caller: &'a Mutex<Caller<N>>,
     pub rules: &'a U,
     pub plan: &'a Plan,
-    pub log: &'a Mutex<Log<W>>,
+    pub observer: &'a W,
 }
 
-/// A connection that was let in and whose child was not started yet: the right to what comes next. It is made of the place that its admission gave.
-/// One that is let go, as where no thread takes it, is given up.
+/// A connection that was let in and whose child was not started yet: the right to what comes next. It is made of what its admission answered: the place,
+/// and the event, which is of this serial and this client (`own`). One that is let go, as where no thread takes it, is given up.
 pub(crate) struct Admitted<
     'a,
     L: Assumptions,
@@ -46,13 +48,15 @@ pub(crate) struct Admitted<
     J: Journal,
     U: Rules<L, D::File>,
     R: Wait,
-    W: Write,
+    W: Observer,
 > {
     pub(crate) register: &'a Register<'a, L, N, D, J, U, R, W>,
     pub(crate) serial: u64,
     pub(crate) place: Place<L>,
     pub(crate) peer: Peer,
     pub(crate) local: Local,
+    pub(crate) made: Made,
+    pub(crate) ghost own: { made_event made ≡ event.Admitted serial peer },
 }
 
 /// A connection whose child runs: the right to its end. It is made of one that was let in. One that is let go is retired: its child is abandoned,
@@ -65,7 +69,7 @@ pub(crate) struct Started<
     J: Journal,
     U: Rules<L, D::File>,
     R: Wait,
-    W: Write,
+    W: Observer,
     C: Job,
 > {
     register: &'a Register<'a, L, N, D, J, U, R, W>,
@@ -89,7 +93,7 @@ where
     J: Journal,
     U: Rules<L, D::File>,
     R: Wait,
-    W: Write,
+    W: Observer,
 {
     fn drop(self) {
         let Admitted {
@@ -98,6 +102,7 @@ where
             place,
             peer,
             local,
+            made: _,
         } = self;
         let _over = register.give_up(serial, place, &peer, &local, DropCause::NoThread);
     }
@@ -111,7 +116,7 @@ where
     J: Journal,
     U: Rules<L, D::File>,
     R: Wait,
-    W: Write,
+    W: Observer,
     C: Job,
 {
     fn drop(self) {
@@ -148,7 +153,7 @@ where
     J: Journal,
     U: Rules<L, D::File>,
     R: Wait,
-    W: Write,
+    W: Observer,
 {
     // The agent of the connection with this serial number. Nothing was asked for it yet.
     fn agent<'b>(
@@ -156,7 +161,7 @@ where
         serial: u64,
         local: &'b Local,
         refusal: &'b Mutex<Option<i32>>,
-    ) -> LifeDesk<'b, L, N, D, J, U, R, W>
+    ) -> LifeAgent<'b, L, N, D, J, U, R, W>
     where
         'a: 'b,
         ensures own { (result.serial ≡ serial) × (result.agent.serial ≡ serial) }
@@ -166,7 +171,7 @@ where
             rt: self.rt,
             alloc: self.alloc,
             agent: SiteAgent::new(self.rt, self.site, self.caller, self.rules, serial),
-            log: self.log,
+            observer: self.observer,
             serial,
             local,
             plan: self.plan,
@@ -227,7 +232,7 @@ where
     #[tactic(auto, using(crate::proofs::Told::over_told))]
     fn begin<C, I, O, X, G>(
         &self,
-        attendant: &Attendant<'_, R, W>,
+        attendant: &Attendant<'_, R, W::Writer>,
         serial: u64,
         running: Running<L, C>,
         local: &Local,
@@ -272,7 +277,7 @@ where
     J: Journal,
     U: Rules<L, D::File>,
     R: Wait,
-    W: Write,
+    W: Observer,
 {
     /// It is given up for this cause.
     pub(crate) fn give_up(self, cause: DropCause) -> Over
@@ -284,6 +289,7 @@ where
             place,
             peer,
             local,
+            made: _,
         } = self;
         register.give_up(serial, place, &peer, &local, cause)
     }
@@ -310,6 +316,7 @@ where
             place,
             peer,
             local,
+            made: _,
         } = self;
         match register.serve(serial, place, &peer, &local, starter, connection, writer) {
             Ok(running) => Ok(Started::of(register, serial, running, local)),
@@ -326,7 +333,7 @@ where
     J: Journal,
     U: Rules<L, D::File>,
     R: Wait,
-    W: Write,
+    W: Observer,
     C: Job,
 {
     // One whose child was started.
@@ -352,7 +359,7 @@ where
     /// It is over: its child has no pipe ends, and was ended by force.
     pub(crate) fn begin<I, O, X, G>(
         self,
-        attendant: &Attendant<'_, R, W>,
+        attendant: &Attendant<'_, R, W::Writer>,
         line: Line<I, O, X>,
         chains: Chains<G>,
     ) -> Result<Passed<'a, L, N, D, J, U, R, W, C, I, O, X, G>, Over>
@@ -403,7 +410,7 @@ where
     #[tactic(auto, using(crate::proofs::Told::over_told))]
     pub(crate) fn pass_down<F, O, X, G>(
         self,
-        attendant: &Attendant<'_, R, W>,
+        attendant: &Attendant<'_, R, W::Writer>,
         talk: Talk<F, O, X, G>,
     ) -> Over
     where

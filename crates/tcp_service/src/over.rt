@@ -3,17 +3,17 @@ ghost use Rattle.std.specs.Prelude.{◌≡◌};
 ghost use Rattle.tcp_service.specs.Lives.{IsEndOf};
 ghost use Rattle.tcp_service.specs.SiteAgents.{asked};
 
+use crate::observer::Observer;
 use crate::opening::Rules;
 use crate::site_agent::{LoggedAgent, SiteAgent};
 use dir_calls::Dir;
 use event_journals::Journal;
 use server_yard::Assumptions;
 use shared_site::Callers;
-use std::io::Write;
 use std::sync::Wait;
 
 /// The agent of one connection, each of whose events is told to the log.
-pub(crate) type LifeDesk<'a, L, N, D, J, U, R, W> = LoggedAgent<
+pub(crate) type LifeAgent<'a, L, N, D, J, U, R, W> = LoggedAgent<
     'a,
     SiteAgent<'a, L, N, D, J, R, U>,
     R,
@@ -29,7 +29,7 @@ pub(crate) struct Over {
 impl Over {
     /// That the connection with this serial number is, by its agent.
     pub(crate) fn of<L, N, D, J, U, R, W>(
-        _desk: &LifeDesk<'_, L, N, D, J, U, R, W>,
+        _agent: &LifeAgent<'_, L, N, D, J, U, R, W>,
         serial: u64,
     ) -> Over
     where
@@ -39,8 +39,8 @@ impl Over {
         J: Journal,
         U: Rules<L, D::File>,
         R: Wait,
-        W: Write,
-        requires told { IsEndOf (asked _desk.now.agent.last) serial }
+        W: Observer,
+        requires told { IsEndOf (asked _agent.now.agent.last) serial }
         ensures own { result.serial ≡ serial }
     {
         Over { serial }

@@ -7,16 +7,15 @@ ghost use Rattle.tcp_connections.specs.Admissions.{IsServed};
 use crate::connection::Server;
 use crate::entrance::SiteEntrance;
 use crate::life::Register;
+use crate::observer::Observer;
 use crate::opening::Rules;
 use crate::service::{ChainSource, Service};
 use child_jobs::{Job, Plan};
 use dir_calls::Dir;
 use event_journals::Journal;
-use server_log::Log;
 use server_yard::{Assumptions, Yard};
 use shared_site::{Caller, Callers, Site};
 use std::alloc::Global;
-use std::io::Write;
 use std::snapshot::Snapshot;
 use std::sync::{Mutex, Wait};
 use std::thread::Threads;
@@ -56,7 +55,7 @@ pub struct Unfinished<L: Assumptions, N: Callers, D: Dir + Drop, J: Journal> {
 ///
 /// Of the two callers of the site the first lets connections in, and makes no other events; the second makes all others. `plan` is what each
 /// connection is served by. `wrapping` makes the line wrappers of those that are pumped. `starter` starts programs that have what the service's mode
-/// says as their standard input and output. Each connection opens `rules` for itself. Once no more connections are let in, the acceptor is closed.
+/// says as their standard input and output. Each connection opens `rules` for itself. `observer` has the log. Once no more connections are let in, the acceptor is closed.
 ///
 /// # Errors
 /// A place is lost: its connection is alive, and no thread has it. The site is closed all the same.
@@ -72,7 +71,7 @@ pub fn serve<A, L, N, D, J, U, S, M, R, W>(
     starter: &S,
     plan: &Plan,
     service: &Service,
-    log: &Mutex<Log<W>>,
+    observer: &W,
 ) -> Result<Closed<L, N, D, J>, Unfinished<L, N, D, J>>
 where
     A: Acceptor,
@@ -91,14 +90,15 @@ where
     M: ChainSource + Sync,
     M::LineWrapper: Send + Drop,
     R: Threads + Wait + Clock + Sync,
-    W: Write + Send,
+    W: Observer + Sync,
+    W::Writer: Send,
     requires callers { (N.all ≡ 2) × (N.parts ≡ 2) × (vec_len callers ≡ 2) × (total_share callers.items ≡ 0) }
     ensures count { IfOk result (λ closed. IsServed closed.end service.now.count 0 (caller_share closed.host.value)) }
     ensures then_too { IfErr result (λ unfinished.
         IsServed unfinished.end service.now.count 0 (caller_share unfinished.host.value)) }
 {
     let live = site.live(rt);
-    let _ = log.lock(rt).status(live);
+    let _ = observer.log().lock(rt).status(live);
     let mut callers = callers;
     let (teller, host) = both(&mut callers);
     let teller = Mutex::new(teller);
@@ -109,7 +109,7 @@ where
         caller: &teller,
         rules,
         plan,
-        log,
+        observer,
     };
     let (end, host) = serve_by(acceptor, &register, host, wrapping, starter, service);
     close(end, site, callers, host, teller.into_inner())
@@ -155,10 +155,11 @@ where
     M: ChainSource + Sync,
     M::LineWrapper: Send + Drop,
     R: Threads + Wait + Clock + Sync,
-    W: Write + Send,
+    W: Observer + Sync,
+    W::Writer: Send,
     ensures count { IsServed result.0 service.now.count (caller_share host) (caller_share result.1) }
 {
-    let (rt, alloc, log) = (register.rt, register.alloc, register.log);
+    let (rt, alloc, log) = (register.rt, register.alloc, register.observer.log());
     let server = Server {
         wrapping,
         starter,

@@ -1,6 +1,7 @@
 //! The agent of one connection: its calls are turns of one caller of a site, and each event is told to the log before its turn is over.
 ghost use Rattle.std.specs.Prelude.{◌≡◌, None};
 
+use crate::observer::{Observer, tell};
 use crate::opening::{Rules, RulesHandle};
 use byte_text::words_of_error;
 use child_jobs::{Job, Place, Plan, Running};
@@ -9,12 +10,11 @@ use dir_calls::Dir;
 use event_journals::Journal;
 use one_connection::{Agent, cause_of_open, decide_by_pass};
 use rule_lookup::{DecideFault, Decision};
-use server_log::{Cause, Log, Told};
+use server_log::{Cause, Told};
 use server_yard::{Assumptions, Finding, Pass, Yard};
-use shared_site::turn::{Decided, Dropped, Ended, Opened, Retired, StartFailed, Started};
+use shared_site::turns::{Decided, Dropped, Ended, Opened, Retired, StartFailed, Started};
 use shared_site::{Caller, Callers, Made, OutOfTurn, Site, Turn};
 use std::alloc::Global;
-use std::io::Write;
 use std::snapshot::Snapshot;
 use std::sync::{Mutex, Wait};
 use tcp_connections::Endings;
@@ -81,12 +81,12 @@ where
     }
 }
 
-// A turn whose event is told to the log before it is over: so lines stand in the order of events. A line that can't be written is left out.
+// A turn whose event is told before it is over: so the lines of the log stand in the order of events.
 struct Telling<'a, T, R, W> {
     turn: T,
     told: Told<'a>,
     rt: &'a R,
-    log: &'a Mutex<Log<W>>,
+    observer: &'a W,
 }
 
 impl<L, D, J, T, R, W> Turn<L, D, J> for Telling<'_, T, R, W>
@@ -96,7 +96,7 @@ where
     J: Journal,
     T: Turn<L, D, J, Answer = Result<Made, OutOfTurn>>,
     R: Wait,
-    W: Write,
+    W: Observer,
 {
     type Answer = Result<Made, OutOfTurn>;
 
@@ -109,11 +109,11 @@ where
             turn,
             told,
             rt,
-            log,
+            observer,
         } = self;
         let answer = turn.run(yard, caller);
         if let Ok(made) = &answer {
-            let _ = log.lock(rt).tell(made.at(), yard.live(), told);
+            tell(rt, observer, made, yard.live(), told);
         }
         answer
     }
@@ -195,8 +195,8 @@ pub struct LoggedAgent<'a, K, R, W> {
     pub alloc: Global,
     /// What it has of its site.
     pub agent: K,
-    /// The log.
-    pub log: &'a Mutex<Log<W>>,
+    /// Who observes its events.
+    pub observer: &'a W,
     /// The connection's serial number.
     pub serial: u64,
     /// The server's end of the connection.
@@ -243,7 +243,7 @@ where
     J: Journal,
     R: Wait,
     O: Rules<L, D::File>,
-    W: Write,
+    W: Observer,
     C: Job,
 {
     ghost use Rattle.std.specs.Prelude.{◌≡◌, Some};
@@ -266,12 +266,12 @@ where
             status,
         };
         let told = Told::Ended { serial, status };
-        let (rt, log) = (self.rt, self.log);
+        let (rt, observer) = (self.rt, self.observer);
         let answer = self.agent.turn(Telling {
             turn,
             told,
             rt,
-            log,
+            observer,
         });
         self.agent.last = Some(answer);
     }
@@ -280,12 +280,12 @@ where
     fn retired(&mut self, running: Running<L, C>, serial: u64) {
         let turn = Retired { serial, running };
         let told = Told::Retired { serial };
-        let (rt, log) = (self.rt, self.log);
+        let (rt, observer) = (self.rt, self.observer);
         let answer = self.agent.turn(Telling {
             turn,
             told,
             rt,
-            log,
+            observer,
         });
         self.agent.last = Some(answer);
     }
@@ -299,7 +299,7 @@ where
     J: Journal,
     R: Wait,
     O: Rules<L, D::File>,
-    W: Write,
+    W: Observer,
 {
     ghost use Rattle.std.specs.Prelude.{◌≡◌, ◌-◌, ◌^◌, true, false, Some, IfOk, IfErr, OnOk, OnErr};
     ghost use Rattle.one_connection.specs.Openings.{Decides, FailsToDecide, RefusesDecision, kept_opening, opening_of};
@@ -399,12 +399,12 @@ where
             peer,
             decision,
         };
-        let (rt, log) = (self.rt, self.log);
+        let (rt, observer) = (self.rt, self.observer);
         let answer = self.agent.turn(Telling {
             turn,
             told,
             rt,
-            log,
+            observer,
         });
         match answer {
             Ok(made) => {
@@ -437,12 +437,12 @@ where
             place,
             fault,
         };
-        let (rt, log) = (self.rt, self.log);
+        let (rt, observer) = (self.rt, self.observer);
         let answer = self.agent.turn(Telling {
             turn,
             told,
             rt,
-            log,
+            observer,
         });
         self.agent.last = Some(answer);
     }
@@ -457,12 +457,12 @@ where
             place,
             cause,
         };
-        let (rt, log) = (self.rt, self.log);
+        let (rt, observer) = (self.rt, self.observer);
         let answer = self.agent.turn(Telling {
             turn,
             told,
             rt,
-            log,
+            observer,
         });
         self.agent.last = Some(answer);
     }

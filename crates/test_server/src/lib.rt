@@ -11,6 +11,7 @@ mod history;
 mod journals;
 mod log_lines;
 mod places;
+mod receipts;
 mod scripts;
 mod served;
 mod site_calls;

@@ -3,6 +3,7 @@ ghost use Rattle.std.specs.Prelude.{◌≡◌, ◌<◌, false, IfOk, vec_len};
 ghost use Rattle.shared_site.specs.Callers.{total_share};
 
 use crate::history::history_lines;
+use crate::receipts::ReceiptsLog;
 use crate::scripts::{Clients, Scripts, ServedTally};
 use byte_streams::{Chain, FixCr};
 use child_jobs::{Plan, Program};
@@ -15,9 +16,9 @@ use shared_site::{Caller, Callers, Site};
 use std::alloc::{AllocError, Global};
 use std::io;
 use std::marker::Brand;
+use std::sync::Wait;
 use std::sync::atomic::Ordering;
 use std::sync::ledger::Blank;
-use std::sync::{Mutex, Wait};
 use std::thread::Threads;
 use std::time::{Clock, Duration};
 use tcp_service::{
@@ -73,17 +74,18 @@ impl<L: Assumptions> RulesHandle<L, MemFile> for NoRules {
     }
 }
 
-/// How a server ended, how many connections were alive then, and its history.
+/// How a server ended, how many connections were alive then, its history, and the receipts of the events that its log was told of.
 #[derive(Drop)]
 struct Ending {
     end: ServeEnd,
     live: u64,
     is_finished: bool,
     history: String,
+    receipts: String,
 }
 
 /// Serves connections by jobs of these scripts, under a full log, until the server ends. Prints how it ended, how many connections were alive
-/// then and how often jobs were killed; its history, where that is asked for; and the log.
+/// then and how often jobs were killed; its history and the receipts, where these are asked for; and the log.
 pub fn print_served<R>(
     rt: &R,
     alloc: Global,
@@ -112,12 +114,14 @@ where
         live,
         is_finished,
         history,
+        receipts,
     } = ending;
     let rest = if is_finished { "" } else { ", unfinished" };
     let log = str::from_utf8(&lines).unwrap_or_default();
     println!(rt; "{end:?}, {live} alive, {kills} kills{rest}")?;
     if with_history {
         println!(rt; "{history}")?;
+        println!(rt; "{receipts}")?;
     }
     print!(rt; "{log}")
 }
@@ -141,7 +145,7 @@ where
     requires callers { (N.all ≡ 2) × (N.before ≡ 0) }
 {
     let (site, callers) = site_of::<L, N>(alloc, asked, places, parts)?;
-    let log = Mutex::new(Log::new(alloc, lines, Level::All, asked.limit));
+    let log = ReceiptsLog::new(rt, alloc, Log::new(alloc, lines, Level::All, asked.limit));
     let mut acceptor = Clients {
         lost: asked.lost,
         left: asked.clients,
@@ -160,9 +164,10 @@ where
         &service(asked),
         &log,
     );
+    let receipts = log.into_receipts()?;
     match served {
-        Ok(closed) => ending_of(alloc, closed.end, &closed.yard, true),
-        Err(unfinished) => ending_of(alloc, unfinished.end, &unfinished.yard, false),
+        Ok(closed) => ending_of(alloc, closed.end, &closed.yard, true, receipts),
+        Err(unfinished) => ending_of(alloc, unfinished.end, &unfinished.yard, false, receipts),
     }
 }
 
@@ -172,6 +177,7 @@ fn ending_of<L: Assumptions>(
     end: ServeEnd,
     yard: &Yard<L, MemDir, Full>,
     is_finished: bool,
+    receipts: String,
 ) -> io::Result<Ending> {
     let history = history_lines(alloc, yard.journal())?;
     Ok(Ending {
@@ -179,6 +185,7 @@ fn ending_of<L: Assumptions>(
         live: yard.live(),
         is_finished,
         history,
+        receipts,
     })
 }
 

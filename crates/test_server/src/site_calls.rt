@@ -5,7 +5,7 @@ use connection_facts::{DropCause, Peer};
 use dir_calls::MemDir;
 use event_journals::Counts;
 use server_yard::{Assumptions, Yard};
-use shared_site::turn::{Admit, Dropped};
+use shared_site::turns::{Admit, Dropped};
 use shared_site::{Caller, Callers, Site};
 use std::alloc::Global;
 use std::marker::Brand;

@@ -11,8 +11,8 @@ use dir_calls::MemDir;
 use event_journals::{Full, Journal};
 use server_events::{Event, Report};
 use server_yard::{Assumptions, Yard};
-use shared_site::turn::{Decided, Retired, StartFailed, Started};
-use shared_site::{Caller, Callers, Receipt, Room, Site, audit_whole, turns};
+use shared_site::turns::{Admit, Decided, Dropped, Ended, Open, Retired, StartFailed, Started};
+use shared_site::{Caller, Callers, Receipt, Room, Site, Turn, audit_whole};
 use std::alloc::Global;
 use std::marker::Brand;
 use std::process::Abort;
@@ -188,7 +188,7 @@ fn admitted_in_turn<L: Assumptions, R: Abort>(
     peer: &Peer,
     receipts: &mut Vec<Receipt>,
 ) -> (u64, Place<L>) {
-    match turns::admit(yard, 1, peer) {
+    match (Admit { peer }).run(yard, 1) {
         Ok((serial, place, made)) => {
             let peer = peer.copy().expect(rt, "memory");
             keep(rt, receipts, made.receipt(Event::Admitted { serial, peer }));
@@ -207,7 +207,7 @@ fn allowed_in_turn<L: Assumptions, R: Abort>(
     receipts: &mut Vec<Receipt>,
 ) -> (u64, Place<L>) {
     let (serial, place) = admitted_in_turn(rt, yard, peer, receipts);
-    let Ok((pass, made)) = turns::open(yard, 1, alloc, serial) else {
+    let Ok((pass, made)) = (Open { alloc, serial }).run(yard, 1) else {
         place.strand();
         panic!(rt; "the rules open")
     };
@@ -219,7 +219,12 @@ fn allowed_in_turn<L: Assumptions, R: Abort>(
         serial: pass.serial(),
         decision: copy,
     };
-    let answer = turns::decided(yard, 1, pass, peer, decision);
+    let answer = (Decided {
+        pass,
+        peer,
+        decision,
+    })
+    .run(yard, 1);
     keep_made(rt, receipts, answer, event);
     (serial, place)
 }
@@ -233,9 +238,14 @@ fn drop_in_turn<L: Assumptions, R: Abort>(
     receipts: &mut Vec<Receipt>,
 ) {
     let (serial, place) = admitted_in_turn(rt, yard, peer, receipts);
-    let opened = turns::open(yard, 1, alloc, serial);
+    let opened = (Open { alloc, serial }).run(yard, 1);
     let cause = DropCause::Memory;
-    let answer = turns::dropped(yard, 1, serial, place, cause);
+    let answer = (Dropped {
+        serial,
+        place,
+        cause,
+    })
+    .run(yard, 1);
     let Ok((pass, made)) = opened else {
         panic!(rt; "the rules open")
     };
@@ -243,7 +253,15 @@ fn drop_in_turn<L: Assumptions, R: Abort>(
     keep(rt, receipts, made.receipt(Event::Opened { serial, there }));
     keep_made(rt, receipts, answer, Event::Dropped { serial, cause });
     let decision = decide_by(alloc, &pass, peer).expect(rt, "the rules decide");
-    assert!(rt; turns::decided(yard, 1, pass, peer, decision).is_err());
+    assert!(rt;
+        (Decided {
+            pass,
+            peer,
+            decision
+        })
+        .run(yard, 1)
+        .is_err()
+    );
 }
 
 // The same four connections.
@@ -256,7 +274,12 @@ fn four_in_turn<L: Assumptions, R: Abort>(
     let peer = peer_of(alloc, 1).expect(rt, "memory");
     let (serial, place) = allowed_in_turn(rt, alloc, yard, &peer, receipts);
     let fault = StartFault::NotFound;
-    let answer = turns::start_failed(yard, 1, serial, place, fault);
+    let answer = (StartFailed {
+        serial,
+        place,
+        fault,
+    })
+    .run(yard, 1);
     keep_made(rt, receipts, answer, Event::StartFailed { serial, fault });
     drop_in_turn(rt, alloc, yard, &peer, receipts);
     let served = allowed_in_turn(rt, alloc, yard, &peer, receipts);
@@ -274,10 +297,19 @@ fn end_in_turn<L: Assumptions, R: Abort>(
     receipts: &mut Vec<Receipt>,
 ) {
     let running = start_child(rt, alloc, place);
-    let answer = turns::started(yard, 1, serial, &running);
+    let answer = (Started {
+        serial,
+        running: &running,
+    })
+    .run(yard, 1);
     keep_made(rt, receipts, answer, Event::Started { serial });
     let (place, status) = end_child(rt, running);
-    let answer = turns::ended(yard, 1, serial, place, status);
+    let answer = (Ended {
+        serial,
+        place,
+        status,
+    })
+    .run(yard, 1);
     keep_made(rt, receipts, answer, Event::Ended { serial, status });
 }
 
@@ -290,9 +322,13 @@ fn retire_in_turn<L: Assumptions, R: Abort>(
     receipts: &mut Vec<Receipt>,
 ) {
     let running = start_child(rt, alloc, place);
-    let answer = turns::started(yard, 1, serial, &running);
+    let answer = (Started {
+        serial,
+        running: &running,
+    })
+    .run(yard, 1);
     keep_made(rt, receipts, answer, Event::Started { serial });
-    let answer = turns::retired(yard, 1, serial, running);
+    let answer = (Retired { serial, running }).run(yard, 1);
     keep_made(rt, receipts, answer, Event::Retired { serial });
 }
 

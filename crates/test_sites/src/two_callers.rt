@@ -9,9 +9,8 @@ use event_journals::Full;
 use server_events::Event;
 use server_yard::{Assumptions, Yard};
 use shared_site::audit::{Mismatch, audit};
-use shared_site::turn::Open;
-use shared_site::turns::OpenFault;
-use shared_site::{Caller, Callers, Receipt, Site, turns};
+use shared_site::turns::{Admit, Open, OpenFault};
+use shared_site::{Caller, Callers, Receipt, Site, Turn};
 use std::alloc::Global;
 use std::marker::Brand;
 use std::process::Abort;
@@ -139,7 +138,7 @@ fn first_in<L: Assumptions, R: Abort>(
     yard: &mut Yard<L, MemDir, Full>,
 ) -> Receipt {
     let peer = peer_of(alloc, 1).expect(rt, "memory");
-    match turns::admit(yard, 1, &peer) {
+    match (Admit { peer: &peer }).run(yard, 1) {
         Ok((serial, place, made)) => {
             place.strand();
             made.receipt(Event::Admitted { serial, peer })

@@ -1,0 +1,20 @@
+-- As many events as the journal has more are in the caller's share and in the book.
+use Rattle.std.proofs.Common.{rules}
+use Rattle.shared_site.proofs.Counting.{share_counted, still_counted}
+use Rattle.shared_site.proofs.site.Guarded.turn.Goals as goal
+
+pub returns : goal.returns
+returns g c = record {
+  counted = record {
+    before = _;
+    after = _;
+    answered = c.run-answer.ensures.answers;
+    counted = share_counted _ _ _ _ c.run-answer.ensures.counts (search rules) (search rules);
+    same_number = search rules;
+  };
+}
+
+pub invariant_of-self : goal.invariant_of-self
+invariant_of-self g c = record {
+  counted = still_counted _ _ _ _ _ c.args.self.now.counted c.run-answer.ensures.counts (search rules) (search rules);
+}

@@ -1,0 +1,20 @@
+use Rattle.std.proofs.Common.{subst}
+use Rattle.server_yard.specs.Passes.{pass_bytes, pass_serial}
+use Rattle.server_yard.specs.Standing.{LeadsDecided, YardState}
+use Rattle.server_yard.specs.Yards.{yard_roll, yard_state}
+use Rattle.shared_site.proofs.Spoken.{spoken_state}
+use Rattle.shared_site.proofs.Counts.{one_counted}
+use Rattle.shared_site.proofs.turns.DecidedTurn.run.Goals as goal
+
+pub returns-clause-step : goal.returns-clause-step
+returns-clause-step g c = λ honest.
+    let old = c.args.yard.now in
+    let mid = c.speaker.new.self in
+    let pass = c.args.self.pass in
+    subst (λ (s : YardState). LeadsDecided (pass_serial pass) (pass_bytes g.D.File.RulesFile.bytes pass) c.args.self.decision s (yard_state c.decided.new.self))
+    (spoken_state c.args.caller old mid c.speaker.ensures.speaks c.speaker.ensures.same) (c.decided.ensures.step honest)
+
+pub returns-clause-counts : goal.returns-clause-counts
+returns-clause-counts g c =
+    one_counted c.args.caller _ (yard_roll c.args.yard.now) (yard_roll c.speaker.new.self) (yard_roll c.decided.new.self)
+    c.speaker.ensures.speaks c.decided.ensures.noted
