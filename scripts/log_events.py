@@ -37,7 +37,7 @@ FORMS = [
     ("drop", re.compile(rb"drop %s %s" % (NUMBER, CAUSES))),
     ("start", re.compile(rb"start %s %s" % (NUMBER, FAULTS))),
     ("memory", re.compile(rb"out of memory")),
-    ("ending", re.compile(rb"accept fault|no places left")),
+    ("ending", re.compile(rb"accept fault|no places left|lost connection")),
 ]
 # what is recorded of a client or a program may look like a line of the server
 RECORDED = re.compile(rb"\d+ [<>] ")
