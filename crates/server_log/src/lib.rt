@@ -12,8 +12,4 @@ pub mod told;
 pub use cause::Cause;
 pub use fault::LogFault;
 pub use log::Log;
-pub use texts::{
-    drop_address_line, drop_line, end_line, pid_from, retired_line, start_fault_line, status,
-    verdict_line,
-};
 pub use told::Told;

@@ -169,10 +169,10 @@ fn service_of<R: AllocGlobal + Files>(
     plan: &Plan,
 ) -> Result<Service, ServerFailure> {
     let names = names_of(rt.alloc(), rt, words)?;
-    let (mode, connections) = (words.mode(), words.limits().connections);
-    let supply = supply_for(mode, connections, plan.inherited().len());
+    let (mode, limits) = (words.mode(), words.limits());
+    let supply = supply_for(mode, limits.connections, plan.inherited().len());
     Ok(Service {
-        count: words.limits().count,
+        limits,
         names,
         mode,
         patience: Patience {
@@ -180,7 +180,6 @@ fn service_of<R: AllocGlobal + Files>(
             all: Duration::from_secs(ALL),
         },
         recording: words.wrapping().records(),
-        connections: usize::try_from(connections).unwrap_or(usize::MAX),
         supply,
         reserve: Reserve::new(),
     })

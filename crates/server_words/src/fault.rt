@@ -10,7 +10,7 @@ use std::alloc::{AllocError, AllocFailed};
 use thiserror::Error;
 
 /// What is wrong with the words of `tcpserver`. Where several things are, the first of them counts: the option words in their order,
-/// then the numbers of `-c`, `-k` and `-m` in this order, then host, port and program, then the wrappers.
+/// then the numbers in the order of `ConnectionLimits`, then host, port and program, then the wrappers.
 #[derive(Clone, Copy, PartialEq, Eq, Debug, Error)]
 pub enum ServerWordsFault {
     /// There is no such option.

@@ -153,7 +153,7 @@ impl<'a> ServerWords<'a> {
         self.prints_port
     }
 
-    /// How many connections are let in (`-c`, `-m`, `-k`).
+    /// How many connections are let in: the numbers among the options.
     pub fn limits(&self) -> ConnectionLimits
         ensures { result ≡ self.now.limits }
     {

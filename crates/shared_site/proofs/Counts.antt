@@ -10,10 +10,13 @@ use Rattle.shared_site.specs.Receipts.{CountsAtMostOne}
 use Rattle.shared_site.specs.Turns.{spoken_by}
 
 -- an event that is noted is one more
+pub next_counted : (who : ℕ) (event : Event) (old mid new : Roll)
+    → mid ≡ spoken_by who old → Notes event mid new → new.books.count ≡ one_more old.books.count
+next_counted who event old mid new speaks noted = noted.counts ∙ ap (λ (r : Roll). one_more r.books.count) speaks
+
 pub one_counted : (who : ℕ) (event : Event) (old mid new : Roll)
     → mid ≡ spoken_by who old → Notes event mid new → CountsAtMostOne old.books.count new.books.count
-one_counted who event old mid new speaks noted =
-    inr (noted.counts ∙ ap (λ (r : Roll). one_more r.books.count) speaks)
+one_counted who event old mid new speaks noted = inr (next_counted who event old mid new speaks noted)
 
 -- to speak is none
 pub none_counted : (who : ℕ) (old mid : Roll) → mid ≡ spoken_by who old → CountsAtMostOne old.books.count mid.books.count

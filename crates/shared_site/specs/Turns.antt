@@ -1,20 +1,30 @@
 -- What a turn does to a yard, and whose turn it is.
-use Rattle.std.specs.Prelude.{◌≡◌, ◌+◌, ◌-◌, ◌^◌, ◌⊎◌, ℕ, Bool, true, List, Option, Some, Result, Err}
+use Rattle.std.specs.Prelude.{◌≡◌, ◌+◌, ◌-◌, ◌^◌, ◌⊎◌, ℕ, Bool, true, List, Option, Some, Result, Err, IfErr, IfNone, IfOk, IfSome, OnErr, is_some, option_map}
+use Rattle.event_journals.specs.Journals.{one_more}
 use Rattle.event_journals.specs.declared.journal.Noted.{Noted}
 use Rattle.rule_lines.specs.Pairs.{Rule}
 use Rattle.connection_facts.specs.Peers.{Client}
 use Rattle.server_events.specs.ServerState.{stage_of}
 use Rattle.server_events.specs.Worlds.{missing_by, peer_of}
 use Rattle.server_events.specs.declared.event.Event.{Event}
+use Rattle.server_events.specs.declared.event.Event.TheVariants.{Opened}
 use Rattle.server_events.specs.declared.event.Stage.{Stage}
 use Rattle.server_events.specs.declared.event.Stage.TheVariants as stage
 use Rattle.server_events.specs.declared.report.Report.{Report}
-use Rattle.server_yard.specs.Passes.{pass_missing, pass_serial}
+use Rattle.rules_install.specs.Installing.{Installing}
+use Rattle.rules_install.specs.Installs.{installing}
+use Rattle.rules_install.specs.declared.Phase.{Phase}
+use Rattle.rules_install.specs.declared.fault.InstallFault.{InstallFault}
+use Rattle.rules_install.specs.declared.install.Install.{Install}
+use Rattle.server_yard.specs.Passes.{pass_file, pass_missing, pass_serial}
 use Rattle.server_yard.specs.Rolls.{Notes, Roll}
 use Rattle.server_yard.specs.Seating.{KeepsSeats}
+use Rattle.server_yard.specs.Stepping.{HandsBack, begin_event, step_event}
 use Rattle.server_yard.specs.Yards.{IsSameBeside, number_of, stage_of_place, yard_roll, yard_rules, yard_seat, yard_server}
 use Rattle.server_yard.specs.declared.pass.Pass.{Pass}
 use Rattle.server_yard.specs.declared.yard.Yard.{Yard}
+use Rattle.shared_site.specs.Receipts.{CountsMade, made_event, receipt_after, receipt_of}
+use Rattle.shared_site.specs.declared.receipt.Made.{Made}
 use Rattle.shared_site.specs.declared.turns.OpenFault.{OpenFault}
 use Rattle.shared_site.specs.declared.turns.OpenFault.TheVariants.{Device}
 
@@ -47,3 +57,28 @@ pub record IsAt {L D J F : Type 0} {p : _} {l : _} {d : _} {j : _} (passes : Opt
 abbrev pub CountsDevice : {T : Type 0} → ℕ → ℕ → Result T OpenFault → Type 0
 CountsDevice before now (Err Device) = (now ≡ before + 1) ⊎ ((now ≡ before) × (before ≡ 2 ^ 64 - 1))
 CountsDevice before now result = now ≡ before
+
+-- the caller with this number opened the rules for a connection, by the next event after so many; or no event was made
+abbrev pub OpensOrNot : {L F O : Type 0} {p : _} {l : _} {f : _} → (serial : ℕ) → (who before : ℕ) → Result (Pass L F p l f × Made) O → (after : ℕ) → Type 0
+OpensOrNot serial who before answer after =
+    IfOk answer (λ r. (pass_serial r.0 ≡ serial) × (receipt_of r.1 ≡ receipt_after before who (Opened serial (is_some (pass_file r.0)))) × (after ≡ one_more before))
+    × OnErr answer (after ≡ before)
+
+-- the same, for one that opened them by a handle of its own, and found this file; or it was out of turn
+abbrev pub OpensBy : {L F : Type 0} {p : _} {l : _} {f : _} → (serial : ℕ) → Option F → (who before : ℕ) → Option (Pass L F p l f × Made) → (after : ℕ) → Type 0
+OpensBy serial file who before answer after =
+    IfSome answer (λ r. (pass_serial r.0 ≡ serial) × (pass_file r.0 ≡ file) × (receipt_of r.1 ≡ receipt_after before who (Opened serial (is_some (pass_file r.0)))) × (after ≡ one_more before))
+    × IfNone answer (after ≡ before)
+
+-- the caller began an installation: its first step, or a fault of the directory, is the next event; else none was made; a refused one is handed back
+abbrev pub BeginsOrNot : Installing → (who before : ℕ) → Result ℕ (Install × InstallFault) × Option Made → (after : ℕ) → Type 0
+BeginsOrNot install who before answer after =
+    (option_map receipt_of answer.1 ≡ option_map (receipt_after before who) (begin_event answer.0))
+    × CountsMade answer.1 before after
+    × IfErr answer.0 (λ r. HandsBack install (installing r.0) r.1)
+
+-- it made the next step of one: that, or a fault of the directory, is the next event; else none was made
+abbrev pub StepsOrNot : (who before : ℕ) → Result Phase InstallFault × Option Made → (after : ℕ) → Type 0
+StepsOrNot who before answer after =
+    IfSome answer.1 (λ made. (step_event answer.0 ≡ Some (made_event made)) × (receipt_of made ≡ receipt_after before who (made_event made)))
+    × CountsMade answer.1 before after

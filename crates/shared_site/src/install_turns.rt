@@ -9,10 +9,10 @@ ghost use Rattle.server_events.specs.declared.event.Event.TheVariants.{Stepped};
 ghost use Rattle.server_yard.specs.Rolls.{NotesSome};
 ghost use Rattle.server_yard.specs.Seating.{KeepsSeats};
 ghost use Rattle.server_yard.specs.Standing.{LeadsSome};
-ghost use Rattle.server_yard.specs.Stepping.{GoesAsStep, HandsBack, IsRefusedAs, begin_event, event_of_step, fault_event, kept_after_begin, kept_after_step, last_begun_after, lists_after_begin, step_event};
+ghost use Rattle.server_yard.specs.Stepping.{GoesAsStep, IsRefusedAs, begin_event, event_of_step, fault_event, kept_after_begin, kept_after_step, last_begun_after, lists_after_begin, step_event};
 ghost use Rattle.server_yard.specs.Yards.{LeavesNothingElse, MayBegin, kept_number, kept_under, last_begun, yard_books, yard_directory, yard_installing, yard_roll, yard_rules, yard_seat, yard_state};
-ghost use Rattle.shared_site.specs.Receipts.{CountsMade, made_event, receipt_after, receipt_at, receipt_of};
-ghost use Rattle.shared_site.specs.Turns.{spoken_by};
+ghost use Rattle.shared_site.specs.Receipts.{CountsAtMostOne, made_event, receipt_after, receipt_at, receipt_of};
+ghost use Rattle.shared_site.specs.Turns.{BeginsOrNot, StepsOrNot, spoken_by};
 
 use crate::receipt::{EventSnapshot, Made};
 use crate::turn::{Turn, made};
@@ -38,16 +38,16 @@ impl<L: Assumptions, D: Dir + Drop, J: Journal> Turn<L, D, J> for InstallBegin {
 
     ghost may = { λ _. ⊤ };
 
-    ghost answers = { λ turn who before answer after.
-        (option_map receipt_of answer.1 ≡ option_map (receipt_after before who) (begin_event answer.0))
-        × CountsMade answer.1 before after
-        × IfErr answer.0 (λ r. HandsBack (installing turn.install) (installing r.0) r.1) };
+    ghost answers = { λ turn. BeginsOrNot (installing turn.install) };
 
     fn run(
         self,
         yard: &mut Yard<L, D, J>,
         caller: u64,
     ) -> (Result<u64, (Install, InstallFault)>, Option<Made>)
+        ensures answers { BeginsOrNot (installing self.install)
+            caller (yard_books yard.old).count result (yard_books yard.new).count }
+        ensures counts { CountsAtMostOne (yard_books yard.old).count (yard_books yard.new).count }
         ensures over { IsRefusedAs Over result.0 ↔ ¬ MayBegin yard.old (installing self.install) }
         ensures number { IfOk result.0 (λ number. number ≡ last_begun yard.old + 1) }
         ensures begun { last_begun yard.new ≡ last_begun_after result.0 (last_begun yard.old) }
@@ -88,16 +88,15 @@ impl<L: Assumptions, D: Dir + Drop, J: Journal> Turn<L, D, J> for InstallStep {
 
     ghost may = { λ _. ⊤ };
 
-    ghost answers = { λ turn who before answer after.
-        IfSome answer.1 (λ made. (step_event answer.0 ≡ Some (made_event made))
-        × (receipt_of made ≡ receipt_after before who (made_event made)))
-        × CountsMade answer.1 before after };
+    ghost answers = { λ _. StepsOrNot };
 
     fn run(
         self,
         yard: &mut Yard<L, D, J>,
         caller: u64,
     ) -> (Result<Phase, InstallFault>, Option<Made>)
+        ensures answers { StepsOrNot caller (yard_books yard.old).count result (yard_books yard.new).count }
+        ensures counts { CountsAtMostOne (yard_books yard.old).count (yard_books yard.new).count }
         ensures receipt { option_map receipt_of result.1 ≡ option_map (receipt_after (yard_books yard.old).count caller)
             (event_of_step (kept_under yard.old self.number) result.0) }
         ensures over { (result.0 ≡ Err Over) ↔ (kept_number yard.old ≢ Some self.number) }

@@ -3,7 +3,6 @@
 //! changes nothing but who speaks. None of them waits or takes memory of its own.
 ghost use Rattle.std.specs.Prelude.{⊤, ◌≡◌, ◌↔◌, true, false, Err, None, IsTrue, IsOk, IfOk, IfNone, IfSome, OnErr, OnOk, SomeIff, is_some, length};
 ghost use Rattle.child_jobs.specs.Runs.{place_of};
-ghost use Rattle.event_journals.specs.Journals.{one_more};
 ghost use Rattle.server_events.specs.ServerState.{is_admitted, is_allowed, is_started, is_unstarted, stage_of};
 ghost use Rattle.server_events.specs.Worlds.{missing_by};
 ghost use Rattle.server_events.specs.declared.event.Event.TheVariants as event;
@@ -11,10 +10,10 @@ ghost use Rattle.server_yard.specs.Passes.{IsDecidedBy, finding_file, pass_bytes
 ghost use Rattle.server_yard.specs.Rolls.{IsQuiet};
 ghost use Rattle.server_yard.specs.Seating.{GivesSeat, IsAddressFull, IsSpent, KeepsSeats, KeepsSerials};
 ghost use Rattle.server_yard.specs.Standing.{LeadsDecided, LeadsOn, LeadsOpened, standing_of};
-ghost use Rattle.server_yard.specs.Yards.{IsSameBeside, IsSameButDirectory, LeavesNothingElse, number_of, stage_of_place, yard_directory, yard_roll, yard_rules, yard_seat, yard_server, yard_state};
+ghost use Rattle.server_yard.specs.Yards.{IsSameBeside, IsSameButDirectory, LeavesNothingElse, number_of, stage_of_place, yard_books, yard_directory, yard_roll, yard_rules, yard_seat, yard_server, yard_state};
 ghost use Rattle.server_yard.specs.declared.register.AdmitFault.TheVariants.{Full, FullForAddress, Spent};
-ghost use Rattle.shared_site.specs.Receipts.{AdmitsOrNot, MakesOrNot, receipt_after, receipt_of};
-ghost use Rattle.shared_site.specs.Turns.{CountsDevice, IsAt, IsPassedOver, MayBeDecided, NotesBy, spoken_by};
+ghost use Rattle.shared_site.specs.Receipts.{AdmitsOrNot, CountsAtMostOne, MakesOrNot};
+ghost use Rattle.shared_site.specs.Turns.{CountsDevice, IsAt, IsPassedOver, MayBeDecided, NotesBy, OpensBy, OpensOrNot, spoken_by};
 ghost use Rattle.shared_site.specs.declared.turns.OpenFault.TheVariants as open_fault;
 
 use crate::receipt::{EventSnapshot, Made, OutOfTurn};
@@ -63,15 +62,18 @@ impl<L: Assumptions, D: Dir + Drop, J: Journal> Turn<L, D, J> for Admit<'_> {
     ghost answers = { λ turn. AdmitsOrNot turn.peer.now };
 
     fn run(self, yard: &mut Yard<L, D, J>, caller: u64) -> Result<(u64, Place<L>, Made), AdmitFault>
+        ensures answers { AdmitsOrNot self.entry.peer.now
+            caller (yard_books yard.old).count result (yard_books yard.new).count }
+        ensures counts { CountsAtMostOne (yard_books yard.old).count (yard_books yard.new).count }
         ensures full { (result ≡ Err Full)
             ↔ (length (yard_server yard.old).connections ≡ (yard_server yard.old).limit) }
         ensures spent { (result ≡ Err Spent) ↔ IsSpent (yard_server yard.old) }
         ensures full_for_address { (result ≡ Err FullForAddress)
-            ↔ IsAddressFull self.peer.now.ip (yard_server yard.old) }
+            ↔ IsAddressFull self.entry.peer.now.ip (yard_server yard.old) }
         ensures noted { IfOk result (λ r. NotesBy
-            caller (event.Admitted r.0 self.peer.now) (yard_roll yard.old) (yard_roll yard.new)) }
+            caller (event.Admitted r.0 self.entry.peer.now) (yard_roll yard.old) (yard_roll yard.new)) }
         ensures step { IsTrue D.honest → IfOk result (λ r. LeadsOn
-            (event.Admitted r.0 self.peer.now) (yard_state yard.old) (yard_state yard.new)) }
+            (event.Admitted r.0 self.entry.peer.now) (yard_state yard.old) (yard_state yard.new)) }
         ensures seat { IfOk result (λ r. GivesSeat r.1 r.0 (yard_seat yard.old) (yard_seat yard.new)) }
         ensures same { IsSameBeside yard.old yard.new }
         ensures refused { OnErr result (IsQuiet (spoken_by caller (yard_roll yard.old)) (yard_roll yard.new)) }
@@ -103,16 +105,16 @@ impl<L: Assumptions, D: Dir + Drop, J: Journal> Turn<L, D, J> for Open {
 
     ghost may = { λ _. ⊤ };
 
-    ghost answers = { λ turn who before answer after.
-        IfOk answer (λ r. (pass_serial r.0 ≡ turn.serial)
-        × (receipt_of r.1 ≡ receipt_after before who (event.Opened turn.serial (is_some (pass_file r.0)))) × (after ≡ one_more before))
-        × OnErr answer (after ≡ before) };
+    ghost answers = { λ turn. OpensOrNot turn.serial };
 
     fn run(
         self,
         yard: &mut Yard<L, D, J>,
         caller: u64,
     ) -> Result<(Pass<L, D::File>, Made), OpenFault>
+        ensures answers { OpensOrNot self.serial
+            caller (yard_books yard.old).count result (yard_books yard.new).count }
+        ensures counts { CountsAtMostOne (yard_books yard.old).count (yard_books yard.new).count }
         ensures in_turn { (result ≡ Err open_fault.OutOfTurn)
             ↔ (is_admitted (stage_of self.serial (yard_server yard.old).connections) ≡ false) }
         ensures missing { IfOk result (λ r. pass_missing r.0 ≡ missing_by (yard_rules yard.old)) }
@@ -163,12 +165,12 @@ impl<L: Assumptions, D: Dir + Drop, J: Journal> Turn<L, D, J> for Opened<L, D> {
 
     ghost may = { λ _. ⊤ };
 
-    ghost answers = { λ turn who before answer after.
-        IfSome answer (λ r. (pass_serial r.0 ≡ turn.serial) × (pass_file r.0 ≡ finding_file turn.finding)
-        × (receipt_of r.1 ≡ receipt_after before who (event.Opened turn.serial (is_some (pass_file r.0)))) × (after ≡ one_more before))
-        × IfNone answer (after ≡ before) };
+    ghost answers = { λ turn. OpensBy turn.serial (finding_file turn.finding) };
 
     fn run(self, yard: &mut Yard<L, D, J>, caller: u64) -> Option<(Pass<L, D::File>, Made)>
+        ensures answers { OpensBy self.serial (finding_file self.finding)
+            caller (yard_books yard.old).count result (yard_books yard.new).count }
+        ensures counts { CountsAtMostOne (yard_books yard.old).count (yard_books yard.new).count }
         ensures in_turn { is_some result ≡ is_admitted (stage_of self.serial (yard_server yard.old).connections) }
         ensures missing { IfSome result (λ r. pass_missing r.0 ≡ missing_by (yard_rules yard.old)) }
         ensures noted { IfSome result (λ r. NotesBy
@@ -214,11 +216,15 @@ impl<L: Assumptions, D: Dir + Drop, J: Journal> Turn<L, D, J> for Decided<'_, L,
     ghost answers = { λ turn. MakesOrNot (event.Decided (pass_serial turn.pass) turn.decision) };
 
     fn run(self, yard: &mut Yard<L, D, J>, caller: u64) -> Result<Made, OutOfTurn>
-        ensures in_turn { IsOk result ↔ MayBeDecided yard.old self.pass self.peer.now }
+        requires decides { IsDecidedBy D.File.honest D.File.sound D.File.bytes self.pass self.peer.now self.decision }
+        ensures answers { MakesOrNot (event.Decided (pass_serial self.entry.pass) self.entry.decision)
+            caller (yard_books yard.old).count result (yard_books yard.new).count }
+        ensures counts { CountsAtMostOne (yard_books yard.old).count (yard_books yard.new).count }
+        ensures in_turn { IsOk result ↔ MayBeDecided yard.old self.entry.pass self.entry.peer.now }
         ensures noted { OnOk result (NotesBy
-            caller (event.Decided (pass_serial self.pass) self.decision) (yard_roll yard.old) (yard_roll yard.new)) }
-        ensures step { IsTrue D.honest → OnOk result (LeadsDecided (pass_serial self.pass)
-            (pass_bytes D.File.bytes self.pass) self.decision (yard_state yard.old) (yard_state yard.new)) }
+            caller (event.Decided (pass_serial self.entry.pass) self.entry.decision) (yard_roll yard.old) (yard_roll yard.new)) }
+        ensures step { IsTrue D.honest → OnOk result (LeadsDecided (pass_serial self.entry.pass)
+            (pass_bytes D.File.bytes self.entry.pass) self.entry.decision (yard_state yard.old) (yard_state yard.new)) }
         ensures out { OnErr result (IsPassedOver caller yard.old yard.new) }
         ensures same { IsSameBeside yard.old yard.new }
         ensures seats { KeepsSeats (yard_seat yard.old) (yard_seat yard.new) }
@@ -259,10 +265,13 @@ impl<L: Assumptions, D: Dir + Drop, J: Journal, C: Job> Turn<L, D, J> for Starte
     ghost answers = { λ turn. MakesOrNot (event.Started turn.serial) };
 
     fn run(self, yard: &mut Yard<L, D, J>, caller: u64) -> Result<Made, OutOfTurn>
-        ensures in_turn { IsOk result ↔ IsAt is_allowed self.serial yard.old (place_of self.running.now) }
-        ensures noted { OnOk result (NotesBy caller (event.Started self.serial) (yard_roll yard.old) (yard_roll yard.new)) }
+        ensures answers { MakesOrNot (event.Started self.entry.serial)
+            caller (yard_books yard.old).count result (yard_books yard.new).count }
+        ensures counts { CountsAtMostOne (yard_books yard.old).count (yard_books yard.new).count }
+        ensures in_turn { IsOk result ↔ IsAt is_allowed self.entry.serial yard.old (place_of self.entry.running.now) }
+        ensures noted { OnOk result (NotesBy caller (event.Started self.entry.serial) (yard_roll yard.old) (yard_roll yard.new)) }
         ensures step { IsTrue D.honest → OnOk result (LeadsOn
-            (event.Started self.serial) (yard_state yard.old) (yard_state yard.new)) }
+            (event.Started self.entry.serial) (yard_state yard.old) (yard_state yard.new)) }
         ensures out { OnErr result (IsPassedOver caller yard.old yard.new) }
         ensures same { IsSameBeside yard.old yard.new }
         ensures seats { KeepsSeats (yard_seat yard.old) (yard_seat yard.new) }
@@ -299,6 +308,9 @@ impl<L: Assumptions, D: Dir + Drop, J: Journal> Turn<L, D, J> for StartFailed<L>
     ghost answers = { λ turn. MakesOrNot (event.StartFailed turn.serial turn.fault) };
 
     fn run(self, yard: &mut Yard<L, D, J>, caller: u64) -> Result<Made, OutOfTurn>
+        ensures answers { MakesOrNot (event.StartFailed self.serial self.fault)
+            caller (yard_books yard.old).count result (yard_books yard.new).count }
+        ensures counts { CountsAtMostOne (yard_books yard.old).count (yard_books yard.new).count }
         ensures in_turn { IsOk result ↔ IsAt is_allowed self.serial yard.old self.place }
         ensures noted { OnOk result (NotesBy caller (event.StartFailed self.serial self.fault) (yard_roll yard.old) (yard_roll yard.new)) }
         ensures step { IsTrue D.honest → OnOk result (LeadsOn
@@ -345,6 +357,9 @@ impl<L: Assumptions, D: Dir + Drop, J: Journal> Turn<L, D, J> for Ended<L> {
     ghost answers = { λ turn. MakesOrNot (event.Ended turn.serial turn.status) };
 
     fn run(self, yard: &mut Yard<L, D, J>, caller: u64) -> Result<Made, OutOfTurn>
+        ensures answers { MakesOrNot (event.Ended self.serial self.status)
+            caller (yard_books yard.old).count result (yard_books yard.new).count }
+        ensures counts { CountsAtMostOne (yard_books yard.old).count (yard_books yard.new).count }
         ensures in_turn { IsOk result ↔ IsAt is_started self.serial yard.old self.place }
         ensures noted { OnOk result (NotesBy caller (event.Ended self.serial self.status) (yard_roll yard.old) (yard_roll yard.new)) }
         ensures step { IsTrue D.honest → OnOk result (LeadsOn
@@ -390,6 +405,9 @@ impl<L: Assumptions, D: Dir + Drop, J: Journal, C: Job> Turn<L, D, J> for Retire
     ghost answers = { λ turn. MakesOrNot (event.Retired turn.serial) };
 
     fn run(self, yard: &mut Yard<L, D, J>, caller: u64) -> Result<Made, OutOfTurn>
+        ensures answers { MakesOrNot (event.Retired self.serial)
+            caller (yard_books yard.old).count result (yard_books yard.new).count }
+        ensures counts { CountsAtMostOne (yard_books yard.old).count (yard_books yard.new).count }
         ensures in_turn { IsOk result ↔ IsAt is_started self.serial yard.old (place_of self.running) }
         ensures noted { OnOk result (NotesBy caller (event.Retired self.serial) (yard_roll yard.old) (yard_roll yard.new)) }
         ensures step { IsTrue D.honest → OnOk result (LeadsOn
@@ -431,6 +449,9 @@ impl<L: Assumptions, D: Dir + Drop, J: Journal> Turn<L, D, J> for Dropped<L> {
     ghost answers = { λ turn. MakesOrNot (event.Dropped turn.serial turn.cause) };
 
     fn run(self, yard: &mut Yard<L, D, J>, caller: u64) -> Result<Made, OutOfTurn>
+        ensures answers { MakesOrNot (event.Dropped self.serial self.cause)
+            caller (yard_books yard.old).count result (yard_books yard.new).count }
+        ensures counts { CountsAtMostOne (yard_books yard.old).count (yard_books yard.new).count }
         ensures in_turn { IsOk result ↔ IsAt is_unstarted self.serial yard.old self.place }
         ensures noted { OnOk result (NotesBy caller (event.Dropped self.serial self.cause) (yard_roll yard.old) (yard_roll yard.new)) }
         ensures step { IsTrue D.honest → OnOk result (LeadsOn

@@ -15,7 +15,7 @@ pub mod site_agent;
 pub use observer::Observer;
 pub use opening::{Rules, RulesHandle};
 pub use server_log::Log;
-pub use server_words::{Level, Mode};
+pub use server_words::{ConnectionLimits, Level, Mode};
 pub use service::{ChainSource, Service};
 pub use serving::{Closed, Unfinished, serve};
 pub use site_agent::{LoggedAgent, SiteAgent};

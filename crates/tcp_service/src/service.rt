@@ -3,15 +3,15 @@ ghost use Rattle.std.specs.Prelude.{IfOk};
 ghost use Rattle.tcp_service.specs.Renewals.{IsNewChain};
 
 use byte_streams::LineStage;
-use server_words::Mode;
+use server_words::{ConnectionLimits, Mode};
 use std::alloc::{AllocError, Global};
 use tcp_connections::{Chains, HostNames, Patience, Reserve, Supply};
 
 /// What a server does for all of its connections.
 #[derive(Drop)]
 pub struct Service {
-    /// How many connections are let in before the server ends (`-k`); without a number it does not end by itself.
-    pub count: Option<u32>,
+    /// How many connections there may be at once, and how many are let in before the server ends; without such a number it does not end by itself.
+    pub limits: ConnectionLimits,
     /// How the ends of a connection get their names.
     pub names: HostNames,
     /// Whether programs hold their connections themselves (`-s`), or the server passes the bytes on (`-S`).
@@ -20,8 +20,6 @@ pub struct Service {
     pub patience: Patience,
     /// Whether what goes both ways is recorded (`-w recordio`).
     pub recording: bool,
-    /// How many connections there may be at once.
-    pub connections: usize,
     /// What the system gives it for its connections.
     pub supply: Supply,
     /// The process that is kept in reserve for their programs.

@@ -93,9 +93,9 @@ where
     W: Observer + Sync,
     W::Writer: Send,
     requires callers { (N.all ≡ 2) × (N.parts ≡ 2) × (vec_len callers ≡ 2) × (total_share callers.items ≡ 0) }
-    ensures count { IfOk result (λ closed. IsServed closed.end service.now.count 0 (caller_share closed.host.value)) }
+    ensures count { IfOk result (λ closed. IsServed closed.end service.now.limits.count 0 (caller_share closed.host.value)) }
     ensures then_too { IfErr result (λ unfinished.
-        IsServed unfinished.end service.now.count 0 (caller_share unfinished.host.value)) }
+        IsServed unfinished.end service.now.limits.count 0 (caller_share unfinished.host.value)) }
 {
     let live = site.live(rt);
     let _ = observer.log().lock(rt).status(live);
@@ -157,7 +157,7 @@ where
     R: Threads + Wait + Clock + Sync,
     W: Observer + Sync,
     W::Writer: Send,
-    ensures count { IsServed result.0 service.now.count (caller_share host) (caller_share result.1) }
+    ensures count { IsServed result.0 service.now.limits.count (caller_share host) (caller_share result.1) }
 {
     let (rt, alloc, log) = (register.rt, register.alloc, register.observer.log());
     let server = Server {
@@ -183,8 +183,8 @@ where
         alloc,
         entrance,
         &server,
-        service.connections,
-        service.count,
+        usize::try_from(service.limits.connections).unwrap_or(usize::MAX),
+        service.limits.count,
         service.supply,
         &service.reserve,
     );

@@ -22,8 +22,8 @@ use std::sync::ledger::Blank;
 use std::thread::Threads;
 use std::time::{Clock, Duration};
 use tcp_service::{
-    ChainSource, Chains, HostNames, Log, Mode, Patience, Reserve, Rules, RulesHandle, ServeEnd,
-    Service, Supply, serve,
+    ChainSource, Chains, ConnectionLimits, HostNames, Log, Mode, Patience, Reserve, Rules,
+    RulesHandle, ServeEnd, Service, Supply, serve,
 };
 use ucspi_env::Environment;
 
@@ -246,7 +246,11 @@ fn plan(alloc: Global) -> Plan {
 
 fn service(asked: Asked) -> Service {
     Service {
-        count: asked.count,
+        limits: ConnectionLimits {
+            connections: asked.limit,
+            per_address: asked.per_address,
+            count: asked.count,
+        },
         names: HostNames {
             hosts: None,
             local: None,
@@ -259,7 +263,6 @@ fn service(asked: Asked) -> Service {
             all: Duration::from_secs(600),
         },
         recording: false,
-        connections: asked.limit as usize,
         supply: Supply::unlimited(),
         reserve: Reserve::new(),
     }

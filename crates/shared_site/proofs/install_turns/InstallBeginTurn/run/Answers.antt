@@ -8,12 +8,8 @@ use Rattle.server_yard.specs.Stepping.{begin_event, kept_after_begin, last_begun
 use Rattle.server_yard.specs.Yards.{yard_directory, yard_roll, yard_state}
 use Rattle.shared_site.proofs.Spoken.{may_begin_from, noted_receipt, spoken_state}
 use Rattle.shared_site.proofs.Counts.{some_counted}
+use Rattle.shared_site.proofs.Installing.{counts_made}
 use Rattle.shared_site.proofs.install_turns.InstallBeginTurn.run.Goals as goal
-
-pub returns-clause-receipt : goal.returns-clause-receipt
-returns-clause-receipt g c =
-    c.begin_made-made.ensures ∙ noted_receipt (begin_event c.install_begin-answer.result) c.args.caller
-    (yard_roll c.args.yard.now) (yard_roll c.speaker.new.self) (yard_roll c.install_begin-answer.new.self) c.speaker.ensures.speaks c.install_begin-answer.ensures.noted
 
 pub returns-clause-over : goal.returns-clause-over
 returns-clause-over g c =
@@ -63,9 +59,6 @@ pub returns-clause-lists : goal.returns-clause-lists
 returns-clause-lists g c =
     c.install_begin-answer.ensures.lists ∙ ap (lists_after_begin c.install_begin-answer.result (installing c.args.self.install).rules) c.speaker.ensures.same.lists_same
 
-pub returns-clause-back : goal.returns-clause-back
-returns-clause-back g c = c.install_begin-answer.ensures.back
-
 pub returns-clause-number : goal.returns-clause-number
 returns-clause-number g c =
     let answer = c.install_begin-answer.result in
@@ -87,3 +80,15 @@ pub returns-clause-counts : goal.returns-clause-counts
 returns-clause-counts g c =
     some_counted c.args.caller (begin_event c.install_begin-answer.result)
     (yard_roll c.args.yard.now) (yard_roll c.speaker.new.self) (yard_roll c.install_begin-answer.new.self) c.speaker.ensures.speaks c.install_begin-answer.ensures.noted
+
+pub returns-clause-answers : goal.returns-clause-answers
+returns-clause-answers g c =
+    let old = yard_roll c.args.yard.now in
+    let call = c.install_begin-answer in
+    let receipt =
+    c.begin_made-made.ensures ∙ noted_receipt (begin_event c.install_begin-answer.result) c.args.caller
+    (yard_roll c.args.yard.now) (yard_roll c.speaker.new.self) (yard_roll c.install_begin-answer.new.self) c.speaker.ensures.speaks c.install_begin-answer.ensures.noted in
+    let noted =
+    subst (λ (r : Roll). NotesSome (begin_event c.install_begin-answer.result) r (yard_roll c.install_begin-answer.new.self))
+    c.speaker.ensures.speaks c.install_begin-answer.ensures.noted in
+    (receipt, counts_made c.args.caller old.books.count c.begin_made-made.result (begin_event call.result) old (yard_roll call.new.self) receipt noted, call.ensures.back)

@@ -12,6 +12,7 @@ use Rattle.shared_site.specs.Receipts.{receipt_after, receipt_at}
 use Rattle.shared_site.specs.Turns.{spoken_by}
 use Rattle.shared_site.proofs.Spoken.{event_if, noted_receipt, spoken_kept, spoken_state}
 use Rattle.shared_site.proofs.Counts.{some_counted}
+use Rattle.shared_site.proofs.Installing.{counts_made, step_made}
 use Rattle.shared_site.proofs.install_turns.InstallStepTurn.run.Goals as goal
 
 pub returns-clause-receipt : goal.returns-clause-receipt
@@ -85,3 +86,12 @@ pub returns-clause-counts : goal.returns-clause-counts
 returns-clause-counts g c =
     some_counted c.args.caller (event_of_step (kept_under c.speaker.new.self c.args.self.number) c.install_step-answer.result)
     (yard_roll c.args.yard.now) (yard_roll c.speaker.new.self) (yard_roll c.install_step-answer.new.self) c.speaker.ensures.speaks c.install_step-answer.ensures.noted
+
+pub returns-clause-answers : goal.returns-clause-answers
+returns-clause-answers g c =
+    let old = yard_roll c.args.yard.now in
+    let call = c.install_step-answer in
+    let kept = kept_under c.args.yard.now c.args.self.number in (
+      step_made c.args.caller old.books.count kept call.result c.step_made-made.result (returns-clause-receipt g c),
+      counts_made c.args.caller old.books.count c.step_made-made.result (event_of_step kept call.result) old (yard_roll call.new.self) (returns-clause-receipt g c) (returns-clause-noted g c),
+    )

@@ -1,9 +1,9 @@
-use Rattle.std.proofs.Common.{subst}
+use Rattle.std.proofs.Common.{subst, rules}
 use Rattle.server_events.specs.declared.event.Event.TheVariants as event
 use Rattle.server_yard.specs.Standing.{LeadsOn, YardState}
 use Rattle.server_yard.specs.Yards.{yard_roll, yard_state}
 use Rattle.shared_site.proofs.Spoken.{spoken_state}
-use Rattle.shared_site.proofs.Counts.{one_counted}
+use Rattle.shared_site.proofs.Counts.{next_counted, one_counted}
 use Rattle.shared_site.proofs.turns.AdmitTurn.run.Goals as goal
 
 pub returns-clause-step : goal.returns-clause-step
@@ -17,3 +17,13 @@ pub returns-clause-counts : goal.returns-clause-counts
 returns-clause-counts g c =
     one_counted c.args.caller _ (yard_roll c.args.yard.now) (yard_roll c.speaker.new.self) (yard_roll c.admit.new.self)
     c.speaker.ensures.speaks c.in_ok-serial.ensures.noted
+
+pub returns-clause-answers : goal.returns-clause-answers
+returns-clause-answers g c = (
+  (
+    search rules,
+    next_counted c.args.caller _ (yard_roll c.args.yard.now) (yard_roll c.speaker.new.self) (yard_roll c.admit.new.self)
+        c.speaker.ensures.speaks c.in_ok-serial.ensures.noted,
+  ),
+  tt,
+)

@@ -1,9 +1,9 @@
-use Rattle.std.proofs.Common.{subst}
+use Rattle.std.proofs.Common.{subst, rules}
 use Rattle.server_yard.specs.Passes.{pass_bytes, pass_serial}
 use Rattle.server_yard.specs.Standing.{LeadsDecided, YardState}
 use Rattle.server_yard.specs.Yards.{yard_roll, yard_state}
 use Rattle.shared_site.proofs.Spoken.{spoken_state}
-use Rattle.shared_site.proofs.Counts.{one_counted}
+use Rattle.shared_site.proofs.Counts.{next_counted, one_counted}
 use Rattle.shared_site.proofs.turns.DecidedTurn.run.Goals as goal
 
 pub returns-clause-step : goal.returns-clause-step
@@ -18,3 +18,10 @@ pub returns-clause-counts : goal.returns-clause-counts
 returns-clause-counts g c =
     one_counted c.args.caller _ (yard_roll c.args.yard.now) (yard_roll c.speaker.new.self) (yard_roll c.decided.new.self)
     c.speaker.ensures.speaks c.decided.ensures.noted
+
+pub returns-clause-answers : goal.returns-clause-answers
+returns-clause-answers g c = (
+  search rules,
+  next_counted c.args.caller _ (yard_roll c.args.yard.now) (yard_roll c.speaker.new.self) (yard_roll c.decided.new.self)
+      c.speaker.ensures.speaks c.decided.ensures.noted,
+)

@@ -2,7 +2,7 @@ use Rattle.std.proofs.Common.{ℕ, ap, rules}
 use Rattle.server_events.specs.declared.event.Event.TheVariants as event
 use Rattle.server_yard.specs.Yards.{number_of, yard_roll, yard_state}
 use Rattle.shared_site.proofs.Spoken.{found_is, leads_from, spoken_state}
-use Rattle.shared_site.proofs.Counts.{one_counted}
+use Rattle.shared_site.proofs.Counts.{next_counted, one_counted}
 use Rattle.shared_site.proofs.turns.DroppedTurn.run.Goals as goal
 
 pub returns-clause-step : goal.returns-clause-step
@@ -19,3 +19,10 @@ pub returns-clause-counts : goal.returns-clause-counts
 returns-clause-counts g c =
     one_counted c.args.caller _ (yard_roll c.args.yard.now) (yard_roll c.speaker.new.self) (yard_roll c.dropped.new.self)
     c.speaker.ensures.speaks c.dropped.ensures.noted
+
+pub returns-clause-answers : goal.returns-clause-answers
+returns-clause-answers g c = (
+  search rules,
+  next_counted c.args.caller _ (yard_roll c.args.yard.now) (yard_roll c.speaker.new.self) (yard_roll c.dropped.new.self)
+      c.speaker.ensures.speaks c.dropped.ensures.noted,
+)

@@ -1,4 +1,4 @@
-use Rattle.std.proofs.Common.{inr, refl, sym, ap, subst, ◌∙◌}
+use Rattle.std.proofs.Common.{inr, refl, sym, ap, subst, ◌∙◌, rules}
 use Rattle.std.specs.Prelude.{is_some}
 use Rattle.server_events.specs.Worlds.{missing_by}
 use Rattle.server_events.specs.declared.event.Event.TheVariants as event
@@ -7,11 +7,8 @@ use Rattle.server_yard.specs.Standing.{LeadsOpened, Matches, YardState, standing
 use Rattle.server_yard.specs.Yards.{yard_directory, yard_roll, yard_state}
 use Rattle.shared_site.specs.Turns.{spoken_by}
 use Rattle.shared_site.proofs.Spoken.{notes_from, same_from, spoken_state}
-use Rattle.shared_site.proofs.Counts.{one_counted}
+use Rattle.shared_site.proofs.Counts.{next_counted, one_counted}
 use Rattle.shared_site.proofs.turns.OpenTurn.run.Goals as goal
-
-pub returns-in-Ok-clause-its : goal.returns-in-Ok-clause-its
-returns-in-Ok-clause-its g c = c.in-Ok.ensures.its
 
 pub returns-in-Ok-clause-missing : goal.returns-in-Ok-clause-missing
 returns-in-Ok-clause-missing g c = c.in-Ok.ensures.missing ∙ ap missing_by c.speaker.ensures.same.rules
@@ -109,3 +106,14 @@ pub returns-in-Ok-clause-counts : goal.returns-in-Ok-clause-counts
 returns-in-Ok-clause-counts g c =
     one_counted c.args.caller _ (yard_roll c.args.yard.now) (yard_roll c.speaker.new.self) (yard_roll c.open.new.self)
     c.speaker.ensures.speaks c.in-Ok.ensures.noted
+
+pub returns-in-Ok-clause-answers : goal.returns-in-Ok-clause-answers
+returns-in-Ok-clause-answers g c = (
+  (
+    c.in-Ok.ensures.its,
+    search rules,
+    next_counted c.args.caller _ (yard_roll c.args.yard.now) (yard_roll c.speaker.new.self) (yard_roll c.open.new.self)
+        c.speaker.ensures.speaks c.in-Ok.ensures.noted,
+  ),
+  tt,
+)
