@@ -4,7 +4,7 @@ use Rattle.std.specs.List.{concat}
 use Rattle.std.specs.declared.option.Option.{Option}
 use Rattle.std.specs.Io.KnownBytes.{Appends, Consumes, IsAtEnd}
 use Rattle.byte_streams.specs.Chains.{stages_of}
-use Rattle.byte_streams.specs.Stages.{Gives, through}
+use Rattle.byte_streams.specs.Stages.{Gives, Writing, through}
 use Rattle.byte_streams.specs.declared.chain.Chain.{Chain}
 use Rattle.byte_streams.specs.declared.recording.Way.{Way}
 use Rattle.byte_streams.specs.declared.recording.Way.TheVariants.{Input, Output}
@@ -63,8 +63,12 @@ pub record Ends : Type 0 where
   pub writer : Option (List ℕ)
   pub chain : List ℕ → List ℕ
 
+-- the bytes that each of these has, where they are known
+abbrev pub KnownBytes : Type 0 → Type 0
+KnownBytes R = R → Option (List ℕ)
+
 -- those of these three; the functions say what a reader has left, what a writer holds, and what a stage will write
-abbrev pub ends_of : {R W S : Type 0} → (R → Option (List ℕ)) → (W → Option (List ℕ)) → (S → List ℕ → List ℕ) → R → W → Chain S → Ends
+abbrev pub ends_of : {R W S : Type 0} → KnownBytes R → KnownBytes W → Writing S → R → W → Chain S → Ends
 ends_of remaining contents rest reader writer chain =
     record { reader = remaining reader; writer = contents writer; chain = through rest (stages_of chain) }
 

@@ -26,7 +26,11 @@ pub record Feeds (old new : List ℕ → List ℕ) (piece before after : List �
 abbrev pub Extends : List ℕ → List ℕ → Type 0
 Extends before after = (given : List ℕ) × (after ≡ before ++ given)
 
+-- what each stage will write of a text
+abbrev pub Writing : Type 0 → Type 0
+Writing S = S → List ℕ → List ℕ
+
 -- what is written through all of these, the first one first
-abbrev pub through : {S : Type 0} → (S → List ℕ → List ℕ) → List S → List ℕ → List ℕ
+abbrev pub through : {S : Type 0} → Writing S → List S → List ℕ → List ℕ
 through rest [] text = text
 through rest (stage ∷ stages) text = through rest stages (rest stage text)

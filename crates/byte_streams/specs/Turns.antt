@@ -6,7 +6,8 @@ use Rattle.std.specs.Io.KnownBytes.{Appends, Consumes}
 use Rattle.byte_streams.specs.declared.chain.Chain.{Chain}
 use Rattle.byte_streams.specs.declared.recording.Way.{Way}
 use Rattle.byte_streams.specs.declared.recording.Way.TheVariants.{Input, Output}
-use Rattle.byte_streams.specs.Pumps.{Ends, Gave, IsWritten, ends_of, is_end, pieces_by}
+use Rattle.byte_streams.specs.Pumps.{Ends, Gave, IsWritten, KnownBytes, ends_of, is_end, pieces_by}
+use Rattle.byte_streams.specs.Stages.{Writing}
 use Rattle.byte_streams.specs.Taps.{Shown}
 use Rattle.byte_streams.specs.declared.pumping.Why.{Why}
 use Rattle.byte_streams.specs.declared.pumping.Why.TheVariants.{End, ReadFault, WriteFault, ZeroWrite, TurnsOver, Failed, OutOfMemory}
@@ -83,12 +84,12 @@ pub record Moment : Type 0 where
   pub given : ℕ
 
 -- that of these four; the functions are those of `ends_of`
-abbrev pub moment_of : {R W S : Type 0} → (R → Option (List ℕ)) → (W → Option (List ℕ)) → (S → List ℕ → List ℕ) → R → W → Chain S → PumpState → Moment
+abbrev pub moment_of : {R W S : Type 0} → KnownBytes R → KnownBytes W → Writing S → R → W → Chain S → PumpState → Moment
 moment_of remaining contents rest reader writer chain work =
     record { ends = ends_of remaining contents rest reader writer chain; taken = work.taken; given = work.given }
 
 -- the same of a reader that has this left
-abbrev pub moment_with : {W S : Type 0} → Option (List ℕ) → (W → Option (List ℕ)) → (S → List ℕ → List ℕ) → W → Chain S → PumpState → Moment
+abbrev pub moment_with : {W S : Type 0} → Option (List ℕ) → KnownBytes W → Writing S → W → Chain S → PumpState → Moment
 moment_with left contents rest writer chain work = moment_of (λ known. known) contents rest left writer chain work
 
 -- a text that was read went through the chain to the writer, and the tap saw at most so many pieces

@@ -16,10 +16,15 @@ key_length file place = number_at file place
 abbrev pub value_length : List ℕ → ℕ → ℕ
 value_length file place = number_at file (place + 4)
 
+-- where the key of the record at a place stands, other bytes can be read
+abbrev pub has_other_bytes : List ℕ → List ℕ → ℕ → Bool
+has_other_bytes file key place =
+    lies_in file (place + 8) (length key) && not (bytes_eq (take (length key) (drop (place + 8) file)) key)
+
 -- the record at a place can be read, and is seen to have another key
 abbrev pub has_other_key : List ℕ → List ℕ → ℕ → Bool
 has_other_key file key place =
-    lies_in file place 8 && (not (key_length file place == length key) || (lies_in file (place + 8) (length key) && not (bytes_eq (take (length key) (drop (place + 8) file)) key)))
+    lies_in file place 8 && (not (key_length file place == length key) || has_other_bytes file key place)
 
 -- a slot with another hash, or of a record with another key, is passed
 abbrev pub is_passed : List ℕ → List ℕ → ℕ × ℕ → Bool

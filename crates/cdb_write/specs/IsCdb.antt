@@ -4,11 +4,19 @@ use Rattle.std.specs.List.{IsAmong, before_first, count_by, position_or_len}
 use Rattle.cdb_write.specs.Format.{Pair, entries_of, records_of}
 use Rattle.cdb_write.specs.Slots.{is_same, pointer_at, probe_at, slots_at, table_entries, table_of}
 
+-- the entry at a place, or another where there is none
+abbrev pub entry_or : List Pair → ℕ → ℕ × ℕ → ℕ × ℕ
+entry_or pairs i other = get_or (entries_of pairs) i other
+
+-- how many slots are passed before that of an entry
+abbrev pub probe_length : List ℕ → ℕ × ℕ → ℕ
+probe_length file entry = position_or_len (is_same entry) (probe_at file entry.0)
+
 -- of two records with one key the earlier is met first
 abbrev pub IsEarlierFirst : List ℕ → List Pair → Type 0
 IsEarlierFirst file pairs =
     (i j : ℕ) (p : Pair) (e : ℕ × ℕ) → i < j → j < length pairs → (get_or pairs i p).key ≡ (get_or pairs j p).key
-    → position_or_len (is_same (get_or (entries_of pairs) i e)) (probe_at file (get_or (entries_of pairs) i e).0) < position_or_len (is_same (get_or (entries_of pairs) j e)) (probe_at file (get_or (entries_of pairs) j e).0)
+    → probe_length file (entry_or pairs i e) < probe_length file (entry_or pairs j e)
 
 pub record IsCdb (file : List ℕ) (pairs : List Pair) : Type 0 where
   -- numbers reach each place of the file, and the pointers are there

@@ -1,16 +1,20 @@
 -- The file that is written, by what it holds.
-use Rattle.std.specs.Prelude.{◌≡◌, ℕ, ◌<◌, List, length, take, get_or, All}
+use Rattle.std.specs.Prelude.{◌≡◌, ℕ, ◌<◌, List, length, take, All}
 use Rattle.std.specs.List.{IsAmong, before_first}
 use Rattle.cdb_write.specs.Format.{Pair, entries_of}
 use Rattle.cdb_write.specs.Slots.{is_same, pointer_at, probe_at, slots_at}
-use Rattle.cdb_write.specs.IsCdb.{IsCdb}
+use Rattle.cdb_write.specs.IsCdb.{IsCdb, entry_or}
 use Rattle.cdb_write.specs.Image.{finished_length, pointer_of}
+
+-- the slots that are passed before that of an entry
+abbrev pub slots_passed : List ℕ → ℕ × ℕ → List (ℕ × ℕ)
+slots_passed file entry = before_first (is_same entry) (probe_at file entry.0)
 
 -- each slot that is passed before a record's own holds an earlier record
 abbrev pub IsPastEarlier : List ℕ → List Pair → Type 0
 IsPastEarlier file pairs =
     (i : ℕ) (e : ℕ × ℕ) → i < length pairs
-    → All (IsAmong (take i (entries_of pairs))) (before_first (is_same (get_or (entries_of pairs) i e)) (probe_at file (get_or (entries_of pairs) i e).0))
+    → All (IsAmong (take i (entries_of pairs))) (slots_passed file (entry_or pairs i e))
 
 pub record Written (file : List ℕ) (pairs : List Pair) : Type 0 where
   pub cdb : IsCdb file pairs

@@ -7,17 +7,24 @@ use Rattle.child_jobs.specs.declared.table.TableFault.{TableFault}
 use Rattle.child_jobs.specs.declared.table.TableFault.TheVariants.{ZeroLimit, ZeroAddressLimit, OutOfMemory}
 use Rattle.std.specs.Coded.{Coded, code_by, coded×, coded_ℕ, coded_list}
 
+-- indices, each with an address
+abbrev pub PlacesInUse : Type 0
+PlacesInUse = map.FinMap nat_cmp (List ℕ)
+
+abbrev pub places_code : Coded PlacesInUse
+places_code = map.code coded_ℕ (coded_list coded_ℕ)
+
 -- the limit and the limit per address, how many places are retired, and the indices in use, each with the address that it was
 -- given to; the place of a retired child stays in use
 pub record Seats : Type 0 where
   pub limit : ℕ
   pub per_address : ℕ
   pub retired : ℕ
-  pub places : map.FinMap nat_cmp (List ℕ)
+  pub places : PlacesInUse
 
 abbrev pub seats_code : Coded Seats
 seats_code =
-    code_by (ℕ × (ℕ × (ℕ × map.FinMap nat_cmp (List ℕ)))) (coded× coded_ℕ (coded× coded_ℕ (coded× coded_ℕ (map.code coded_ℕ (coded_list coded_ℕ)))))
+    code_by (ℕ × (ℕ × (ℕ × PlacesInUse))) (coded× coded_ℕ (coded× coded_ℕ (coded× coded_ℕ places_code)))
     (λ s. (s.limit, (s.per_address, (s.retired, s.places))))
     (λ p. record { limit = p.0; per_address = p.1.0; retired = p.1.1.0; places = p.1.1.1 })
     (λ _. refl)

@@ -6,7 +6,7 @@ use Rattle.dir_calls.specs.Directory.{Directory, FileState}
 use Rattle.dir_calls.specs.Images.{IsImage}
 use Rattle.dir_calls.specs.Calls.{Call, appends}
 use Rattle.dir_calls.specs.Outcomes.{Does, LeftBy}
-use Rattle.dir_calls.specs.Moments.{Elapses, Includes}
+use Rattle.dir_calls.specs.Moments.{Elapses, ImagesSince, Includes}
 use Rattle.dir_calls.specs.declared.fault.DirFault.{DirFault}
 
 -- the method does this call, or what its fault says of it
@@ -19,18 +19,18 @@ AppendsSome state piece old new result = Does (λ count. appends (take count pie
 
 -- time goes on by one call: a stop since an earlier moment may have left what it may have left before, or what a stop within the call
 -- or right after it leaves, and nothing else
-abbrev pub CallElapses : {D : Type 0} → (state : D → Directory) → (moment : D → ℕ) → (left_since : D → ℕ → Directory → Type 0) → Call
-    → (old new : D) → Type 0
+abbrev pub CallElapses : {D : Type 0} → (state : D → Directory) → (moment : D → ℕ) → (left_since : D → ImagesSince)
+    → Call → (old new : D) → Type 0
 CallElapses state moment left_since call old new =
     Elapses (moment old) (moment new) (left_since old) (left_since new) (LeftBy call (state old) (state new))
 
 -- a stop since an earlier moment may have left all that a stop within the call or right after it leaves
-abbrev pub CallIncludes : {D : Type 0} → (state : D → Directory) → (moment : D → ℕ) → (left_since : D → ℕ → Directory → Type 0) → Call
-    → (old new : D) → Type 0
+abbrev pub CallIncludes : {D : Type 0} → (state : D → Directory) → (moment : D → ℕ) → (left_since : D → ImagesSince)
+    → Call → (old new : D) → Type 0
 CallIncludes state moment left_since call old new = Includes (moment old) (left_since new) (LeftBy call (state old) (state new))
 
 -- time goes on by an `open`: a stop since an earlier moment may have left what it may have left before, or what a stop now leaves
-abbrev pub OpenElapses : {D : Type 0} → (state : D → Directory) → (moment : D → ℕ) → (left_since : D → ℕ → Directory → Type 0)
+abbrev pub OpenElapses : {D : Type 0} → (state : D → Directory) → (moment : D → ℕ) → (left_since : D → ImagesSince)
     → (old new : D) → Type 0
 OpenElapses state moment left_since old new = Elapses (moment old) (moment new) (left_since old) (left_since new) (IsImage (state old))
 

@@ -5,7 +5,7 @@ use Rattle.std.proofs.Props.{props}
 use Rattle.dir_calls.specs.Directory.{Directory, FileState, KeepsSynced, number_of}
 use Rattle.dir_calls.specs.Calls.{Call, longer, with_scratch}
 use Rattle.dir_calls.specs.Outcomes.{LeftBy}
-use Rattle.dir_calls.specs.Moments.{Elapses, Includes}
+use Rattle.dir_calls.specs.Moments.{Elapses, ImagesSince, Includes}
 
 -- the directory of a disk, with the bytes that are kept back at the end of the file that may be written
 abbrev pub kept_back : List ℕ → Directory → Directory
@@ -32,14 +32,14 @@ Holds_honest-prop honest number d scratch written = hlevel (props, Holds-prop)
 
 -- time goes on by one call over a disk of whose bytes the last are kept back until then: a stop since an earlier moment may have left what it
 -- may have left before, or what a stop within the call or right after it leaves, and nothing else
-abbrev pub KeptElapses : {D : Type 0} → (state : D → Directory) → (moment : D → ℕ) → (left_since : D → ℕ → Directory → Type 0) → Call
-    → List ℕ → (old new : D) → Type 0
+abbrev pub KeptElapses : {D : Type 0} → (state : D → Directory) → (moment : D → ℕ) → (left_since : D → ImagesSince)
+    → Call → List ℕ → (old new : D) → Type 0
 KeptElapses state moment left_since call pending old new =
     Elapses (moment old) (moment new) (left_since old) (left_since new) (LeftBy call (kept_back pending (state old)) (state new))
 
 -- a stop since an earlier moment may have left all that a stop within such a call or right after it leaves
-abbrev pub KeptIncludes : {D : Type 0} → (state : D → Directory) → (moment : D → ℕ) → (left_since : D → ℕ → Directory → Type 0) → Call
-    → List ℕ → (old new : D) → Type 0
+abbrev pub KeptIncludes : {D : Type 0} → (state : D → Directory) → (moment : D → ℕ) → (left_since : D → ImagesSince)
+    → Call → List ℕ → (old new : D) → Type 0
 KeptIncludes state moment left_since call pending old new =
     Includes (moment old) (left_since new) (LeftBy call (kept_back pending (state old)) (state new))
 

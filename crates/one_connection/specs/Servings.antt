@@ -85,10 +85,15 @@ Drops fails is_shared before now banner cause.Damaged = fails cause.Damaged
 Drops fails is_shared before now banner cause.Memory = ⊤
 Drops fails is_shared before now banner cause.NoThread = ⊥
 
+-- a writer took a front of these bytes, and not all of them
+abbrev pub AppendsFront : (old new : Option (List ℕ)) → List ℕ → Type 0
+AppendsFront old new bytes =
+    (written : List ℕ) × (left : ℕ) × (more : List ℕ) × (bytes ≡ written ++ left ∷ more) × Appends old new written
+
 -- a writer took the whole banner; or, where it failed, not all of it
 abbrev pub Greets : (old new : Option (List ℕ)) → (banner : List ℕ) → (is_cut : Bool) → Type 0
 Greets old new banner false = Appends old new banner
-Greets old new banner true = (written : List ℕ) × (left : ℕ) × (more : List ℕ) × (banner ≡ written ++ left ∷ more) × Appends old new written
+Greets old new banner true = AppendsFront old new banner
 
 -- the banner could not be written
 abbrev pub is_banner : DropCause → Bool
@@ -138,9 +143,13 @@ ComesAt (Served.Dropped why) at = IsUndenied at
 abbrev pub IsStill : {D : Type 0} → (still : D → D → Type 0) → (old new : D) → Type 0
 IsStill still old new = (new ≡ old) ⊎ still old new
 
+-- by what a connection found when it opened the rules, its agent tells an event, from one state to the next
+abbrev pub TellsBy : Type 0 → Type 1
+TellsBy D = D → Opening → Event → D → Type 0
+
 -- The events that an agent told of a connection before its last one: none; or that it opened the rules; or that, and that it was decided by what
 -- it found there.
-pub data ComesBy {D : Type 0} (still : D → D → Type 0) (tells_by : D → Opening → Event → D → Type 0) (n : ℕ) : D → List Event → D → Type 0 where
+pub data ComesBy {D : Type 0} (still : D → D → Type 0) (tells_by : TellsBy D) (n : ℕ) : D → List Event → D → Type 0 where
   unopened : {old new : D} → IsStill still old new → ComesBy still tells_by n old [] new
   opened : {old mid new : D} {it : Opening} → tells_by old it (Opened n (is_some it.bytes)) mid → IsStill still mid new
       → ComesBy still tells_by n old (Opened n (is_some it.bytes) ∷ []) new
@@ -148,12 +157,14 @@ pub data ComesBy {D : Type 0} (still : D → D → Type 0) (tells_by : D → Ope
       → tells_by mid it (Decided n decision) new → ComesBy still tells_by n old (Opened n (is_some it.bytes) ∷ Decided n decision ∷ []) new
 
 -- it told such events, whichever
-pub record HasCome {D : Type 0} (still : D → D → Type 0) (tells_by : D → Opening → Event → D → Type 0) (n : ℕ) (old new : D) : Type 0 where
+pub record HasCome {D : Type 0} (still : D → D → Type 0) (tells_by : TellsBy D) (n : ℕ) (old new : D) : Type 0 where
   pub events : List Event
   pub came : ComesBy still tells_by n old events new
 
 -- An agent has told this event last. Before it came such events, by which it had come that far, and it came in such a stage.
-pub record IsLastTold {D : Type 0} (comes_by : D → Type 0) (tells : D → Event → D → Type 0) (stands : D → Stage → Type 0) (comes_at : Stage → Type 0) (event : Event) (agent : D) : Type 0 where
+pub record IsLastTold {D : Type 0}
+    (comes_by : D → Type 0) (tells : D → Event → D → Type 0) (stands : D → Stage → Type 0) (comes_at : Stage → Type 0)
+    (event : Event) (agent : D) : Type 0 where
   pub before : D
   pub first : comes_by before
   pub stage : Stage

@@ -7,6 +7,7 @@ use Rattle.rule_lines.specs.declared.instr.Verdict.{Verdict}
 use Rattle.rule_lines.specs.declared.instr.Verdict.TheVariants.{Allow, Deny}
 use Rattle.rule_lines.specs.declared.instr.Instr.{Instr}
 use Rattle.rule_lines.specs.Lines.{Line, pieces_of, has_byte}
+use Rattle.rule_lines.specs.Pairs.{instr_with}
 use Rattle.rule_lines.specs.Settings.{Assignment, AreSettings, is_setting}
 
 -- each setting of the instruction is one that it may have
@@ -48,11 +49,15 @@ settings_in (piece ∷ pieces) =
 abbrev pub verdict_in : List ℕ → Verdict
 verdict_in bytes = if starts_with nat_eq bytes (verdict_code Deny) then Deny else Allow
 
+-- the settings of a code, behind this verdict
+abbrev pub settings_behind : Verdict → List ℕ → Option (List Assignment)
+settings_behind verdict bytes = settings_in (pieces_of 0 (drop (length (verdict_code verdict)) bytes))
+
 -- the instruction whose code the bytes are, if they are one
 abbrev pub decoded : List ℕ → Option Instr
 decoded bytes =
     let verdict = verdict_in bytes in
-    option_map (λ settings. record { verdict = verdict; settings = settings }) (settings_in (pieces_of 0 (drop (length (verdict_code verdict)) bytes)))
+    option_map (instr_with verdict) (settings_behind verdict bytes)
 
 -- a refusal to decode says that the bytes are no code; want of memory says nothing of them
 abbrev pub RefusesCode : List ℕ → DecodeFault → Type 0

@@ -60,6 +60,10 @@ pub record IsKept (text kept : List ℕ) (tally : Tally) : Type 0 where
 abbrev pub rules_under : KeptLine → List Rule
 rules_under line = pairs_with (the_instr line.code.now) (addresses_read line.addresses)
 
+-- how many there are
+abbrev pub rule_count : KeptLine → ℕ
+rule_count line = length (addresses_read line.addresses)
+
 -- the rule at a place of it
 abbrev pub rule_of_line : KeptLine → ℕ → Rule
 rule_of_line line place = record { address = get_or (addresses_read line.addresses) place []; instr = the_instr line.code.now }
@@ -74,9 +78,9 @@ pub record IsLineAt (kept : List ℕ) (line : LinePlace) : Type 0 where
 -- the rule at place i was found, and a line from which the next one is found
 pub record IsFound (kept : List ℕ) (i : ℕ) (found : FoundRule) : Type 0 where
   pub rule : slice_get (rules_in kept) i ≡ Some (rule_of_line found.line found.place)
-  pub place : found.place < length (addresses_read found.line.addresses)
+  pub place : found.place < rule_count found.line
   pub place_by : found.place ≤ i
-  pub others : (n : ℕ) → n < length (addresses_read found.line.addresses) → slice_get (rules_in kept) (i - found.place + n) ≡ Some (rule_of_line found.line n)
+  pub others : (n : ℕ) → n < rule_count found.line → slice_get (rules_in kept) (i - found.place + n) ≡ Some (rule_of_line found.line n)
   pub decodes : is_some (decoded found.line.code.now) ≡ true
   pub resume : IsLineAt kept found.resume
   pub resume_by : found.resume.before ≤ i + 1

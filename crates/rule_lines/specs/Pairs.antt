@@ -37,10 +37,14 @@ word_length Deny = 4
 abbrev pub settings_after : Bool → Verdict → List ℕ → Option (List Assignment)
 settings_after is_text verdict instructions = settings_of is_text (drop (word_length verdict) instructions)
 
+-- the instruction of a verdict and settings
+abbrev pub instr_with : Verdict → List Assignment → Instr
+instr_with verdict settings = record { verdict = verdict; settings = settings }
+
 -- what instructions say, if they say anything
 abbrev pub instr_of : Bool → List ℕ → Option Instr
 instr_of is_text instructions =
-    option_and_then (λ verdict. option_map (λ settings. record { verdict = verdict; settings = settings }) (settings_after is_text verdict instructions)) (verdict_of instructions)
+    option_and_then (λ verdict. option_map (instr_with verdict) (settings_after is_text verdict instructions)) (verdict_of instructions)
 
 -- a rule: an address, and the instruction for it
 pub record Rule : Type 0 where

@@ -54,7 +54,7 @@ front_of name value rest = record { setting = record { name = name; value = valu
 abbrev pub value_at : Bool → List ℕ → List ℕ → Option Front
 value_at is_text name bytes =
     let quote = first_character is_text bytes in
-    option_map (λ (cut : Cut). record { setting = record { name = name; value = cut.before }; rest = cut.after }) (cut_at quote (drop (length quote) bytes))
+    option_map (λ (cut : Cut). front_of name cut.before cut.after) (cut_at quote (drop (length quote) bytes))
 
 -- `NAME=QVALUEQ` at the front: the name goes up to the first `=` and is not empty, Q is any one character, and the value
 -- goes up to the next Q
@@ -62,13 +62,16 @@ abbrev pub setting_at : Bool → List ℕ → Option Front
 setting_at is_text bytes =
     option_and_then (λ (cut : Cut). if length cut.before == 0 then None else value_at is_text cut.before cut.after) (cut_at (61 ∷ []) bytes)
 
+-- a setting at the front, and then the settings that what follows it is by a reading
+abbrev pub settings_from : (List ℕ → Option (List Assignment)) → Front → Option (List Assignment)
+settings_from reading front = option_map (λ settings. front.setting ∷ settings) (reading front.rest)
+
 -- the settings that the bytes are, where they are at most n settings one after another, a comma before each
 abbrev pub settings_within : ℕ → Bool → List ℕ → Option (List Assignment)
 settings_within n is_text [] = Some []
 settings_within zero is_text (b ∷ bs) = None
 settings_within (suc n) is_text (b ∷ bs) =
-    if b == 44 then option_and_then (λ (front : Front). option_map (λ settings. front.setting ∷ settings) (settings_within n is_text front.rest)) (setting_at is_text bs)
-    else None
+    if b == 44 then option_and_then (settings_from (settings_within n is_text)) (setting_at is_text bs) else None
 
 -- the settings that the bytes are, if they are a series of settings; there are no more of them than bytes
 abbrev pub settings_of : Bool → List ℕ → Option (List Assignment)

@@ -6,10 +6,14 @@ use Rattle.std.specs.List.{range_with_len, slice_split}
 abbrev pub octet_in : List ℕ → Option ℕ
 octet_in word = find (λ n. bytes_eq (decimal n) word) (range_with_len 0 256)
 
+-- what is made of the number that a word is
+abbrev pub with_octet : List ℕ → (ℕ → Option (List ℕ)) → Option (List ℕ)
+with_octet word makes = option_and_then makes (octet_in word)
+
 -- the numbers that four words are
 abbrev pub octets_in : List (List ℕ) → Option (List ℕ)
 octets_in (a ∷ b ∷ c ∷ d ∷ []) =
-    option_and_then (λ x. option_and_then (λ y. option_and_then (λ z. option_map (λ w. x ∷ y ∷ z ∷ w ∷ []) (octet_in d)) (octet_in c)) (octet_in b)) (octet_in a)
+    with_octet a (λ x. with_octet b (λ y. with_octet c (λ z. option_map (λ w. x ∷ y ∷ z ∷ w ∷ []) (octet_in d))))
 octets_in words = None
 
 -- the address that a text is

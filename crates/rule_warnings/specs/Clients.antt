@@ -27,10 +27,13 @@ is_plain address = not (has_byte 0 address) && not (list_any is_ascii_uppercase 
 abbrev pub is_whole : List ℕ → Bool
 is_whole address = is_some (ipv4_in address)
 
+-- with one, two or three zeros behind it, it is a whole IPv4 address
+abbrev pub is_whole_with_zeros : List ℕ → Bool
+is_whole_with_zeros address = is_whole (address ++ codes "0") || is_whole (address ++ codes "0.0") || is_whole (address ++ codes "0.0.0")
+
 -- the front of an IPv4 address up to one of its dots: with zeros for what is missing it is a whole one
 abbrev pub is_front : List ℕ → Bool
-is_front address =
-    ends_with nat_eq address (46 ∷ []) && (is_whole (address ++ codes "0") || is_whole (address ++ codes "0.0") || is_whole (address ++ codes "0.0.0"))
+is_front address = ends_with nat_eq address (46 ∷ []) && is_whole_with_zeros address
 
 -- `=`, alone or before a host or the end of one: at most 255 bytes
 abbrev pub is_host : List ℕ → Bool

@@ -36,6 +36,10 @@ IsUpTo seen line = (address : List ℕ) (n : ℕ) → line_under seen address �
 abbrev pub noted : (List ℕ → Option ℕ) → List ℕ → ℕ → List ℕ → Option ℕ
 noted first address line other = if is_none (first address) && bytes_eq address other then Some line else first other
 
+-- the line of these addresses, where this is one of them
+abbrev pub line_if_among : List (List ℕ) → ℕ → List ℕ → Option ℕ
+line_if_among addresses line other = if list_any (bytes_eq other) addresses then Some line else None
+
 -- the same, once all addresses of a line were noted
 abbrev pub noted_all : (List ℕ → Option ℕ) → List (List ℕ) → ℕ → List ℕ → Option ℕ
-noted_all first addresses line other = if is_some (first other) then first other else (if list_any (bytes_eq other) addresses then Some line else None)
+noted_all first addresses line other = if is_some (first other) then first other else line_if_among addresses line other

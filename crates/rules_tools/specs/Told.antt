@@ -12,8 +12,12 @@ use Rattle.rules_tools.specs.Paths.{IsSplit, folder_path}
 use Rattle.rules_tools.specs.declared.tcprulescheck.CheckFault.{CheckFault}
 use Rattle.rules_tools.specs.declared.tcprulescheck.CheckFault.TheVariants.{BadIp, BadHost, BadInfo, NoFile, Device, ReadFault, Damaged, WriteFault, OutOfMemory}
 
+-- the directory that stands at the path of a folder, if one does
+abbrev pub DirectoriesByPath : Type 0
+DirectoriesByPath = List ℕ → Option Directory
+
 -- the bytes that stand at a path, by its folder and its last part; `stands` says which directory stands at the path of a folder
-abbrev pub bytes_at : (stands : List ℕ → Option Directory) → (folder name : List ℕ) → Option (List ℕ)
+abbrev pub bytes_at : (stands : DirectoriesByPath) → (folder name : List ℕ) → Option (List ℕ)
 bytes_at stands folder name = option_and_then (λ d. content d name) (stands (folder_path folder))
 
 -- the decision by a file, which is there
@@ -21,7 +25,7 @@ abbrev pub DecidesThere : Option (List ℕ) → Client → Decision → Type 0
 DecidesThere bytes peer decision = (file : List ℕ) × (bytes ≡ Some file) × DecidesBy (Some file) peer decision
 
 -- the decision by the file that stands at a path
-pub record DecidesAt (stands : List ℕ → Option Directory) (path : List ℕ) (peer : Client) (decision : Decision) : Type 0 where
+pub record DecidesAt (stands : DirectoriesByPath) (path : List ℕ) (peer : Client) (decision : Decision) : Type 0 where
   pub folder : List ℕ
   pub name : List ℕ
   pub parts : IsSplit path folder name
@@ -42,14 +46,14 @@ NameFails name NoFile = IsSome (name_fault name)
 NameFails name OutOfMemory = ⊤
 NameFails name fault = ⊥
 
-pub record FailsAt (stands : List ℕ → Option Directory) (path : List ℕ) (peer : Client) (fault : CheckFault) : Type 0 where
+pub record FailsAt (stands : DirectoriesByPath) (path : List ℕ) (peer : Client) (fault : CheckFault) : Type 0 where
   pub folder : List ℕ
   pub name : List ℕ
   pub parts : IsSplit path folder name
   pub fails : HasNone name (bytes_at stands folder name) peer fault
 
 -- the client that is told and the decision for it, whose lines were written
-pub record Printed (value : List ℕ → Option (List ℕ)) (stands : List ℕ → Option Directory) (path : List ℕ)
+pub record Printed (value : List ℕ → Option (List ℕ)) (stands : DirectoriesByPath) (path : List ℕ)
     (before now : Option (List ℕ)) : Type 0 where
   pub peer : Client
   pub decision : Decision
@@ -58,7 +62,7 @@ pub record Printed (value : List ℕ → Option (List ℕ)) (stands : List ℕ �
   pub printed : Appends before now (answer_lines decision)
 
 -- a variable is wrong; or a client is told, and there is no decision for it, or it could not be written; or memory runs out
-abbrev pub FailsToTell : (value : List ℕ → Option (List ℕ)) → (stands : List ℕ → Option Directory) → (path : List ℕ) → CheckFault → Type 0
+abbrev pub FailsToTell : (value : List ℕ → Option (List ℕ)) → (stands : DirectoriesByPath) → (path : List ℕ) → CheckFault → Type 0
 FailsToTell value stands path BadIp = client_of value ≡ Err BadIp
 FailsToTell value stands path BadHost = client_of value ≡ Err BadHost
 FailsToTell value stands path BadInfo = client_of value ≡ Err BadInfo
@@ -68,7 +72,7 @@ FailsToTell value stands path OutOfMemory = ⊤
 FailsToTell value stands path fault = (peer : Client) × (client_of value ≡ Ok peer) × FailsAt stands path peer fault
 
 -- what a run does, from the variables and the folders to its answer and to what its writer holds
-abbrev pub Checks : (value : List ℕ → Option (List ℕ)) → (stands : List ℕ → Option Directory) → (path : List ℕ)
+abbrev pub Checks : (value : List ℕ → Option (List ℕ)) → (stands : DirectoriesByPath) → (path : List ℕ)
     → (before now : Option (List ℕ)) → Result (Unit {0}) CheckFault → Type 0
 Checks value stands path before now (Ok done) = Printed value stands path before now
 Checks value stands path before now (Err fault) = FailsToTell value stands path fault

@@ -26,10 +26,14 @@ abbrev pub reached_line : Option Phase → List ℕ
 reached_line None = codes "none\n"
 reached_line (Some phase) = phase_text phase ++ codes "\n"
 
+-- how many were admitted, and how many are live
+abbrev pub report_front : Report → List ℕ
+report_front report = codes "admitted " ++ decimal report.admitted ++ codes " live " ++ decimal report.live
+
 -- the sums of a list of events
 abbrev pub report_line : Report → List ℕ
 report_line report =
-    codes "admitted " ++ decimal report.admitted ++ codes " live " ++ decimal report.live ++ codes " retired " ++ decimal report.retired ++ codes " most " ++ decimal report.most ++ codes "\n"
+    report_front report ++ codes " retired " ++ decimal report.retired ++ codes " most " ++ decimal report.most ++ codes "\n"
 
 -- the place of an event that may not happen
 abbrev pub illegal_line : ℕ → List ℕ

@@ -10,7 +10,8 @@ use Rattle.server_events.specs.Worlds.{World, standing}
 -- others than the server go on, one step after another: installers, and whoever leaves the two names alone
 pub data OthersGo : World → List Event → World → Type 0 where
   none : {w : World} → OthersGo w [] w
-  installs : {u v w : World} {event : Event} {events : List Event} → InstallerSteps u event v → OthersGo v events w → OthersGo u (event ∷ events) w
+  installs : {u v w : World} {event : Event} {events : List Event} → InstallerSteps u event v → OthersGo v events w
+      → OthersGo u (event ∷ events) w
   outside : {u v w : World} {events : List Event} → Outside u v → OthersGo v events w → OthersGo u events w
 
 -- While an opening was made others went on from one world to another, and it found what stood under the rules name at some moment of that.

@@ -19,6 +19,10 @@ pub record Reading : Type 0 where
   pub options : List LetterGiven
   pub rest : List (List ℕ)
 
+-- what a reading answers: what it gives, or why the words are refused
+abbrev pub Answer : Type 0
+Answer = Result Reading WordFault
+
 -- what the letters of one word give, and the letter that takes the next word as its value, if one does
 pub record WordRead : Type 0 where
   pub options : List LetterGiven
@@ -51,10 +55,18 @@ without_value letter = record { letter = letter; value = None }
 abbrev pub with_value : ℕ → List ℕ → LetterGiven
 with_value letter text = record { letter = letter; value = Some text }
 
+-- no options, and these words after them
+abbrev pub no_options : List (List ℕ) → Answer
+no_options words = Ok (record { options = []; rest = words })
+
 -- the same reading after more options
-abbrev pub before : List LetterGiven → Result Reading WordFault → Result Reading WordFault
+abbrev pub before : List LetterGiven → Answer → Answer
 before options (Ok reading) = Ok (record { options = options ++ reading.options; rest = reading.rest })
 before options (Err fault) = Err fault
+
+-- the same reading after one more option
+abbrev pub before_option : LetterGiven → Answer → Answer
+before_option option answer = before (option ∷ []) answer
 
 abbrev pub before_letters : List LetterGiven → Result WordRead WordFault → Result WordRead WordFault
 before_letters options (Ok read) = Ok (record { options = options ++ read.options; wanting = read.wanting })
@@ -78,58 +90,74 @@ letters_read letters [] = Ok (record { options = []; wanting = None })
 letters_read letters (c ∷ cs) = by_meaning (meaning_of letters c) c cs (letters_read letters cs)
 
 -- a word's letters, and what the words after it give
-abbrev pub after_letters : Result WordRead WordFault → (Option ℕ → Result Reading WordFault) → Result Reading WordFault
+abbrev pub after_letters : Result WordRead WordFault → (Option ℕ → Answer) → Answer
 after_letters (Ok read) later = before read.options (later read.wanting)
 after_letters (Err fault) later = Err fault
 
 -- a word of this kind, the words after it, and what those give
-abbrev pub by_kind : WordKind → List ℕ → List ℕ → List (List ℕ) → (Option ℕ → Result Reading WordFault) → Result Reading WordFault
-by_kind EndMark letters word words later = Ok (record { options = []; rest = words })
-by_kind Ordinary letters word words later = Ok (record { options = []; rest = word ∷ words })
+abbrev pub by_kind : WordKind → List ℕ → List ℕ → List (List ℕ) → (Option ℕ → Answer) → Answer
+by_kind EndMark letters word words later = no_options words
+by_kind Ordinary letters word words later = no_options (word ∷ words)
 by_kind (Letters cs) letters word words later = after_letters (letters_read letters cs) later
 
 -- what no more words give, where a letter may want a value
-abbrev pub at_end : Option ℕ → Result Reading WordFault
-at_end None = Ok (record { options = []; rest = [] })
+abbrev pub at_end : Option ℕ → Answer
+at_end None = no_options []
 at_end (Some letter) = Err (fault.NoValue letter)
 
 -- a word and the words after it, where a letter may want the word as its value
-abbrev pub at_word : Option ℕ → List ℕ → List ℕ → List (List ℕ) → (Option ℕ → Result Reading WordFault) → Result Reading WordFault
-at_word (Some letter) letters word words later = before (with_value letter word ∷ []) (later None)
+abbrev pub at_word : Option ℕ → List ℕ → List ℕ → List (List ℕ) → (Option ℕ → Answer) → Answer
+at_word (Some letter) letters word words later = before_option (with_value letter word) (later None)
 at_word None letters word words later = by_kind (kind_of (chars word)) letters word words later
 
 -- the reading of words, the first of which a letter may want as its value
-abbrev pub reading_from : List ℕ → List (List ℕ) → Option ℕ → Result Reading WordFault
+abbrev pub reading_from : List ℕ → List (List ℕ) → Option ℕ → Answer
 reading_from letters [] wanting = at_end wanting
 reading_from letters (word ∷ words) wanting = at_word wanting letters word words (reading_from letters words)
 
 -- the reading of a program's words by the text of its letters
-abbrev pub reading : List ℕ → List (List ℕ) → Result Reading WordFault
+abbrev pub reading : List ℕ → List (List ℕ) → Answer
 reading letters words = reading_from (chars letters) words None
 
--- `Reads letters pending words result`: with these characters still to be read of a word, and these words after it, the
--- result is this
-pub data Reads (letters : List ℕ) : List ℕ → List (List ℕ) → Result Reading WordFault → Type 0 where
+-- the word is `--`
+abbrev pub IsEndMark : List ℕ → Type 0
+IsEndMark word = chars word ≡ 45 ∷ 45 ∷ []
+
+-- the word is not longer than one `-`, or begins otherwise
+abbrev pub IsOrdinary : List ℕ → Type 0
+IsOrdinary word = (c : ℕ) (cs : List ℕ) → chars word ≢ 45 ∷ c ∷ cs
+
+-- `Reads letters pending words answer`: with these characters still to be read of a word, and these words after it, the
+-- answer is this
+pub data Reads (letters : List ℕ) : List ℕ → List (List ℕ) → Answer → Type 0 where
   -- no more words
-  no_words : Reads letters [] [] (Ok (record { options = []; rest = [] }))
+  no_words : Reads letters [] [] (no_options [])
   -- `--` ends the options and is dropped
-  end_mark : (word : List ℕ) (words : List (List ℕ)) → chars word ≡ 45 ∷ 45 ∷ [] → Reads letters [] (word ∷ words) (Ok (record { options = []; rest = words }))
+  end_mark : (word : List ℕ) (words : List (List ℕ)) → IsEndMark word → Reads letters [] (word ∷ words) (no_options words)
   -- the first word that is not longer than one `-`, or begins otherwise, ends them and is kept
-  other_word : (word : List ℕ) (words : List (List ℕ)) → ((c : ℕ) (cs : List ℕ) → chars word ≢ 45 ∷ c ∷ cs) → Reads letters [] (word ∷ words) (Ok (record { options = []; rest = word ∷ words }))
+  other_word : (word : List ℕ) (words : List (List ℕ)) → IsOrdinary word → Reads letters [] (word ∷ words) (no_options (word ∷ words))
   -- another word holds letters
-  letter_word : (word : List ℕ) (words : List (List ℕ)) (c : ℕ) (cs : List ℕ) (result : Result Reading WordFault) → chars word ≡ 45 ∷ c ∷ cs → chars word ≢ 45 ∷ 45 ∷ [] → Reads letters (c ∷ cs) words result → Reads letters [] (word ∷ words) result
+  letter_word : (word : List ℕ) (words : List (List ℕ)) (c : ℕ) (cs : List ℕ) (result : Answer)
+      → chars word ≡ 45 ∷ c ∷ cs → ¬ IsEndMark word → Reads letters (c ∷ cs) words result → Reads letters [] (word ∷ words) result
   -- a letter without a value
-  plain_letter : (c : ℕ) (cs : List ℕ) (words : List (List ℕ)) (result : Result Reading WordFault) → meaning_of letters c ≡ Plain → Reads letters cs words result → Reads letters (c ∷ cs) words (before (without_value c ∷ []) result)
+  plain_letter : (c : ℕ) (cs : List ℕ) (words : List (List ℕ)) (result : Answer)
+      → meaning_of letters c ≡ Plain → Reads letters cs words result → Reads letters (c ∷ cs) words (before_option (without_value c) result)
   -- a letter takes the rest of its word
-  value_in_word : (c d : ℕ) (cs : List ℕ) (words : List (List ℕ)) (result : Result Reading WordFault) → meaning_of letters c ≡ Valued → Reads letters [] words result → Reads letters (c ∷ d ∷ cs) words (before (with_value c (encode_utf8_all (d ∷ cs)) ∷ []) result)
+  value_in_word : (c d : ℕ) (cs : List ℕ) (words : List (List ℕ)) (result : Answer)
+      → meaning_of letters c ≡ Valued → Reads letters [] words result
+      → Reads letters (c ∷ d ∷ cs) words (before_option (with_value c (encode_utf8_all (d ∷ cs))) result)
   -- a letter takes the next word, whatever that is
-  value_in_next : (c : ℕ) (word : List ℕ) (words : List (List ℕ)) (result : Result Reading WordFault) → meaning_of letters c ≡ Valued → Reads letters [] words result → Reads letters (c ∷ []) (word ∷ words) (before (with_value c word ∷ []) result)
+  value_in_next : (c : ℕ) (word : List ℕ) (words : List (List ℕ)) (result : Answer)
+      → meaning_of letters c ≡ Valued → Reads letters [] words result
+      → Reads letters (c ∷ []) (word ∷ words) (before_option (with_value c word) result)
   -- a letter has neither
   no_value : (c : ℕ) → meaning_of letters c ≡ Valued → Reads letters (c ∷ []) [] (Err (fault.NoValue c))
   -- a letter of another profile
-  not_in_profile : (c : ℕ) (cs : List ℕ) (words : List (List ℕ)) → meaning_of letters c ≡ NotInProfile → Reads letters (c ∷ cs) words (Err (fault.NotInProfile c))
+  not_in_profile : (c : ℕ) (cs : List ℕ) (words : List (List ℕ))
+      → meaning_of letters c ≡ NotInProfile → Reads letters (c ∷ cs) words (Err (fault.NotInProfile c))
   -- no letter of the program
-  unknown : (c : ℕ) (cs : List ℕ) (words : List (List ℕ)) → meaning_of letters c ≡ Unknown → Reads letters (c ∷ cs) words (Err (fault.Unknown c))
+  unknown : (c : ℕ) (cs : List ℕ) (words : List (List ℕ))
+      → meaning_of letters c ≡ Unknown → Reads letters (c ∷ cs) words (Err (fault.Unknown c))
 
 -- a refusal of words is what the rules give, or for want of memory
 abbrev pub RefusesWords : List ℕ → List (List ℕ) → WordFault → Type 0

@@ -36,7 +36,8 @@ trust_in honest sound None = Sound
 trust_in honest sound (Some bytes) = trust_of honest sound
 
 -- `decide` decided so for what a pass has and this peer, as far as what the file holds is known
-abbrev pub IsDecidedBy : {L F : Type 0} {p : _} {l : _} {f : _} → Bool → Bool → (F → List ℕ) → Pass L F p l f → Client → Decision → Type 0
+abbrev pub IsDecidedBy : {L F : Type 0} {p : _} {l : _} {f : _} → (honest sound : Bool) → (bytes : F → List ℕ)
+    → Pass L F p l f → Client → Decision → Type 0
 IsDecidedBy honest sound bytes pass peer decision =
     WhereKnown (trust_in honest sound (pass_bytes bytes pass))
     (decision_from (option_map reading (pass_bytes bytes pass)) (pass_missing pass) peer ≡ Ok decision)

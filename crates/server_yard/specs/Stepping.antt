@@ -21,8 +21,12 @@ abbrev pub step_event : Result Phase InstallFault → Option Event
 step_event (Ok phase) = Some (Stepped phase)
 step_event (Err fault) = fault_event fault
 
+-- what a first step answers: the number of the installation, or the installation with the fault that it met
+abbrev pub BeginAnswer : Type 0 → Type 0
+BeginAnswer I = Result ℕ (I × InstallFault)
+
 -- the event of a first step, by its answer
-abbrev pub begin_event : {I : Type 0} → Result ℕ (I × InstallFault) → Option Event
+abbrev pub begin_event : {I : Type 0} → BeginAnswer I → Option Event
 begin_event (Ok number) = Some (Stepped Fresh)
 begin_event (Err refused) = fault_event refused.1
 
@@ -62,17 +66,17 @@ abbrev pub kept_after_step : Result Phase InstallFault → Option ℕ → Option
 kept_after_step (Ok phase) kept = kept
 kept_after_step (Err fault) kept = kept_after_fault fault kept
 
-abbrev pub kept_after_begin : {I : Type 0} → Result ℕ (I × InstallFault) → Option ℕ → Option ℕ
+abbrev pub kept_after_begin : {I : Type 0} → BeginAnswer I → Option ℕ → Option ℕ
 kept_after_begin (Ok number) kept = Some number
 kept_after_begin (Err refused) kept = kept_after_fault refused.1 kept
 
 -- the number of the last installation that made its first step
-abbrev pub last_begun_after : {I : Type 0} → Result ℕ (I × InstallFault) → ℕ → ℕ
+abbrev pub last_begun_after : {I : Type 0} → BeginAnswer I → ℕ → ℕ
 last_begun_after (Ok number) last = number
 last_begun_after (Err refused) last = last
 
 -- the lists of rules that are stored: with one more where an installation made its first step
-abbrev pub lists_after_begin : {I : Type 0} → Result ℕ (I × InstallFault) → List Rule → Option (List (List Rule)) → Option (List (List Rule))
+abbrev pub lists_after_begin : {I : Type 0} → BeginAnswer I → List Rule → Option (List (List Rule)) → Option (List (List Rule))
 lists_after_begin (Ok number) rules lists = option_map (λ all. all ++ rules ∷ []) lists
 lists_after_begin (Err refused) rules lists = lists
 

@@ -40,6 +40,10 @@ pub record IsFirstWrong (notes : List Noted) (receipts : List Receipt) (n : ℕ)
 abbrev pub Rise : List Receipt → Type 0
 Rise receipts = (i : ℕ) → i < length receipts → IfSome (slice_get receipts i) (IsAbove (take i receipts))
 
+-- an event is of none of the receipts' callers
+abbrev pub IsByAnother : List Receipt → Noted → Type 0
+IsByAnother receipts n = All (λ (r : Receipt). r.caller ≢ n.caller) receipts
+
 -- none of the first events has the number of one of the receipts' callers
 abbrev pub AreOthersUpTo : ℕ → List Noted → List Receipt → Type 0
-AreOthersUpTo count notes receipts = (i : ℕ) (n : Noted) → i < count → slice_get notes i ≡ Some n → All (λ (r : Receipt). r.caller ≢ n.caller) receipts
+AreOthersUpTo count notes receipts = (i : ℕ) (n : Noted) → i < count → slice_get notes i ≡ Some n → IsByAnother receipts n

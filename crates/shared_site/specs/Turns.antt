@@ -19,7 +19,7 @@ use Rattle.rules_install.specs.declared.install.Install.{Install}
 use Rattle.server_yard.specs.Passes.{pass_file, pass_missing, pass_serial}
 use Rattle.server_yard.specs.Rolls.{Notes, Roll}
 use Rattle.server_yard.specs.Seating.{KeepsSeats}
-use Rattle.server_yard.specs.Stepping.{HandsBack, begin_event, step_event}
+use Rattle.server_yard.specs.Stepping.{BeginAnswer, HandsBack, begin_event, step_event}
 use Rattle.server_yard.specs.Yards.{IsSameBeside, number_of, stage_of_place, yard_roll, yard_rules, yard_seat, yard_server}
 use Rattle.server_yard.specs.declared.pass.Pass.{Pass}
 use Rattle.server_yard.specs.declared.yard.Yard.{Yard}
@@ -43,13 +43,15 @@ pub record IsPassedOver {L D J F : Type 0} {p : _} {l : _} {d : _} {j : _} (who 
   pub seats : KeepsSeats (yard_seat old) (yard_seat new)
 
 -- it is the turn of a pass: its connection opened the rules, this is its peer, and it has the yard's word for a missing file
-pub record MayBeDecided {L D J F G : Type 0} {p : _} {l : _} {d : _} {j : _} {q : _} {m : _} {f : _} (yard : Yard L D J F p l d j) (pass : Pass L G q m f) (peer : Client) : Type 0 where
+pub record MayBeDecided {L D J F G : Type 0} {p : _} {l : _} {d : _} {j : _} {q : _} {m : _} {f : _}
+    (yard : Yard L D J F p l d j) (pass : Pass L G q m f) (peer : Client) : Type 0 where
   pub is_opened : stage_of (pass_serial pass) (yard_server yard).connections ≡ Some stage.Opened
   pub missing : pass_missing pass ≡ missing_by (yard_rules yard)
   pub its_peer : peer_of (pass_serial pass) (yard_server yard).connections ≡ Some peer
 
 -- the connection that has a place has this serial, and a stage that passes a test
-pub record IsAt {L D J F : Type 0} {p : _} {l : _} {d : _} {j : _} (passes : Option Stage → Bool) (serial : ℕ) (yard : Yard L D J F p l d j) (place : ℕ) : Type 0 where
+pub record IsAt {L D J F : Type 0} {p : _} {l : _} {d : _} {j : _}
+    (passes : Option Stage → Bool) (serial : ℕ) (yard : Yard L D J F p l d j) (place : ℕ) : Type 0 where
   pub has_serial : number_of yard place ≡ serial
   pub has_stage : passes (stage_of_place yard place) ≡ true
 
@@ -58,20 +60,28 @@ abbrev pub CountsDevice : {T : Type 0} → ℕ → ℕ → Result T OpenFault �
 CountsDevice before now (Err Device) = (now ≡ before + 1) ⊎ ((now ≡ before) × (before ≡ 2 ^ 64 - 1))
 CountsDevice before now result = now ≡ before
 
+-- the event that a connection opened the rules
+abbrev pub opened_by : {L F : Type 0} {p : _} {l : _} {f : _} → (serial : ℕ) → Pass L F p l f → Event
+opened_by serial pass = Opened serial (is_some (pass_file pass))
+
 -- the caller with this number opened the rules for a connection, by the next event after so many; or no event was made
-abbrev pub OpensOrNot : {L F O : Type 0} {p : _} {l : _} {f : _} → (serial : ℕ) → (who before : ℕ) → Result (Pass L F p l f × Made) O → (after : ℕ) → Type 0
+abbrev pub OpensOrNot : {L F O : Type 0} {p : _} {l : _} {f : _} → (serial : ℕ) → (who before : ℕ)
+    → Result (Pass L F p l f × Made) O → (after : ℕ) → Type 0
 OpensOrNot serial who before answer after =
-    IfOk answer (λ r. (pass_serial r.0 ≡ serial) × (receipt_of r.1 ≡ receipt_after before who (Opened serial (is_some (pass_file r.0)))) × (after ≡ one_more before))
+    IfOk answer (λ r. (pass_serial r.0 ≡ serial)
+      × (receipt_of r.1 ≡ receipt_after before who (opened_by serial r.0)) × (after ≡ one_more before))
     × OnErr answer (after ≡ before)
 
 -- the same, for one that opened them by a handle of its own, and found this file; or it was out of turn
-abbrev pub OpensBy : {L F : Type 0} {p : _} {l : _} {f : _} → (serial : ℕ) → Option F → (who before : ℕ) → Option (Pass L F p l f × Made) → (after : ℕ) → Type 0
+abbrev pub OpensBy : {L F : Type 0} {p : _} {l : _} {f : _} → (serial : ℕ) → Option F → (who before : ℕ)
+    → Option (Pass L F p l f × Made) → (after : ℕ) → Type 0
 OpensBy serial file who before answer after =
-    IfSome answer (λ r. (pass_serial r.0 ≡ serial) × (pass_file r.0 ≡ file) × (receipt_of r.1 ≡ receipt_after before who (Opened serial (is_some (pass_file r.0)))) × (after ≡ one_more before))
+    IfSome answer (λ r. (pass_serial r.0 ≡ serial) × (pass_file r.0 ≡ file)
+      × (receipt_of r.1 ≡ receipt_after before who (opened_by serial r.0)) × (after ≡ one_more before))
     × IfNone answer (after ≡ before)
 
--- the caller began an installation: its first step, or a fault of the directory, is the next event; else none was made; a refused one is handed back
-abbrev pub BeginsOrNot : Installing → (who before : ℕ) → Result ℕ (Install × InstallFault) × Option Made → (after : ℕ) → Type 0
+-- the caller began an installation: its first step, or a fault of the directory, is the next event; else none was made. A refused one is handed back
+abbrev pub BeginsOrNot : Installing → (who before : ℕ) → BeginAnswer Install × Option Made → (after : ℕ) → Type 0
 BeginsOrNot install who before answer after =
     (option_map receipt_of answer.1 ≡ option_map (receipt_after before who) (begin_event answer.0))
     × CountsMade answer.1 before after
@@ -80,5 +90,6 @@ BeginsOrNot install who before answer after =
 -- it made the next step of one: that, or a fault of the directory, is the next event; else none was made
 abbrev pub StepsOrNot : (who before : ℕ) → Result Phase InstallFault × Option Made → (after : ℕ) → Type 0
 StepsOrNot who before answer after =
-    IfSome answer.1 (λ made. (step_event answer.0 ≡ Some (made_event made)) × (receipt_of made ≡ receipt_after before who (made_event made)))
+    IfSome answer.1 (λ made. (step_event answer.0 ≡ Some (made_event made))
+      × (receipt_of made ≡ receipt_after before who (made_event made)))
     × CountsMade answer.1 before after

@@ -2,7 +2,7 @@
 use Rattle.std.specs.Prelude.{◌≡◌, ◌≢◌, ◌^◌, ℕ, List, [], false, Option}
 use Rattle.std.specs.Borrow.{Bor}
 use Rattle.std.specs.Fn.{FnOnceReturnsAt, Once}
-use Rattle.byte_streams.specs.Pumps.{Pumped, ends_of}
+use Rattle.byte_streams.specs.Pumps.{KnownBytes, Pumped, ends_of}
 use Rattle.byte_streams.specs.Recorders.{number_of, way_of, writer_of}
 use Rattle.byte_streams.specs.Recorders.{has_failed as has_recorder_failed}
 use Rattle.byte_streams.specs.Taps.{shown_to}
@@ -18,7 +18,7 @@ use Rattle.connection_facts.specs.declared.outcome.StartFault.{StartFault}
 use Rattle.connection_facts.specs.declared.outcome.StartFault.TheVariants as fault
 use Rattle.ucspi_env.specs.Variables.{Variables}
 use Rattle.byte_streams.specs.Chains.{has_failed, stages_of}
-use Rattle.byte_streams.specs.Stages.{fixed_from, through}
+use Rattle.byte_streams.specs.Stages.{Writing, fixed_from, through}
 use Rattle.byte_streams.specs.Wrapped.{fixed}
 use Rattle.byte_streams.specs.declared.chain.Chain.{Chain}
 use Rattle.byte_streams.specs.declared.recording.Way.{Way}
@@ -30,7 +30,7 @@ use Rattle.stream_tools.specs.declared.between.Lane.{Lane}
 -- From this reader a pump ran to this writer, through this chain and under the eyes of this tap, and ended so; it left the four as they are now. It
 -- read until one of its ends ended, or 2^40 times. The functions are those of `ends_of` and `shown_to`.
 pub record Ran {R W S T : Type 0}
-    (remaining : R → Option (List ℕ)) (contents : W → Option (List ℕ)) (rest : S → List ℕ → List ℕ)
+    (remaining : KnownBytes R) (contents : KnownBytes W) (rest : Writing S)
     (watches : T → Way) (sees : T → List ℕ → T → Type 0) (ends : T → T → Type 0)
     (reader : R) (writer : W) (chain : Chain S) (tap : T) (end : PumpEnd) : Type 0 where
   pub reader-now : R
@@ -38,14 +38,16 @@ pub record Ran {R W S T : Type 0}
   pub chain-now : Chain S
   pub tap-now : T
   pub reads : ℕ
-  pub pumped : Pumped (ends_of remaining contents rest reader writer chain) (ends_of remaining contents rest reader-now writer-now chain-now) (shown_to watches sees ends tap tap-now) reads end
+  pub pumped : Pumped (ends_of remaining contents rest reader writer chain)
+      (ends_of remaining contents rest reader-now writer-now chain-now)
+      (shown_to watches sees ends tap tap-now) reads end
   pub over : end.why ≡ TurnsOver → reads ≡ 2 ^ 40
   pub ready : has_failed chain ≡ false → end.why ≢ Failed
 
 -- The input of a program: a pump ran from the stream of this lane to a pipe of the program, and ended so. The stream was watched as `watch`, whose
 -- calls the first function tells of, says of that pipe; the other functions are those of `Ran`.
 pub record Fed {F I P S T : Type 0} (calls : Once F (Bor P × Unit {0}) (Option Watch))
-    (remaining : I → Option (List ℕ)) (contents : P → Option (List ℕ)) (rest : S → List ℕ → List ℕ)
+    (remaining : KnownBytes I) (contents : KnownBytes P) (rest : Writing S)
     (watches : T → Way) (sees : T → List ℕ → T → Type 0) (ends : T → T → Type 0)
     (watch : F) (lane : Lane I S T) (end : PumpEnd) : Type 0 where
   pub to : P
@@ -56,7 +58,7 @@ pub record Fed {F I P S T : Type 0} (calls : Once F (Bor P × Unit {0}) (Option 
 
 -- The output of a program: a pump ran from a pipe of the program to the stream of this lane, and ended so.
 pub record Drained {P O S T : Type 0}
-    (remaining : P → Option (List ℕ)) (contents : O → Option (List ℕ)) (rest : S → List ℕ → List ℕ)
+    (remaining : KnownBytes P) (contents : KnownBytes O) (rest : Writing S)
     (watches : T → Way) (sees : T → List ℕ → T → Type 0) (ends : T → T → Type 0)
     (lane : Lane O S T) (end : PumpEnd) : Type 0 where
   pub from : P
@@ -86,6 +88,11 @@ refusal_of fault.Other = CannotStart
 abbrev pub IsRunOf : {J : Type 0} → (J → ProgramText) → (J → Variables) → ProgramText → Variables → J → Type 0
 IsRunOf program_of environment_of program environment job = (program_of job ≡ program) × (environment_of job ≡ environment)
 
+-- why a launcher may refuse a program with variables
+abbrev pub LauncherRefuses : Type 0 → Type 1
+LauncherRefuses L = L → ProgramText → Variables → StartFault → Type 0
+
 -- a launcher did not start this program with these variables, and that is told of it; the function says why it may not have
-abbrev pub IsNotStarted : {L : Type 0} → (L → ProgramText → Variables → StartFault → Type 0) → L → ProgramText → Variables → BetweenFault → Type 0
-IsNotStarted refuses launcher program environment told = (fault : StartFault) × refuses launcher program environment fault × (told ≡ refusal_of fault)
+abbrev pub IsNotStarted : {L : Type 0} → LauncherRefuses L → L → ProgramText → Variables → BetweenFault → Type 0
+IsNotStarted refuses launcher program environment told =
+    (fault : StartFault) × refuses launcher program environment fault × (told ≡ refusal_of fault)

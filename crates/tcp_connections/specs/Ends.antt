@@ -2,11 +2,18 @@
 use Rattle.std.specs.Prelude.{ℕ, ◌⊎◌}
 use Rattle.connection_facts.specs.declared.outcome.Status.{Status}
 
+-- telling that the child of the connection with a serial ended so; and that it could not be waited for
+abbrev pub TellsEnd : Type 0 → Type 1
+TellsEnd E = E → ℕ → Status → E → Type 0
+
+abbrev pub TellsRetired : Type 0 → Type 1
+TellsRetired E = E → ℕ → E → Type 0
+
 -- it was told that the child of the connection with a serial ended, whichever way
-pub record IsAnEndTold {E : Type 0} (tells_end : E → ℕ → Status → E → Type 0) (serial : ℕ) (old new : E) : Type 0 where
+pub record IsAnEndTold {E : Type 0} (tells_end : TellsEnd E) (serial : ℕ) (old new : E) : Type 0 where
   pub status : Status
   pub told : tells_end old serial status new
 
 -- it was told that it ended, or that it could not be waited for
-abbrev pub IsEndTold : {E : Type 0} → (E → ℕ → Status → E → Type 0) → (E → ℕ → E → Type 0) → (serial : ℕ) → (old new : E) → Type 0
+abbrev pub IsEndTold : {E : Type 0} → TellsEnd E → TellsRetired E → (serial : ℕ) → (old new : E) → Type 0
 IsEndTold tells_end tells_retired serial old new = IsAnEndTold tells_end serial old new ⊎ tells_retired old serial new

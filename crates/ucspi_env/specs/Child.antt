@@ -8,10 +8,14 @@ use Rattle.connection_facts.specs.Peers.{Client}
 use Rattle.ucspi_env.specs.Ends.{LocalEnd}
 use Rattle.ucspi_env.specs.Variables.{Variable, Variables, with_values, without_value}
 
+-- the names that tell of the client
+abbrev pub remote_names : List (List ℕ)
+remote_names = codes "TCPREMOTEIP" ∷ codes "TCPREMOTEPORT" ∷ codes "TCPREMOTEHOST" ∷ codes "TCPREMOTEINFO" ∷ []
+
 -- the names that a connection gives, and that are never inherited
 abbrev pub own_names : List (List ℕ)
 own_names =
-    codes "PROTO" ∷ codes "TCPLOCALIP" ∷ codes "TCPLOCALPORT" ∷ codes "TCPLOCALHOST" ∷ codes "TCPREMOTEIP" ∷ codes "TCPREMOTEPORT" ∷ codes "TCPREMOTEHOST" ∷ codes "TCPREMOTEINFO" ∷ []
+    codes "PROTO" ∷ codes "TCPLOCALIP" ∷ codes "TCPLOCALPORT" ∷ codes "TCPLOCALHOST" ∷ remote_names
 
 -- what is inherited
 abbrev pub without_own : Variables → Variables
