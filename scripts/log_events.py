@@ -31,7 +31,8 @@ FORMS = [
     ("status", re.compile(rb"status: (\d+)/(\d+)")),
     ("pid", re.compile(rb"pid %s from %s" % (NUMBER, ADDRESS))),
     ("verdict", re.compile(VERDICT)),
-    ("end", re.compile(rb"end %s status (\d+|signal)" % NUMBER)),
+    # (later versions may print more behind the status)
+    ("end", re.compile(rb"end %s status (\d+|signal)(?: .*)?" % NUMBER)),
     ("retired", re.compile(rb"retired %s" % NUMBER)),
     ("full", re.compile(rb"drop %s address full" % ADDRESS)),
     ("drop", re.compile(rb"drop %s %s" % (NUMBER, CAUSES))),

@@ -3,7 +3,7 @@ journals tell and store, and children whose wait fails or that do not start."""
 import os
 import tempfile
 
-from shared import refusals
+from shared import plain_words, refusals
 from shared.checks import Checks
 from shared.probes import Calls
 
@@ -112,6 +112,27 @@ def all_events():
     return [event for serial in range(1, CONNECTIONS + 1) for event in connection(serial)]
 
 
+def words_of(event):
+    """An event of the plain program as a script has it."""
+    return " ".join(map(str, event))
+
+
+def report_of(limits, events):
+    """What a list of events comes to, by the plain program."""
+    return plain_words.replayed(*map(int, limits.split()), [plain_words.event_in(event.split()) for event in events])
+
+
+def all_after(limits, before):
+    """A script that replays what happened before with each event behind it that there is, and what it answers, by a plain program."""
+    given, wanted = [], []
+    for name in plain_words.EVENTS:
+        for event in plain_words.some_events(name):
+            events = before + [words_of(event)]
+            given.append(script(limits, events))
+            wanted.append(report_of(limits, events).encode())
+    return b"".join(given), b"".join(wanted)
+
+
 def check_lists(program, failures):
     """What lists of events come to, by `rulesim`."""
     rulesim = Calls(program, GROUP, failures)
@@ -121,6 +142,9 @@ def check_lists(program, failures):
         for event in wrong:
             answer = "illegal %d" % (len(before) + 1)
             rulesim.call("%s after %s" % (event, name), ["rulesim"], script(limits, before + [event]), lines([answer]))
+    for name, limits, before, _ in OUT_OF_TURN:
+        given, wanted = all_after(limits, before)
+        rulesim.call("each event after " + name, ["rulesim"], given, wanted)
     rulesim.call("a thousand connections", ["rulesim"], script(str(CONNECTIONS), all_events()), lines([REPORT]))
     return rulesim.tests
 
@@ -142,6 +166,12 @@ def check_calls(probe, failures):
         calls.fail("the events of a thousand connections", (len(noted), noted[:9]))
     # at the places before the first and after the last there is none
     calls.call("a journal that stores", ["store_events", str(CALLERS)], as_script(events), lines([report, "none"] + noted + ["none"]))
+    for name in plain_words.EVENTS:
+        events = [words_of(event) for event in plain_words.shortest_list(name)]
+        report = "%s, %d events" % (report_of("2 2", events).strip(), len(events))
+        noted = ["caller 1: " + event for event in events]
+        calls.call("a journal that counts %s" % events, ["count_events", "1"], as_script(events), lines([report]))
+        calls.call("a journal that stores %s" % events, ["store_events", "1"], as_script(events), lines([report, "none"] + noted + ["none"]))
     return calls.tests
 
 

@@ -2,18 +2,15 @@
 test_server."""
 import re
 
-import log_events
-from shared import probes
+from shared import log_forms, probes
 
 # before the first connection, of its admission, and of its decision
-FIRST = b"""tcpserver: status: 0/1
-tcpserver: status: 1/1
-tcpserver: pid 1 from 127.0.0.1
-tcpserver: ok 1 :127.0.0.1:25 :127.0.0.1::1024
-"""
-ENDED_WITH_7 = b"tcpserver: end 1 status 7\ntcpserver: status: 0/1\n"
-RETIRED = b"tcpserver: retired 1\ntcpserver: status: 1/1\n"
-NO_ENDS = b"tcpserver: start 1 no pipe ends\n"
+IDLE, BUSY = log_forms.status(0, 1), log_forms.status(1, 1)
+ADMISSION = log_forms.log(BUSY, log_forms.pid(1, "127.0.0.1"), log_forms.verdict("ok", 1, ":127.0.0.1:25", ":127.0.0.1::1024"))
+FIRST = log_forms.log(IDLE) + ADMISSION
+ENDED_WITH_7 = log_forms.log(log_forms.end(1, 7), IDLE)
+RETIRED = log_forms.log(log_forms.retired(1), BUSY)
+NO_ENDS = log_forms.log(log_forms.start(1, "no pipe ends"))
 # a limit of one, no connection that finds no memory, one that comes, and one that is let in
 ONE = ["1", "0", "1", "1"]
 
@@ -22,13 +19,13 @@ CASES = [
     ("a child that ends is told with its status", ONE, ["ek=7"], "Count, 0 alive, 0 kills", ENDED_WITH_7),
     ("a child that cannot be waited for keeps its place", ONE, ["ek"], "Count, 1 alive, 2 kills", RETIRED),
     ("a server whose places are all retired ends", ["1", "0", "2", "2"], ["ek"], "NoPlaces, 1 alive, 2 kills", RETIRED),
-    ("a program that is not found", ONE, ["n"], "Count, 0 alive, 0 kills", b"tcpserver: start 1 not found\ntcpserver: status: 0/1\n"),
+    ("a program that is not found", ONE, ["n"], "Count, 0 alive, 0 kills", log_forms.log(log_forms.start(1, "not found"), IDLE)),
     (
         "a child without pipe ends is killed and waited for",
         ONE,
         ["k=s"],
         "Count, 0 alive, 1 kills",
-        NO_ENDS + b"tcpserver: end 1 status signal\ntcpserver: status: 0/1\n",
+        NO_ENDS + log_forms.log(log_forms.end(1, "signal"), IDLE),
     ),
     ("a child without pipe ends gets three kills", ONE, ["k"], "Count, 1 alive, 3 kills", NO_ENDS + RETIRED),
     ("a child whose third wait answers", ONE, ["ek=fm7"], "Count, 0 alive, 2 kills", ENDED_WITH_7),
@@ -55,7 +52,7 @@ PROGRAMS = [
     ("a program that was served", "served", "ek=3", "Ok(Code(3)), 0 kills, 1 waits\n"),
 ]
 
-# the lines of errors, and of them alone
+# the lines of errors, and of them alone; here and below each byte is spelled, and none is made by a form
 ERRORS = b"""tcpserver: start 2 not found
 tcpserver: start 3 no pipe ends
 tcpserver: retired 4
@@ -98,26 +95,28 @@ def check_longer(program, calls):
     """Servers of several connections, of whose log only a part is the same each time."""
     code, end, log = serve(program, ["2", "0", "2", "2"], ["ek=a"])
     calls.holds("two children live at once", (code, end) == (0, b"Count, 0 alive, 0 kills"), (code, end))
-    for line in (b"tcpserver: end 1 status 0\n", b"tcpserver: end 2 status 0\n"):
-        calls.holds("two children live at once, and end", line in log, log)
+    for serial in (1, 2):
+        calls.holds("two children live at once, and end", log_forms.log(log_forms.end(serial)) in log, log)
     code, end, log = serve(program, ["2", "0", "4", "4"], ["ek", "ek=7"])
     calls.holds("one place is retired and the other serves on", (code, end) == (0, b"Count, 1 alive, 2 kills"), (code, end))
-    calls.holds("two places at first", log.startswith(b"tcpserver: status: 0/2\n"), log)
-    calls.holds("and one of them taken for good", log.endswith(b"tcpserver: status: 1/2\n"), log)
+    calls.holds("two places at first", log.startswith(log_forms.log(log_forms.status(0, 2))), log)
+    calls.holds("and one of them taken for good", log.endswith(log_forms.log(log_forms.status(1, 2))), log)
     code, end, log = serve(program, ["1", "0", "3", "-"], ["ek=7"])
     calls.holds("a hundred faults of accepting end a server", (code, end) == (0, b"AcceptFaults, 0 alive, 0 kills"), (code, end))
-    calls.holds("after the last connection", log.endswith(b"tcpserver: end 3 status 7\ntcpserver: status: 0/1\n"), log)
+    calls.holds("after the last connection", log.endswith(log_forms.log(log_forms.end(3, 7), IDLE)), log)
 
 
 # the lines of the log that tell an event of one connection, and the event
-TELLS = [
-    ("admitted", re.compile(rb"tcpserver: pid (\d+) from .*")),
-    ("allowed", re.compile(rb"tcpserver: ok (\d+) .*")),
-    ("ended", re.compile(rb"tcpserver: end (\d+) status .*")),
-    ("retired", re.compile(rb"tcpserver: retired (\d+)")),
-    ("dropped", re.compile(rb"tcpserver: drop (\d+) [a-z ]+")),
-    ("failed", re.compile(rb"tcpserver: start (\d+) (?!no pipe ends)[a-z ]+")),
+SERIAL = r"(\d+)"
+FORMS = [
+    ("admitted", log_forms.pid(SERIAL, r"\S+")),
+    ("allowed", log_forms.verdict("ok", SERIAL, r"\S+", r"\S+")),
+    ("ended", log_forms.any_end(SERIAL)),
+    ("retired", log_forms.retired(SERIAL)),
+    ("dropped", log_forms.drop(SERIAL, "[a-z ]+")),
+    ("failed", log_forms.start(SERIAL, "(?!no pipe ends)[a-z ]+")),
 ]
+TELLS = [(name, re.compile(b"tcpserver: " + form.encode())) for name, form in FORMS]
 # the lives that a connection of a server without rules may have
 LIVES = [["admitted", "opened", "allowed", "started", end] for end in ("ended", "retired")] + [["admitted", "opened", "allowed", "failed"]]
 
@@ -162,7 +161,7 @@ def check_history(program, calls):
     for name, serial in all_told:
         lives.setdefault(serial, []).append(name)
     calls.holds("each connection has one life", all(life in LIVES for life in lives.values()) and len(lives) == 2000, len(lives))
-    read = log_events.Events(log, 3)
+    read = log_forms.events_of(log, 3)
     calls.holds("its lines fit", (read.faults, read.admitted, read.last_live) == ([], 2000, 9), (read.faults[:3], read.admitted, read.last_live))
 
 
@@ -177,7 +176,7 @@ def check(program, failures):
     calls = probes.Calls(program, "service_calls", failures)
     for name, asked, scripts, end, log in CASES:
         calls.call(name, ["serve"] + asked + scripts, b"", end.encode() + b"\n" + FIRST + log)
-    lost = b"tcpserver: status: 0/1\n" + b"tcpserver: out of memory\n" * 150 + FIRST.partition(b"\n")[2] + ENDED_WITH_7
+    lost = log_forms.log(IDLE) + log_forms.log("out of memory") * 150 + ADMISSION + ENDED_WITH_7
     words = ["serve", "1", "150", "1", "1", "ek=7"]
     calls.call("connections that find no memory are told and end no server", words, b"", b"Count, 0 alive, 0 kills\n" + lost)
     for name, call, script, answer in PROGRAMS:

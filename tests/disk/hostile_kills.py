@@ -9,8 +9,7 @@ import subprocess
 import threading
 import time
 
-import log_events
-from shared import compiled_files, server_runs
+from shared import compiled_files, log_forms, server_runs
 
 KILLED_INSTALLATIONS = 400
 KILLED_SERVERS = 120
@@ -189,7 +188,7 @@ class Killer:
             return None
         # (a line that is being written as the process is killed may be cut where a page of the file ends)
         log = old.log()
-        events = log_events.Events(log[:log.rfind(b"\n") + 1])
+        events = log_forms.events_of(log[:log.rfind(b"\n") + 1])
         return events if events.faults else self.replay(events)
 
     def start(self):

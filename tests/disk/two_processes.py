@@ -17,8 +17,7 @@ import threading
 import time
 from typing import NamedTuple
 
-import log_events
-from shared import compiled_files, failed_calls, server_runs
+from shared import compiled_files, failed_calls, log_forms, server_runs
 from shared.server_runs import only_child
 
 INSTALLATIONS = 24
@@ -294,7 +293,7 @@ def found_of(suite, server, trace, folder, clients):
 
 def replayed(suite, server, folder, openings):
     """The events of both, woven by the moments of openings, for `rulesim`."""
-    events, ends = log_events.Events(server.log()), {str(opening.serial): opening.ends for opening in openings}
+    events, ends = log_forms.events_of(server.log()), {str(opening.serial): opening.ends for opening in openings}
     suite.expect("what does not fit in the log", events.faults, [])
     phases = [phase for installation in folder.installations for phase in installation.phases]
     suite.expect("the phases of a whole installation", [name for _, name in folder.installations[0].phases],

@@ -12,7 +12,7 @@ import subprocess
 import tempfile
 import time
 
-import log_events
+from shared import log_forms
 from shared.checks import TOP, Checks
 from shared.server_runs import WAIT, Amiss, free_port, listens, wait_until
 
@@ -492,7 +492,7 @@ def waiting(checks, kitchen):
 def audited_log(checks, kitchen):
     """The log of the document is one that a server can have written."""
     for run in kitchen.read("examples/audit/log").split("starting\n")[1:]:
-        events = log_events.Events(run.encode(), 2)
+        events = log_forms.events_of(run.encode(), 2)
         checks.expect("the log of the document: what does not fit", events.faults, [])
 
 

@@ -12,6 +12,7 @@ import subprocess
 import tempfile
 
 from documents.cookbook import blocks
+from shared import log_forms
 from shared.checks import TOP, Checks
 from shared.server_runs import free_port, listens, wait_until
 
@@ -63,15 +64,16 @@ def makes_in(text):
 
 def log_of(number, most):
     """The log of a server with so many connections, as many of them at once."""
-    lines, alive = ["tcpserver: status: 0/%d" % most], []
+    lines, alive = [log_forms.status(0, most)], []
     for serial in range(1, number + 1):
         alive.append(serial)
         address = "10.0.%d.%d" % (serial // 200, serial % 200 + 1)
-        lines += ["status: %d/%d" % (len(alive), most), "pid %d from %s" % (serial, address), "ok %d :10.0.0.1:25 :%s::1024" % (serial, address)]
+        lines += [log_forms.status(len(alive), most), log_forms.pid(serial, address)]
+        lines.append(log_forms.verdict("ok", serial, ":10.0.0.1:25", ":%s::1024" % address))
         while len(alive) == most or alive and serial == number:
-            lines.append("end %d status 0" % alive.pop(0))
-            lines.append("status: %d/%d" % (len(alive), most))
-    return "\n".join([lines[0]] + ["tcpserver: " + line for line in lines[1:]]) + "\n"
+            lines.append(log_forms.end(alive.pop(0)))
+            lines.append(log_forms.status(len(alive), most))
+    return log_forms.log(*lines)
 
 
 class Shell:
@@ -90,7 +92,7 @@ class Shell:
         here = os.path.join(folder, "here")
         os.mkdir(here)
         shutil.copytree(os.path.join(TOP, "examples"), os.path.join(here, "examples"))
-        with open(os.path.join(here, "log"), "w", encoding="ascii") as file:
+        with open(os.path.join(here, "log"), "wb") as file:
             file.write(log_of(2040, 40))
         os.symlink(os.path.join(TOP, "scripts"), os.path.join(here, "scripts"))
         environment = {"PATH": self.bin + ":/usr/local/bin:/usr/bin:/bin", "LC_ALL": "C.UTF-8"}
@@ -178,6 +180,15 @@ def check_links(checks, name, text):
     checks.expect("%s: links that lead nowhere" % name, lost, [])
 
 
+def check_changes(checks):
+    """The files that a change touches, as the architecture lists them, are there."""
+    with open(os.path.join(TOP, "docs", "ARCHITECTURE.md"), encoding="utf-8") as file:
+        part = file.read().partition("\n## What a change touches\n")[2].partition("\n## ")[0]
+    paths = re.findall(r"`(\w+(?:/[\w.]+)+)`", part)
+    lost = [path for path in paths if not any(os.path.isfile(os.path.join(TOP, top, path)) for top in ("", "crates"))]
+    checks.holds("docs/ARCHITECTURE.md: files that a change touches", len(paths) > 40 and not lost, lost)
+
+
 def check_comments(checks):
     """The comments of what users read have the terms of the trade too."""
     for part in COMMENTED:
@@ -201,6 +212,7 @@ def check(program, failures):
     checks = Checks("documents", failures)
     check_readme(checks)
     check_comments(checks)
+    check_changes(checks)
     for name in DOCUMENTS + [COOKBOOK, "CHANGELOG.md"]:
         with open(os.path.join(TOP, name), encoding="utf-8") as file:
             text = file.read()

@@ -9,6 +9,7 @@ import subprocess
 import tempfile
 
 from documents.documents import TERMS
+from shared import plain_words
 from shared.checks import TOP, Checks
 
 # the crate's fault of each tool, and the variant of `ToolFault` that it is
@@ -343,6 +344,11 @@ def check_server_words(checks):
     wanted = {letter: kind == "valued" for letter, kind in kinds.items() if kind != "refused"}
     checks.same("tcpserver: options", page.options(), wanted)
     checks.same("tcpserver: options of the synopsis", page.synopsis_options(), wanted)
+    with open(os.path.join(TOP, "docs", "OPTIONS.md"), encoding="utf-8") as file:
+        rows = re.findall(r"^\| `-(\w) n` \|[^|]* ([\d,]+) to ([\d,]+);", file.read(), re.M)
+    numbers = [(letter, int(least.replace(",", "")), int(most.replace(",", ""))) for letter, least, most in rows]
+    wanted_numbers = [(letter, *ends) for letter, ends in plain_words.NUMBERS.items()]
+    checks.same("tcpserver: numbers and their order, as docs/OPTIONS.md has them", numbers, wanted_numbers)
     checks.same("tcpserver: options that are refused", page.refused(), {letter for letter, kind in kinds.items() if kind == "refused"})
     usage = next(text for text in word_texts() if "usage: " in text)
     checks.same("tcpserver: synopsis", "tcpserver: usage: " + page.synopsis().replace(" ", " [options] ", 1), usage)

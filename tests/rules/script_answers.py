@@ -7,7 +7,7 @@ import socket
 import subprocess
 import tempfile
 
-from shared import failed_calls
+from shared import failed_calls, plain_words
 from shared.checks import Checks
 
 INSTALLED, STOPPED, BEGUN = "installed", "stopped", "begun"
@@ -191,6 +191,16 @@ def bad_command(number):
     return "rulesim: line %d: bad command\n" % number
 
 
+def bad_forms():
+    """Each event with a field more, with one less, and with one that is none."""
+    for name, event in plain_words.EVENTS.items():
+        words = ["event", name] + [str(field.some[0]) for field in event.fields]
+        yield " ".join(words + ["1"])
+        for place in range(2, len(words)):
+            yield " ".join(words[:place] + words[place + 1:])
+            yield " ".join(words[:place] + ["?"] + words[place + 1:])
+
+
 def cases():
     """Name, script, standard output, standard error, exit code."""
     for name, script, answers in QUESTIONS + STOPS + EVENTS:
@@ -200,6 +210,8 @@ def cases():
     for line in BAD_COMMANDS:
         yield "the line %r" % line, "|:deny\ninstall\n%s\nask 1.1.1.1\n" % line, "installed\n", bad_command(3), 100
     for line in BAD_EVENTS:
+        yield "the line %r" % line, "events 1\nreplay\n%s\nreplay\n" % line, "admitted 0 live 0 retired 0 most 0\n", bad_command(3), 100
+    for line in bad_forms():
         yield "the line %r" % line, "events 1\nreplay\n%s\nreplay\n" % line, "admitted 0 live 0 retired 0 most 0\n", bad_command(3), 100
     for name, script, answers, number in BAD_LINES:
         yield name, script, text_of(answers), bad_command(number), 100

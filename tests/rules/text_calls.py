@@ -1,4 +1,5 @@
 """Wholes that are appended, environments, servers' ends, host tables, lines of the log and option words, by the program test_texts."""
+from shared import log_forms, plain_words
 from shared.probes import Calls
 
 # what a child of a connection inherits and is told: how the connection came, the rules, and all variables in the order of their names
@@ -104,28 +105,28 @@ FIELDS = [
 ]
 # words of a drop or of a start, and what is printed of it
 REASONS = [
-    (["drop", "cause=banner"], "tcpserver: drop 12 banner fault\n"),
-    (["drop", "cause=directory"], "tcpserver: drop 12 directory fault\n"),
-    (["drop", "cause=read fault"], "tcpserver: drop 12 rules read fault\n"),
-    (["drop", "cause=damaged"], "tcpserver: drop 12 rules damaged\n"),
-    (["drop", "cause=memory"], "tcpserver: drop 12 out of memory\n"),
-    (["drop", "cause=no thread"], "tcpserver: drop 12 no thread\n"),
-    (["drop", "cause=denied"], ""),
-    (["start", "fault=not found"], "tcpserver: start 12 not found\n"),
-    (["start", "fault=refused"], "tcpserver: start 12 refused\n"),
-    (["start", "fault=other"], "tcpserver: start 12 failed\n"),
-    (["start", "fault=memory"], "tcpserver: start 12 out of memory\n"),
-    (["start"], "tcpserver: start 12 no pipe ends\n"),
+    (["drop", "cause=banner"], log_forms.drop(12, "banner fault")),
+    (["drop", "cause=directory"], log_forms.drop(12, "directory fault")),
+    (["drop", "cause=read fault"], log_forms.drop(12, "rules read fault")),
+    (["drop", "cause=damaged"], log_forms.drop(12, "rules damaged")),
+    (["drop", "cause=memory"], log_forms.drop(12, "out of memory")),
+    (["drop", "cause=no thread"], log_forms.drop(12, "no thread")),
+    (["drop", "cause=denied"], None),
+    (["start", "fault=not found"], log_forms.start(12, "not found")),
+    (["start", "fault=refused"], log_forms.start(12, "refused")),
+    (["start", "fault=other"], log_forms.start(12, "failed")),
+    (["start", "fault=memory"], log_forms.start(12, "out of memory")),
+    (["start"], log_forms.start(12, "no pipe ends")),
 ]
 # lines of which each is appended to those before it
 APPENDED = [
-    (["status", "live=3", "limit=40"], b"tcpserver: status: 3/40\n"),
-    (["pid", "serial=5", "ip=10.0.0.1"], b"tcpserver: pid 5 from 10.0.0.1\n"),
-    (["end", "serial=5", "code=7"], b"tcpserver: end 5 status 7\n"),
-    (["end", "serial=5", "code=signal"], b"tcpserver: end 5 status signal\n"),
-    (["retired", "serial=5"], b"tcpserver: retired 5\n"),
-    (["drop_address", "ip=1.2.3.4"], b"tcpserver: drop 1.2.3.4 address full\n"),
-    (["retired", "serial=18446744073709551615"], b"tcpserver: retired 18446744073709551615\n"),
+    (["status", "live=3", "limit=40"], log_forms.status(3, 40)),
+    (["pid", "serial=5", "ip=10.0.0.1"], log_forms.pid(5, "10.0.0.1")),
+    (["end", "serial=5", "code=7"], log_forms.end(5, 7)),
+    (["end", "serial=5", "code=signal"], log_forms.end(5, "signal")),
+    (["retired", "serial=5"], log_forms.retired(5)),
+    (["drop_address", "ip=1.2.3.4"], log_forms.full("1.2.3.4")),
+    (["retired", "serial=18446744073709551615"], log_forms.retired(18446744073709551615)),
 ]
 # option words, and the fault of the first that is faulty
 FAULTY_WORDS = [
@@ -190,9 +191,9 @@ LETTERS_GIVEN = [
 ]
 # letters, and what each of them means to tcpserver
 MEANINGS = [
-    ("vQq1XhHpPROodD", "Plain"),
-    ("ckmxBlNwtb", "Valued"),
-    ("rugU", "NotInProfile"),
+    (plain_words.ALONE, "Plain"),
+    (plain_words.VALUED, "Valued"),
+    (plain_words.REFUSED, "NotInProfile"),
     (":!-aACEz0\u00e9", "Unknown"),
 ]
 # text, least and greatest number, and the number that the text is
@@ -258,18 +259,18 @@ def check_lines(calls):
     local = ["local_ip=10.0.0.1", "local_port=25"]
     peer = ["ip=1.2.3.4", "port=1024"]
     for name, printed in FIELDS:
-        wanted = "tcpserver: deny 7 %s:10.0.0.1:25 :1.2.3.4::1024\n" % printed
-        calls.call("a server's end named %r" % name, ["deny", "serial=7", "local_host=" + name] + local + peer, b"", wanted.encode())
+        wanted = log_forms.log(log_forms.verdict("deny", 7, printed + ":10.0.0.1:25", ":1.2.3.4::1024"))
+        calls.call("a server's end named %r" % name, ["deny", "serial=7", "local_host=" + name] + local + peer, b"", wanted)
     words = ["ok", "serial=5", "local_host=h", "host=r.example", "info=joe"] + local + peer
-    calls.call("an allowed connection", words, b"", b"tcpserver: ok 5 h:10.0.0.1:25 r.example:1.2.3.4:joe:1024\n")
-    for words, wanted in REASONS:
-        calls.call("the line of %s" % " ".join(words), words + ["serial=12"], b"", wanted.encode())
+    calls.call("an allowed connection", words, b"", log_forms.log(log_forms.verdict("ok", 5, "h:10.0.0.1:25", "r.example:1.2.3.4:joe:1024")))
+    for words, line in REASONS:
+        calls.call("the line of %s" % " ".join(words), words + ["serial=12"], b"", log_forms.log(line) if line else b"")
     words = ["drop", "serial=3", "cause=damaged"]
-    calls.call("a line behind another", words, b"before\n", b"before\ntcpserver: drop 3 rules damaged\n")
+    calls.call("a line behind another", words, b"before\n", b"before\n" + log_forms.log(log_forms.drop(3, "rules damaged")))
     before = b""
     for words, line in APPENDED:
-        calls.call("the line of %s behind others" % " ".join(words), words, before, before + line)
-        before += line
+        calls.call("the line of %s behind others" % " ".join(words), words, before, before + log_forms.log(line))
+        before += log_forms.log(line)
     # a whole that is kept, and then taken back as for want of memory
     words = ["whole", "text=line ", "number=4294967296"]
     calls.call("a whole of two parts", words, b"at ", b"at line 4294967296\nErr(AllocError) at \n")

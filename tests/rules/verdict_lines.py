@@ -15,7 +15,7 @@ import subprocess
 import sys
 import time
 
-from shared import failed_calls, plain_texts, server_runs
+from shared import failed_calls, log_forms, plain_texts, server_runs
 
 CONNECTIONS = 2000
 ADDRESSES = 250
@@ -35,6 +35,8 @@ LINE = re.compile(
     rb"tcpserver: (ok|deny) (%s) %s:%s:(%s) (%s):(%s):%s:(%s)" % (NUMBER, NAME, ADDRESS, NUMBER, NAME, ADDRESS, NAME, NUMBER)
 )
 VERDICTS = {"allow": "ok", "deny": "deny"}
+# lines of a server that are no verdict's
+OTHERS = log_forms.log(log_forms.status(3, 40), log_forms.pid(7, "1.2.3.4"), log_forms.end(7), log_forms.drop(7, "out of memory")).splitlines()
 
 
 # a plain reader
@@ -196,8 +198,7 @@ class Logs:
     def line(self):
         if self.series.randrange(4) == 0:
             return self.pick(
-                b"", b"tcpserver: status: 3/40", b"tcpserver: pid 7 from 1.2.3.4", b"tcpserver: end 7 status 0", b"tcpserver: drop 7 out of memory",
-                b"tcpserver: ok", b"tcpserver: deny", b"tcpserver: ok ", b"tcpserver: okay 1 :1.2.3.4:25 :1.2.3.4::25", b"mail: connection from \xff\xfe",
+                b"", *OTHERS, b"tcpserver: ok", b"tcpserver: deny", b"tcpserver: ok ", b"tcpserver: okay 1 :1.2.3.4:25 :1.2.3.4::25", b"mail: connection from \xff\xfe",
                 b"@4000000065b2c3d40a1b2c3c tcpserver: ok 1 :1.2.3.4:25 :1.2.3.4::25", b"tcpserver: cause: rules.cdb: Permission denied", b"install", b"|:deny",
             )
         return self.verdict()
@@ -332,9 +333,9 @@ def large_log(suite):
             for _ in range(1000):
                 connections += 1
                 n, ip = connections, b"10.%d.%d.%d" % (connections % 4, connections // 256 % 256, connections % 256)
-                pieces.append(b"tcpserver: pid %d from %s\n" % (n, ip))
+                pieces.append(log_forms.log(log_forms.pid(n, ip.decode())))
                 pieces.append(b"tcpserver: ok %d mail.example:192.0.2.1:25 h%d.good.example:%s::%d\n" % (n, n % 1000, ip, n % 65536))
-                pieces.append(b"tcpserver: end %d status 0\ntcpserver: status: 3/40\n" % n)
+                pieces.append(log_forms.log(log_forms.end(n), log_forms.status(3, 40)))
             file.write(b"".join(pieces))
     began = time.monotonic()
     with open(path, "rb") as file, open(suite.path("answers"), "wb") as output:

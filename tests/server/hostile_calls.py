@@ -13,8 +13,8 @@ import subprocess
 import tempfile
 import time
 
-import log_events
-from shared import compiled_files, failed_calls, refusals, server_runs
+from shared import compiled_files, failed_calls, log_forms, refusals, server_runs
+from shared.log_forms import ANY
 from shared.server_runs import read_all
 
 MOST = 300
@@ -23,10 +23,11 @@ RULES = '127.0.0.1:allow,A="one"\n:deny\n'
 ALLOWED, DENIED = "127.0.0.1", "127.0.0.2"
 ANSWERS = {ALLOWED: b"a\n", DENIED: b""}
 
-DIRECTORY = r"drop \d+ directory fault"
-FAILED = r"start \d+ failed"
-MEMORY = r"(start|drop) \d+ out of memory"
-NO_PIPES = r"start \d+ no pipe ends"
+DIRECTORY = log_forms.drop(ANY, "directory fault")
+READ_FAULT = log_forms.drop(ANY, "rules read fault")
+FAILED = log_forms.start(ANY, "failed")
+MEMORY = "(%s|%s)" % (log_forms.start(ANY, "out of memory"), log_forms.drop(ANY, "out of memory"))
+NO_PIPES = log_forms.start(ANY, "no pipe ends")
 # The calls; the errors that may come; the faults that the server may tell of at its start; the lines that may tell of one later. A call that
 # was interrupted is made again, so it changes nothing.
 CALLS = [
@@ -40,8 +41,8 @@ CALLS = [
     ("pipe2", ["ENOMEM"], [], [FAILED, MEMORY]),
     ("posix_spawn", ["EAGAIN", "E2BIG", "EIO", "ENOEXEC", "ETXTBSY", "EMFILE"], [], [FAILED]),
     ("posix_spawn", ["ENOMEM"], [], [FAILED, MEMORY]),
-    ("posix_spawn", ["ENOENT"], [], [r"start \d+ not found"]),
-    ("posix_spawn", ["EACCES", "EPERM"], [], [r"start \d+ refused"]),
+    ("posix_spawn", ["ENOENT"], [], [log_forms.start(ANY, "not found")]),
+    ("posix_spawn", ["EACCES", "EPERM"], [], [log_forms.start(ANY, "refused")]),
     ("pthread_create", ["EAGAIN", "ENOMEM"], [], []),
     ("waitpid", ["EINTR", "EIO"], [], []),
     ("open", ["EINTR", "EMFILE", "ENFILE", "EACCES", "EIO", "ELOOP"], ["read fault", "device fault"], [DIRECTORY]),
@@ -51,10 +52,10 @@ CALLS = [
     ("lstat", ["EIO", "EACCES"], ["read fault", "device fault"], [DIRECTORY]),
     ("fstatat", ["EIO", "EACCES"], ["read fault", "device fault"], [DIRECTORY]),
     ("statx", ["EIO", "EACCES"], ["read fault", "device fault"], [DIRECTORY]),
-    ("lseek", ["EIO"], ["read fault", "device fault"], [DIRECTORY, r"drop \d+ rules read fault"]),
+    ("lseek", ["EIO"], ["read fault", "device fault"], [DIRECTORY, READ_FAULT]),
     ("fcntl", ["EMFILE", "EBADF"], ["read fault", "device fault", "cannot listen"], [DIRECTORY, FAILED]),
-    ("pread", ["EINTR", "EIO", "ENOMEM"], ["read fault"], [r"drop \d+ rules read fault", MEMORY]),
-    ("pread64", ["EINTR", "EIO", "ENOMEM"], ["read fault"], [r"drop \d+ rules read fault", MEMORY]),
+    ("pread", ["EINTR", "EIO", "ENOMEM"], ["read fault"], [READ_FAULT, MEMORY]),
+    ("pread64", ["EINTR", "EIO", "ENOMEM"], ["read fault"], [READ_FAULT, MEMORY]),
     ("read", ["EINTR", "EAGAIN", "EIO", "ECONNRESET", "ENOMEM"], ["read fault", "out of memory"], []),
     ("recv", ["EINTR", "EAGAIN", "EIO", "ECONNRESET", "ENOMEM"], [], []),
     ("write", ["EINTR", "EAGAIN", "EIO", "EPIPE", "ENOSPC", "ENOMEM"], ["write fault"], []),
@@ -80,7 +81,10 @@ TEMPORARY = [
     ("accept4", "EAGAIN"), ("wait4", "EINTR"), ("wait4", "EIO"),
 ]
 TIMES = 2
-ANY_LINE = r"status: \d+/\d+|pid \d+ from .*|(ok|deny) \d+ .*|end \d+ status .*|drop \d+ .*|start \d+ .*|out of memory"
+ANY_LINE = "|".join([
+    log_forms.status(ANY, ANY), log_forms.pid(ANY, ".*"), log_forms.verdict("(ok|deny)", ANY, ".*", ".*"), log_forms.any_end(ANY),
+    log_forms.drop(ANY, ".*"), log_forms.start(ANY, ".*"), "out of memory",
+])
 
 
 class Told:
@@ -91,7 +95,7 @@ class Told:
         server.settle(seen)
         self.source = source
         self.lines = server.lines()[seen:]
-        serials = re.findall(r"pid (\d+) from", "\n".join(self.lines))
+        serials = re.findall(log_forms.pid(r"(\d+)", ""), "\n".join(self.lines))
         self.serial = int(serials[0]) if serials else None
         self.wanted = wanted_lines(self.serial, source, server.port, peer)
 
@@ -106,9 +110,9 @@ def wanted_lines(serial, source, local, peer):
     """The lines of a connection with which nothing is amiss."""
     name = "mail.example" if source == ALLOWED else ""
     verdict = "ok" if source == ALLOWED else "deny"
-    head = ["status: 1/1", "pid %s from %s" % (serial, source)]
-    head.append("%s %s mail.example:127.0.0.1:%d %s:%s::%d" % (verdict, serial, local, name, source, peer))
-    return head + (["end %s status 0" % serial] if source == ALLOWED else []) + ["status: 0/1"]
+    head = [log_forms.status(1, 1), log_forms.pid(serial, source)]
+    head.append(log_forms.verdict(verdict, serial, "mail.example:127.0.0.1:%d" % local, "%s:%s::%d" % (name, source, peer)))
+    return head + ([log_forms.end(serial)] if source == ALLOWED else []) + [log_forms.status(0, 1)]
 
 
 class Calls:
@@ -148,7 +152,7 @@ class Calls:
                     break
                 told.append(Told(server, source, seen))
                 seen += len(told[-1].lines)
-                if len(told) == 1 and told[0].lines[:1] == ["status: 0/1"]:
+                if len(told) == 1 and told[0].lines[:1] == [log_forms.status(0, 1)]:
                     # the line of the server's start
                     told[0].lines.pop(0)
             return self.amiss(server, run, error, forms, told)
@@ -187,7 +191,7 @@ class Calls:
         if one.lines == []:
             return call == "getsockname" and one.answer == b""
         others = [line for line in one.lines if line not in one.wanted]
-        streams = r"end %s status (\d+|signal)" % one.serial
+        streams = log_forms.any_end(one.serial)
         ended = call in ("read", "write", "recv", "send", "waitpid") or "no pipe ends" in "".join(others)
         known = all(any(re.fullmatch(form, line) for form in forms + ([streams] if ended else [])) for line in others)
         has_front = ANSWERS[one.source].startswith(one.answer)
@@ -196,7 +200,7 @@ class Calls:
 
     def left(self, server):
         """What a server left behind, or tells amiss."""
-        events = log_events.Events(server.log())
+        events = log_forms.events_of(server.log())
         if events.faults or events.last_live:
             return "its log: %r and %d alive" % (events.faults, events.last_live)
         if self.idle is None:
@@ -248,9 +252,9 @@ def while_calls_fail(suite):
     library = failed_calls.Library(suite.folder)
     rules = suite.install(RULES, "while.cdb")
     cases = [
-        ("open", "EMFILE", "drop N directory fault"), ("open", "EIO", "drop N directory fault"), ("open", "EACCES", "drop N directory fault"),
-        ("pread", "EIO", "drop N rules read fault"), ("pread64", "EIO", "drop N rules read fault"), ("pipe2", "EMFILE", "start N failed"),
-        ("posix_spawn", "E2BIG", "start N failed"), ("posix_spawn", "ENOENT", "start N not found"), ("posix_spawn", "EACCES", "start N refused"),
+        ("open", "EMFILE", log_forms.drop("N", "directory fault")), ("open", "EIO", log_forms.drop("N", "directory fault")), ("open", "EACCES", log_forms.drop("N", "directory fault")),
+        ("pread", "EIO", log_forms.drop("N", "rules read fault")), ("pread64", "EIO", log_forms.drop("N", "rules read fault")), ("pipe2", "EMFILE", log_forms.start("N", "failed")),
+        ("posix_spawn", "E2BIG", log_forms.start("N", "failed")), ("posix_spawn", "ENOENT", log_forms.start("N", "not found")), ("posix_spawn", "EACCES", log_forms.start("N", "refused")),
         # threads that were made before are kept
         ("pthread_create", "EAGAIN", None),
     ]
@@ -286,7 +290,7 @@ def no_process(suite):
         for client in clients:
             client.sendall(b"a\n")
             client.shutdown(socket.SHUT_WR)
-        server.wait_line(r"ok 2 .*")
+        server.wait_line(log_forms.verdict("ok", 2, ".*", ".*"))
         time.sleep(0.3)
         run.turn(False)
         suite.expect("those who waited for a process", [read_all(client) for client in clients], [b"a\n"] * 2)
@@ -310,14 +314,14 @@ def no_places(suite):
             suite.expect("the end without places under %s" % error, server.end(), 111)
             lines = [line for line in server.lines() if line.startswith(("retired", "no places"))]
             # (each has a thread of its own, so that on a busy machine the second may be the first to fail)
-            suite.expect("the lines without places under %s" % error, sorted(lines[:2]) + lines[2:], ["retired 1", "retired 2", "no places left"])
+            suite.expect("the lines without places under %s" % error, sorted(lines[:2]) + lines[2:], [log_forms.retired(1), log_forms.retired(2), "no places left"])
             suite.audit("without places", server)
         run.end()
     # one lost place of two: the other one goes on
     run = library.run("waitpid", "ECHILD", 1)
     with suite.start(["-v", "-c", "2"], [shutil.which("cat")], env=dict(os.environ, **run.environment)) as server:
         suite.expect("with one place of two", [server.ask(b"a\n") for _ in range(6)], [b"a\n"] * 6)
-        suite.expect("one is retired", [line for line in server.lines() if line.startswith("retired")], ["retired 1"])
+        suite.expect("one is retired", [line for line in server.lines() if line.startswith("retired")], [log_forms.retired(1)])
         server_runs.wait_until("the retired one alone", lambda: server.live() == 1)
         suite.audit("one retired place", server)
 

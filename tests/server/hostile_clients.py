@@ -9,7 +9,7 @@ import signal
 import socket
 import time
 
-from shared import server_runs
+from shared import log_forms, server_runs
 from shared.clients import Pool
 from shared.server_runs import read_all, reset
 
@@ -262,7 +262,7 @@ def half_closed(suite):
                         time.sleep(0.1)
                     suite.expect("half closed: %r" % script, read_all(client), wanted)
                     if not suite.original:
-                        server.wait_line("end %d status %d" % (number, code))
+                        server.wait_line(log_forms.end(number, code))
             server.idle()
             suite.audit("half closed", server)
 

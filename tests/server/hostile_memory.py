@@ -8,7 +8,7 @@ import os
 import re
 import socket
 
-from shared import compiled_files, failed_calls, refusals, server_runs
+from shared import compiled_files, failed_calls, log_forms, refusals, server_runs
 from shared.server_runs import read_all
 
 # the most requests of one series
@@ -20,7 +20,6 @@ REFUSED_TIME = 5
 BANNER = "hello\n"
 TABLE = "127.0.0.1 Mail.Example\n127.0.0.2 two.example\n=mail.example 127.0.0.1\n=two.example 127.0.0.2\n"
 RULES = '=mail.example:allow,A="one",B=/two words/\n127.0.0.2:deny\n127.0.0.3:deny\n'
-END = r"end %d status (\d+|signal)"
 
 
 class Kind:
@@ -34,14 +33,19 @@ class Kind:
 
     def wanted(self, serial, limit, local, peer):
         """Its lines, with ample memory."""
-        lines = ["status: 1/%d" % limit, "pid N from %s" % self.source] + self.lines + ["status: 0/%d" % limit]
+        lines = [log_forms.status(1, limit), log_forms.pid("N", self.source)] + self.lines + [log_forms.status(0, limit)]
         known = {"N": str(serial), "LOCAL": str(local), "PEER": str(peer)}
         return [re.sub(r"\b(N|LOCAL|PEER)\b", lambda match: known[match.group()], line) for line in lines]
 
 
+def verdict(word, source, local="", remote=""):
+    """The line of a verdict, with the names of both ends."""
+    return log_forms.verdict(word, "N", local + ":127.0.0.1:LOCAL", "%s:%s::PEER" % (remote, source))
+
+
 def kind_of_ends(source, names, answer, banner=b""):
     """A connection that is allowed, and whose program ends well."""
-    return Kind(source, answer, ["ok N %s:127.0.0.1:LOCAL %s:%s::PEER" % (names[0], names[1], source), "end N status 0"], banner)
+    return Kind(source, answer, [verdict("ok", source, *names), log_forms.end("N")], banner)
 
 
 def is_left_out(lines, wanted):
@@ -68,18 +72,18 @@ def change_of(kind, serial, answer, lines, wanted, handed):
     if answer == kind.answer and is_left_out(lines, wanted):
         return "left out"
     head, last = [re.escape(line) for line in wanted[:2]], [re.escape(wanted[-1])]
-    if matches(lines, head + [r"drop %d (out of memory|no thread)" % serial] + last) and kind.banner.startswith(answer):
+    if matches(lines, head + [log_forms.drop(serial, "(out of memory|no thread)")] + last) and kind.banner.startswith(answer):
         return "dropped"
     if not wanted[2].startswith("ok "):
         return None
     head.append(re.escape(wanted[2]))
-    if matches(lines, head + ["start %d out of memory" % serial] + last) and answer == kind.banner:
+    if matches(lines, head + [log_forms.start(serial, "out of memory")] + last) and answer == kind.banner:
         return "not started"
     if handed:
         return None
-    if matches(lines, head + ["start %d no pipe ends" % serial, END % serial] + last) and kind.banner == answer:
+    if matches(lines, head + [log_forms.start(serial, "no pipe ends"), log_forms.any_end(serial)] + last) and kind.banner == answer:
         return "no pipe ends"
-    if matches(lines, head + [END % serial] + last) and kind.answer.startswith(answer):
+    if matches(lines, head + [log_forms.any_end(serial)] + last) and kind.answer.startswith(answer):
         return "streams ended"
     return None
 
@@ -91,7 +95,7 @@ class Servers:
         self.suite = suite
         self.name = name
         self.limit = limit
-        self.idle = "status: 0/%d" % limit
+        self.idle = log_forms.status(0, limit)
         self.options = ["-v", "-c", str(limit), "-k", str(len(kinds))] + options
         self.program = program
         self.kinds = kinds
@@ -221,8 +225,8 @@ def all_kinds(suite):
     program = ["sh", "-c", 'echo "$A$B$TCPREMOTEHOST"; cat']
     kinds = [
         allowed(b"onetwo wordsmail.example\na\n", hello, NAMES),
-        Kind("127.0.0.2", hello, ["deny N mail.example:127.0.0.1:LOCAL :127.0.0.2::PEER"], hello),
-        Kind("127.0.0.3", hello, ["drop N rules damaged"], hello),
+        Kind("127.0.0.2", hello, [verdict("deny", "127.0.0.2", "mail.example")], hello),
+        Kind("127.0.0.3", hello, [log_forms.drop("N", "rules damaged")], hello),
         allowed(b"onetwo wordsmail.example\na\n", hello, NAMES),
     ]
     table = suite.path("table", TABLE.replace("=two", "#=two"))
@@ -244,7 +248,7 @@ def wrappers(suite):
 def absent_rules(suite):
     """A rules file that is not there, which denies, and allows under -X."""
     path = suite.path("absent.cdb")
-    denied = Kind("127.0.0.1", b"", ["deny N :127.0.0.1:LOCAL :127.0.0.1::PEER"])
+    denied = Kind("127.0.0.1", b"", [verdict("deny", "127.0.0.1")])
     Servers(suite, "absent rules", ["-x", path], ECHO, [denied, denied]).run_all()
     Servers(suite, "absent rules under -X", ["-X", "-x", path], ECHO, [allowed(), allowed()]).run_all()
 
@@ -253,7 +257,7 @@ def starts_that_fail(suite):
     """A program that is not there, and one that may not be executed."""
     plain = suite.path("plain-file", "x")
     for program, fault in (("/nonexistent", "not found"), (plain, "refused")):
-        failed = Kind("127.0.0.1", b"", ["ok N :127.0.0.1:LOCAL :127.0.0.1::PEER", "start N " + fault])
+        failed = Kind("127.0.0.1", b"", [verdict("ok", "127.0.0.1"), log_forms.start("N", fault)])
         Servers(suite, "a program that is " + fault, [], [program], [failed, failed]).run_all()
 
 
@@ -272,7 +276,7 @@ def answer_or_refusal(client, run):
 
 def full_addresses(suite):
     """A client whose address is full beside one that is served."""
-    library, changes, full = failed_calls.Library(suite.folder), {}, "drop 127.0.0.1 address full"
+    library, changes, full = failed_calls.Library(suite.folder), {}, log_forms.full("127.0.0.1")
 
     def serve(server, run):
         with server.connect() as first:
@@ -305,7 +309,7 @@ def full_addresses(suite):
                     amiss = serve(server, run)
                     server_runs.wait_until("an answer afterwards", lambda: server.ask(b"\n", source="127.0.0.3") == b"hi\n")
             except ConnectionError:
-                amiss = Servers.ended_early(server, [b"tcpserver: out of memory\n", b"tcpserver: status: 0/3\ntcpserver: out of memory\n"])
+                amiss = Servers.ended_early(server, [log_forms.log("out of memory"), log_forms.log(log_forms.status(0, 3), "out of memory")])
             except (server_runs.Amiss, OSError) as fault:
                 amiss = "%s: %s, log %r" % (type(fault).__name__, fault, server.log()[-400:])
         failed = run.end()

@@ -3,7 +3,7 @@ usage line, by what is lacking. Without -v there is none."""
 import os
 import socket
 
-from shared import compiled_files, failed_calls
+from shared import compiled_files, failed_calls, log_forms
 
 SERVE = ["127.0.0.1", "0", "true"]
 USAGE = "usage: tcpserver [options] host port prog [args]"
@@ -66,8 +66,8 @@ def starts(suite):
         ("/nonexistent/program", "not found", "No such file or directory"), (plain, "refused", "Permission denied"),
         (empty, "failed", "Exec format error"),
     ):
-        line = "start 1 " + fault
-        for level, wanted in (("-v", [line, "cause: %s: %s" % (program, why), "status: 0/1"]), ("-Q", [line]), ("-q", [])):
+        line = log_forms.start(1, fault)
+        for level, wanted in (("-v", [line, "cause: %s: %s" % (program, why), log_forms.status(0, 1)]), ("-Q", [line]), ("-q", [])):
             with suite.start([level, "-c", "1", "-k", "1"], [program]) as server:
                 suite.expect("the client of %s" % program, server.ask(), b"")
                 ended, lines = server.end(), server.all_lines()
@@ -79,7 +79,7 @@ def starts(suite):
 
 def lines_of_one(suite, name, options, path, line, cause, **how):
     """One client is dropped with this line, and behind it under -v alone with that of this cause."""
-    for level, wanted in (("-v", [line] + ["cause: %s" % cause] * bool(cause) + ["status: 0/1"]), ("-Q", [line]), ("-q", [])):
+    for level, wanted in (("-v", [line] + ["cause: %s" % cause] * bool(cause) + [log_forms.status(0, 1)]), ("-Q", [line]), ("-q", [])):
         with suite.start([level, "-c", "1", "-k", "1", "-x", path] + options, ["true"], **how) as server:
             suite.expect("the client of " + name, server.ask(), b"")
             ended, lines = server.end(), server.all_lines()
@@ -97,15 +97,15 @@ def drops(suite):
     os.symlink(circle, circle)
     for path, why in ((folder, "Is a directory"), (pipe, "Invalid argument"), (circle, "Too many levels of symbolic links")):
         for options in ([], ["-X"]):
-            lines_of_one(suite, "the rules at " + path, options, path, "drop 1 directory fault", path + ": " + why)
+            lines_of_one(suite, "the rules at " + path, options, path, log_forms.drop(1, "directory fault"), path + ": " + why)
     path = suite.install(":allow\n", "drop.cdb")
     how = {"env": dict(os.environ, **failed_calls.Library(suite.folder).run("pread", "EIO", 1).environment)}
-    lines_of_one(suite, "rules that can't be read", ["-N", "/dev/null"], path, "drop 1 rules read fault", path + ": Input/output error", **how)
+    lines_of_one(suite, "rules that can't be read", ["-N", "/dev/null"], path, log_forms.drop(1, "rules read fault"), path + ": Input/output error", **how)
     for key, value in ((b"127.0.", b"+A=caf\xe9\0"), (b"127.0.", b"+A\0"), (b"127.0.", b"x"), (b"", b"x")):
         path = suite.path("drop-rule.cdb", compiled_files.cdb([(b"10.", b"D"), (key, value), (b"128.", b"D")]))
-        lines_of_one(suite, "a rule %r" % value, [], path, "drop 1 rules damaged", "%s: damaged rule" % key.decode())
+        lines_of_one(suite, "a rule %r" % value, [], path, log_forms.drop(1, "rules damaged"), "%s: damaged rule" % key.decode())
     path = suite.path("drop-cut.cdb", compiled_files.cdb([(b"", b"D")])[:2049])
-    lines_of_one(suite, "rules that are cut", [], path, "drop 1 rules damaged", None)
+    lines_of_one(suite, "rules that are cut", [], path, log_forms.drop(1, "rules damaged"), None)
 
 
 def accepting(suite):

@@ -10,8 +10,7 @@ import subprocess
 import threading
 import time
 
-import log_events
-from shared import failed_calls, server_runs
+from shared import failed_calls, log_forms, server_runs
 from shared.clients import Pool
 from shared.server_runs import free_port, listens, read_all, reset
 
@@ -316,7 +315,7 @@ def log_that_does_not_block(suite):
     with open(reading, "rb") as file:
         log = file.read()
     visitor.join(server_runs.WAIT)
-    events = log_events.Events(log)
+    events = log_forms.events_of(log)
     suite.expect("a log that does not block: its end", process.wait(server_runs.WAIT), 0)
     suite.expect("a log that does not block: what does not fit", events.faults, [])
     suite.expect("a log that does not block: connections", (events.admitted, events.last_live), (connections, 0))

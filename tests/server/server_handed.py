@@ -11,7 +11,7 @@ import signal
 import socket
 import time
 
-from shared import failed_calls, server_runs
+from shared import failed_calls, log_forms, server_runs
 from shared.server_runs import read_all
 
 OVER, PUMPED = "handed over", "pumped"
@@ -196,7 +196,7 @@ def left_behind(suite):
         suite.expect("each is served, though none has ended", [client.recv(3) for client in clients], [b"hi\n"] * 4)
         server.idle()
         if not suite.original:
-            suite.expect("the places of programs that left others behind", server.lines().count("status: 0/1"), 5)
+            suite.expect("the places of programs that left others behind", server.lines().count(log_forms.status(0, 1)), 5)
         for number, client in enumerate(clients):
             client.sendall(b"%d\n" % number)
             suite.expect("what was left behind still answers", read_all(client), b"late %d\n" % number)
@@ -216,14 +216,14 @@ def closed_early(suite):
         suite.expect("its place is kept", server.live(), 1)
         os.close(os.open(gate, os.O_WRONLY))
         server.idle()
-        suite.holds("its exit code", suite.original or "end 1 status 4" in server.lines(), server.lines())
+        suite.holds("its exit code", suite.original or log_forms.end(1, 4) in server.lines(), server.lines())
         suite.audit("a program that closes its connection", server)
 
 
 def not_started(suite):
     """A connection whose program can't be started, or that is denied, is closed, behind its banner."""
     plain = suite.path("plain-file", "x")
-    for program, line in (("/nonexistent", "start N not found"), (plain, "start N refused")):
+    for program, line in (("/nonexistent", log_forms.start("N", "not found")), (plain, log_forms.start("N", "refused"))):
         with suite.start(["-v", "-B", "hello", "-c", "1"] + server_runs.QUIET, [program]) as server:
             suite.expect("clients of %s" % program, [server.ask() for _ in range(4)], [b"hello"] * 4)
             server.idle()
@@ -400,7 +400,7 @@ def lines(suite):
             logs.append([re.sub(r":\d+( |$)", r":P\1", line) for line in server.lines()])
             suite.audit("the lines under %s" % option, server)
     suite.expect("the lines under -s, and under -S", logs[0], logs[1])
-    suite.expect("the ends", [line for line in logs[0] if line.startswith("end ")], ["end 1 status 0", "end 3 status 7", "end 4 status 255"])
+    suite.expect("the ends", [line for line in logs[0] if line.startswith("end ")], [log_forms.end(1), log_forms.end(3, 7), log_forms.end(4, 255)])
 
 
 CHECKS = [spellings, wrappers, pipes, small_replies, port_comes_back, lines]

@@ -7,7 +7,7 @@ import socket
 import threading
 import time
 
-from shared import server_runs
+from shared import log_forms, server_runs
 from shared.clients import Pool
 from shared.server_runs import counted, read_all
 
@@ -124,7 +124,7 @@ def two_at_once(suite):
         second.sendall(b"\n")
         suite.expect("the end after two", server.end(), 0)
         ends = sorted(line for line in server.lines() if line.startswith("end "))
-        suite.expect("both ends", (ends, server.lines()[-1]), (["end 1 status 0", "end 2 status 0"], "status: 0/2"))
+        suite.expect("both ends", (ends, server.lines()[-1]), ([log_forms.end(1), log_forms.end(2)], log_forms.status(0, 2)))
         suite.audit("two clients at once", server)
 
 

@@ -7,16 +7,16 @@ import sys
 import threading
 import time
 
-import log_events
-from shared import compiled_files, failed_calls, server_runs
+from shared import compiled_files, failed_calls, log_forms, server_runs
 from shared.checks import SCRIPTS
 from shared.server_runs import read_all
 
-# what the log of a single connection begins with
+# what the log of a single connection begins with, and what it ends with; but for the end of a program the bytes are spelled here
 COMES = ["status: 0/1", "status: 1/1", "pid 1 from {ip}"]
 OK = COMES + ["ok 1 :127.0.0.1:{port} :{ip}::{peer}"]
 DENY = COMES + ["deny 1 :127.0.0.1:{port} :{ip}::{peer}"]
 FREE = ["status: 0/1"]
+ENDED = [log_forms.end(1)]
 # how long none has come, in seconds, where no more of a burst will come
 NONE_COMES = 20
 
@@ -44,7 +44,7 @@ def ends(suite):
         (["sh", "-c", "kill -ABRT $$"], "signal"), (["sh", "-c", "exec <&- >&-; sleep 0.2; exit 3"], "3"), (["sh", "-c", "exit 137"], "137"),
     ):
         single(suite, "the end of %r" % program, [], program, OK + ["end 1 status " + status] + FREE)
-    single(suite, "the end of one from another address", [], ["true"], OK + ["end 1 status 0"] + FREE, "127.200.1.255")
+    single(suite, "the end of one from another address", [], ["true"], OK + ENDED + FREE, "127.200.1.255")
 
 
 def start_faults(suite):
@@ -61,9 +61,9 @@ def start_faults(suite):
 
 def denied(suite):
     single(suite, "a rule that denies", ["-x", suite.install(":deny\n")], ["true"], DENY + FREE)
-    single(suite, "a rule that allows", ["-x", suite.install(":allow\n")], ["true"], OK + ["end 1 status 0"] + FREE)
+    single(suite, "a rule that allows", ["-x", suite.install(":allow\n")], ["true"], OK + ENDED + FREE)
     single(suite, "no rules file", ["-x", suite.path("absent.cdb")], ["true"], DENY + FREE)
-    single(suite, "no rules file, under -X", ["-X", "-x", suite.path("absent.cdb")], ["true"], OK + ["end 1 status 0"] + FREE)
+    single(suite, "no rules file, under -X", ["-X", "-x", suite.path("absent.cdb")], ["true"], OK + ENDED + FREE)
 
 
 def dropped(suite):
@@ -91,7 +91,7 @@ def lost_banner(suite):
         suite.expect("the client after a lost banner", got, b"hello\nhi\n")
         ended = server.end()
         lines = COMES + ["drop 1 banner fault", "status: 0/1", "status: 1/1", "pid 2 from {ip}"]
-        lines += ["ok 2 :127.0.0.1:{port} :{ip}::{peer}", "end 2 status 0", "status: 0/1"]
+        lines += ["ok 2 :127.0.0.1:{port} :{ip}::{peer}", log_forms.end(2), "status: 0/1"]
         wanted = [line.format(ip="127.0.0.1", port=server.port, peer=peer) for line in lines]
         suite.expect("a lost banner", (ended, server.lines()), (0, wanted))
         suite.audit("a lost banner", server)
@@ -103,18 +103,18 @@ def address_full(suite):
         suite.expect("the first from an address", first.recv(3), b"hi\n")
         suite.expect("a second one from that address", server.ask(source="127.0.0.1"), b"")
         suite.expect("one from another address", server.ask(b"\n", source="127.0.0.2"), b"hi\n")
-        server.wait_line("end 2 status 0")
+        server.wait_line(log_forms.end(2))
         first.sendall(b"\n")
         read_all(first)
-        server.wait_line("end 1 status 0")
+        server.wait_line(log_forms.end(1))
         suite.expect("a third one, after the first", server.ask(b"\n", source="127.0.0.1"), b"hi\n")
         ended = server.end()
         plain = [line for line in server.lines() if not line.startswith("ok ")]
         first.close()
         # the second connection's end and the first one's come in this order, since each was waited for
         wanted = ["status: 0/4", "status: 1/4", "pid 1 from 127.0.0.1", "drop 127.0.0.1 address full", "status: 2/4", "pid 2 from 127.0.0.2"]
-        wanted += ["end 2 status 0", "status: 1/4", "end 1 status 0", "status: 0/4"]
-        wanted += ["status: 1/4", "pid 3 from 127.0.0.1", "end 3 status 0", "status: 0/4"]
+        wanted += [log_forms.end(2), "status: 1/4", log_forms.end(1), "status: 0/4"]
+        wanted += ["status: 1/4", "pid 3 from 127.0.0.1", log_forms.end(3), "status: 0/4"]
         suite.expect("an address that is full", (ended, plain), (0, wanted))
         suite.audit("an address that is full", server, 1)
 
@@ -147,11 +147,11 @@ def fields(suite):
         ("a" * 101, "a" * 100 + "..."), ("a" * 99 + "é", "a" * 99 + "?..."), ("", ""), ("0", "0"),
     ]
     for given, printed in cases:
-        wanted = COMES + ["ok 1 %s:127.0.0.1:{port} :{ip}::{peer}" % printed, "end 1 status 0"] + FREE
+        wanted = COMES + ["ok 1 %s:127.0.0.1:{port} :{ip}::{peer}" % printed] + ENDED + FREE
         single(suite, "the local name %r" % given, ["-l", given], ["true"], wanted)
     table = suite.path("table", "127.0.0.1 Local%s\n127.0.0.2 a:b%%c\n127.0.0.3 %s\n" % ("", "b" * 255))
     for source, printed in (("127.0.0.1", "local"), ("127.0.0.2", "a?b?c"), ("127.0.0.3", "b" * 100 + "..."), ("127.0.0.4", "")):
-        wanted = COMES + ["ok 1 local:127.0.0.1:{port} %s:{ip}::{peer}" % printed, "end 1 status 0"] + FREE
+        wanted = COMES + ["ok 1 local:127.0.0.1:{port} %s:{ip}::{peer}" % printed] + ENDED + FREE
         single(suite, "the remote name %r" % printed, ["-N", table], ["true"], wanted, source)
 
 
@@ -244,33 +244,40 @@ def audits(suite):
     head = b"tcpserver: status: 0/1\ntcpserver: status: 1/1\ntcpserver: pid 1 from 1.1.1.1\nnot of the server\n"
     ok = b"tcpserver: ok 1 :2.2.2.2:25 :1.1.1.1::1024\n"
     free = b"tcpserver: status: 0/1\n"
+    end = log_forms.log(log_forms.end(1))
     second = b"tcpserver: status: 1/1\ntcpserver: pid 2 from 1.1.1.1\n"
     cases = [
         (b"tcpserver: status: 0/1\n", "admitted 0 live 0 retired 0 most 0", 0),
-        (head + ok + b"tcpserver: end 1 status 9\n" + free + second, "admitted 2 live 1 retired 0 most 1", 0),
-        (head + ok + b"tcpserver: start 1 no pipe ends\ntcpserver: end 1 status signal\n" + free, "admitted 1 live 0 retired 0 most 1", 0),
+        (head + ok + log_forms.log(log_forms.end(1, 9)) + free + second, "admitted 2 live 1 retired 0 most 1", 0),
+        (head + ok + log_forms.log("start 1 no pipe ends", log_forms.end(1, "signal")) + free, "admitted 1 live 0 retired 0 most 1", 0),
         (head + ok.replace(b"ok", b"deny") + free, "admitted 1 live 0 retired 0 most 1", 0),
         (head + b"tcpserver: drop 1 rules damaged\n" + free, "admitted 1 live 0 retired 0 most 1", 0),
         (head + ok + b"tcpserver: retired 1\ntcpserver: status: 1/1\ntcpserver: no places left\n", "admitted 1 live 1 retired 1 most 1", 0),
         (head + second.replace(b"1/1", b"2/1"), "illegal 2", 0),
         (head + ok + ok, "illegal 4", 0),
-        (head + b"tcpserver: end 1 status 0\n" + free, "illegal 2", 0),
-        (head + ok.replace(b"ok", b"deny") + b"tcpserver: end 1 status 0\n" + free, "illegal 4", 0),
+        (head + end + free, "illegal 2", 0),
+        (head + ok.replace(b"ok", b"deny") + end + free, "illegal 4", 0),
         (head + free, "admitted 1 live 1 retired 0 most 1", 1),
         (head + b"tcpserver: drop 1 bad luck\n", "admitted 1 live 1 retired 0 most 1", 1),
-        (head + ok + b"tcpserver: end 1 status 0\n", "admitted 1 live 0 retired 0 most 1", 0),
-        (head + ok + b"tcpserver: end 1 status 0\ntcpserver: pid 2 from 1.1.1.1\n", "admitted 2 live 1 retired 0 most 1", 1),
+        (head + ok + end, "admitted 1 live 0 retired 0 most 1", 0),
+        (head + ok + end + b"tcpserver: pid 2 from 1.1.1.1\n", "admitted 2 live 1 retired 0 most 1", 1),
         (head + second.replace(b"pid 2", b"pid 3"), "illegal 2", 1),
+        # what a later version prints behind a status is passed over, and nothing else is
+        (head + ok + log_forms.log(log_forms.end(1, 9) + " more 5 fields") + free, "admitted 1 live 0 retired 0 most 1", 0),
+        (head + ok + b"tcpserver: end 1 status 9, more\n" + free, "admitted 1 live 1 retired 0 most 1", 1),
         # a shell tells a fault in pieces, and the server's lines may stand between them
-        (head + ok + b"sh: 1: tcpserver: end 1 status 0\n" + free + b"echo: fault\n", "admitted 1 live 0 retired 0 most 1", 0),
-        (head + ok + b"tcpserver: end 1 status 0\n" + free + b"sh: 1: " + second + b"echo: fault\n", "admitted 2 live 1 retired 0 most 1", 0),
-        (head + ok + b"12 > tcpserver: end 1 status 0\n1 of tcpserver: all\n", "admitted 1 live 1 retired 0 most 1", 0),
+        (head + ok + b"sh: 1: " + end + free + b"echo: fault\n", "admitted 1 live 0 retired 0 most 1", 0),
+        (head + ok + end + free + b"sh: 1: " + second + b"echo: fault\n", "admitted 2 live 1 retired 0 most 1", 0),
+        (head + ok + b"12 > " + end + b"1 of tcpserver: all\n", "admitted 1 live 1 retired 0 most 1", 0),
     ]
     script = os.path.join(SCRIPTS, "log_events.py")
     for log, wanted, code in cases:
         words = subprocess.run([sys.executable, script], input=log, stdout=subprocess.PIPE, stderr=subprocess.DEVNULL, timeout=server_runs.WAIT)
         ended = subprocess.run([suite.program, "rulesim"], input=words.stdout, stdout=subprocess.PIPE, timeout=server_runs.WAIT)
         suite.expect("the log %r" % log, (ended.stdout.decode().strip(), words.returncode), (wanted, code))
+    # the checks of this version's logs pass over nothing
+    whole, longer = [head + ok + b"sh: 1: " + log_forms.log(log_forms.end(1, "signal") + more) + free for more in ("", " more")]
+    suite.expect("ends of this version", (log_forms.events_of(whole).faults, len(log_forms.events_of(longer).faults)), ([], 1))
 
 
 def audits_of_ends(suite):
@@ -278,7 +285,7 @@ def audits_of_ends(suite):
     log = "status: 0/3\nstatus: 1/3\npid 1 from 1.1.1.1\nstatus: 2/3\npid 2 from 2.2.2.2\n"
     log += "deny 1 :0.0.0.0:1 :1.1.1.1::1\ndeny 2 :0.0.0.0:1 :2.2.2.2::2\n"
     log += "status: 1/3\nstatus: 2/3\npid 3 from 2.2.2.2\ndeny 3 :0.0.0.0:1 :2.2.2.2::3\nstatus: 1/3\nstatus: 0/3\n"
-    events = log_events.Events(re.sub("(?m)^", "tcpserver: ", log).encode(), 1)
+    events = log_forms.events_of(re.sub("(?m)^", "tcpserver: ", log).encode(), 1)
     suite.expect("denied ends", [event for event in events.events if event.startswith("dropped")], ["dropped 2", "dropped 1", "dropped 3"])
     ended = subprocess.run([suite.program, "rulesim"], input=events.script().encode(), stdout=subprocess.PIPE, timeout=server_runs.WAIT)
     suite.expect("the replay of denied ends", ended.stdout.decode(), "admitted 3 live 0 retired 0 most 2\n")

@@ -9,7 +9,8 @@ import os
 import re
 import select
 
-from shared import refusals
+from shared import log_forms, refusals
+from shared.log_forms import ANY
 from shared.server_runs import WAIT, Amiss
 
 MOST_REQUESTS = 3000
@@ -21,8 +22,9 @@ TABLE = "127.0.0.1 Mail.Example\n127.0.0.2 two.example\n=mail.example 127.0.0.1\
 RULES = '=mail.example:allow,A="one",B=/two words/\n127.0.0.2:deny\n:deny\n'
 # the lines that a refusal may bring, beside those of a run with ample memory
 MORE = [
-    "out of memory", r"drop \d+ out of memory", r"drop \d+ no thread", r"start \d+ out of memory", r"start \d+ no pipe ends",
-    r"end \d+ status (\d+|signal)", r"status: \d+/\d+", r"pid \d+ from 127.0.0.[12]", r"(ok|deny) \d+ .*", r"retired \d+",
+    "out of memory", log_forms.drop(ANY, "(out of memory|no thread)"), log_forms.start(ANY, "out of memory"), log_forms.start(ANY, "no pipe ends"),
+    log_forms.any_end(ANY), log_forms.status(ANY, ANY), log_forms.pid(ANY, "127.0.0.[12]"), log_forms.verdict("(ok|deny)", ANY, ".*", ".*"),
+    log_forms.retired(ANY),
 ]
 
 
@@ -124,7 +126,7 @@ def starts_that_fail(suite):
     """A program that can't be started."""
     options = ["-v", "-k", "2", "-c", "1", "-N", suite.path("table", TABLE), "-x", suite.install(RULES), "-B", BANNER]
     refused = Refusals(suite, "a program that is not there", options, ["/nonexistent"], BANNER.encode())
-    refused.forms.append(re.compile(r"start \d+ not found"))
+    refused.forms.append(re.compile(log_forms.start(ANY, "not found")))
     refused.run_all()
 
 

@@ -4,7 +4,7 @@ import os
 import pwd
 import stat
 
-from shared import compiled_files, plain_texts, server_runs, small_programs
+from shared import compiled_files, log_forms, plain_texts, server_runs, small_programs
 from shared.clients import Pool
 from shared.server_runs import read_all
 
@@ -155,7 +155,7 @@ def damaged(suite):
             os.rename(path + ".new", path)
             number += 1
             suite.expect("rules cut to %d bytes" % length, server.ask(), b"")
-            server.wait_line("drop %d rules damaged" % number)
+            server.wait_line(log_forms.drop(number, "rules damaged"))
         server.idle()
         suite.expect("each was dropped", sum("rules damaged" in line for line in server.lines()), number)
         suite.install(":allow\n", "damaged.cdb")
@@ -171,14 +171,14 @@ def changing_places(suite):
         suite.expect("rules", server.ask(), b"hi\n")
         os.remove(path)
         suite.expect("no rules", server.ask(), b"")
-        server.wait_line("deny 2 .*")
+        server.wait_line(log_forms.verdict("deny", 2, ".*", ".*"))
         os.mkdir(path)
         suite.expect("a folder", server.ask(), b"")
-        server.wait_line("drop 3 directory fault")
+        server.wait_line(log_forms.drop(3, "directory fault"))
         os.rmdir(path)
         os.mkfifo(path)
         suite.expect("a named pipe", server.ask(), b"")
-        server.wait_line("drop 4 directory fault")
+        server.wait_line(log_forms.drop(4, "directory fault"))
         os.remove(path)
         suite.install(":allow\n", "place.cdb")
         suite.expect("rules again", server.ask(), b"hi\n")
@@ -214,7 +214,7 @@ def pipe_in_between(suite):
         held = server.connect()
         server_runs.wait_until("the pipe in the place of the rules", lambda: stat.S_ISFIFO(os.stat(path).st_mode))
         suite.expect("a client while the pipe stands there", server.ask(), b"")
-        server.wait_line("drop 2 directory fault")
+        server.wait_line(log_forms.drop(2, "directory fault"))
         os.rename(path, pipe)
         suite.install(":allow\n", "between.cdb")
         for _ in range(3):
@@ -222,7 +222,7 @@ def pipe_in_between(suite):
         suite.expect("the first client waits", any(line.startswith("drop 1 ") for line in server.lines()), False)
         os.close(os.open(pipe, os.O_WRONLY))
         suite.expect("the first client", read_all(held), b"")
-        server.wait_line("drop 1 directory fault")
+        server.wait_line(log_forms.drop(1, "directory fault"))
         server.idle()
         suite.audit("a pipe in between", server)
 
@@ -261,11 +261,11 @@ def unreadable(suite):
                 suite.expect("rules that may be read", server.ask(), b"hi\n")
                 os.chmod(path, 0)
                 suite.expect("rules that may not be read", server.ask(), b"")
-                server.wait_line("drop 2 directory fault")
+                server.wait_line(log_forms.drop(2, "directory fault"))
                 os.chmod(path, 0o644)
                 os.chmod(folder, 0)
                 suite.expect("rules in a closed folder", server.ask(), b"")
-                server.wait_line("drop 3 directory fault")
+                server.wait_line(log_forms.drop(3, "directory fault"))
                 os.chmod(folder, 0o755)
                 suite.expect("rules that may be read again", server.ask(), b"hi\n")
                 server.idle()

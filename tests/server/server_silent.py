@@ -8,7 +8,7 @@ import os
 import socket
 import time
 
-from shared import server_runs
+from shared import log_forms, server_runs
 from shared.server_runs import read_all
 
 # seconds: the bound; how much more is waited for what the bound ends; and how long past it something is looked at that has no bound
@@ -55,7 +55,7 @@ def third_client(suite, name, options, soonest, latest):
             (name + ": the ends of the silent ones", ended, [True, True]), (name + ": time of a processor", used < 2 or used, True),
         ]
         if not suite.original:
-            found.append((name + ": the end of each program", sorted(ends), ["end 1 status 5", "end 2 status 5", "end 3 status 0"]))
+            found.append((name + ": the end of each program", sorted(ends), [log_forms.end(1, 5), log_forms.end(2, 5), log_forms.end(3)]))
             found.append((name + ": nothing is left", server.live(), 0))
         return found, server
 
@@ -82,7 +82,7 @@ def filled(suite, name, take):
         return [
             (name + ": its place meanwhile", alive, 1), (name + ": much was on its way", written > 100000 or written, True),
             (name + ": all came", (len(got), got == wanted), (written, True)),
-            (name + ": the end", [line for line in server.lines() if line.startswith("end ")], ["end 1 status 0"]),
+            (name + ": the end", [line for line in server.lines() if line.startswith("end ")], [log_forms.end(1)]),
         ], server
 
 

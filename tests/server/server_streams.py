@@ -9,7 +9,7 @@ import socket
 import threading
 import time
 
-from shared import plain_streams, server_runs
+from shared import log_forms, plain_streams, server_runs
 from shared.server_runs import read_all, reset
 
 MIB = 1024 * 1024
@@ -141,7 +141,7 @@ def output_ends_first(suite):
         server.idle()
         with open(kept, "rb") as file:
             suite.holds("what was read after the output's end", file.read() == text)
-        suite.holds("the exit code after the output's end", suite.original or "end 1 status 6" in server.lines(), server.log())
+        suite.holds("the exit code after the output's end", suite.original or log_forms.end(1, 6) in server.lines(), server.log())
         suite.audit("a program that closes its output", server)
 
 
@@ -187,7 +187,7 @@ def client_that_does_not_read(suite):
         suite.holds("the flood goes on", server.process.poll() is None)
         reset(client)
         server.idle()
-        suite.holds("the end of a flood", suite.handed or "end 1 status signal" in server.lines(), server.log())
+        suite.holds("the end of a flood", suite.handed or log_forms.end(1, "signal") in server.lines(), server.log())
         with server.connect("127.0.0.2") as client:
             client.recv(1000)
         server.idle()

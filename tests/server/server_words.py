@@ -1,18 +1,18 @@
 """The words of `tcpserver`: each option, the order of checks, each text with its exit code, and the environment that a program is given."""
+import itertools
 import os
 import re
 import shutil
 import socket
 import subprocess
 
-from shared import server_runs
+from shared import plain_words, server_runs
+from shared.plain_words import NUMBERS
 
 # the user of nobody, as whom root tries what may not be done
 NOBODY = 65534
 USAGE = "usage: tcpserver [options] host port prog [args]"
 SERVE = ["127.0.0.1", "0", "true"]
-VALUED = "ckmxBlNwtb"
-NUMBERS = {"c": 10000, "k": 4294967295, "m": 10000}
 TABLE = (
     "# names\n127.0.0.1 Mail.Example\n127.0.0.2\ttwo.example \n127.0.0.1 later.example\n=mail.example 127.0.0.1\n=two.example 127.0.0.9\n"
 )
@@ -52,7 +52,7 @@ def unknown_options(suite):
 
 
 def options_without_a_value(suite):
-    for letter in VALUED:
+    for letter in plain_words.VALUED:
         refused(suite, "-%s alone" % letter, ["-" + letter], "option -%s needs a value" % letter)
         refused(suite, "-%s behind another" % letter, ["-v" + letter], "option -%s needs a value" % letter)
     refused(suite, "an unknown letter in front", ["-zc"], "unknown option -z")
@@ -61,7 +61,7 @@ def options_without_a_value(suite):
 
 
 def options_of_others(suite):
-    for letter in "rugU":
+    for letter in plain_words.REFUSED:
         text = "option -%s is not in this profile" % letter
         refused(suite, "-%s alone" % letter, ["-" + letter], text)
         refused(suite, "-%s with a word" % letter, ["-" + letter, "5"] + SERVE, text)
@@ -71,15 +71,18 @@ def options_of_others(suite):
 
 
 def numbers(suite):
-    for letter, most in NUMBERS.items():
+    for letter, (least, most) in NUMBERS.items():
         text = "option -%s has a bad number" % letter
-        for value in ("0", "000", str(most + 1), "x", "", "-1", "+5", "1.5", " 5", "5 ", "5x", "0x5", "9" * 30, "٣"):
+        below = [str(least - 1), "00%d" % (least - 1)] if least else []
+        for value in below + [str(most + 1), "x", "", "-1", "+5", "1.5", " 5", "5 ", "5x", "0x5", "9" * 30, "٣"]:
             refused(suite, "-%s %r" % (letter, value), ["-" + letter, value] + SERVE, text)
+    # of two bad numbers one is named, whichever is given first
+    for first, second in itertools.combinations(NUMBERS, 2):
+        words = [["-" + first, str(NUMBERS[first][1] + 1)], ["-" + second, "x"]]
+        for one, other in (words, words[::-1]):
+            refused(suite, "-%s before -%s, in %r" % (first, second, one + other), one + other + SERVE, "option -%s has a bad number" % first)
     refused(suite, "a number in the word", ["-c0"] + SERVE, "option -c has a bad number")
     refused(suite, "the last number counts", ["-c", "5", "-c", "0"] + SERVE, "option -c has a bad number")
-    refused(suite, "-c before -k", ["-c", "0", "-k", "0"] + SERVE, "option -c has a bad number")
-    refused(suite, "-k before -m", ["-m", "0", "-k", "0"] + SERVE, "option -k has a bad number")
-    refused(suite, "-c before -m", ["-m", "0", "-c", "x"] + SERVE, "option -c has a bad number")
     refused(suite, "words before numbers", ["-c", "0", "-z"], "unknown option -z")
     refused(suite, "numbers before host and port", ["-m", "0"], "option -m has a bad number")
     refused(suite, "numbers before a bad host", ["-k", "0", "nowhere", "0", "true"], "option -k has a bad number")
@@ -195,7 +198,8 @@ def accepted_options(suite):
         suite.expect("options of no effect", server.ask(b"abc"), b"abc")
     if suite.original:
         return
-    ample = [["-c", "10000"], ["-c010000"], ["-k", "4294967295"], ["-m", "10000"], ["-c", "0" * 50 + "7"], ["-X"], ["-p"], ["-t", "", "-b", "x"]]
+    ample = [["-" + letter, str(most)] for letter, (_, most) in NUMBERS.items()]
+    ample += [["-c010000"], ["-c", "0" * 50 + "7"], ["-X"], ["-p"], ["-t", "", "-b", "x"]]
     for words in ample + [["-c", "0", "-c", "3"], ["-B", ""], ["-l", ""], ["-m", "20", "-c", "10"], ["-w", "addcr", "-w", "delcr"]]:
         with suite.start(words, ["cat"]) as server:
             suite.expect("words %r" % words, server.ask(b"abc"), b"abc")

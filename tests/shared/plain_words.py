@@ -1,11 +1,16 @@
 """Second, plain programs for the tests: the words of `tcpserver`, host tables, lookups in compiled files, lists of events and the scripts of
 `rulesim`. They are written from the documents, with nothing of the program in them."""
+import copy
+import itertools
 import os
 import re
+from typing import Callable, NamedTuple
 
 from shared import plain_texts
 
-VALUED = "ckmxBlNwtb"
+# the options with a number, in the order in which their faults are named: the least and the greatest that it may be, by the letter
+NUMBERS = {"c": (1, 10000), "k": (1, 4294967295), "m": (1, 10000)}
+VALUED = "".join(NUMBERS) + "xBlNwtb"
 ALONE = "vQq1XhHpPROodDsS"
 REFUSED = "rugU"
 # options of which the last given counts, by the letter under which it is kept
@@ -94,8 +99,8 @@ def first_fault(words, folder, options):
     try:
         found, words = options_in(words)
         options.update(found)
-        for letter, most in (("c", 10000), ("k", 4294967295), ("m", 10000)):
-            if letter in options and number_in(options[letter], 1, most) is None:
+        for letter, (least, most) in NUMBERS.items():
+            if letter in options and number_in(options[letter], least, most) is None:
                 raise WordFault("option -%s has a bad number" % letter)
         is_host = len(words) > 2 and (words[0] in ("0", "localhost") or address_in(words[0]))
         if not is_host or number_in(words[1], 0, 65535) is None:
@@ -256,42 +261,98 @@ class History:
         after = {None: (), "done": (), "fresh": ("filling",), "filling": ("filling", "synced"), "synced": ("named",), "named": ("done",)}
         return ("fresh",) + after[self.phase]
 
+    def may_come(self, serial, address):
+        return serial == self.last + 1 and len(self.live) < self.limit and self.of(address) < self.per
+
+    def come(self, serial, address):
+        self.last = serial
+        self.admitted += 1
+        self.live[serial] = address, "admitted"
+        self.most = max(self.most, len(self.live))
+
+    def may_step(self, phase):
+        return phase in self.phases()
+
+    def step(self, phase):
+        self.phase = phase
+
+    def fail(self, _phase):
+        self.phase = None
+
+    def end(self, serial, *_):
+        del self.live[serial]
+
+    def stop(self):
+        self.live, self.phase = {}, None
+
     def is_legal(self, event):
-        kind, words = event[0], event[1:]
-        if kind == "stop":
-            return True
-        if kind in ("phase", "failed"):
-            return words[0] in self.phases()
-        if kind == "admitted":
-            return words[0] == self.last + 1 and len(self.live) < self.limit and self.of(words[1]) < self.per
-        needed = {
-            "opened": ("admitted",), "decided": ("opened",), "started": ("allow",), "startfailed": ("allow",), "ended": ("started",),
-            "retired": ("started",), "dropped": ("admitted", "opened", "allow", "deny"),
-        }
-        return self.stage(words[0]) in needed[kind]
+        return EVENTS[event[0]].may(self, *event[1:])
 
     def add(self, event):
-        kind, words = event[0], event[1:]
-        if kind == "stop":
-            self.live, self.phase = {}, None
-        elif kind == "phase":
-            self.phase = words[0]
-        elif kind == "failed":
-            self.phase = None
-        elif kind == "admitted":
-            self.last = words[0]
-            self.admitted += 1
-            self.live[words[0]] = words[1], "admitted"
-            self.most = max(self.most, len(self.live))
-        elif kind in ("startfailed", "ended", "dropped"):
-            del self.live[words[0]]
-        else:
-            stage = words[1] if kind == "decided" else kind
-            self.live[words[0]] = self.live[words[0]][0], stage
+        EVENTS[event[0]].does(self, *event[1:])
 
     def report(self):
         retired = sum(stage == "retired" for _, stage in self.live.values())
         return "admitted %d live %d retired %d most %d\n" % (self.admitted, len(self.live), retired, self.most)
+
+
+class Field(NamedTuple):
+    """A field of an event: what reads a word, and gives None where it is none; and values that tests may take."""
+
+    read: Callable
+    some: tuple
+
+
+class Event(NamedTuple):
+    """An event: its fields; when it may happen and what it does, of a history and these fields; and how often tests take it, where each has its turn."""
+
+    fields: tuple
+    may: Callable
+    does: Callable
+    often: int = 1
+
+
+def one_of(*words):
+    """A field that is one of these words; tests take one that stands twice more often."""
+    return Field(lambda word: word if word in words else None, words)
+
+
+def in_stage(*stages):
+    """That a connection is at one of these."""
+    return lambda history, serial, *_: history.stage(serial) in stages
+
+
+def to_stage(name):
+    """That it comes to this one."""
+    def does(history, serial, *_):
+        history.live[serial] = history.live[serial][0], name
+
+    return does
+
+
+def to_verdict(history, serial, verdict):
+    """That it comes to the stage of its verdict."""
+    to_stage(verdict)(history, serial)
+
+
+SERIAL = Field(lambda word: number_in(word, 0, LAST_SERIAL), (1, 0, 2, LAST_SERIAL))
+ADDRESS = Field(address_in, ("1.1.1.1", "10.0.0.2"))
+STATUS = Field(lambda word: word if word == "signal" else number_in(word, 0, 255), (0, 9, 255, "signal"))
+PHASE = one_of(*PHASES)
+# the events; one that is added here is read, replayed and chosen as the others are
+EVENTS = {
+    "admitted": Event((SERIAL, ADDRESS), History.may_come, History.come, 3),
+    "opened": Event((SERIAL, one_of("yes", "no")), in_stage("admitted"), to_stage("opened")),
+    "decided": Event((SERIAL, one_of("allow", "allow", "deny")), in_stage("opened"), to_verdict),
+    "started": Event((SERIAL,), in_stage("allow"), to_stage("started"), 2),
+    "startfailed": Event((SERIAL,), in_stage("allow"), History.end),
+    "ended": Event((SERIAL, STATUS), in_stage("started"), History.end, 2),
+    "retired": Event((SERIAL,), in_stage("started"), to_stage("retired")),
+    "dropped": Event((SERIAL,), in_stage("admitted", "opened", "allow", "deny"), History.end),
+    "phase": Event((PHASE,), History.may_step, History.step, 2),
+    "failed": Event((PHASE,), History.may_step, History.fail),
+    "stop": Event((), lambda history: True, History.stop),
+}
 
 
 def replayed(limit, per, events):
@@ -304,20 +365,33 @@ def replayed(limit, per, events):
     return history.report()
 
 
+def some_events(name):
+    """Events of a name with the values that its fields have."""
+    return [(name, *fields) for fields in itertools.product(*(field.some for field in EVENTS[name].fields))]
+
+
+def shortest_list(name):
+    """A shortest list of events that may happen in this order and ends with one of this name; of eight it has to have one."""
+    lists = [([], History(2))]
+    for _ in range(8):
+        longer = []
+        for events, history in lists:
+            for event in itertools.chain(some_events(name), *map(some_events, EVENTS)):
+                if history.is_legal(event):
+                    if event[0] == name:
+                        return events + [event]
+                    after = copy.deepcopy(history)
+                    after.add(event)
+                    longer.append((events + [event], after))
+        lists = longer
+    raise ValueError("no list of eight events has " + name)
+
+
 def event_in(words):
     """The event of some words, if they have its form."""
-    def serial(word):
-        return number_in(word, 0, LAST_SERIAL)
-
-    forms = {
-        "admitted": (serial, address_in), "opened": (serial, lambda word: word if word in ("yes", "no") else None),
-        "decided": (serial, lambda word: word if word in ("allow", "deny") else None), "started": (serial,), "startfailed": (serial,),
-        "ended": (serial, lambda word: word if word == "signal" else number_in(word, 0, 255)), "retired": (serial,), "dropped": (serial,),
-        "phase": (lambda word: word if word in PHASES else None,), "failed": (lambda word: word if word in PHASES else None,), "stop": (),
-    }
-    if not words or words[0] not in forms or len(words) != len(forms[words[0]]) + 1:
+    if not words or words[0] not in EVENTS or len(words) != len(EVENTS[words[0]].fields) + 1:
         return None
-    fields = [read(word) for read, word in zip(forms[words[0]], words[1:])]
+    fields = [field.read(word) for field, word in zip(EVENTS[words[0]].fields, words[1:])]
     return None if None in fields else (words[0], *fields)
 
 

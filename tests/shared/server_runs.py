@@ -13,8 +13,7 @@ import subprocess
 import tempfile
 import time
 
-import log_events
-from shared import small_programs
+from shared import log_forms, small_programs
 from shared.checks import Checks
 
 ORIGINAL = "/usr/bin/tcpserver"
@@ -327,7 +326,7 @@ class Suite(Checks):
         """The log of a server, read as events, has to be legal, and `rulesim` has to give the numbers of its last status line."""
         if self.original:
             return None
-        events = log_events.Events(server.log(), per)
+        events = log_forms.events_of(server.log(), per)
         self.expect(name + ": what does not fit in the log", events.faults, [])
         words = [self.program, "rulesim"]
         ended = subprocess.run(words, input=events.script().encode(), stdout=subprocess.PIPE, stderr=subprocess.STDOUT, timeout=WAIT)

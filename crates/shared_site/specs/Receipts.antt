@@ -50,4 +50,5 @@ MakesOrNot event who before (Err refusal) after = (refused_event refusal ≡ eve
 -- the caller with this number let this client in, by the next event after so many; or no event was made
 abbrev pub AdmitsOrNot : {P F : Type 0} → Client → (who before : ℕ) → Result (ℕ × P × Made) F → (after : ℕ) → Type 0
 AdmitsOrNot client who before answer after =
-    IfOk answer (λ r. (receipt_of r.2 ≡ receipt_after before who (Admitted r.0 client)) × (after ≡ one_more before)) × OnErr answer (after ≡ before)
+    IfOk answer (λ r. (receipt_of r.2 ≡ receipt_after before who (Admitted r.0 client)) × (after ≡ one_more before))
+    × OnErr answer (after ≡ before)
