@@ -5,11 +5,11 @@ ghost use Rattle.server_log.specs.Logs.{Adds};
 ghost use Rattle.server_log.specs.Texts.{drop_text, end_text, full_text, pid_line, retired_text, start_text, status_line, verdict_text};
 
 use crate::cause::Cause;
-use crate::told::Told;
-use crate::{
+use crate::texts::{
     drop_address_line, drop_line, end_line, pid_from, retired_line, start_fault_line, status,
     verdict_line,
 };
+use crate::told::Told;
 use byte_text::append_cause;
 use connection_facts::{DropCause, Peer, StartFault, Status};
 use rule_lines::Verdict;

@@ -18,6 +18,7 @@ use server_yard::{AdmitFault, Assumptions, Yard};
 use shared_site::turns::{Admit, Dropped};
 use shared_site::{Caller, Callers, Made, Room, Turn};
 use std::alloc::{AllocError, Global};
+use std::snapshot::Snapshot;
 use std::sync::Wait;
 use tcp_connections::{AcceptFault, Accepted, Acceptor, Admission, AdmitOutcome, HostNames, Line};
 use ucspi_env::Local;
@@ -146,7 +147,7 @@ where
             place,
             peer,
             local,
-            made,
+            made: Snapshot::of(&made),
         },
         line: line_of(accepted, port),
     })

@@ -19,6 +19,7 @@ use server_yard::Assumptions;
 use shared_site::{Caller, Callers, Made, Site};
 use std::alloc::Global;
 use std::io::{Read, Write};
+use std::snapshot::Snapshot;
 use std::sync::{Mutex, Wait};
 use tcp_connections::{
     Attendant, Begun, Chains, ConnectionLauncher, Endings, Follow, Line, Shut, Starter, Talk,
@@ -55,8 +56,8 @@ pub(crate) struct Admitted<
     pub(crate) place: Place<L>,
     pub(crate) peer: Peer,
     pub(crate) local: Local,
-    pub(crate) made: Made,
-    pub(crate) ghost own: { made_event made ≡ event.Admitted serial peer },
+    pub(crate) made: Snapshot<Made>,
+    pub(crate) ghost own: { made_event made.value ≡ event.Admitted serial peer },
 }
 
 /// A connection whose child runs: the right to its end. It is made of one that was let in. One that is let go is retired: its child is abandoned,
