@@ -69,7 +69,7 @@ abbrev pub OpensOrNot : {L F O : Type 0} {p : _} {l : _} {f : _} → (serial : �
     → Result (Pass L F p l f × Made) O → (after : ℕ) → Type 0
 OpensOrNot serial who before answer after =
     IfOk answer (λ r. (pass_serial r.0 ≡ serial)
-      × (receipt_of r.1 ≡ receipt_after before who (opened_by serial r.0)) × (after ≡ one_more before))
+    × (receipt_of r.1 ≡ receipt_after before who (opened_by serial r.0)) × (after ≡ one_more before))
     × OnErr answer (after ≡ before)
 
 -- the same, for one that opened them by a handle of its own, and found this file; or it was out of turn
@@ -77,7 +77,7 @@ abbrev pub OpensBy : {L F : Type 0} {p : _} {l : _} {f : _} → (serial : ℕ) �
     → Option (Pass L F p l f × Made) → (after : ℕ) → Type 0
 OpensBy serial file who before answer after =
     IfSome answer (λ r. (pass_serial r.0 ≡ serial) × (pass_file r.0 ≡ file)
-      × (receipt_of r.1 ≡ receipt_after before who (opened_by serial r.0)) × (after ≡ one_more before))
+    × (receipt_of r.1 ≡ receipt_after before who (opened_by serial r.0)) × (after ≡ one_more before))
     × IfNone answer (after ≡ before)
 
 -- the caller began an installation: its first step, or a fault of the directory, is the next event; else none was made. A refused one is handed back
@@ -91,5 +91,5 @@ BeginsOrNot install who before answer after =
 abbrev pub StepsOrNot : (who before : ℕ) → Result Phase InstallFault × Option Made → (after : ℕ) → Type 0
 StepsOrNot who before answer after =
     IfSome answer.1 (λ made. (step_event answer.0 ≡ Some (made_event made))
-      × (receipt_of made ≡ receipt_after before who (made_event made)))
+    × (receipt_of made ≡ receipt_after before who (made_event made)))
     × CountsMade answer.1 before after

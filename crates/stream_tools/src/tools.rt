@@ -75,10 +75,7 @@ fn told_run<E: Env>(
     words: &[Vec<u8>],
 ) -> Result<(Program, Environment), AllocError> {
     let program = program_of(alloc, words)?;
-    Ok((
-        program,
-        inherited_variables(alloc, &SystemGiven(env))?,
-    ))
+    Ok((program, inherited_variables(alloc, &SystemGiven(env))?))
 }
 
 /// Runs a program, and records what goes both ways on `errors`.
