@@ -9,6 +9,7 @@ use crate::connection::NewConnection;
 use crate::life::{Admitted, Register};
 use crate::observer::{Observer, tell};
 use crate::opening::Rules;
+use crate::permit::Permit;
 use child_jobs::Place;
 use connection_facts::{DropCause, Peer};
 use dir_calls::Dir;
@@ -18,7 +19,6 @@ use server_yard::{AdmitFault, Assumptions, Yard};
 use shared_site::turns::{Admit, Dropped};
 use shared_site::{Caller, Callers, Made, Room, Turn};
 use std::alloc::{AllocError, Global};
-use std::snapshot::Snapshot;
 use std::sync::Wait;
 use tcp_connections::{AcceptFault, Accepted, Acceptor, Admission, AdmitOutcome, HostNames, Line};
 use ucspi_env::Local;
@@ -143,11 +143,11 @@ where
     AdmitOutcome::In(NewConnection {
         admitted: Admitted {
             register,
+            permit: Permit::of(&made, serial, &peer),
             serial,
             place,
             peer,
             local,
-            made: Snapshot::of(&made),
         },
         line: line_of(accepted, port),
     })

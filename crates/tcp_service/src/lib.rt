@@ -8,6 +8,7 @@ mod life;
 mod observer;
 pub mod opening;
 mod over;
+mod permit;
 pub mod service;
 pub mod serving;
 pub mod site_agent;

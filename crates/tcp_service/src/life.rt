@@ -2,12 +2,11 @@
 //! end itself.
 ghost use Rattle.std.specs.Prelude.{◌≡◌, None, IfOk, IfErr};
 ghost use Rattle.child_jobs.specs.Runs.{IsSameRun, place_of};
-ghost use Rattle.server_events.specs.declared.event.Event.TheVariants as event;
-ghost use Rattle.shared_site.specs.Receipts.{made_event};
 
 use crate::observer::Observer;
 use crate::opening::Rules;
 use crate::over::{LifeAgent, Over};
+use crate::permit::Permit;
 use crate::site_agent::{LoggedAgent, SiteAgent};
 use byte_streams::LineStage;
 use child_jobs::{Job, Place, Plan, Running};
@@ -16,10 +15,9 @@ use dir_calls::Dir;
 use event_journals::Journal;
 use one_connection::{Agent, Served, serve_one};
 use server_yard::Assumptions;
-use shared_site::{Caller, Callers, Made, Site};
+use shared_site::{Caller, Callers, Site};
 use std::alloc::Global;
 use std::io::{Read, Write};
-use std::snapshot::Snapshot;
 use std::sync::{Mutex, Wait};
 use tcp_connections::{
     Attendant, Begun, Chains, ConnectionLauncher, Endings, Follow, Line, Shut, Starter, Talk,
@@ -39,8 +37,8 @@ pub(crate) struct Register<'a, L: Assumptions, N: Callers, D: Dir + Drop, J: Jou
     pub observer: &'a W,
 }
 
-/// A connection that was let in and whose child was not started yet: the right to what comes next. It is made of what its admission answered: the place,
-/// and the event, which is of this serial and this client (`own`). One that is let go, as where no thread takes it, is given up.
+/// A connection that was let in and whose child was not started yet: the right to what comes next. It is made of the place that its admission
+/// gave, and of the permit, which has its serial (`own`). One that is let go, as where no thread takes it, is given up.
 pub(crate) struct Admitted<
     'a,
     L: Assumptions,
@@ -56,8 +54,8 @@ pub(crate) struct Admitted<
     pub(crate) place: Place<L>,
     pub(crate) peer: Peer,
     pub(crate) local: Local,
-    pub(crate) made: Snapshot<Made>,
-    pub(crate) ghost own: { made_event made.value ≡ event.Admitted serial peer },
+    pub(crate) permit: Permit,
+    pub(crate) ghost own: { permit.serial ≡ serial },
 }
 
 /// A connection whose child runs: the right to its end. It is made of one that was let in. One that is let go is retired: its child is abandoned,
@@ -103,7 +101,7 @@ where
             place,
             peer,
             local,
-            made: _,
+            permit: _,
         } = self;
         let _over = register.give_up(serial, place, &peer, &local, DropCause::NoThread);
     }
@@ -290,7 +288,7 @@ where
             place,
             peer,
             local,
-            made: _,
+            permit: _,
         } = self;
         register.give_up(serial, place, &peer, &local, cause)
     }
@@ -317,7 +315,7 @@ where
             place,
             peer,
             local,
-            made: _,
+            permit: _,
         } = self;
         match register.serve(serial, place, &peer, &local, starter, connection, writer) {
             Ok(running) => Ok(Started::of(register, serial, running, local)),
