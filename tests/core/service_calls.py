@@ -139,7 +139,7 @@ def audit(calls, events, receipts, told):
     places = [int(receipt[0]) for receipt in receipts]
     calls.holds("no receipt comes twice or late", all(one < next for one, next in zip(places, places[1:])), len(places))
     kept = [(name, int(serial)) for _, _, name, serial in receipts]
-    calls.holds("the log tells the event of each receipt and no other", kept == told and len(kept) > 6000, "%d and %d" % (len(kept), len(told)))
+    calls.holds("the log tells the event of each receipt and no other", kept == told and len(kept) == 3 * 2000, "%d and %d" % (len(kept), len(told)))
 
 
 def check_history(program, calls):
