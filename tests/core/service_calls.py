@@ -110,15 +110,15 @@ def check_longer(program, calls):
 SERIAL = r"(\d+)"
 FORMS = [
     ("admitted", log_forms.pid(SERIAL, r"\S+")),
-    ("allowed", log_forms.verdict("ok", SERIAL, r"\S+", r"\S+")),
+    ("decided", log_forms.verdict("ok", SERIAL, r"\S+", r"\S+")),
     ("ended", log_forms.any_end(SERIAL)),
     ("retired", log_forms.retired(SERIAL)),
     ("dropped", log_forms.drop(SERIAL, "[a-z ]+")),
-    ("failed", log_forms.start(SERIAL, "(?!no pipe ends)[a-z ]+")),
+    ("startfailed", log_forms.start(SERIAL, "(?!no pipe ends)[a-z ]+")),
 ]
 TELLS = [(name, re.compile(b"tcpserver: " + form.encode())) for name, form in FORMS]
 # the lives that a connection of a server without rules may have
-LIVES = [["admitted", "opened", "allowed", "started", end] for end in ("ended", "retired")] + [["admitted", "opened", "allowed", "failed"]]
+LIVES = [["admitted", "opened", "decided", "started", end] for end in ("ended", "retired")] + [["admitted", "opened", "decided", "startfailed"]]
 
 
 def told_by(log):
@@ -150,7 +150,7 @@ def check_history(program, calls):
     end, _, rest = printed.partition(b"\n")
     history, receipts, log = (rest.split(b"\n\n", 2) + [b"", b""])[:3]
     calls.holds("two thousand connections end", (code, end.split(b", ")[:2]) == (0, [b"Count", b"9 alive"]), (code, end))
-    events = [line.split() for line in history.decode().splitlines()]
+    events = [line.split()[:3] for line in history.decode().splitlines()]
     first = [(name, int(serial)) for caller, name, serial in events if caller == "1"]
     calls.holds("one caller lets them in, and no more", first == [("admitted", n) for n in range(1, 2001)], first[-1:])
     all_told = [(name, int(serial)) for _, name, serial in events]

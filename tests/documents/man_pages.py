@@ -365,7 +365,7 @@ def check_server_texts(checks):
 
 
 def check_log_lines(checks):
-    page, source = Page("tcpserver"), read("server_log/src/texts.rt")
+    page, source = Page("tcpserver"), read("server_log/src/lines.rt")
     begins = {text.rstrip() for text in re.findall(r'"(tcpserver: [^"]*)"', source)}
     verdicts = {"tcpserver: " + word.strip() for word in words_of(source, "verdict_word").values()}
     begins = begins - {"tcpserver:"} | verdicts

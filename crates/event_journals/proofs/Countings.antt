@@ -1,16 +1,15 @@
 -- How many connections are alive and retired after one event more.
 use Rattle.std.proofs.Common.{◌≡◌, ℕ, ◌+◌, ◌-◌, List, [], ◌∷◌, ◌++◌, length, Bool, true, false, ◌==◌, cond, refl, ap, ◌∙◌, arith, length-append}
-use Rattle.std.specs.Prelude.{Option, None, Some, if◌then◌else◌}
+use Rattle.std.specs.Prelude.{Option, Some, if◌then◌else◌}
 use Rattle.std.specs.List.{count_by}
 use Rattle.std.proofs.lemmas.List.Sums.{sum_by-cons}
 use Rattle.server_events.specs.declared.event.Stage.{Stage}
 use Rattle.server_events.specs.declared.event.Stage.TheVariants as stage
 use Rattle.server_events.specs.declared.event.Event.{Event}
-use Rattle.server_events.specs.declared.event.Event.TheVariants.{Admitted, Opened, Decided, Started, StartFailed, Ended, Retired, Dropped, Stepped, StepFailed, Stop}
 use Rattle.server_events.specs.declared.state.Connection.{Connection}
-use Rattle.server_events.specs.ServerState.{ServerState, with_stage, without, stage_of, is_retired, is_unstarted, may_happen, after, newcomer}
+use Rattle.server_events.specs.ServerState.{Effect, ServerState, lets_in, opens, decides, brings, lets_go, comes_to, fails_at, ends_all, effect, may_happen, may_have, with_effect, with_stage, without, stage_of, is_retired, newcomer}
 use Rattle.server_events.proofs.Limits.{length-with_stage}
-use Rattle.server_events.proofs.LiveLemmas.{is_admitted-true, is_opened-true, is_allowed-true, is_started-true}
+use Rattle.server_events.proofs.Effects.{Sound, before_retired, is_admitted-true, is_opened-true, sound}
 
 -- how many of some connections are retired
 abbrev pub retired_in : List Connection → ℕ
@@ -77,32 +76,21 @@ length-without-some n t (c ∷ cs) e =
       | false ↦ λ below. let rest = length-without-some n t cs below in omega arith
     ] e
 
--- a connection without a child has a stage, which is not that of a retired one
-unstarted : (s : Option Stage) → is_unstarted s ≡ true → (t : Stage) × (s ≡ Some t) × (is_retired t ≡ false)
-unstarted None e = cc
-unstarted (Some stage.Admitted) e = (stage.Admitted, refl, refl)
-unstarted (Some stage.Opened) e = (stage.Opened, refl, refl)
-unstarted (Some (stage.Decided v)) e = (stage.Decided v, refl, refl)
-unstarted (Some stage.Started) e = cc
-unstarted (Some stage.Retired) e = cc
-
 -- how many are alive, and how many of them are retired, after an event
-abbrev pub next_live : ℕ → Event → ℕ
-next_live live (Admitted n peer) = live + 1
-next_live live (StartFailed n fault) = live - 1
-next_live live (Ended n status) = live - 1
-next_live live (Dropped n cause) = live - 1
-next_live live Stop = 0
+abbrev pub next_live : ℕ → Effect → ℕ
+next_live live (lets_in n peer) = live + 1
+next_live live (lets_go n from) = live - 1
+next_live live ends_all = 0
 next_live live _ = live
 
-abbrev pub next_retired : ℕ → Event → ℕ
-next_retired retired (Retired n) = retired + 1
-next_retired retired Stop = 0
+abbrev pub next_retired : ℕ → Effect → ℕ
+next_retired retired (brings n from to) = retired + weight to
+next_retired retired ends_all = 0
 next_retired retired _ = retired
 
-pub record Moves (w : ServerState) (e : Event) : Type 0 where
-  pub live : length (after w e).connections ≡ next_live (length w.connections) e
-  pub retired : retired_in (after w e).connections ≡ next_retired (retired_in w.connections) e
+pub record Moves (w : ServerState) (x : Effect) : Type 0 where
+  pub live : length (with_effect w x).connections ≡ next_live (length w.connections) x
+  pub retired : retired_in (with_effect w x).connections ≡ next_retired (retired_in w.connections) x
 
 staged : (w : ServerState) (n : ℕ) (s t : Stage) → is_retired t ≡ false → is_retired s ≡ false → stage_of n w.connections ≡ Some t
     → (length (with_stage n s w.connections) ≡ length w.connections)
@@ -121,33 +109,29 @@ gone w n t not_t is =
     let less = length-without-some n t w.connections is in
     (omega arith, omega arith)
 
-pub moves : (w : ServerState) (e : Event) → may_happen w e ≡ true → Moves w e
-moves w (Admitted n peer) m =
+pub moves_with : (w : ServerState) (x : Effect) → Sound x → may_have w x ≡ true → Moves w x
+moves_with w (lets_in n peer) its m =
     let more = length-append w.connections (newcomer n peer ∷ []) in
     let none = retired_in-push w.connections (newcomer n peer) in
     record { live = omega arith; retired = omega arith }
-moves w (Opened n there) m =
+moves_with w (opens n there) its m =
     let both = staged w n stage.Opened stage.Admitted refl refl (is_admitted-true _ m) in
     record { live = both.0; retired = both.1 }
-moves w (Decided n decision) m =
+moves_with w (decides n decision) its m =
     let both = staged w n (stage.Decided decision.verdict) stage.Opened refl refl (is_opened-true _ m) in
     record { live = both.0; retired = both.1 }
-moves w (Started n) m =
-    let both = staged w n stage.Started _ refl refl (is_allowed-true _ m) in
+moves_with w (brings n from to) its m =
+    let had = its.had _ m in
+    let sums = retired_in-with_stage n to had.0 w.connections had.1 in
+    let none : weight had.0 ≡ 0 = ap (λ (b : Bool). cond b 1 0) (before_retired had.0 to had.2) in
+    record { live = length-with_stage n to w.connections; retired = omega (arith, sums, none) }
+moves_with w (lets_go n from) its m =
+    let had = its.had _ m in
+    let both = gone w n had.0 had.2 had.1 in
     record { live = both.0; retired = both.1 }
-moves w (StartFailed n fault) m =
-    let both = gone w n _ refl (is_allowed-true _ m) in
-    record { live = both.0; retired = both.1 }
-moves w (Ended n status) m =
-    let both = gone w n _ refl (is_started-true _ m) in
-    record { live = both.0; retired = both.1 }
-moves w (Retired n) m =
-    let sums = retired_in-with_stage n stage.Retired stage.Started w.connections (is_started-true _ m) in
-    record { live = length-with_stage n stage.Retired w.connections; retired = omega arith }
-moves w (Dropped n cause) m =
-    let some = unstarted _ m in
-    let both = gone w n some.0 some.2 some.1 in
-    record { live = both.0; retired = both.1 }
-moves w (Stepped phase) m = record { live = refl; retired = refl }
-moves w (StepFailed phase) m = record { live = refl; retired = refl }
-moves w Stop m = record { live = refl; retired = refl }
+moves_with w (comes_to phase) its m = record { live = refl; retired = refl }
+moves_with w (fails_at phase) its m = record { live = refl; retired = refl }
+moves_with w ends_all its m = record { live = refl; retired = refl }
+
+pub moves : (w : ServerState) (e : Event) → may_happen w e ≡ true → Moves w (effect e)
+moves w e m = moves_with w (effect e) (sound e) m

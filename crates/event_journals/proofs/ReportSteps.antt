@@ -1,23 +1,24 @@
 -- The report of a history with one event more.
-use Rattle.std.proofs.Common.{◌≡◌, ℕ, zero, suc, ◌+◌, ◌-◌, ◌<◌, ◌≤◌, ◌^◌, List, [], ◌∷◌, ◌++◌, length, take, true, cond, refl, sym, ap, ◌∙◌, arith, take_all, length-append}
-use Rattle.std.specs.Prelude.{max}
+use Rattle.std.proofs.Common.{◌≡◌, ℕ, zero, suc, ◌+◌, ◌-◌, ◌<◌, ◌≤◌, ◌^◌, List, [], ◌∷◌, ◌++◌, length, take, true, false, cond, refl, sym, ap, subst, ◌∙◌, arith, take_all, length-append}
+use Rattle.std.specs.Prelude.{max, is_some, if◌then◌else◌}
 use Rattle.std.specs.List.{count_by}
 use Rattle.std.proofs.lemmas.List.{take-append-le}
 use Rattle.std.proofs.Math.Seq.{take-append_seam}
 use Rattle.std.proofs.lemmas.List.Sums.{count_by-le-length}
 use Rattle.connection_facts.specs.Peers.{Client}
 use Rattle.server_events.specs.declared.event.Event.{Event}
-use Rattle.server_events.specs.declared.event.Event.TheVariants.{Admitted, Opened, Decided, Started, StartFailed, Ended, Retired, Dropped, Stepped, StepFailed, Stop}
+use Rattle.server_events.specs.declared.event.Event.TheVariants.{Admitted}
 use Rattle.server_events.specs.declared.report.Report.{Report}
 use Rattle.server_events.specs.declared.state.Connection.{Connection}
-use Rattle.server_events.specs.Live.{retired_of}
+use Rattle.server_events.specs.Live.{admission_by, retired_of}
 use Rattle.server_events.specs.Reports.{report_of, most_of, is_admission}
-use Rattle.server_events.specs.ServerState.{ServerState, start, is_legal, state_after, after, is_retired}
+use Rattle.server_events.specs.ServerState.{ServerState, start, is_legal, state_after, after, is_retired, Effect, lets_in, opens, decides, brings, lets_go, comes_to, fails_at, ends_all, effect}
+use Rattle.server_events.proofs.Effects.{IsOf, is_of}
 use Rattle.server_events.proofs.History.{is_legal-snoc, is_legal-take, state_after-snoc, last_after, last_state_after, room_for}
 use Rattle.server_events.proofs.LiveLemmas.{live_len, live_count, retired_count, most_up_to, most_next}
 use Rattle.server_events.proofs.Limits.{limit_world_after, within}
-use Rattle.event_journals.specs.Journals.{Books, FitsSerial, GoesOn, next_report, one_more}
-use Rattle.event_journals.proofs.Countings.{retired_in, next_live, next_retired, moves}
+use Rattle.event_journals.specs.Journals.{Books, FitsBy, GoesOn, next_report, one_more, report_with}
+use Rattle.event_journals.proofs.Countings.{retired_in, next_live, next_retired, moves, weight}
 
 -- two reports with the same numbers
 reports : (a b : Report) → a.admitted ≡ b.admitted → a.live ≡ b.live → a.retired ≡ b.retired → a.most ≡ b.most → a ≡ b
@@ -49,17 +50,17 @@ live_most (suc n) h =
     omega arith
 
 -- what a history tells with one event more, by what it told before
-record Next (limit : ℕ) (h : List Event) (e : Event) : Type 0 where
-  admitted : count_by is_admission (h ++ e ∷ []) ≡ cond (is_admission e) 1 0 + count_by is_admission h
-  live : live_len (h ++ e ∷ []) ≡ next_live (live_len h) e
-  retired : length (retired_of (h ++ e ∷ [])) ≡ next_retired (length (retired_of h)) e
+record Next (limit : ℕ) (h : List Event) (e : Event) (x : Effect) : Type 0 where
+  admitted : count_by is_admission (h ++ e ∷ []) ≡ cond (is_some (admission_by x)) 1 0 + count_by is_admission h
+  live : live_len (h ++ e ∷ []) ≡ next_live (live_len h) x
+  retired : length (retired_of (h ++ e ∷ [])) ≡ next_retired (length (retired_of h)) x
   most : most_of (h ++ e ∷ []) ≡ max (live_len (h ++ e ∷ [])) (most_of h)
   number : length (h ++ e ∷ []) ≡ length h + 1
   before : live_len h ≤ most_of h
   within : live_len (h ++ e ∷ []) ≤ limit
   some : length (retired_of (h ++ e ∷ [])) ≤ live_len (h ++ e ∷ [])
 
-next : (limit per_address : ℕ) (h : List Event) (e : Event) → is_legal (start limit per_address) (h ++ e ∷ []) ≡ true → Next limit h e
+next : (limit per_address : ℕ) (h : List Event) (e : Event) → is_legal (start limit per_address) (h ++ e ∷ []) ≡ true → Next limit h e (effect e)
 next limit per_address h e legal =
     let w = start limit per_address in
     let all = h ++ e ∷ [] in
@@ -80,8 +81,8 @@ next limit per_address h e legal =
     let kept = within w all (record { all = omega arith; each = λ ip. omega arith }) legal in
     record {
       admitted = omega arith;
-      live = live_all ∙ moved.live ∙ ap (λ (k : ℕ). next_live k e) (sym (live_count limit per_address h legal_before));
-      retired = retired_all ∙ moved.retired ∙ ap (λ (k : ℕ). next_retired k e) (sym (retired_count limit per_address h legal_before));
+      live = live_all ∙ moved.live ∙ ap (λ (k : ℕ). next_live k (effect e)) (sym (live_count limit per_address h legal_before));
+      retired = retired_all ∙ moved.retired ∙ ap (λ (k : ℕ). next_retired k (effect e)) (sym (retired_count limit per_address h legal_before));
       most =
           ap (λ (k : ℕ). most_up_to k all) more
           ∙ most_next (length h) all
@@ -119,34 +120,30 @@ fewer : (h : List Event) (e : Event) → count_by is_admission (h ++ e ∷ []) �
 fewer h e a l r m b = reports _ _ (omega arith) (sym l) (sym r) (omega arith)
 
 -- the report of a history, by an event more
-same_report : (limit per_address : ℕ) (h : List Event) (e : Event) → limit < 2 ^ 64 → FitsSerial e
-    → is_legal (start limit per_address) (h ++ e ∷ []) ≡ true → Next limit h e → next_report (report_of h) e ≡ report_of (h ++ e ∷ [])
-same_report limit per_address h (Admitted n peer) small fits legal found =
-    let serial = admitted_serial limit per_address h n peer legal in
+same_report : (limit per_address : ℕ) (h : List Event) (e : Event) (x : Effect) → IsOf x e → limit < 2 ^ 64 → FitsBy x
+    → is_legal (start limit per_address) (h ++ e ∷ []) ≡ true → Next limit h e x → report_with (report_of h) x ≡ report_of (h ++ e ∷ [])
+same_report limit per_address h e (lets_in n peer) is small fits legal found =
+    let serial = admitted_serial limit per_address h n peer (subst (λ (a : Event). is_legal (start limit per_address) (h ++ a ∷ []) ≡ true) is legal) in
     let a = found.admitted in let l = found.live in let w = found.within in let m = found.most in
-    let live : one_more (live_len h) ≡ live_len (h ++ Admitted n peer ∷ []) = omega arith in
+    let live : one_more (live_len h) ≡ live_len (h ++ e ∷ []) = omega arith in
     reports _ _ (omega arith) live (sym found.retired) (ap (λ (k : ℕ). max k (most_of h)) live ∙ sym m)
-same_report limit per_address h (Opened n there) small fits legal found =
-    unchanged h (Opened n there) (found.admitted) found.live found.retired found.most found.before
-same_report limit per_address h (Decided n decision) small fits legal found =
-    unchanged h (Decided n decision) (found.admitted) found.live found.retired found.most found.before
-same_report limit per_address h (Started n) small fits legal found =
-    unchanged h (Started n) (found.admitted) found.live found.retired found.most found.before
-same_report limit per_address h (StartFailed n fault) small fits legal found =
-    fewer h (StartFailed n fault) (found.admitted) found.live found.retired found.most found.before
-same_report limit per_address h (Ended n status) small fits legal found =
-    fewer h (Ended n status) (found.admitted) found.live found.retired found.most found.before
-same_report limit per_address h (Retired n) small fits legal found =
+same_report limit per_address h e (opens n there) is small fits legal found = unchanged h e found.admitted found.live found.retired found.most found.before
+same_report limit per_address h e (decides n decision) is small fits legal found = unchanged h e found.admitted found.live found.retired found.most found.before
+same_report limit per_address h e (brings n from to) is small fits legal found =
     let a = found.admitted in let l = found.live in let r = found.retired in let m = found.most in let b = found.before in
     let w = found.within in let s = found.some in
-    reports _ _ (omega arith) (sym l) (omega arith) (omega arith)
-same_report limit per_address h (Dropped n cause) small fits legal found =
-    fewer h (Dropped n cause) (found.admitted) found.live found.retired found.most found.before
-same_report limit per_address h (Stepped phase) small fits legal found =
-    unchanged h (Stepped phase) (found.admitted) found.live found.retired found.most found.before
-same_report limit per_address h (StepFailed phase) small fits legal found =
-    unchanged h (StepFailed phase) (found.admitted) found.live found.retired found.most found.before
-same_report limit per_address h Stop small fits legal found =
+    elim (is_retired to) as (λ b. is_retired to ≡ b → (if b then record (report_of h) { retired = one_more (length (retired_of h)) } else report_of h) ≡ report_of (h ++ e ∷ [])) [
+      | true ↦ λ last.
+          let one : weight to ≡ 1 = ap (λ b. cond b 1 0) last in
+          reports _ _ (omega arith) (sym l) (omega arith) (omega arith)
+      | false ↦ λ stays.
+          let none : weight to ≡ 0 = ap (λ b. cond b 1 0) stays in
+          unchanged h e a l (omega (arith, r, none)) m b
+    ] refl
+same_report limit per_address h e (lets_go n from) is small fits legal found = fewer h e found.admitted found.live found.retired found.most found.before
+same_report limit per_address h e (comes_to phase) is small fits legal found = unchanged h e found.admitted found.live found.retired found.most found.before
+same_report limit per_address h e (fails_at phase) is small fits legal found = unchanged h e found.admitted found.live found.retired found.most found.before
+same_report limit per_address h e ends_all is small fits legal found =
     let a = found.admitted in let l = found.live in let r = found.retired in let m = found.most in
     reports _ _ (omega arith) (sym l) (sym r) (omega arith)
 
@@ -158,6 +155,6 @@ goes_on books books' e report count limit per_address h small fits tells legal =
     let n = found.number in
     let m = tells.number in
     record {
-      report = report ∙ ap (λ (r : Report). next_report r e) tells.report ∙ same_report limit per_address h e small fits legal found;
+      report = report ∙ ap (λ (r : Report). next_report r e) tells.report ∙ same_report limit per_address h e (effect e) (is_of e) small fits legal found;
       number = omega (arith, count, n, m);
     }

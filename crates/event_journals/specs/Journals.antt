@@ -1,11 +1,10 @@
 -- What a journal tells: the report and the number of the events that were noted, and what it stores of them.
-use Rattle.std.specs.Prelude.{◌≡◌, ◌<◌, ◌+◌, ◌-◌, ◌^◌, ℕ, List, [], ◌∷◌, ◌++◌, length, take, max, min, Bool, true, Option, ⊤}
+use Rattle.std.specs.Prelude.{◌≡◌, ◌<◌, ◌+◌, ◌-◌, ◌^◌, ℕ, List, [], ◌∷◌, ◌++◌, length, take, max, min, Bool, true, Option, ⊤, if◌then◌else◌}
 use Rattle.rule_lines.specs.Pairs.{Rule}
 use Rattle.server_events.specs.declared.event.Event.{Event}
-use Rattle.server_events.specs.declared.event.Event.TheVariants.{Admitted, Opened, Decided, Started, StartFailed, Ended, Retired, Dropped, Stepped, StepFailed, Stop}
 use Rattle.server_events.specs.declared.report.Report.{Report}
 use Rattle.server_events.specs.Reports.{report_of}
-use Rattle.server_events.specs.ServerState.{is_legal, start}
+use Rattle.server_events.specs.ServerState.{Effect, lets_in, brings, lets_go, ends_all, effect, is_legal, is_retired, start}
 use Rattle.event_journals.specs.declared.journal.Noted.{Noted}
 
 -- What a journal tells: the report of the events that were noted, and their number, as far as a u64 counts; and where it stores them, the
@@ -30,18 +29,15 @@ with_newcomer r = record {
 }
 
 -- the report after one more event
+abbrev pub report_with : Report → Effect → Report
+report_with r (lets_in n peer) = with_newcomer r
+report_with r (brings n from to) = if is_retired to then record r { retired = one_more r.retired } else r
+report_with r (lets_go n from) = record r { live = r.live - 1 }
+report_with r ends_all = record r { live = 0; retired = 0 }
+report_with r _ = r
+
 abbrev pub next_report : Report → Event → Report
-next_report r (Admitted n peer) = with_newcomer r
-next_report r (Opened n there) = r
-next_report r (Decided n decision) = r
-next_report r (Started n) = r
-next_report r (StartFailed n fault) = record r { live = r.live - 1 }
-next_report r (Ended n status) = record r { live = r.live - 1 }
-next_report r (Retired n) = record r { retired = one_more r.retired }
-next_report r (Dropped n cause) = record r { live = r.live - 1 }
-next_report r (Stepped phase) = r
-next_report r (StepFailed phase) = r
-next_report r Stop = record r { live = 0; retired = 0 }
+next_report r event = report_with r (effect event)
 
 -- the report and the number are those of a list of events, the number as far as a u64 counts
 pub record TellsOf (books : Books) (history : List Event) : Type 0 where
@@ -49,9 +45,12 @@ pub record TellsOf (books : Books) (history : List Event) : Type 0 where
   pub number : books.count ≡ min (length history) (2 ^ 64 - 1)
 
 -- the serial of a connection that is let in fits into 64 bits
+abbrev pub FitsBy : Effect → Type 0
+FitsBy (lets_in n peer) = n < 2 ^ 64
+FitsBy _ = ⊤
+
 abbrev pub FitsSerial : Event → Type 0
-FitsSerial (Admitted n peer) = n < 2 ^ 64
-FitsSerial _ = ⊤
+FitsSerial event = FitsBy (effect event)
 
 -- where the first tell of a list of events that the table allows, with a limit that fits into 64 bits, and this event is allowed after it,
 -- the second tell of the list with the event

@@ -1,5 +1,5 @@
 -- The calls by which an agent serves a connection, as those of its yard.
-use Rattle.std.proofs.Common.{ap, subst, ◌∙◌}
+use Rattle.std.proofs.Common.{ap, subst}
 use Rattle.std.specs.Prelude.{◌≡◌, ◌++◌, ◌∷◌, ℕ, List, []}
 use Rattle.std.proofs.Common.{inl, inr}
 use Rattle.server_events.specs.declared.event.Event.{Event}

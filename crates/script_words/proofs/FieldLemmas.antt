@@ -20,7 +20,7 @@ use Rattle.std.proofs.lemmas.List.{take_all}
 use Rattle.rule_lookup.specs.Addresses.{ipv4_in}
 use Rattle.rule_lookup.proofs.AddressLemmas.{ipv4_in-IsDotted, IsDotted-ipv4_in}
 use Rattle.byte_text.specs.Fields.{field_text, mark}
-use Rattle.server_log.specs.Texts.{field}
+use Rattle.server_log.specs.Lines.{field}
 use Rattle.server_words.specs.Numbers.{is_number_between, number_in}
 use Rattle.script_words.specs.LogLines.{IsToldWhole, if_written, is_plain, is_whole, name_in, number_written}
 

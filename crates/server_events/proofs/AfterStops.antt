@@ -2,20 +2,19 @@
 use Rattle.std.proofs.Common.{◌≡◌, ℕ, ◌<◌, List, [], ◌∷◌, true, false, ◌==◌, Some, refl, sym, ap, subst, arith}
 use Rattle.std.specs.Prelude.{if◌then◌else◌}
 use Rattle.std.proofs.lemmas.Bool.Decides.{nat_tests}
-use Rattle.rule_lines.specs.declared.instr.Verdict.TheVariants.{Allow}
 use Rattle.server_events.specs.declared.event.Stage.{Stage}
 use Rattle.server_events.specs.declared.event.Stage.TheVariants as stage
 use Rattle.server_events.specs.declared.event.Event.{Event}
-use Rattle.server_events.specs.declared.event.Event.TheVariants.{Admitted, Opened, Decided, Started, StartFailed, Ended, Retired, Dropped, Stepped, StepFailed, Stop}
+use Rattle.server_events.specs.declared.event.Event.TheVariants.{Stop}
 use Rattle.server_events.specs.declared.state.Connection.{Connection}
-use Rattle.server_events.specs.Live.{concerns}
-use Rattle.server_events.specs.ServerState.{ServerState, after, may_happen, newcomer, stage_of}
+use Rattle.server_events.specs.Live.{concerns, concerns_by}
+use Rattle.server_events.specs.ServerState.{ServerState, newcomer, stage_of, Effect, lets_in, opens, decides, brings, lets_go, comes_to, fails_at, ends_all, effect, may_have, with_effect}
 use Rattle.server_events.specs.Steps.{Legal, Step, none, more, beside}
 use Rattle.server_events.specs.Worlds.{World}
 use Rattle.server_events.proofs.History.{room_for}
-use Rattle.server_events.proofs.LiveLemmas.{is_admitted-true, is_allowed-true, is_opened-true, is_started-true}
+use Rattle.server_events.proofs.Effects.{Sound, is_admitted-true, is_opened-true, sound}
 use Rattle.server_events.proofs.Serials.{Rise, Rise-le, Rise-push, Rise-with_stage, Rise-without}
-use Rattle.server_events.proofs.TableLemmas.{is_unstarted-true, step_is}
+use Rattle.server_events.proofs.TableLemmas.{step_is}
 
 -- a serial that has a stage is above the number from which the serials rise
 above_low : (n : ℕ) (t : Stage) (low : ℕ) (cs : List Connection) (high : ℕ) → Rise low cs high → stage_of n cs ≡ Some t → low < n
@@ -28,25 +27,22 @@ above_low n t low (c ∷ cs) high h e =
     ] refl e
 
 -- the serials rise from above the same number after each event
-rise_after : (low : ℕ) (s : ServerState) (event : Event) → may_happen s event ≡ true → Rise low s.connections s.last → Rise low (after s event).connections (after s event).last
-rise_after low s (Admitted m peer) may rise =
+rise_with : (low : ℕ) (s : ServerState) (x : Effect) → may_have s x ≡ true → Rise low s.connections s.last → Rise low (with_effect s x).connections (with_effect s x).last
+rise_with low s (lets_in m peer) may rise =
     let next = (room_for s m peer may).next in
     Rise-push low s.connections s.last (newcomer m peer) rise (omega (arith, next))
-rise_after low s (Opened m there) may rise = Rise-with_stage m stage.Opened low s.connections s.last rise
-rise_after low s (Decided m decision) may rise = Rise-with_stage m (stage.Decided decision.verdict) low s.connections s.last rise
-rise_after low s (Started m) may rise = Rise-with_stage m stage.Started low s.connections s.last rise
-rise_after low s (StartFailed m fault) may rise = Rise-without m low s.connections s.last rise
-rise_after low s (Ended m status) may rise = Rise-without m low s.connections s.last rise
-rise_after low s (Retired m) may rise = Rise-with_stage m stage.Retired low s.connections s.last rise
-rise_after low s (Dropped m cause) may rise = Rise-without m low s.connections s.last rise
-rise_after low s (Stepped phase) may rise = rise
-rise_after low s (StepFailed phase) may rise = rise
-rise_after low s Stop may rise = Rise-le low s.connections s.last rise
+rise_with low s (opens m there) may rise = Rise-with_stage m stage.Opened low s.connections s.last rise
+rise_with low s (decides m decision) may rise = Rise-with_stage m (stage.Decided decision.verdict) low s.connections s.last rise
+rise_with low s (brings m from to) may rise = Rise-with_stage m to low s.connections s.last rise
+rise_with low s (lets_go m from) may rise = Rise-without m low s.connections s.last rise
+rise_with low s (comes_to phase) may rise = rise
+rise_with low s (fails_at phase) may rise = rise
+rise_with low s ends_all may rise = Rise-le low s.connections s.last rise
 
 rise_step : (low : ℕ) (w v : World) (event : Event) → Step w event v → Rise low w.server.connections w.server.last → Rise low v.server.connections v.server.last
 rise_step low w v event step rise =
     let happened = step_is step.table in
-    subst (λ (s : ServerState). Rise low s.connections s.last) (sym happened.1) (rise_after low w.server event happened.0 rise)
+    subst (λ (s : ServerState). Rise low s.connections s.last) (sym happened.1) (rise_with low w.server (effect event) happened.0 rise)
 
 rise_run : (low : ℕ) {v w : World} {history : List Event} → Legal v history w → Rise low v.server.connections v.server.last → Rise low w.server.connections w.server.last
 rise_run low none rise = rise
@@ -67,22 +63,19 @@ its_stage n m cs t same here =
     (t, subst (λ (k : ℕ). stage_of k cs ≡ Some t) it here)
 
 -- an event happens only to a connection that has a stage
-concerned : (s : ServerState) (event : Event) (n : ℕ) → may_happen s event ≡ true → concerns n event ≡ true → (t : Stage) × (stage_of n s.connections ≡ Some t)
-concerned s (Admitted m peer) n may same = absurd (cc)
-concerned s (Opened m there) n may same = its_stage n m s.connections stage.Admitted same (is_admitted-true _ may)
-concerned s (Decided m decision) n may same = its_stage n m s.connections stage.Opened same (is_opened-true _ may)
-concerned s (Started m) n may same = its_stage n m s.connections (stage.Decided Allow) same (is_allowed-true _ may)
-concerned s (StartFailed m fault) n may same = its_stage n m s.connections (stage.Decided Allow) same (is_allowed-true _ may)
-concerned s (Ended m status) n may same = its_stage n m s.connections stage.Started same (is_started-true _ may)
-concerned s (Retired m) n may same = its_stage n m s.connections stage.Started same (is_started-true _ may)
-concerned s (Dropped m cause) n may same = (let had = is_unstarted-true _ may in its_stage n m s.connections had.0 same had.1)
-concerned s (Stepped phase) n may same = absurd (cc)
-concerned s (StepFailed phase) n may same = absurd (cc)
-concerned s Stop n may same = absurd (cc)
+concerned : (s : ServerState) (x : Effect) (n : ℕ) → Sound x → may_have s x ≡ true → concerns_by n x ≡ true → (t : Stage) × (stage_of n s.connections ≡ Some t)
+concerned s (lets_in m peer) n its may same = absurd (cc)
+concerned s (opens m there) n its may same = its_stage n m s.connections stage.Admitted same (is_admitted-true _ may)
+concerned s (decides m decision) n its may same = its_stage n m s.connections stage.Opened same (is_opened-true _ may)
+concerned s (brings m from to) n its may same = (let had = its.had _ may in its_stage n m s.connections had.0 same had.1)
+concerned s (lets_go m from) n its may same = (let had = its.had _ may in its_stage n m s.connections had.0 same had.1)
+concerned s (comes_to phase) n its may same = absurd (cc)
+concerned s (fails_at phase) n its may same = absurd (cc)
+concerned s ends_all n its may same = absurd (cc)
 
 -- Whatever happens to a connection after a stop happens to one that was let in after it.
 pub after_stop : (w v x y : World) (events : List Event) (event : Event) (n : ℕ) → Step w Stop v → Legal v events x → Step x event y → concerns n event ≡ true → w.server.last < n
 after_stop w v x y events event n stops goes_on step same =
     let rise = rise_run w.server.last goes_on (rise_stopped w v stops) in
-    let had = concerned x.server event n (step_is step.table).0 same in
+    let had = concerned x.server (effect event) n (sound event) (step_is step.table).0 same in
     above_low n had.0 w.server.last x.server.connections x.server.last rise had.1

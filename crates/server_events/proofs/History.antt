@@ -1,15 +1,15 @@
 -- A history, and one event more.
 use Rattle.std.proofs.Common.{◌≡◌, ℕ, zero, suc, ◌+◌, ◌<◌, List, [], ◌∷◌, ◌++◌, length, Bool, true, false, ◌&&◌, ◌==◌, cond, refl, sym, ap, ◌∙◌, arith, rules, take, get_or, eq-eqb}
-use Rattle.std.specs.Prelude.{nat_lt}
+use Rattle.std.specs.Prelude.{is_some, nat_lt}
 use Rattle.std.specs.List.{count_by}
 use Rattle.std.proofs.lemmas.Bool.Decides.{nat_tests}
 use Rattle.std.proofs.lemmas.List.{take_more}
 use Rattle.std.proofs.lemmas.List.Sums.{sum_by-cons}
 use Rattle.connection_facts.specs.Peers.{Client}
 use Rattle.server_events.specs.declared.event.Event.{Event}
-use Rattle.server_events.specs.declared.event.Event.TheVariants.{Admitted, Opened, Decided, Started, StartFailed, Ended, Retired, Dropped, Stepped, StepFailed, Stop}
+use Rattle.server_events.specs.Live.{admission_by}
 use Rattle.server_events.specs.Reports.{is_admission}
-use Rattle.server_events.specs.ServerState.{ServerState, count_from, may_admit, may_happen, after, is_legal, state_after}
+use Rattle.server_events.specs.ServerState.{ServerState, count_from, may_admit, may_happen, after, is_legal, state_after, Effect, lets_in, opens, decides, brings, lets_go, comes_to, fails_at, ends_all, effect, may_have, with_effect}
 
 pub and_true : (a b : Bool) → (a && b) ≡ true → (a ≡ true) × (b ≡ true)
 and_true true b e = (refl, e)
@@ -63,20 +63,20 @@ is_legal-take w (e ∷ es) (suc k) h =
     both_true _ _ p.0 (is_legal-take (after w e) es k p.1)
 
 -- the last serial goes up by one at each admission
-pub last_after : (w : ServerState) (e : Event) → may_happen w e ≡ true → (after w e).last ≡ cond (is_admission e) 1 0 + w.last
-last_after w (Admitted n p) m =
+last_with : (w : ServerState) (x : Effect) → may_have w x ≡ true → (with_effect w x).last ≡ cond (is_some (admission_by x)) 1 0 + w.last
+last_with w (lets_in n p) m =
     let next : n ≡ w.last + 1 = (room_for w n p m).next in
     omega arith
-last_after w (Opened n t) m = omega arith
-last_after w (Decided n t) m = omega arith
-last_after w (Started n) m = omega arith
-last_after w (StartFailed n f) m = omega arith
-last_after w (Ended n s) m = omega arith
-last_after w (Retired n) m = omega arith
-last_after w (Dropped n c) m = omega arith
-last_after w (Stepped p) m = omega arith
-last_after w (StepFailed p) m = omega arith
-last_after w Stop m = omega arith
+last_with w (opens n t) m = omega arith
+last_with w (decides n t) m = omega arith
+last_with w (brings n from to) m = omega arith
+last_with w (lets_go n from) m = omega arith
+last_with w (comes_to p) m = omega arith
+last_with w (fails_at p) m = omega arith
+last_with w ends_all m = omega arith
+
+pub last_after : (w : ServerState) (e : Event) → may_happen w e ≡ true → (after w e).last ≡ cond (is_admission e) 1 0 + w.last
+last_after w e m = last_with w (effect e) m
 
 pub last_state_after : (w : ServerState) (es : List Event) → is_legal w es ≡ true → (state_after w es).last ≡ count_by is_admission es + w.last
 last_state_after w [] h = omega arith

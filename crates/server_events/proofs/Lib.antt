@@ -3,6 +3,7 @@ pub mod Alive
 pub mod Allowed
 pub mod Counts
 pub mod Done
+pub mod Effects
 pub mod Entries
 pub mod Everybody
 pub mod History

@@ -6,9 +6,8 @@ use Rattle.std.proofs.lemmas.Slice.Eq.{bytes_eq-Decides}
 use Rattle.server_events.specs.declared.event.Stage.{Stage}
 use Rattle.server_events.specs.declared.event.Stage.TheVariants as stage
 use Rattle.server_events.specs.declared.event.Event.{Event}
-use Rattle.server_events.specs.declared.event.Event.TheVariants.{Admitted, Opened, Decided, Started, StartFailed, Ended, Retired, Dropped, Stepped, StepFailed, Stop}
 use Rattle.server_events.specs.declared.state.Connection.{Connection}
-use Rattle.server_events.specs.ServerState.{ServerState, with_stage, without, count_from, may_happen, after, is_legal, state_after, newcomer}
+use Rattle.server_events.specs.ServerState.{ServerState, with_stage, without, count_from, may_happen, after, is_legal, state_after, newcomer, Effect, lets_in, opens, decides, brings, lets_go, comes_to, fails_at, ends_all, effect, may_have, with_effect}
 use Rattle.server_events.proofs.History.{and_true, room_for}
 
 pub length-with_stage : (n : ℕ) (s : Stage) (cs : List Connection) → length (with_stage n s cs) ≡ length cs
@@ -61,31 +60,31 @@ pub record WithinLimits (w : ServerState) : Type 0 where
   pub all : length w.connections ≤ w.limit
   pub each : (ip : List ℕ) → count_from ip w.connections ≤ w.per_address
 
+limit_with : (w : ServerState) (x : Effect) → (with_effect w x).limit ≡ w.limit
+limit_with w (lets_in n p) = refl
+limit_with w (opens n t) = refl
+limit_with w (decides n t) = refl
+limit_with w (brings n from to) = refl
+limit_with w (lets_go n from) = refl
+limit_with w (comes_to p) = refl
+limit_with w (fails_at p) = refl
+limit_with w ends_all = refl
+
 pub limit_after : (w : ServerState) (e : Event) → (after w e).limit ≡ w.limit
-limit_after w (Admitted n p) = refl
-limit_after w (Opened n t) = refl
-limit_after w (Decided n t) = refl
-limit_after w (Started n) = refl
-limit_after w (StartFailed n f) = refl
-limit_after w (Ended n s) = refl
-limit_after w (Retired n) = refl
-limit_after w (Dropped n c) = refl
-limit_after w (Stepped p) = refl
-limit_after w (StepFailed p) = refl
-limit_after w Stop = refl
+limit_after w e = limit_with w (effect e)
+
+per_address_with : (w : ServerState) (x : Effect) → (with_effect w x).per_address ≡ w.per_address
+per_address_with w (lets_in n p) = refl
+per_address_with w (opens n t) = refl
+per_address_with w (decides n t) = refl
+per_address_with w (brings n from to) = refl
+per_address_with w (lets_go n from) = refl
+per_address_with w (comes_to p) = refl
+per_address_with w (fails_at p) = refl
+per_address_with w ends_all = refl
 
 pub per_address_after : (w : ServerState) (e : Event) → (after w e).per_address ≡ w.per_address
-per_address_after w (Admitted n p) = refl
-per_address_after w (Opened n t) = refl
-per_address_after w (Decided n t) = refl
-per_address_after w (Started n) = refl
-per_address_after w (StartFailed n f) = refl
-per_address_after w (Ended n s) = refl
-per_address_after w (Retired n) = refl
-per_address_after w (Dropped n c) = refl
-per_address_after w (Stepped p) = refl
-per_address_after w (StepFailed p) = refl
-per_address_after w Stop = refl
+per_address_after w e = per_address_with w (effect e)
 
 pub limit_world_after : (w : ServerState) (es : List Event) → (state_after w es).limit ≡ w.limit
 limit_world_after w [] = refl
@@ -130,20 +129,20 @@ within_push w n c room here h = record {
   each = λ ip. each_push w c ip (h.each ip) here;
 }
 
-pub within_after : (w : ServerState) (e : Event) → WithinLimits w → may_happen w e ≡ true → WithinLimits (after w e)
-within_after w (Admitted n p) h m =
+within_effect : (w : ServerState) (x : Effect) → WithinLimits w → may_have w x ≡ true → WithinLimits (with_effect w x)
+within_effect w (lets_in n p) h m =
     let r = room_for w n p m in
     within_push w n (newcomer n p) r.below r.below_here h
-within_after w (Opened n t) h m = within_with_stage w n stage.Opened h
-within_after w (Decided n d) h m = within_with_stage w n (stage.Decided d.verdict) h
-within_after w (Started n) h m = within_with_stage w n stage.Started h
-within_after w (StartFailed n f) h m = within_without w n h
-within_after w (Ended n s) h m = within_without w n h
-within_after w (Retired n) h m = within_with_stage w n stage.Retired h
-within_after w (Dropped n c) h m = within_without w n h
-within_after w (Stepped p) h m = record { all = h.all; each = h.each }
-within_after w (StepFailed p) h m = record { all = h.all; each = h.each }
-within_after w Stop h m = record { all = omega arith; each = λ ip. omega arith }
+within_effect w (opens n t) h m = within_with_stage w n stage.Opened h
+within_effect w (decides n d) h m = within_with_stage w n (stage.Decided d.verdict) h
+within_effect w (brings n from to) h m = within_with_stage w n to h
+within_effect w (lets_go n from) h m = within_without w n h
+within_effect w (comes_to p) h m = record { all = h.all; each = h.each }
+within_effect w (fails_at p) h m = record { all = h.all; each = h.each }
+within_effect w ends_all h m = record { all = omega arith; each = λ ip. omega arith }
+
+pub within_after : (w : ServerState) (e : Event) → WithinLimits w → may_happen w e ≡ true → WithinLimits (after w e)
+within_after w e h m = within_effect w (effect e) h m
 
 pub within : (w : ServerState) (es : List Event) → WithinLimits w → is_legal w es ≡ true → WithinLimits (state_after w es)
 within w [] h m = h

@@ -1,65 +1,26 @@
 -- Who is alive, and the connections of the state.
-use Rattle.std.proofs.Common.{◌≡◌, ℕ, ◌+◌, ◌<◌, ◌≤◌, List, [], ◌∷◌, ◌++◌, length, true, false, ◌==◌, not, cond, Option, Some, None, refl, sym, ap, subst, ◌∙◌, arith, take, map, bytes_eq, append_assoc, append-nil}
+use Rattle.std.proofs.Common.{◌≡◌, ℕ, ◌+◌, ◌<◌, ◌≤◌, List, [], ◌∷◌, ◌++◌, length, Bool, true, false, ◌&&◌, ◌==◌, not, cond, Option, Some, None, refl, sym, ap, subst, ◌∙◌, arith, take, map, bytes_eq, append_assoc, append-nil}
 use Rattle.std.specs.Prelude.{if◌then◌else◌, max}
 use Rattle.std.specs.List.{AllByRecursion, count_by, filter, list_any, range_with_len}
 use Rattle.std.proofs.lemmas.Bool.Decides.{nat_tests}
 use Rattle.std.proofs.lemmas.List.FromFn.{map-range_with_len_more}
 use Rattle.std.proofs.lemmas.List.Recursion.{is_count_by}
-use Rattle.rule_lines.specs.declared.instr.Verdict.TheVariants.{Allow, Deny}
 use Rattle.connection_facts.specs.Peers.{Client}
 use Rattle.rules_install.specs.declared.Phase.{Phase}
 use Rattle.server_events.specs.declared.event.Stage.{Stage}
 use Rattle.server_events.specs.declared.event.Stage.TheVariants as stage
 use Rattle.server_events.specs.declared.event.Event.{Event}
-use Rattle.server_events.specs.declared.event.Event.TheVariants.{Admitted, Opened, Decided, Started, StartFailed, Ended, Retired, Dropped, Stepped, StepFailed, Stop}
+use Rattle.server_events.specs.declared.event.Event.TheVariants.{Admitted, Stop}
 use Rattle.server_events.specs.declared.state.Connection.{Connection}
-use Rattle.server_events.specs.Live.{Life, is_stop, since_stop, admission, ends, retires, live_of, retired_of, life_of, lives_of}
+use Rattle.server_events.specs.Live.{Life, is_stop, stops_by, since_stop, admission, admission_by, ends, ends_by, retires, retires_by, live_of, retired_of, life_of, lives_of}
 use Rattle.server_events.specs.Reports.{greatest}
-use Rattle.server_events.specs.ServerState.{ServerState, start, stage_of, with_stage, without, count_from, is_admitted, is_opened, is_allowed, is_started, is_unstarted, is_retired, may_happen, after, phase_after, is_legal, state_after, newcomer}
+use Rattle.server_events.specs.ServerState.{ServerState, start, stage_of, with_stage, without, count_from, is_retired, may_happen, after, phase_after, is_legal, state_after, newcomer, Effect, lets_in, opens, decides, brings, lets_go, comes_to, fails_at, ends_all, effect, may_have, with_effect}
 use Rattle.server_events.proofs.Alive.{alive, alive-kept, alive-ended, alive-admitted}
+use Rattle.server_events.proofs.Effects.{IsOf, Sound, before_retired, is_admitted-true, is_of, is_opened-true, rank, sound}
 use Rattle.server_events.proofs.Marks.{Marked, marked_after, marked-push, marked-without, marked-with_stage, marked-retired, marked-count}
 use Rattle.server_events.proofs.History.{and_true, room_for}
 use Rattle.server_events.proofs.ListLemmas.{after_last-push, list_any-push, greatest-push, or_false}
 use Rattle.server_events.proofs.Serials.{Rise, Rise-push, Rise-with_stage, Rise-without, stage_of-le, lives_of-without}
-
--- what a test tells of a stage
-pub is_admitted-true : (s : Option Stage) → is_admitted s ≡ true → s ≡ Some stage.Admitted
-is_admitted-true None e = cc
-is_admitted-true (Some stage.Admitted) e = refl
-is_admitted-true (Some stage.Opened) e = cc
-is_admitted-true (Some (stage.Decided v)) e = cc
-is_admitted-true (Some stage.Started) e = cc
-is_admitted-true (Some stage.Retired) e = cc
-
-pub is_opened-true : (s : Option Stage) → is_opened s ≡ true → s ≡ Some stage.Opened
-is_opened-true None e = cc
-is_opened-true (Some stage.Admitted) e = cc
-is_opened-true (Some stage.Opened) e = refl
-is_opened-true (Some (stage.Decided v)) e = cc
-is_opened-true (Some stage.Started) e = cc
-is_opened-true (Some stage.Retired) e = cc
-
-pub is_allowed-true : (s : Option Stage) → is_allowed s ≡ true → s ≡ Some (stage.Decided Allow)
-is_allowed-true None e = cc
-is_allowed-true (Some stage.Admitted) e = cc
-is_allowed-true (Some stage.Opened) e = cc
-is_allowed-true (Some (stage.Decided Allow)) e = refl
-is_allowed-true (Some (stage.Decided Deny)) e = cc
-is_allowed-true (Some stage.Started) e = cc
-is_allowed-true (Some stage.Retired) e = cc
-
-pub is_started-true : (s : Option Stage) → is_started s ≡ true → s ≡ Some stage.Started
-is_started-true None e = cc
-is_started-true (Some stage.Admitted) e = cc
-is_started-true (Some stage.Opened) e = cc
-is_started-true (Some (stage.Decided v)) e = cc
-is_started-true (Some stage.Started) e = refl
-is_started-true (Some stage.Retired) e = cc
-
--- a connection that may be dropped has a stage
-pub is_unstarted-some : (s : Option Stage) → is_unstarted s ≡ true → (t : Stage) × (s ≡ Some t)
-is_unstarted-some None e = cc
-is_unstarted-some (Some t) e = (t, refl)
 
 pub lives_of-append : (cs ds : List Connection) → lives_of (cs ++ ds) ≡ lives_of cs ++ lives_of ds
 lives_of-append [] ds = refl
@@ -116,16 +77,27 @@ tells_gone es w e n t at one never lets_none h =
       rise = Rise-without n 0 w.connections w.last h.rise;
     }
 
-pub tells_retired : (es : List Event) (w : ServerState) (n : ℕ) (t : Stage) → stage_of n w.connections ≡ Some t → Tells es w → Tells (es ++ Retired n ∷ []) (record w { connections = with_stage n stage.Retired w.connections })
-tells_retired es w n t at h =
+-- a connection is retired
+pub tells_retired : (es : List Event) (w : ServerState) (e : Event) (n : ℕ) (to t : Stage) → is_retired to ≡ true → stage_of n w.connections ≡ Some t → ((m : ℕ) → ends m e ≡ false) → ((m : ℕ) → retires m e ≡ (m == n)) → admission e ≡ None → Tells es w → Tells (es ++ e ∷ []) (record w { connections = with_stage n to w.connections })
+tells_retired es w e n to t last at none one lets_none h =
     let le : n ≤ w.last = stage_of-le n t 0 w.connections w.last h.rise at in
     let other : (m : ℕ) → w.last < m → (m == n) ≡ false = (λ m l. grind (arith, nat_tests, l, le)) in
     record {
-      lives = alive-kept es (Retired n) (λ m. refl) refl ∙ h.lives ∙ sym (lives_of-with_stage n stage.Retired w.connections);
-      marks = marked-retired es n 0 w.connections w.last h.rise h.marks;
-      unused = unused-push es (Retired n) w.last h.unused (λ m l. (refl, other m l));
-      rise = Rise-with_stage n stage.Retired 0 w.connections w.last h.rise;
+      lives = alive-kept es e none lets_none ∙ h.lives ∙ sym (lives_of-with_stage n to w.connections);
+      marks = marked-retired es e n one to last 0 w.connections w.last h.rise h.marks;
+      unused = unused-push es e w.last h.unused (λ m l. (none m, one m ∙ other m l));
+      rise = Rise-with_stage n to 0 w.connections w.last h.rise;
     }
+
+-- a connection is brought to another stage, or retired
+tells_brought : (es : List Event) (w : ServerState) (e : Event) (n : ℕ) (from : Option Stage → Bool) (to t : Stage) → effect e ≡ brings n from to → rank to ≡ rank t + 1 → stage_of n w.connections ≡ Some t → Tells es w → Tells (es ++ e ∷ []) (record w { connections = with_stage n to w.connections })
+tells_brought es w e n from to t is next at h =
+    elim (is_retired to) as (λ b. is_retired to ≡ b → Tells (es ++ e ∷ []) (record w { connections = with_stage n to w.connections })) [
+      | true ↦ λ last.
+          tells_retired es w e n to t last at (λ m. ap (ends_by m) is) (λ m. ap (retires_by m) is ∙ ap (λ b. b && (m == n)) last) (ap admission_by is) h
+      | false ↦ λ stays.
+          tells_stage es w e n to t stays (before_retired t to next) at (λ m. ap (ends_by m) is) (λ m. ap (retires_by m) is ∙ ap (λ b. b && (m == n)) stays) (ap admission_by is) h
+    ] refl
 
 pub tells_admitted : (es : List Event) (w : ServerState) (n : ℕ) (p : Client) → n ≡ w.last + 1 → Tells es w → Tells (es ++ Admitted n p ∷ []) (record w { last = n; connections = w.connections ++ newcomer n p ∷ [] })
 tells_admitted es w n p next h =
@@ -157,21 +129,24 @@ tells_phase es w e phase none never lets_none h = record {
 tells_stop : (w : ServerState) → Tells [] (after w Stop)
 tells_stop w = record { lives = refl; marks = tt; unused = λ m l. (refl, refl); rise = omega arith }
 
--- one event more than those since a stop
-pub tells_next : (es : List Event) (w : ServerState) (e : Event) → may_happen w e ≡ true → Tells es w → Tells (cond (is_stop e) [] (es ++ e ∷ [])) (after w e)
-tells_next es w (Admitted n p) m h = tells_admitted es w n p (room_for w n p m).next h
-tells_next es w (Opened n t) m h = tells_stage es w (Opened n t) n stage.Opened stage.Admitted refl refl (is_admitted-true _ m) (λ k. refl) (λ k. refl) refl h
-tells_next es w (Decided n d) m h = tells_stage es w (Decided n d) n (stage.Decided d.verdict) stage.Opened refl refl (is_opened-true _ m) (λ k. refl) (λ k. refl) refl h
-tells_next es w (Started n) m h = tells_stage es w (Started n) n stage.Started (stage.Decided Allow) refl refl (is_allowed-true _ m) (λ k. refl) (λ k. refl) refl h
-tells_next es w (StartFailed n f) m h = tells_gone es w (StartFailed n f) n (stage.Decided Allow) (is_allowed-true _ m) (λ k. refl) (λ k. refl) refl h
-tells_next es w (Ended n s) m h = tells_gone es w (Ended n s) n stage.Started (is_started-true _ m) (λ k. refl) (λ k. refl) refl h
-tells_next es w (Retired n) m h = tells_retired es w n stage.Started (is_started-true _ m) h
-tells_next es w (Dropped n c) m h =
-    let at = is_unstarted-some _ m in
-    tells_gone es w (Dropped n c) n at.0 at.1 (λ k. refl) (λ k. refl) refl h
-tells_next es w (Stepped p) m h = tells_phase es w (Stepped p) (phase_after p) (λ k. refl) (λ k. refl) refl h
-tells_next es w (StepFailed p) m h = tells_phase es w (StepFailed p) None (λ k. refl) (λ k. refl) refl h
-tells_next es w Stop m h = tells_stop w
+-- one event more than those since a stop, by its effect
+tells_by : (es : List Event) (w : ServerState) (e : Event) (x : Effect) → effect e ≡ x → IsOf x e → Sound x → may_have w x ≡ true → Tells es w → Tells (cond (stops_by x) [] (es ++ e ∷ [])) (with_effect w x)
+tells_by es w e (lets_in n p) is its s m h =
+    subst (λ (a : Event). Tells (es ++ a ∷ []) (with_effect w (lets_in n p))) (sym its) (tells_admitted es w n p (room_for w n p m).next h)
+tells_by es w e (opens n t) is its s m h = tells_stage es w e n stage.Opened stage.Admitted refl refl (is_admitted-true _ m) (λ k. ap (ends_by k) is) (λ k. ap (retires_by k) is) (ap admission_by is) h
+tells_by es w e (decides n d) is its s m h = tells_stage es w e n (stage.Decided d.verdict) stage.Opened refl refl (is_opened-true _ m) (λ k. ap (ends_by k) is) (λ k. ap (retires_by k) is) (ap admission_by is) h
+tells_by es w e (brings n from to) is its s m h =
+    let had = s.had _ m in
+    tells_brought es w e n from to had.0 is had.2 had.1 h
+tells_by es w e (lets_go n from) is its s m h =
+    let had = s.had _ m in
+    tells_gone es w e n had.0 had.1 (λ k. ap (ends_by k) is) (λ k. ap (retires_by k) is) (ap admission_by is) h
+tells_by es w e (comes_to p) is its s m h = tells_phase es w e (phase_after p) (λ k. ap (ends_by k) is) (λ k. ap (retires_by k) is) (ap admission_by is) h
+tells_by es w e (fails_at p) is its s m h = tells_phase es w e None (λ k. ap (ends_by k) is) (λ k. ap (retires_by k) is) (ap admission_by is) h
+tells_by es w e ends_all is its s m h = tells_stop w
+
+tells_next : (es : List Event) (w : ServerState) (e : Event) → may_happen w e ≡ true → Tells es w → Tells (cond (is_stop e) [] (es ++ e ∷ [])) (after w e)
+tells_next es w e m h = tells_by es w e (effect e) refl (is_of e) (sound e) m h
 
 -- one event more, that may happen
 pub tells_after : (history : List Event) (w : ServerState) (e : Event) → may_happen w e ≡ true → Tells (since_stop history) w → Tells (since_stop (history ++ e ∷ [])) (after w e)

@@ -5,9 +5,7 @@ use Rattle.std.specs.List.{AllByRecursion, count_by, filter, list_any}
 use Rattle.std.proofs.lemmas.Bool.Decides.{nat_tests}
 use Rattle.std.proofs.lemmas.List.Sums.{sum_by-cons}
 use Rattle.server_events.specs.declared.event.Stage.{Stage}
-use Rattle.server_events.specs.declared.event.Stage.TheVariants as stage
 use Rattle.server_events.specs.declared.event.Event.{Event}
-use Rattle.server_events.specs.declared.event.Event.TheVariants.{Retired}
 use Rattle.server_events.specs.declared.state.Connection.{Connection}
 use Rattle.server_events.specs.Live.{Life, retires, life_of, lives_of}
 use Rattle.server_events.specs.ServerState.{stage_of, with_stage, without, is_retired}
@@ -47,29 +45,31 @@ marked-with_stage es n s t (c ∷ cs) p q e h =
       | false ↦ λ later. (h.0, marked-with_stage es n s t cs p q later h.1)
     ] e
 
--- the retirement of n leaves a connection with another serial as it was
-pub marked-other : (es : List Event) (n : ℕ) (c : Connection) → (c.serial == n) ≡ false → Marked es c → Marked (es ++ Retired n ∷ []) c
-marked-other es n c other h =
-    h ∙ sym (list_any-push (retires c.serial) es (Retired n) ∙ or_keeps (list_any (retires c.serial) es) (c.serial == n) other)
+-- an event that retires the connection n, and no other
+module _ (es : List Event) (e : Event) (n : ℕ) (one : (m : ℕ) → retires m e ≡ (m == n)) where
+  -- it leaves a connection with another serial as it was
+  marked-other : (c : Connection) → (c.serial == n) ≡ false → Marked es c → Marked (es ++ e ∷ []) c
+  marked-other c other h =
+      h ∙ sym (list_any-push (retires c.serial) es e ∙ or_keeps (list_any (retires c.serial) es) (retires c.serial e) (one c.serial ∙ other))
 
-pub marked-above : (es : List Event) (n low : ℕ) (cs : List Connection) (high : ℕ) → n ≤ low → Rise low cs high → AllByRecursion (Marked es) cs → AllByRecursion (Marked (es ++ Retired n ∷ [])) cs
-marked-above es n low [] high l r h = tt
-marked-above es n low (c ∷ cs) high l r h =
-    let above = r.0 in
-    let other : (c.serial == n) ≡ false = grind (arith, nat_tests, above, l) in
-    (marked-other es n c other h.0, marked-above es n c.serial cs high (omega (arith, above)) r.1 h.1)
+  marked-above : (low : ℕ) (cs : List Connection) (high : ℕ) → n ≤ low → Rise low cs high → AllByRecursion (Marked es) cs → AllByRecursion (Marked (es ++ e ∷ [])) cs
+  marked-above low [] high l r h = tt
+  marked-above low (c ∷ cs) high l r h =
+      let above = r.0 in
+      let other : (c.serial == n) ≡ false = grind (arith, nat_tests, above, l) in
+      (marked-other c other h.0, marked-above c.serial cs high (omega (arith, above)) r.1 h.1)
 
-pub marked-retired : (es : List Event) (n low : ℕ) (cs : List Connection) (high : ℕ) → Rise low cs high → AllByRecursion (Marked es) cs → AllByRecursion (Marked (es ++ Retired n ∷ [])) (with_stage n stage.Retired cs)
-marked-retired es n low [] high r h = tt
-marked-retired es n low (c ∷ cs) high r h =
-    elim (c.serial == n) as (λ b. (c.serial == n) ≡ b → AllByRecursion (Marked (es ++ Retired n ∷ [])) (if b then ((record c { stage = stage.Retired }) ∷ cs) else (c ∷ with_stage n stage.Retired cs))) [
-      | true ↦ λ same.
-          let below : n ≤ c.serial = grind (arith, nat_tests, same) in (
-            sym (list_any-push (retires c.serial) es (Retired n) ∙ or_true (list_any (retires c.serial) es) (c.serial == n) same),
-            marked-above es n c.serial cs high below r.1 h.1,
-          )
-      | false ↦ λ other. (marked-other es n c other h.0, marked-retired es n c.serial cs high r.1 h.1)
-    ] refl
+  pub marked-retired : (to : Stage) → is_retired to ≡ true → (low : ℕ) (cs : List Connection) (high : ℕ) → Rise low cs high → AllByRecursion (Marked es) cs → AllByRecursion (Marked (es ++ e ∷ [])) (with_stage n to cs)
+  marked-retired to last low [] high r h = tt
+  marked-retired to last low (c ∷ cs) high r h =
+      elim (c.serial == n) as (λ b. (c.serial == n) ≡ b → AllByRecursion (Marked (es ++ e ∷ [])) (if b then ((record c { stage = to }) ∷ cs) else (c ∷ with_stage n to cs))) [
+        | true ↦ λ same.
+            let below : n ≤ c.serial = grind (arith, nat_tests, same) in (
+              last ∙ sym (list_any-push (retires c.serial) es e ∙ or_true (list_any (retires c.serial) es) (retires c.serial e) (one c.serial ∙ same)),
+              marked-above c.serial cs high below r.1 h.1,
+            )
+        | false ↦ λ other. (marked-other c other h.0, marked-retired to last c.serial cs high r.1 h.1)
+      ] refl
 
 -- how many of those alive are retired
 pub marked-count : (es : List Event) (cs : List Connection) → AllByRecursion (Marked es) cs → length (filter (λ (x : Life). list_any (retires x.serial) es) (lives_of cs)) ≡ count_by (λ (c : Connection). is_retired c.stage) cs

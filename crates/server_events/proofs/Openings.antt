@@ -13,15 +13,15 @@ use Rattle.ucspi_env.specs.Child.{environment_of}
 use Rattle.server_events.specs.declared.event.Stage.{Stage}
 use Rattle.server_events.specs.declared.event.Stage.TheVariants as stage
 use Rattle.server_events.specs.declared.event.Event.{Event}
-use Rattle.server_events.specs.declared.event.Event.TheVariants.{Admitted, Opened, Decided, Started, StartFailed, Ended, Retired, Dropped, Stepped, StepFailed, Stop}
+use Rattle.server_events.specs.declared.event.Event.TheVariants.{Admitted, Opened, Decided}
 use Rattle.server_events.specs.declared.state.Connection.{Connection}
 use Rattle.server_events.specs.Headline.{HasItsOpening, IsDecidedAt, OpensAndDecides, Reaches, decision_by}
-use Rattle.server_events.specs.ServerState.{ServerState, after, may_happen, newcomer, stage_of, with_stage, without}
-use Rattle.server_events.specs.Steps.{Advances, Legal, Moves, Outside, Step, none, more, beside}
+use Rattle.server_events.specs.ServerState.{ServerState, after, newcomer, stage_of, with_stage, without, Effect, lets_in, opens, decides, brings, lets_go, comes_to, fails_at, ends_all, effect, may_have, with_effect}
+use Rattle.server_events.specs.Steps.{Advances, Legal, Moves, Outside, Step, none, more, beside, MovesBy}
 use Rattle.server_events.specs.Worlds.{IsStart, KeptFile, RulesName, StandsFor, World, kept_by, missing_by, missing_in, peer_of, standing}
 use Rattle.server_events.proofs.History.{room_for}
 use Rattle.server_events.proofs.InstalledRuns.{decided_by_file, legal_then}
-use Rattle.server_events.proofs.LiveLemmas.{is_admitted-true, is_opened-true}
+use Rattle.server_events.proofs.Effects.{IsOf, Sound, is_admitted-true, is_of, is_opened-true, not_admitted, not_opened, sound}
 use Rattle.server_events.proofs.Peers.{stage_of-peer_of, stage_of-with_stage_is, peer_of-with_stage, peer_of-without_other, peer_of-without, stage_of-without_is, stage_of-push_other, peer_of-push_other, stage_of-push_is}
 use Rattle.server_events.proofs.Serials.{Rise, Rise-push, Rise-with_stage, Rise-without, stage_of-le}
 use Rattle.server_events.proofs.TableLemmas.{step_is}
@@ -29,7 +29,7 @@ use Rattle.server_events.proofs.WholeText.{reached_standing}
 
 -- ---- what connections keep
 
-kept_by-push_found : (n : ℕ) (bytes : Option (List ℕ)) (ks : List KeptFile) (k : KeptFile) → kept_by n ks ≡ Some bytes → kept_by n (ks ++ k ∷ []) ≡ Some bytes
+pub kept_by-push_found : (n : ℕ) (bytes : Option (List ℕ)) (ks : List KeptFile) (k : KeptFile) → kept_by n ks ≡ Some bytes → kept_by n (ks ++ k ∷ []) ≡ Some bytes
 kept_by-push_found n bytes [] k e = absurd (cc)
 kept_by-push_found n bytes (x ∷ ks) k e =
     elim (x.serial == n) as (λ b. (if b then Some x.bytes else kept_by n ks) ≡ Some bytes → (if b then Some x.bytes else kept_by n (ks ++ k ∷ [])) ≡ Some bytes) [
@@ -37,7 +37,7 @@ kept_by-push_found n bytes (x ∷ ks) k e =
       | false ↦ λ later. kept_by-push_found n bytes ks k later
     ] e
 
-kept_by-push_other : (n : ℕ) (ks : List KeptFile) (k : KeptFile) → (k.serial == n) ≡ false → kept_by n (ks ++ k ∷ []) ≡ kept_by n ks
+pub kept_by-push_other : (n : ℕ) (ks : List KeptFile) (k : KeptFile) → (k.serial == n) ≡ false → kept_by n (ks ++ k ∷ []) ≡ kept_by n ks
 kept_by-push_other n [] k other = rw other
 kept_by-push_other n (x ∷ ks) k other =
     ap (λ (o : Option (Option (List ℕ))). if x.serial == n then Some x.bytes else o) (kept_by-push_other n ks k other)
@@ -52,10 +52,13 @@ kept_by-push_own n bytes (x ∷ ks) e =
     ] e
 
 -- what is kept after an event
+abbrev pub kept_with : World → Effect → List KeptFile
+kept_with w (opens n there) = w.kept ++ record { serial = n; bytes = standing w } ∷ []
+kept_with w ends_all = []
+kept_with w _ = w.kept
+
 abbrev pub kept_after : World → Event → List KeptFile
-kept_after w (Opened n there) = w.kept ++ record { serial = n; bytes = standing w } ∷ []
-kept_after w Stop = []
-kept_after w event = w.kept
+kept_after w event = kept_with w (effect event)
 
 -- a step of an installation leaves what is kept, and the rules name
 advance_same : (phase : Phase) (w v : World) → Advances phase w v → (v.kept ≡ w.kept) × (v.rules ≡ w.rules)
@@ -66,18 +69,18 @@ advance_same Named w v a = (ap (λ (x : World). x.kept) a.4, ap (λ (x : World).
 advance_same Done w v a = (ap (λ (x : World). x.kept) a.3, ap (λ (x : World). x.rules) a.3)
 
 -- each step has what is kept after its event, and leaves the rules name
+pub same_by : (x : Effect) (w v : World) → MovesBy x w v → (v.kept ≡ kept_with w x) × (v.rules ≡ w.rules)
+same_by (lets_in n peer) w v m = (ap (λ (x : World). x.kept) m, ap (λ (x : World). x.rules) m)
+same_by (opens n there) w v m = (ap (λ (x : World). x.kept) m.1, ap (λ (x : World). x.rules) m.1)
+same_by (decides n decision) w v m = (ap (λ (x : World). x.kept) m.5, ap (λ (x : World). x.rules) m.5)
+same_by (brings n from to) w v m = (ap (λ (x : World). x.kept) m, ap (λ (x : World). x.rules) m)
+same_by (lets_go n from) w v m = (ap (λ (x : World). x.kept) m, ap (λ (x : World). x.rules) m)
+same_by (comes_to phase) w v m = advance_same phase w v m
+same_by (fails_at phase) w v m = (ap (λ (x : World). x.kept) m.3, ap (λ (x : World). x.rules) m.3)
+same_by ends_all w v m = (ap (λ (x : World). x.kept) m.1, ap (λ (x : World). x.rules) m.1)
+
 pub moves_same : (event : Event) (w v : World) → Moves event w v → (v.kept ≡ kept_after w event) × (v.rules ≡ w.rules)
-moves_same (Admitted n peer) w v m = (ap (λ (x : World). x.kept) m, ap (λ (x : World). x.rules) m)
-moves_same (Opened n there) w v m = (ap (λ (x : World). x.kept) m.1, ap (λ (x : World). x.rules) m.1)
-moves_same (Decided n decision) w v m = (ap (λ (x : World). x.kept) m.5, ap (λ (x : World). x.rules) m.5)
-moves_same (Started n) w v m = (ap (λ (x : World). x.kept) m, ap (λ (x : World). x.rules) m)
-moves_same (StartFailed n fault) w v m = (ap (λ (x : World). x.kept) m, ap (λ (x : World). x.rules) m)
-moves_same (Ended n status) w v m = (ap (λ (x : World). x.kept) m, ap (λ (x : World). x.rules) m)
-moves_same (Retired n) w v m = (ap (λ (x : World). x.kept) m, ap (λ (x : World). x.rules) m)
-moves_same (Dropped n cause) w v m = (ap (λ (x : World). x.kept) m, ap (λ (x : World). x.rules) m)
-moves_same (Stepped phase) w v m = advance_same phase w v m
-moves_same (StepFailed phase) w v m = (ap (λ (x : World). x.kept) m.3, ap (λ (x : World). x.rules) m.3)
-moves_same Stop w v m = (ap (λ (x : World). x.kept) m.1, ap (λ (x : World). x.rules) m.1)
+moves_same event w v m = same_by (effect event) w v m
 
 -- ---- what holds in each world
 
@@ -136,18 +139,15 @@ orderly_opened s kept m bytes here h =
     }
 
 -- after each event that may happen
-orderly_after : (w : World) (event : Event) → may_happen w.server event ≡ true → Orderly w.server w.kept → Orderly (after w.server event) (kept_after w event)
-orderly_after w (Admitted n peer) may h = orderly_admitted w.server w.kept n peer (room_for w.server n peer may).next h
-orderly_after w (Opened n there) may h = orderly_opened w.server w.kept n (standing w) (is_admitted-true _ may) h
-orderly_after w (Decided n decision) may h = orderly_stage w.server w.kept n (stage.Decided decision.verdict) (λ e. cc) h
-orderly_after w (Started n) may h = orderly_stage w.server w.kept n stage.Started (λ e. cc) h
-orderly_after w (StartFailed n fault) may h = orderly_gone w.server w.kept n h
-orderly_after w (Ended n status) may h = orderly_gone w.server w.kept n h
-orderly_after w (Retired n) may h = orderly_stage w.server w.kept n stage.Retired (λ e. cc) h
-orderly_after w (Dropped n cause) may h = orderly_gone w.server w.kept n h
-orderly_after w (Stepped phase) may h = record { rise = h.rise; waiting = h.waiting; to_come = h.to_come }
-orderly_after w (StepFailed phase) may h = record { rise = h.rise; waiting = h.waiting; to_come = h.to_come }
-orderly_after w Stop may h = record { rise = omega arith; waiting = λ n at. refl; to_come = λ n above. refl }
+orderly_with : (w : World) (x : Effect) → Sound x → may_have w.server x ≡ true → Orderly w.server w.kept → Orderly (with_effect w.server x) (kept_with w x)
+orderly_with w (lets_in n peer) its may h = orderly_admitted w.server w.kept n peer (room_for w.server n peer may).next h
+orderly_with w (opens n there) its may h = orderly_opened w.server w.kept n (standing w) (is_admitted-true _ may) h
+orderly_with w (decides n decision) its may h = orderly_stage w.server w.kept n (stage.Decided decision.verdict) (λ e. cc) h
+orderly_with w (brings n from to) its may h = orderly_stage w.server w.kept n to (not_admitted to its.late) h
+orderly_with w (lets_go n from) its may h = orderly_gone w.server w.kept n h
+orderly_with w (comes_to phase) its may h = record { rise = h.rise; waiting = h.waiting; to_come = h.to_come }
+orderly_with w (fails_at phase) its may h = record { rise = h.rise; waiting = h.waiting; to_come = h.to_come }
+orderly_with w ends_all its may h = record { rise = omega arith; waiting = λ n at. refl; to_come = λ n above. refl }
 
 -- what holds after the event holds after a step by it
 moved : (P : ServerState → List KeptFile → Type 0) (w v : World) (event : Event) → Step w event v → P (after w.server event) (kept_after w event) → P v.server v.kept
@@ -156,7 +156,7 @@ moved P w v event step h =
     subst (λ (ks : List KeptFile). P v.server ks) (sym (moves_same event w v step.moves).0) server
 
 orderly_step : (w v : World) (event : Event) → Step w event v → Orderly w.server w.kept → Orderly v.server v.kept
-orderly_step w v event step h = moved Orderly w v event step (orderly_after w event (step_is step.table).0 h)
+orderly_step w v event step h = moved Orderly w v event step (orderly_with w (effect event) (sound event) (step_is step.table).0 h)
 
 -- a step of others leaves what connections are and keep
 same_side : (P : ServerState → List KeptFile → Type 0) (w v : World) → Outside w v → P w.server w.kept → P v.server v.kept
@@ -217,27 +217,24 @@ module _ (n : ℕ) (peer : Client) (bytes : Option (List ℕ)) (s : ServerState)
       let other : (m == n) ≡ false = grind (arith, nat_tests, next, up_to) in
       carries_same m (s.connections ++ newcomer m p ∷ []) s.limit s.per_address s.phase kept (omega arith) (peer_of-push_other n s.connections (newcomer m p) other) (λ e. e)
 
-carries_after : (n : ℕ) (peer : Client) (bytes : Option (List ℕ)) (w : World) (event : Event) → may_happen w.server event ≡ true → Rise 0 w.server.connections w.server.last → Carries n peer bytes w.server w.kept → Carries n peer bytes (after w.server event) (kept_after w event)
-carries_after n peer bytes w (Admitted m p) may rise h = carries_admitted n peer bytes w.server w.kept h m p (room_for w.server m p may).next
-carries_after n peer bytes w (Opened m there) may rise h =
+carries_with : (n : ℕ) (peer : Client) (bytes : Option (List ℕ)) (w : World) (x : Effect) → may_have w.server x ≡ true → Rise 0 w.server.connections w.server.last → Carries n peer bytes w.server w.kept → Carries n peer bytes (with_effect w.server x) (kept_with w x)
+carries_with n peer bytes w (lets_in m p) may rise h = carries_admitted n peer bytes w.server w.kept h m p (room_for w.server m p may).next
+carries_with n peer bytes w (opens m there) may rise h =
     let s = w.server in
     let new : KeptFile = record { serial = m; bytes = standing w } in
     carries_same n peer bytes s w.kept h s.last (with_stage m stage.Opened s.connections) s.limit s.per_address s.phase (w.kept ++ new ∷ []) h.old (peer_of-with_stage n m stage.Opened s.connections) (λ e. kept_by-push_found n bytes w.kept new e)
-carries_after n peer bytes w (Decided m decision) may rise h = carries_stage n peer bytes w.server w.kept h m (stage.Decided decision.verdict)
-carries_after n peer bytes w (Started m) may rise h = carries_stage n peer bytes w.server w.kept h m stage.Started
-carries_after n peer bytes w (StartFailed m fault) may rise h = carries_gone n peer bytes w.server w.kept h m rise
-carries_after n peer bytes w (Ended m status) may rise h = carries_gone n peer bytes w.server w.kept h m rise
-carries_after n peer bytes w (Retired m) may rise h = carries_stage n peer bytes w.server w.kept h m stage.Retired
-carries_after n peer bytes w (Dropped m cause) may rise h = carries_gone n peer bytes w.server w.kept h m rise
-carries_after n peer bytes w (Stepped phase) may rise h = record { old = h.old; here = h.here }
-carries_after n peer bytes w (StepFailed phase) may rise h = record { old = h.old; here = h.here }
-carries_after n peer bytes w Stop may rise h = record { old = h.old; here = inl refl }
+carries_with n peer bytes w (decides m decision) may rise h = carries_stage n peer bytes w.server w.kept h m (stage.Decided decision.verdict)
+carries_with n peer bytes w (brings m from to) may rise h = carries_stage n peer bytes w.server w.kept h m to
+carries_with n peer bytes w (lets_go m from) may rise h = carries_gone n peer bytes w.server w.kept h m rise
+carries_with n peer bytes w (comes_to phase) may rise h = record { old = h.old; here = h.here }
+carries_with n peer bytes w (fails_at phase) may rise h = record { old = h.old; here = h.here }
+carries_with n peer bytes w ends_all may rise h = record { old = h.old; here = inl refl }
 
 -- Through a list of steps it is gone or carries the same, and the rules name is the same.
 carries_run : (n : ℕ) (peer : Client) (bytes : Option (List ℕ)) {u x : World} {events : List Event} → Legal u events x → Orderly u.server u.kept → Carries n peer bytes u.server u.kept → Carries n peer bytes x.server x.kept × (x.rules ≡ u.rules)
 carries_run n peer bytes none order h = (h, refl)
 carries_run n peer bytes (more {u} {v} {w} {event} {events} step rest) order h =
-    let next = moved (λ (s : ServerState) (ks : List KeptFile). Carries n peer bytes s ks) u v event step (carries_after n peer bytes u event (step_is step.table).0 order.rise h) in
+    let next = moved (λ (s : ServerState) (ks : List KeptFile). Carries n peer bytes s ks) u v event step (carries_with n peer bytes u (effect event) (step_is step.table).0 order.rise h) in
     let later = carries_run n peer bytes rest (orderly_step u v event step order) next in
     (later.0, later.1 ∙ (moves_same event u v step.moves).1)
 carries_run n peer bytes (beside {u} {v} out rest) order h =
@@ -299,23 +296,19 @@ module _ (before : List Event) (u : World) (reaches : Reaches before u) (n : ℕ
 -- ---- the opening of a decided connection
 
 -- where a connection is opened after an event, it was before, or this was its opening
-opened_by : (s : ServerState) (kept : List KeptFile) (event : Event) (n : ℕ) → may_happen s event ≡ true → Orderly s kept → stage_of n (after s event).connections ≡ Some stage.Opened → (stage_of n s.connections ≡ Some stage.Opened) ⊎ ((there : Bool) × (event ≡ Opened n there))
-opened_by s kept (Admitted m peer) n may order e =
+opened_by : (s : ServerState) (kept : List KeptFile) (event : Event) (x : Effect) (n : ℕ) → IsOf x event → Sound x → Orderly s kept → stage_of n (with_effect s x).connections ≡ Some stage.Opened → (stage_of n s.connections ≡ Some stage.Opened) ⊎ ((there : Bool) × (event ≡ Opened n there))
+opened_by s kept event (lets_in m peer) n is its order e =
     elim (stage_of-push_is n stage.Opened s.connections (newcomer m peer) e) [ inl before ↦ inl before | inr never ↦ absurd (cc) ]
-opened_by s kept (Opened m there) n may order e =
-    elim (stage_of-with_stage_is n m stage.Opened stage.Opened s.connections e) [ inl before ↦ inl before.1 | inr now ↦ inr (there, ap (λ (k : ℕ). Opened k there) now.0) ]
-opened_by s kept (Decided m decision) n may order e =
+opened_by s kept event (opens m there) n is its order e =
+    elim (stage_of-with_stage_is n m stage.Opened stage.Opened s.connections e) [ inl before ↦ inl before.1 | inr now ↦ inr (there, is ∙ ap (λ (k : ℕ). Opened k there) now.0) ]
+opened_by s kept event (decides m decision) n is its order e =
     elim (stage_of-with_stage_is n m (stage.Decided decision.verdict) stage.Opened s.connections e) [ inl before ↦ inl before.1 | inr now ↦ absurd (let never = now.1 in cc) ]
-opened_by s kept (Started m) n may order e =
-    elim (stage_of-with_stage_is n m stage.Started stage.Opened s.connections e) [ inl before ↦ inl before.1 | inr now ↦ absurd (let never = now.1 in cc) ]
-opened_by s kept (StartFailed m fault) n may order e = inl (stage_of-without_is n m stage.Opened 0 s.connections s.last order.rise e)
-opened_by s kept (Ended m status) n may order e = inl (stage_of-without_is n m stage.Opened 0 s.connections s.last order.rise e)
-opened_by s kept (Retired m) n may order e =
-    elim (stage_of-with_stage_is n m stage.Retired stage.Opened s.connections e) [ inl before ↦ inl before.1 | inr now ↦ absurd (let never = now.1 in cc) ]
-opened_by s kept (Dropped m cause) n may order e = inl (stage_of-without_is n m stage.Opened 0 s.connections s.last order.rise e)
-opened_by s kept (Stepped phase) n may order e = inl e
-opened_by s kept (StepFailed phase) n may order e = inl e
-opened_by s kept Stop n may order e = absurd (cc)
+opened_by s kept event (brings m from to) n is its order e =
+    elim (stage_of-with_stage_is n m to stage.Opened s.connections e) [ inl before ↦ inl before.1 | inr now ↦ absurd (not_opened to its.late now.1) ]
+opened_by s kept event (lets_go m from) n is its order e = inl (stage_of-without_is n m stage.Opened 0 s.connections s.last order.rise e)
+opened_by s kept event (comes_to phase) n is its order e = inl e
+opened_by s kept event (fails_at phase) n is its order e = inl e
+opened_by s kept event ends_all n is its order e = absurd (cc)
 
 -- the opening of a connection in a history that leads to a world
 record Opening (history : List Event) (n : ℕ) (x : World) : Type 0 where
@@ -345,7 +338,7 @@ opening_between n before reaches (more {u} {v} {w} {event} {events} step rest) e
       | inl after_it ↦
           let happened = step_is step.table in
           let at : stage_of n (after u.server event).connections ≡ Some stage.Opened = ap (λ (s : ServerState). stage_of n s.connections) (sym happened.1) ∙ after_it in
-          elim (opened_by u.server u.kept event n happened.0 (orderly_reached before u reaches) at) [
+          elim (opened_by u.server u.kept event (effect event) n (is_of event) (sound event) (orderly_reached before u reaches) at) [
             | inl earlier ↦ inl earlier
             | inr now ↦ inr (record {
               before = before;

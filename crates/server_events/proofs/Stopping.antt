@@ -1,5 +1,5 @@
 -- What a stop since a step of an installation began leaves of a world in which it is under way.
-use Rattle.std.proofs.Common.{inl, inr, ⊎_elim, ℕ, sym, subst, arith}
+use Rattle.std.proofs.Common.{inl, inr, ⊎_elim, sym, subst, arith}
 use Rattle.dir_calls.specs.Calls.{Call}
 use Rattle.dir_calls.specs.Directory.{Directory}
 use Rattle.dir_calls.specs.Images.{IsImage}

@@ -9,7 +9,7 @@ use Rattle.server_events.specs.declared.event.Event.TheVariants.{Admitted, Opene
 use Rattle.server_events.specs.Table.{Follows, fresh, filling, filling_on, synced, named, done, IsUnstarted, not_opened, not_decided, not_started, Happens, admitted, opened, decided, started, start_failed, ended, retired, dropped, stepped, failed, stop, Runs, none, more}
 use Rattle.server_events.specs.ServerState.{ServerState, after, may_come, may_happen, is_legal, state_after, is_admitted, is_opened, is_allowed, is_started, is_unstarted}
 use Rattle.server_events.proofs.History.{and_true, both_true, room_for, has_room}
-use Rattle.server_events.proofs.LiveLemmas.{is_admitted-true, is_opened-true, is_allowed-true, is_started-true}
+use Rattle.server_events.proofs.Effects.{is_admitted-true, is_opened-true, is_allowed-true, is_started-true}
 
 pub follows_may_come : {before : Option Phase} {p : Phase} → Follows before p → may_come before p ≡ true
 follows_may_come fresh = refl

@@ -15,10 +15,9 @@ use Rattle.dir_calls.proofs.NameTables.{current-push}
 use Rattle.dir_calls.proofs.Passing.{passes_end}
 use Rattle.dir_calls.proofs.Renames.{moved_files, moved_number}
 use Rattle.server_events.specs.declared.event.Event.{Event}
-use Rattle.server_events.specs.declared.event.Event.TheVariants.{Admitted, Opened, Decided, Started, StartFailed, Ended, Retired, Dropped, Stepped, StepFailed, Stop}
-use Rattle.server_events.specs.ServerState.{ServerState, phase_after}
+use Rattle.server_events.specs.ServerState.{ServerState, phase_after, Effect, lets_in, opens, decides, brings, lets_go, comes_to, fails_at, ends_all, effect, may_have, with_effect}
 use Rattle.server_events.specs.Table.{Follows, fresh, filling, filling_on, synced, named, done}
-use Rattle.server_events.specs.Steps.{Advances, FailsTo, IsCallTo, IsScratchName, IsWhole, LeavesAlone, LeavesRules, LeavesScratch, MakesScratch, Legal, MayBeAt, MayLeave, Moves, Outside, Step, none, more, beside}
+use Rattle.server_events.specs.Steps.{Advances, FailsTo, IsCallTo, IsScratchName, IsWhole, LeavesAlone, LeavesRules, LeavesScratch, MakesScratch, Legal, MayBeAt, MayLeave, Moves, Outside, Step, none, more, beside, MovesBy}
 use Rattle.server_events.specs.Worlds.{Accepted, HoldsRules, IsAccepted, IsStart, RulesName, StartsWith, UnderWay, World, standing}
 use Rattle.server_events.specs.Headline.{HasWholeText, Reaches}
 use Rattle.server_events.proofs.LeftNames.{PutsOnly, left_now, names-with_scratch, scratch-with_scratch}
@@ -320,24 +319,20 @@ good_failure phase w v steps follows is good =
 good_aside : (w : World) (server : ServerState) → server.phase ≡ w.server.phase → Good w → HoldsBy w.rules w.accepted w.acknowledged w.directory server.phase w.under_way
 good_aside w server is good = same_parts w.rules w.accepted w.acknowledged w.directory w.server.phase server.phase w.under_way w.under_way is refl good
 
-pub good_moves : (event : Event) (w v : World) → Step w event v → Moves event w v → Good w → Good v
-good_moves (Admitted n peer) w v step what good = subst (λ (x : World). Good x) (sym what) (good_aside w v.server (ap (λ s. s.phase) (step_is step.table).1) good)
-good_moves (Opened n there) w v step what good = subst (λ (x : World). Good x) (sym what.1) (good_aside w v.server (ap (λ s. s.phase) (step_is step.table).1) good)
-good_moves (Decided n decision) w v step what good = subst (λ (x : World). Good x) (sym what.5) (good_aside w v.server (ap (λ s. s.phase) (step_is step.table).1) good)
-good_moves (Started n) w v step what good = subst (λ (x : World). Good x) (sym what) (good_aside w v.server (ap (λ s. s.phase) (step_is step.table).1) good)
-good_moves (StartFailed n fault) w v step what good = subst (λ (x : World). Good x) (sym what) (good_aside w v.server (ap (λ s. s.phase) (step_is step.table).1) good)
-good_moves (Ended n status) w v step what good = subst (λ (x : World). Good x) (sym what) (good_aside w v.server (ap (λ s. s.phase) (step_is step.table).1) good)
-good_moves (Retired n) w v step what good = subst (λ (x : World). Good x) (sym what) (good_aside w v.server (ap (λ s. s.phase) (step_is step.table).1) good)
-good_moves (Dropped n cause) w v step what good = subst (λ (x : World). Good x) (sym what) (good_aside w v.server (ap (λ s. s.phase) (step_is step.table).1) good)
-good_moves (Stepped phase) w v step what good =
-    let happened = step_is step.table in
-    good_advance phase w v what (may_come_follows w.server.phase phase happened.0) (ap (λ s. s.phase) happened.1) good
-good_moves (StepFailed phase) w v step what good =
-    let happened = step_is step.table in
-    good_failure phase w v what (may_come_follows w.server.phase phase happened.0) (ap (λ s. s.phase) happened.1) good
-good_moves Stop w v step what good =
+good_by : (x : Effect) (w v : World) → may_have w.server x ≡ true → v.server ≡ with_effect w.server x → MovesBy x w v → Good w → Good v
+good_by (lets_in n peer) w v may is what good = subst (λ (x : World). Good x) (sym what) (good_aside w v.server (ap (λ s. s.phase) is) good)
+good_by (opens n there) w v may is what good = subst (λ (x : World). Good x) (sym what.1) (good_aside w v.server (ap (λ s. s.phase) is) good)
+good_by (decides n decision) w v may is what good = subst (λ (x : World). Good x) (sym what.5) (good_aside w v.server (ap (λ s. s.phase) is) good)
+good_by (brings n from to) w v may is what good = subst (λ (x : World). Good x) (sym what) (good_aside w v.server (ap (λ s. s.phase) is) good)
+good_by (lets_go n from) w v may is what good = subst (λ (x : World). Good x) (sym what) (good_aside w v.server (ap (λ s. s.phase) is) good)
+good_by (comes_to phase) w v may is what good = good_advance phase w v what (may_come_follows w.server.phase phase may) (ap (λ s. s.phase) is) good
+good_by (fails_at phase) w v may is what good = good_failure phase w v what (may_come_follows w.server.phase phase may) (ap (λ s. s.phase) is) good
+good_by ends_all w v may is what good =
     subst (λ (x : World). Good x) (sym what.1)
-    (same_parts w.rules w.accepted w.acknowledged v.directory None v.server.phase None None (ap (λ s. s.phase) (step_is step.table).1) refl (stopped_holds w v.directory good what.0))
+    (same_parts w.rules w.accepted w.acknowledged v.directory None v.server.phase None None (ap (λ s. s.phase) is) refl (stopped_holds w v.directory good what.0))
+
+pub good_moves : (event : Event) (w v : World) → Step w event v → Moves event w v → Good w → Good v
+good_moves event w v step what good = (let happened = step_is step.table in good_by (effect event) w v happened.0 happened.1 what good)
 
 -- ---- steps of others
 

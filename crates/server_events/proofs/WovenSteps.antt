@@ -4,12 +4,13 @@ use Rattle.dir_calls.specs.Directory.{Directory}
 use Rattle.rules_install.specs.declared.Phase.{Phase}
 use Rattle.rules_install.specs.declared.Phase.TheVariants.{Fresh, Filling, Synced, Named, Done}
 use Rattle.server_events.specs.declared.event.Event.{Event}
-use Rattle.server_events.specs.declared.event.Event.TheVariants.{Admitted, Opened, Decided, Started, StartFailed, Ended, Retired, Dropped, Stepped, StepFailed, Stop}
-use Rattle.server_events.specs.Processes.{InstallerSteps, KeepsInstallers, KeepsServer, ServerSteps, Woven, is_connections, is_installations, none, serves, installs, stops, outside, of_installers, of_server}
-use Rattle.server_events.specs.ServerState.{ServerState, after, may_happen, phase_after, start}
-use Rattle.server_events.specs.Steps.{Advances, FailsTo, Legal, Moves, Step, none as no_more, more, beside}
+use Rattle.server_events.specs.declared.event.Event.TheVariants.{Stepped, StepFailed}
+use Rattle.server_events.specs.Processes.{InstallerSteps, KeepsInstallers, KeepsServer, ServerSteps, Woven, is_connections, is_installations, none, serves, installs, stops, outside, of_installers, of_server, concerns_one, installs_by}
+use Rattle.server_events.specs.ServerState.{ServerState, after, phase_after, start, Effect, lets_in, opens, decides, brings, lets_go, comes_to, fails_at, ends_all, effect, may_have, with_effect}
+use Rattle.server_events.specs.Steps.{Advances, FailsTo, Legal, Step, none as no_more, more, beside, MovesBy}
 use Rattle.server_events.specs.Table.{Happens}
 use Rattle.server_events.specs.Worlds.{Accepted, KeptFile, RulesName, UnderWay, World}
+use Rattle.server_events.proofs.Effects.{IsOf, is_of}
 use Rattle.server_events.proofs.TableLemmas.{is_step, step_is}
 
 -- worlds with the same parts
@@ -29,41 +30,35 @@ in_phase phase s = record s { phase = phase }
 
 -- ---- events of connections, which no phase is needed for
 
-may_anyway : (s : ServerState) (phase : Option Phase) (event : Event) → is_connections event ≡ true → may_happen (in_phase phase s) event ≡ may_happen s event
-may_anyway s phase (Admitted n peer) its = refl
-may_anyway s phase (Opened n there) its = refl
-may_anyway s phase (Decided n decision) its = refl
-may_anyway s phase (Started n) its = refl
-may_anyway s phase (StartFailed n fault) its = refl
-may_anyway s phase (Ended n status) its = refl
-may_anyway s phase (Retired n) its = refl
-may_anyway s phase (Dropped n cause) its = refl
-may_anyway s phase (Stepped p) its = absurd (cc)
-may_anyway s phase (StepFailed p) its = absurd (cc)
-may_anyway s phase Stop its = absurd (cc)
+may_anyway : (s : ServerState) (phase : Option Phase) (x : Effect) → concerns_one x ≡ true → may_have (in_phase phase s) x ≡ may_have s x
+may_anyway s phase (lets_in n peer) its = refl
+may_anyway s phase (opens n there) its = refl
+may_anyway s phase (decides n decision) its = refl
+may_anyway s phase (brings n from to) its = refl
+may_anyway s phase (lets_go n from) its = refl
+may_anyway s phase (comes_to p) its = absurd (cc)
+may_anyway s phase (fails_at p) its = absurd (cc)
+may_anyway s phase ends_all its = absurd (cc)
 
-after_anyway : (s : ServerState) (phase : Option Phase) (event : Event) → is_connections event ≡ true → after (in_phase phase s) event ≡ in_phase phase (after s event)
-after_anyway s phase (Admitted n peer) its = refl
-after_anyway s phase (Opened n there) its = refl
-after_anyway s phase (Decided n decision) its = refl
-after_anyway s phase (Started n) its = refl
-after_anyway s phase (StartFailed n fault) its = refl
-after_anyway s phase (Ended n status) its = refl
-after_anyway s phase (Retired n) its = refl
-after_anyway s phase (Dropped n cause) its = refl
-after_anyway s phase (Stepped p) its = absurd (cc)
-after_anyway s phase (StepFailed p) its = absurd (cc)
-after_anyway s phase Stop its = absurd (cc)
+after_anyway : (s : ServerState) (phase : Option Phase) (x : Effect) → concerns_one x ≡ true → with_effect (in_phase phase s) x ≡ in_phase phase (with_effect s x)
+after_anyway s phase (lets_in n peer) its = refl
+after_anyway s phase (opens n there) its = refl
+after_anyway s phase (decides n decision) its = refl
+after_anyway s phase (brings n from to) its = refl
+after_anyway s phase (lets_go n from) its = refl
+after_anyway s phase (comes_to p) its = absurd (cc)
+after_anyway s phase (fails_at p) its = absurd (cc)
+after_anyway s phase ends_all its = absurd (cc)
 
 phase_stays : (s : ServerState) (event : Event) → is_connections event ≡ true → (after s event).phase ≡ s.phase
-phase_stays s event its = ap (λ (t : ServerState). t.phase) (after_anyway s s.phase event its)
+phase_stays s event its = ap (λ (t : ServerState). t.phase) (after_anyway s s.phase (effect event) its)
 
 -- what happens happens in another phase too
 happens_in : (s t : ServerState) (phase : Option Phase) (event : Event) → is_connections event ≡ true → Happens s event t → Happens (in_phase phase s) event (in_phase phase t)
 happens_in s t phase event its happens =
     let (may, is) = step_is happens in
-    subst (λ (u : ServerState). Happens (in_phase phase s) event u) (after_anyway s phase event its ∙ ap (in_phase phase) (sym is))
-    (is_step (in_phase phase s) event (may_anyway s phase event its ∙ may))
+    subst (λ (u : ServerState). Happens (in_phase phase s) event u) (after_anyway s phase (effect event) its ∙ ap (in_phase phase) (sym is))
+    (is_step (in_phase phase s) event (may_anyway s phase (effect event) its ∙ may))
 
 -- ---- the server by itself
 
@@ -79,29 +74,26 @@ aside w v others is =
     to_world w v others (is ∙ ap (λ (x : List KeptFile). record (of_server w) { server = (of_server v).server; kept = x }) (sym (keeping w v is)))
     ∙ ap (λ (x : List KeptFile). record w { server = v.server; kept = x }) (keeping w v is)
 
-server_moves : (event : Event) (w v : World) → is_connections event ≡ true → KeepsInstallers w v → Moves event (of_server w) (of_server v) → Moves event w v
-server_moves (Admitted n peer) w v its others moves = aside w v others moves
-server_moves (Opened n there) w v its others moves =
+server_moves : (x : Effect) (w v : World) → concerns_one x ≡ true → KeepsInstallers w v → MovesBy x (of_server w) (of_server v) → MovesBy x w v
+server_moves (lets_in n peer) w v its others moves = aside w v others moves
+server_moves (opens n there) w v its others moves =
     let kept = ap (λ (x : World). x.kept) moves.1 in (
       moves.0,
       to_world w v others (moves.1 ∙ ap (λ (x : List KeptFile). record (of_server w) { server = (of_server v).server; kept = x }) (sym kept))
           ∙ ap (λ (x : List KeptFile). record w { server = v.server; kept = x }) kept,
     )
-server_moves (Decided n decision) w v its others moves = (moves.0, moves.1, moves.2, moves.3, moves.4, aside w v others moves.5)
-server_moves (Started n) w v its others moves = aside w v others moves
-server_moves (StartFailed n fault) w v its others moves = aside w v others moves
-server_moves (Ended n status) w v its others moves = aside w v others moves
-server_moves (Retired n) w v its others moves = aside w v others moves
-server_moves (Dropped n cause) w v its others moves = aside w v others moves
-server_moves (Stepped p) w v its others moves = absurd (cc)
-server_moves (StepFailed p) w v its others moves = absurd (cc)
-server_moves Stop w v its others moves = absurd (cc)
+server_moves (decides n decision) w v its others moves = (moves.0, moves.1, moves.2, moves.3, moves.4, aside w v others moves.5)
+server_moves (brings n from to) w v its others moves = aside w v others moves
+server_moves (lets_go n from) w v its others moves = aside w v others moves
+server_moves (comes_to p) w v its others moves = absurd (cc)
+server_moves (fails_at p) w v its others moves = absurd (cc)
+server_moves ends_all w v its others moves = absurd (cc)
 
 server_step : (w v : World) (event : Event) → ServerSteps w event v → Step w event v
 server_step w v event made = record {
   table = subst (λ (p : Option Phase). Happens w.server event (in_phase p v.server)) (sym made.others.phase)
       (happens_in (of_server w).server (of_server v).server w.server.phase event made.its made.step.table);
-  moves = server_moves event w v made.its made.others made.step.moves;
+  moves = server_moves (effect event) w v made.its made.others made.step.moves;
 }
 
 -- ---- and back
@@ -110,39 +102,33 @@ of_server_kept : (w v : World) (kept : List KeptFile) → v ≡ record w { serve
 of_server_kept w v kept is =
     same_world (of_server v) (record (of_server w) { server = (of_server v).server; kept = kept }) (ap (λ (x : World). x.directory) is) (ap (λ (x : World). x.rules) is) refl refl refl refl (ap (λ (x : World). x.kept) is)
 
-part_moves : (event : Event) (w v : World) → is_connections event ≡ true → Moves event w v → Moves event (of_server w) (of_server v)
-part_moves (Admitted n peer) w v its moves = of_server_kept w v w.kept moves
-part_moves (Opened n there) w v its moves = (moves.0, of_server_kept w v _ moves.1)
-part_moves (Decided n decision) w v its moves = (moves.0, moves.1, moves.2, moves.3, moves.4, of_server_kept w v w.kept moves.5)
-part_moves (Started n) w v its moves = of_server_kept w v w.kept moves
-part_moves (StartFailed n fault) w v its moves = of_server_kept w v w.kept moves
-part_moves (Ended n status) w v its moves = of_server_kept w v w.kept moves
-part_moves (Retired n) w v its moves = of_server_kept w v w.kept moves
-part_moves (Dropped n cause) w v its moves = of_server_kept w v w.kept moves
-part_moves (Stepped p) w v its moves = absurd (cc)
-part_moves (StepFailed p) w v its moves = absurd (cc)
-part_moves Stop w v its moves = absurd (cc)
+part_moves : (x : Effect) (w v : World) → concerns_one x ≡ true → MovesBy x w v → MovesBy x (of_server w) (of_server v)
+part_moves (lets_in n peer) w v its moves = of_server_kept w v w.kept moves
+part_moves (opens n there) w v its moves = (moves.0, of_server_kept w v _ moves.1)
+part_moves (decides n decision) w v its moves = (moves.0, moves.1, moves.2, moves.3, moves.4, of_server_kept w v w.kept moves.5)
+part_moves (brings n from to) w v its moves = of_server_kept w v w.kept moves
+part_moves (lets_go n from) w v its moves = of_server_kept w v w.kept moves
+part_moves (comes_to p) w v its moves = absurd (cc)
+part_moves (fails_at p) w v its moves = absurd (cc)
+part_moves ends_all w v its moves = absurd (cc)
 
 -- what a step of a connection leaves to the installers
-left_over : (event : Event) (w v : World) → is_connections event ≡ true → Moves event w v → (v.accepted ≡ w.accepted) × (v.acknowledged ≡ w.acknowledged) × (v.under_way ≡ w.under_way)
-left_over (Admitted n peer) w v its moves = (ap (λ x. x.accepted) moves, ap (λ x. x.acknowledged) moves, ap (λ x. x.under_way) moves)
-left_over (Opened n there) w v its moves = (ap (λ x. x.accepted) moves.1, ap (λ x. x.acknowledged) moves.1, ap (λ x. x.under_way) moves.1)
-left_over (Decided n decision) w v its moves = (ap (λ x. x.accepted) moves.5, ap (λ x. x.acknowledged) moves.5, ap (λ x. x.under_way) moves.5)
-left_over (Started n) w v its moves = (ap (λ x. x.accepted) moves, ap (λ x. x.acknowledged) moves, ap (λ x. x.under_way) moves)
-left_over (StartFailed n fault) w v its moves = (ap (λ x. x.accepted) moves, ap (λ x. x.acknowledged) moves, ap (λ x. x.under_way) moves)
-left_over (Ended n status) w v its moves = (ap (λ x. x.accepted) moves, ap (λ x. x.acknowledged) moves, ap (λ x. x.under_way) moves)
-left_over (Retired n) w v its moves = (ap (λ x. x.accepted) moves, ap (λ x. x.acknowledged) moves, ap (λ x. x.under_way) moves)
-left_over (Dropped n cause) w v its moves = (ap (λ x. x.accepted) moves, ap (λ x. x.acknowledged) moves, ap (λ x. x.under_way) moves)
-left_over (Stepped p) w v its moves = absurd (cc)
-left_over (StepFailed p) w v its moves = absurd (cc)
-left_over Stop w v its moves = absurd (cc)
+left_over : (x : Effect) (w v : World) → concerns_one x ≡ true → MovesBy x w v → (v.accepted ≡ w.accepted) × (v.acknowledged ≡ w.acknowledged) × (v.under_way ≡ w.under_way)
+left_over (lets_in n peer) w v its moves = (ap (λ x. x.accepted) moves, ap (λ x. x.acknowledged) moves, ap (λ x. x.under_way) moves)
+left_over (opens n there) w v its moves = (ap (λ x. x.accepted) moves.1, ap (λ x. x.acknowledged) moves.1, ap (λ x. x.under_way) moves.1)
+left_over (decides n decision) w v its moves = (ap (λ x. x.accepted) moves.5, ap (λ x. x.acknowledged) moves.5, ap (λ x. x.under_way) moves.5)
+left_over (brings n from to) w v its moves = (ap (λ x. x.accepted) moves, ap (λ x. x.acknowledged) moves, ap (λ x. x.under_way) moves)
+left_over (lets_go n from) w v its moves = (ap (λ x. x.accepted) moves, ap (λ x. x.acknowledged) moves, ap (λ x. x.under_way) moves)
+left_over (comes_to p) w v its moves = absurd (cc)
+left_over (fails_at p) w v its moves = absurd (cc)
+left_over ends_all w v its moves = absurd (cc)
 
 steps_server : (w v : World) (event : Event) → is_connections event ≡ true → Step w event v → ServerSteps w event v
 steps_server w v event its step =
-    let left = left_over event w v its step.moves in
+    let left = left_over (effect event) w v its step.moves in
     record {
       its = its;
-      step = record { table = happens_in w.server v.server None event its step.table; moves = part_moves event w v its step.moves };
+      step = record { table = happens_in w.server v.server None event its step.table; moves = part_moves (effect event) w v its step.moves };
       others = record { phase = ap (λ (s : ServerState). s.phase) (step_is step.table).1 ∙ phase_stays w.server event its; accepted = left.0; acknowledged = left.1; under_way = left.2 };
     }
 
@@ -174,18 +160,22 @@ installer_moves Done w v others moves = (moves.0, moves.1, moves.2, of_installer
 installer_fails : (p : Phase) (w v : World) → KeepsServer w v → FailsTo p (of_installers w) (of_installers v) → FailsTo p w v
 installer_fails p w v others moves = (moves.0, moves.1, moves.2, of_installers_is w v (record w { directory = v.directory; under_way = None }) others moves.3 refl refl)
 
+installer_by : (x : Effect) (w v : World) (event : Event) → IsOf x event → installs_by x ≡ true → Step (of_installers w) event (of_installers v) → KeepsServer w v → Step w event v
+installer_by (comes_to p) w v event is its step others =
+    let own = subst (λ (a : Event). Step (of_installers w) a (of_installers v)) is step in
+    subst (λ (a : Event). Step w a v) (sym is) (record { table = advances_in w.server v.server p others.server own.table; moves = installer_moves p w v others own.moves })
+installer_by (fails_at p) w v event is its step others =
+    let own = subst (λ (a : Event). Step (of_installers w) a (of_installers v)) is step in
+    subst (λ (a : Event). Step w a v) (sym is) (record { table = fails_in w.server v.server p others.server own.table; moves = installer_fails p w v others own.moves })
+installer_by (lets_in n peer) w v event is its step others = absurd (cc)
+installer_by (opens n there) w v event is its step others = absurd (cc)
+installer_by (decides n decision) w v event is its step others = absurd (cc)
+installer_by (brings n from to) w v event is its step others = absurd (cc)
+installer_by (lets_go n from) w v event is its step others = absurd (cc)
+installer_by ends_all w v event is its step others = absurd (cc)
+
 installer_step : (w v : World) (event : Event) → is_installations event ≡ true → Step (of_installers w) event (of_installers v) → KeepsServer w v → Step w event v
-installer_step w v (Stepped p) its step others = record { table = advances_in w.server v.server p others.server step.table; moves = installer_moves p w v others step.moves }
-installer_step w v (StepFailed p) its step others = record { table = fails_in w.server v.server p others.server step.table; moves = installer_fails p w v others step.moves }
-installer_step w v (Admitted n peer) its step others = absurd (cc)
-installer_step w v (Opened n there) its step others = absurd (cc)
-installer_step w v (Decided n decision) its step others = absurd (cc)
-installer_step w v (Started n) its step others = absurd (cc)
-installer_step w v (StartFailed n fault) its step others = absurd (cc)
-installer_step w v (Ended n status) its step others = absurd (cc)
-installer_step w v (Retired n) its step others = absurd (cc)
-installer_step w v (Dropped n cause) its step others = absurd (cc)
-installer_step w v Stop its step others = absurd (cc)
+installer_step w v event its step others = installer_by (effect event) w v event (is_of event) its step others
 
 -- ---- and back
 
@@ -247,20 +237,20 @@ one_history (installs {u} {v} {w} {event} {events} made rest) = more (installer_
 one_history (stops step rest) = more step (one_history rest)
 one_history (outside out rest) = beside out (one_history rest)
 
-by_event : {u v w : World} {events : List Event} (event : Event) → Step u event v → Woven v events w → Woven u (event ∷ events) w
-by_event {u} {v} (Stepped p) step rest = installs (steps_advance u v p step) rest
-by_event {u} {v} (StepFailed p) step rest = installs (steps_failure u v p step) rest
-by_event Stop step rest = stops step rest
-by_event {u} {v} (Admitted n peer) step rest = serves (steps_server u v (Admitted n peer) refl step) rest
-by_event {u} {v} (Opened n there) step rest = serves (steps_server u v (Opened n there) refl step) rest
-by_event {u} {v} (Decided n decision) step rest = serves (steps_server u v (Decided n decision) refl step) rest
-by_event {u} {v} (Started n) step rest = serves (steps_server u v (Started n) refl step) rest
-by_event {u} {v} (StartFailed n fault) step rest = serves (steps_server u v (StartFailed n fault) refl step) rest
-by_event {u} {v} (Ended n status) step rest = serves (steps_server u v (Ended n status) refl step) rest
-by_event {u} {v} (Retired n) step rest = serves (steps_server u v (Retired n) refl step) rest
-by_event {u} {v} (Dropped n cause) step rest = serves (steps_server u v (Dropped n cause) refl step) rest
+by_effect : {u v w : World} {events : List Event} (x : Effect) (event : Event) → effect event ≡ x → IsOf x event → Step u event v → Woven v events w → Woven u (event ∷ events) w
+by_effect {u} {v} {w} {events} (comes_to p) event is its step rest =
+    subst (λ (a : Event). Woven u (a ∷ events) w) (sym its) (installs (steps_advance u v p (subst (λ (a : Event). Step u a v) its step)) rest)
+by_effect {u} {v} {w} {events} (fails_at p) event is its step rest =
+    subst (λ (a : Event). Woven u (a ∷ events) w) (sym its) (installs (steps_failure u v p (subst (λ (a : Event). Step u a v) its step)) rest)
+by_effect {u} {v} {w} {events} ends_all event is its step rest =
+    subst (λ (a : Event). Woven u (a ∷ events) w) (sym its) (stops (subst (λ (a : Event). Step u a v) its step) rest)
+by_effect {u} {v} (lets_in n peer) event is its step rest = serves (steps_server u v event (ap concerns_one is) step) rest
+by_effect {u} {v} (opens n there) event is its step rest = serves (steps_server u v event (ap concerns_one is) step) rest
+by_effect {u} {v} (decides n decision) event is its step rest = serves (steps_server u v event (ap concerns_one is) step) rest
+by_effect {u} {v} (brings n from to) event is its step rest = serves (steps_server u v event (ap concerns_one is) step) rest
+by_effect {u} {v} (lets_go n from) event is its step rest = serves (steps_server u v event (ap concerns_one is) step) rest
 
 pub its_parts : {w v : World} {history : List Event} → Legal w history v → Woven w history v
 its_parts no_more = none
-its_parts (more {u} {v} {w} {event} {events} step rest) = by_event event step (its_parts rest)
+its_parts (more {u} {v} {w} {event} {events} step rest) = by_effect (effect event) event refl (is_of event) step (its_parts rest)
 its_parts (beside out rest) = outside out (its_parts rest)

@@ -1,15 +1,18 @@
 -- Who is alive after a list of events, told from the events alone.
-use Rattle.std.specs.Prelude.{◌≤◌, ℕ, length, take, List, Bool, true, false, ◌==◌, not, map, Option, Some, None, bytes_eq}
+use Rattle.std.specs.Prelude.{◌≤◌, ℕ, length, take, List, Bool, true, false, ◌&&◌, ◌==◌, not, map, Option, Some, None, bytes_eq}
 use Rattle.std.specs.List.{after_last, filter, filter_map, list_any}
 use Rattle.connection_facts.specs.Peers.{Client}
 use Rattle.server_events.specs.declared.event.Event.{Event}
-use Rattle.server_events.specs.declared.event.Event.TheVariants.{Admitted, Opened, Decided, Started, StartFailed, Ended, Retired, Dropped, Stop}
 use Rattle.server_events.specs.declared.state.Connection.{Connection}
+use Rattle.server_events.specs.ServerState.{Effect, lets_in, opens, decides, brings, lets_go, ends_all, effect, is_retired}
 
 -- all connections end at once
+abbrev pub stops_by : Effect → Bool
+stops_by ends_all = true
+stops_by _ = false
+
 abbrev pub is_stop : Event → Bool
-is_stop Stop = true
-is_stop _ = false
+is_stop event = stops_by (effect event)
 
 -- the events after the last stop, or all where there was none
 abbrev pub since_stop : List Event → List Event
@@ -21,32 +24,39 @@ pub record Life : Type 0 where
   pub peer : Client
 
 -- the connection that an event lets in
+abbrev pub admission_by : Effect → Option Life
+admission_by (lets_in n peer) = Some (record { serial = n; peer = peer })
+admission_by _ = None
+
 abbrev pub admission : Event → Option Life
-admission (Admitted n peer) = Some (record { serial = n; peer = peer })
-admission _ = None
+admission event = admission_by (effect event)
 
 -- by this event the connection n is gone: its start failed, or it ended, or it was dropped
+abbrev pub ends_by : ℕ → Effect → Bool
+ends_by n (lets_go m from) = n == m
+ends_by n _ = false
+
 abbrev pub ends : ℕ → Event → Bool
-ends n (StartFailed m fault) = n == m
-ends n (Ended m status) = n == m
-ends n (Dropped m cause) = n == m
-ends n _ = false
+ends n event = ends_by n (effect event)
 
 -- something happens to the connection n, which was let in before
+abbrev pub concerns_by : ℕ → Effect → Bool
+concerns_by n (opens m there) = n == m
+concerns_by n (decides m decision) = n == m
+concerns_by n (brings m from to) = n == m
+concerns_by n (lets_go m from) = n == m
+concerns_by n _ = false
+
 abbrev pub concerns : ℕ → Event → Bool
-concerns n (Opened m there) = n == m
-concerns n (Decided m decision) = n == m
-concerns n (Started m) = n == m
-concerns n (StartFailed m fault) = n == m
-concerns n (Ended m status) = n == m
-concerns n (Retired m) = n == m
-concerns n (Dropped m cause) = n == m
-concerns n event = false
+concerns n event = concerns_by n (effect event)
 
 -- by this event the connection n is retired
+abbrev pub retires_by : ℕ → Effect → Bool
+retires_by n (brings m from to) = is_retired to && (n == m)
+retires_by n _ = false
+
 abbrev pub retires : ℕ → Event → Bool
-retires n (Retired m) = n == m
-retires n _ = false
+retires n event = retires_by n (effect event)
 
 -- those admitted and not yet ended, start-failed, dropped or stopped; retired ones stay until a stop
 abbrev pub live_of : List Event → List Life

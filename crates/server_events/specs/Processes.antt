@@ -1,23 +1,29 @@
 -- A server, and the installers beside it, as processes of their own over one directory.
 use Rattle.std.specs.Prelude.{◌≡◌, Bool, true, false, List, [], ◌∷◌, None}
 use Rattle.server_events.specs.declared.event.Event.{Event}
-use Rattle.server_events.specs.declared.event.Event.TheVariants.{Stepped, StepFailed, Stop}
-use Rattle.server_events.specs.ServerState.{start}
+use Rattle.server_events.specs.declared.event.Event.TheVariants.{Stop}
+use Rattle.server_events.specs.ServerState.{Effect, comes_to, fails_at, ends_all, effect, start}
 use Rattle.server_events.specs.Steps.{Outside, Step}
 use Rattle.server_events.specs.Worlds.{World}
 
 -- an event of a connection
+abbrev pub concerns_one : Effect → Bool
+concerns_one (comes_to phase) = false
+concerns_one (fails_at phase) = false
+concerns_one ends_all = false
+concerns_one _ = true
+
 abbrev pub is_connections : Event → Bool
-is_connections (Stepped phase) = false
-is_connections (StepFailed phase) = false
-is_connections Stop = false
-is_connections event = true
+is_connections event = concerns_one (effect event)
 
 -- an event of an installation; one that is killed within a call fails there
+abbrev pub installs_by : Effect → Bool
+installs_by (comes_to phase) = true
+installs_by (fails_at phase) = true
+installs_by _ = false
+
 abbrev pub is_installations : Event → Bool
-is_installations (Stepped phase) = true
-is_installations (StepFailed phase) = true
-is_installations event = false
+is_installations event = installs_by (effect event)
 
 -- the world as a server has it that installs nothing: it knows of no text and of no installation, and sees the directory as others left it
 abbrev pub of_server : World → World

@@ -5,6 +5,7 @@ use Rattle.rule_lines.specs.declared.instr.Verdict.TheVariants as verdict
 use Rattle.connection_facts.specs.Peers.{Client}
 use Rattle.rules_install.specs.declared.Phase.{Phase}
 use Rattle.rules_install.specs.declared.Phase.TheVariants.{Fresh, Filling, Synced, Named, Done}
+use Rattle.rule_lookup.specs.declared.decision.Decision.{Decision}
 use Rattle.server_events.specs.declared.event.Stage.{Stage}
 use Rattle.server_events.specs.declared.event.Stage.TheVariants as stage
 use Rattle.server_events.specs.declared.event.Event.{Event}
@@ -91,36 +92,61 @@ abbrev pub may_admit : ServerState → ℕ → Client → Bool
 may_admit w n peer =
     (n == w.last + 1) && nat_lt (length w.connections) w.limit && nat_lt (count_from peer.ip w.connections) w.per_address
 
-abbrev pub may_happen : ServerState → Event → Bool
-may_happen w (Admitted n peer) = may_admit w n peer
-may_happen w (Opened n there) = is_admitted (stage_of n w.connections)
-may_happen w (Decided n decision) = is_opened (stage_of n w.connections)
-may_happen w (Started n) = is_allowed (stage_of n w.connections)
-may_happen w (StartFailed n fault) = is_allowed (stage_of n w.connections)
-may_happen w (Ended n status) = is_started (stage_of n w.connections)
-may_happen w (Retired n) = is_started (stage_of n w.connections)
-may_happen w (Dropped n cause) = is_unstarted (stage_of n w.connections)
-may_happen w (Stepped phase) = may_come w.phase phase
-may_happen w (StepFailed phase) = may_come w.phase phase
-may_happen w Stop = true
-
 -- a connection that was just let in
 abbrev pub newcomer : ℕ → Client → Connection
 newcomer n peer = record { serial = n; peer = peer; stage = stage.Admitted }
 
+-- What an event does to the state. It lets a connection in; that connection opens the rules, and is decided; it is brought from a stage of some
+-- kind to another, or is let go from one. Or it brings the installation to a phase, or to none on its way there. Or it ends all.
+pub data Effect : Type 0 where
+  lets_in : ℕ → Client → Effect
+  opens : ℕ → Bool → Effect
+  decides : ℕ → Decision → Effect
+  brings : ℕ → (Option Stage → Bool) → Stage → Effect
+  lets_go : ℕ → (Option Stage → Bool) → Effect
+  comes_to : Phase → Effect
+  fails_at : Phase → Effect
+  ends_all : Effect
+
+abbrev pub effect : Event → Effect
+effect (Admitted n peer) = lets_in n peer
+effect (Opened n there) = opens n there
+effect (Decided n decision) = decides n decision
+effect (Started n) = brings n is_allowed stage.Started
+effect (StartFailed n fault) = lets_go n is_allowed
+effect (Ended n status) = lets_go n is_started
+effect (Retired n) = brings n is_started stage.Retired
+effect (Dropped n cause) = lets_go n is_unstarted
+effect (Stepped phase) = comes_to phase
+effect (StepFailed phase) = fails_at phase
+effect Stop = ends_all
+
+abbrev pub may_have : ServerState → Effect → Bool
+may_have w (lets_in n peer) = may_admit w n peer
+may_have w (opens n there) = is_admitted (stage_of n w.connections)
+may_have w (decides n decision) = is_opened (stage_of n w.connections)
+may_have w (brings n from to) = from (stage_of n w.connections)
+may_have w (lets_go n from) = from (stage_of n w.connections)
+may_have w (comes_to phase) = may_come w.phase phase
+may_have w (fails_at phase) = may_come w.phase phase
+may_have w ends_all = true
+
+abbrev pub with_effect : ServerState → Effect → ServerState
+with_effect w (lets_in n peer) = record w { last = n; connections = w.connections ++ newcomer n peer ∷ [] }
+with_effect w (opens n there) = record w { connections = with_stage n stage.Opened w.connections }
+with_effect w (decides n decision) = record w { connections = with_stage n (stage.Decided decision.verdict) w.connections }
+with_effect w (brings n from to) = record w { connections = with_stage n to w.connections }
+with_effect w (lets_go n from) = record w { connections = without n w.connections }
+with_effect w (comes_to phase) = record w { phase = phase_after phase }
+with_effect w (fails_at phase) = record w { phase = None }
+with_effect w ends_all = record w { connections = []; phase = None }
+
+-- an event may happen where its effect may be had, and leads to the state with it
+abbrev pub may_happen : ServerState → Event → Bool
+may_happen w event = may_have w (effect event)
+
 abbrev pub after : ServerState → Event → ServerState
-after w (Admitted n peer) = record w { last = n; connections = w.connections ++ newcomer n peer ∷ [] }
-after w (Opened n there) = record w { connections = with_stage n stage.Opened w.connections }
-after w (Decided n decision) =
-    record w { connections = with_stage n (stage.Decided decision.verdict) w.connections }
-after w (Started n) = record w { connections = with_stage n stage.Started w.connections }
-after w (StartFailed n fault) = record w { connections = without n w.connections }
-after w (Ended n status) = record w { connections = without n w.connections }
-after w (Retired n) = record w { connections = with_stage n stage.Retired w.connections }
-after w (Dropped n cause) = record w { connections = without n w.connections }
-after w (Stepped phase) = record w { phase = phase_after phase }
-after w (StepFailed phase) = record w { phase = None }
-after w Stop = record w { connections = []; phase = None }
+after w event = with_effect w (effect event)
 
 -- each event may happen in the state that the events before it lead to
 abbrev pub is_legal : ServerState → List Event → Bool

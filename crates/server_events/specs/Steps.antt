@@ -14,7 +14,7 @@ use Rattle.connection_facts.specs.Peers.{Client}
 use Rattle.rules_install.specs.declared.Phase.{Phase}
 use Rattle.rules_install.specs.declared.Phase.TheVariants.{Fresh, Filling, Synced, Named, Done}
 use Rattle.server_events.specs.declared.event.Event.{Event}
-use Rattle.server_events.specs.declared.event.Event.TheVariants.{Opened, Decided, Stepped, StepFailed, Stop}
+use Rattle.server_events.specs.ServerState.{Effect, opens, decides, comes_to, fails_at, ends_all, effect}
 use Rattle.server_events.specs.Table.{Follows, Happens}
 use Rattle.server_events.specs.Worlds.{IsOf, RulesName, UnderWay, World, kept_by, missing_in, peer_of, standing}
 
@@ -88,17 +88,20 @@ abbrev pub MayLeave : World → Directory → Type 0
 MayLeave w image = (state : Directory) × MayBeAt w state × IsImage state image
 
 -- what an event does beside what the table of events says of it
-abbrev pub Moves : Event → World → World → Type 0
-Moves (Opened n there) w w' =
+abbrev pub MovesBy : Effect → World → World → Type 0
+MovesBy (opens n there) w w' =
     (there ≡ is_some (standing w)) × (w' ≡ record w { server = w'.server; kept = w.kept ++ record { serial = n; bytes = standing w } ∷ [] })
-Moves (Decided n decision) w w' =
+MovesBy (decides n decision) w w' =
     (bytes : Option (List ℕ)) × (peer : Client) × (kept_by n w.kept ≡ Some bytes) × (peer_of n w.server.connections ≡ Some peer)
     × (decision_from (option_map reading bytes) (missing_in w) peer ≡ Ok decision) × (w' ≡ record w { server = w'.server })
-Moves (Stepped phase) w w' = Advances phase w w'
-Moves (StepFailed phase) w w' = FailsTo phase w w'
-Moves Stop w w' =
+MovesBy (comes_to phase) w w' = Advances phase w w'
+MovesBy (fails_at phase) w w' = FailsTo phase w w'
+MovesBy ends_all w w' =
     MayLeave w w'.directory × (w' ≡ record w { directory = w'.directory; server = w'.server; under_way = None; kept = [] })
-Moves event w w' = w' ≡ record w { server = w'.server }
+MovesBy _ w w' = w' ≡ record w { server = w'.server }
+
+abbrev pub Moves : Event → World → World → Type 0
+Moves event w w' = MovesBy (effect event) w w'
 
 -- others leave a name alone: what stands under it stands there, a stop leaves under it only what one might have left before, and each file that
 -- it may stand for stays as it is

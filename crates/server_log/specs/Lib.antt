@@ -1,5 +1,4 @@
 -- The log of a server.
 pub mod Causes
-pub mod Events
+pub mod Lines
 pub mod Logs
-pub mod Texts

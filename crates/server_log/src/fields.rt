@@ -3,7 +3,7 @@ ghost use Rattle.std.specs.Prelude.{◌++◌, codes};
 ghost use Rattle.std.specs.Net.Text.{ipv4_text};
 ghost use Rattle.connection_facts.specs.Peers.{given};
 ghost use Rattle.byte_text.specs.Outcomes.{AppendsPart};
-ghost use Rattle.server_log.specs.Texts.{field, local_text, remote_text, status_text};
+ghost use Rattle.server_log.specs.Lines.{field, local_text, remote_text, status_text};
 
 use byte_text::{push_address, push_marked, push_number, push_text};
 use connection_facts::{Peer, Status};

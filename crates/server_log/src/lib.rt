@@ -4,9 +4,8 @@
 pub mod cause;
 pub mod fault;
 mod fields;
-mod lines;
+pub mod lines;
 pub mod log;
-pub mod texts;
 pub mod told;
 
 pub use cause::Cause;

@@ -2,7 +2,7 @@
 ghost use Rattle.std.specs.Prelude.{◌≡◌, ◌≢◌, ◌↔◌, Err, IfErr, IsTrue, List, [], ℕ};
 ghost use Rattle.std.specs.Io.{WritesAtMost};
 ghost use Rattle.std.specs.Io.KnownBytes.{Keeps, WriteAppends};
-ghost use Rattle.server_log.specs.Events.{event_lines, full_lines, memory_lines, no_ends_lines, no_names_lines, status_lines};
+ghost use Rattle.server_log.specs.Lines.{event_lines, full_lines, memory_lines, no_ends_lines, no_names_lines, status_lines};
 ghost use Rattle.server_log.specs.Logs.{Adds, IsLater, KeepsSettings, Logged, Takes, TellsInOrder, held, last_of, level_of, limit_of, writer_of};
 
 use crate::fault::LogFault;

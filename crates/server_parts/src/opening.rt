@@ -1,7 +1,6 @@
 //! What a server opens before it begins: its words, files, folder, socket and program.
 ghost use Rattle.std.specs.Prelude.{◌≡◌, map, string_bytes, IfOk};
 ghost use Rattle.server_parts.specs.Services.{program_by};
-ghost use Rattle.stream_tools.specs.Programs.{text_in, texts_of};
 
 use crate::fault::{ServerFailure, ServerFault};
 use child_jobs::{Plan, Program};
@@ -32,30 +31,6 @@ const ROOT: &str = "/";
 pub fn stand_in<F: Files<File = File>>(files: &F) -> Option<File> {
     let file = File::open(files, "/dev/null").ok()?;
     (file.as_raw_fd() <= STANDARD_ERROR).then_some(file)
-}
-
-/// All words as texts. One that is no text counts as empty.
-///
-/// # Errors
-/// There was no memory.
-pub fn texts_of(alloc: Global, words: &[Vec<u8>]) -> Result<Vec<String>, AllocError>
-    ensures { IfOk result (λ texts. map string_bytes texts.items ≡ map text_in (texts_of words.now)) }
-{
-    let mut texts = Vec::new(alloc);
-    for word in words {
-        texts.push(String::from_str(alloc, text_in(word))?)?;
-    }
-    Ok(texts)
-}
-
-// A word as a text.
-fn text_in(word: &[u8]) -> &str
-    ensures { result.now ≡ text_in word.now }
-{
-    match str::from_utf8(word) {
-        Ok(text) => text,
-        Err(_) => "",
-    }
 }
 
 /// The names of the ends of connections, with the host table that the words name.

@@ -9,9 +9,7 @@ use dir_calls::{Dir, Name};
 use event_journals::Counts;
 use rule_lookup::Missing;
 use server_parts::limits::supply_for;
-use server_parts::opening::{
-    listen, names_of, open_rules, plan_of, print_port, stand_in, texts_of,
-};
+use server_parts::opening::{listen, names_of, open_rules, plan_of, print_port, stand_in};
 use server_parts::{
     HandedAcceptor, HandingLauncher, PumpedAcceptor, ServerFailure, ServerFault, ServiceLauncher,
     Wrapper, chain_of,
@@ -34,6 +32,7 @@ use std::sync::{Mutex, Wait};
 use std::thread::Threads;
 use std::time::{Clock, Duration};
 use stream_tools::SearchPath;
+use stream_tools::started::texts_of;
 use tcp_service::{
     Acceptor, ChainSource, Chains, Follow, Log, Patience, Reserve, Rules, ServeEnd, Service,
     Starter, serve,

@@ -14,7 +14,7 @@ use Rattle.server_events.specs.declared.event.Event.{Event}
 use Rattle.server_events.specs.declared.event.Event.TheVariants.{Stepped, StepFailed}
 use Rattle.server_events.proofs.InstalledRuns.{legal_then}
 use Rattle.server_yard.specs.Installed.{IsInstalledBy, installs_of}
-use Rattle.server_yard.specs.Seating.{is_installing}
+use Rattle.server_events.specs.Processes.{is_installations}
 use Rattle.server_yard.specs.Standing.{Begins, HasUnderWay, YardState}
 use Rattle.server_yard.proofs.Stepped.{GoesOn}
 
@@ -49,7 +49,7 @@ installs-push : (h : List Event) (e : Event) → installs_of (h ++ e ∷ []) ≡
 installs-push [] e = refl
 installs-push (x ∷ xs) e =
     let rest = installs-push xs e in
-    elim (is_installing x) as (λ b. cond b (x ∷ installs_of (xs ++ e ∷ [])) (installs_of (xs ++ e ∷ [])) ≡ cond b (x ∷ installs_of xs) (installs_of xs) ++ installs_of (e ∷ [])) [
+    elim (is_installations x) as (λ b. cond b (x ∷ installs_of (xs ++ e ∷ [])) (installs_of (xs ++ e ∷ [])) ≡ cond b (x ∷ installs_of xs) (installs_of xs) ++ installs_of (e ∷ [])) [
       | true ↦ ap (λ (es : List Event). x ∷ es) rest
       | false ↦ rest
     ]
@@ -58,11 +58,11 @@ append-none : (es : List Event) → es ++ [] ≡ es
 append-none [] = refl
 append-none (x ∷ xs) = ap (λ (es : List Event). x ∷ es) (append-none xs)
 
-pub installs-other : (h : List Event) (e : Event) → is_installing e ≡ false → installs_of (h ++ e ∷ []) ≡ installs_of h
+pub installs-other : (h : List Event) (e : Event) → is_installations e ≡ false → installs_of (h ++ e ∷ []) ≡ installs_of h
 installs-other h e other =
     installs-push h e ∙ ap (λ (b : Bool). installs_of h ++ cond b (e ∷ []) []) other ∙ append-none (installs_of h)
 
-pub installs-one : (h : List Event) (e : Event) → is_installing e ≡ true → installs_of (h ++ e ∷ []) ≡ installs_of h ++ e ∷ []
+pub installs-one : (h : List Event) (e : Event) → is_installations e ≡ true → installs_of (h ++ e ∷ []) ≡ installs_of h ++ e ∷ []
 installs-one h e one = installs-push h e ∙ ap (λ (b : Bool). installs_of h ++ cond b (e ∷ []) []) one
 
 -- what is the same is installed by the same
@@ -84,7 +84,7 @@ installed_same {lists} {lists'} {y} {y'} {h} {h'} l e r p i same is = record {
 
 -- one more step
 pub installed_on : (lists lists' : Option (List (List Rule))) (y z : YardState) (h : List Event) (event : Event)
-    → is_installing event ≡ true → z.rules ≡ y.rules → z.server ≡ after y.server event
+    → is_installations event ≡ true → z.rules ≡ y.rules → z.server ≡ after y.server event
     → ((a b : ServerState) → a.phase ≡ b.phase → (after a event).phase ≡ (after b event).phase) → (is : IsInstalledBy lists y h)
     → (v : World) → GoesOn is.world v event z.directory z.installing
     → IfSome lists' (λ all. v.accepted ≡ is.first.accepted ++ map Some all) → IsInstalledBy lists' z (h ++ event ∷ [])

@@ -8,73 +8,74 @@ use Rattle.event_journals.specs.Journals.{Books, FitsSerial}
 use Rattle.rule_lines.specs.Pairs.{Rule}
 use Rattle.rule_lines.specs.Lookups.{WhereKnown}
 use Rattle.connection_facts.specs.Peers.{Client}
-use Rattle.server_events.specs.ServerState.{ServerState}
+use Rattle.server_events.specs.Processes.{concerns_one, installs_by, is_connections, is_installations}
+use Rattle.server_events.specs.ServerState.{Effect, ServerState, lets_in, opens, decides, brings, lets_go, comes_to, fails_at, ends_all, effect}
 use Rattle.server_events.specs.Worlds.{RulesName, StandsFor}
 use Rattle.server_events.specs.declared.event.Event.{Event}
-use Rattle.server_events.specs.declared.event.Event.TheVariants.{Admitted, Opened, Decided, Started, StartFailed, Ended, Retired, Dropped, Stepped, StepFailed, Stop}
+use Rattle.server_events.specs.declared.event.Event.TheVariants.{Admitted}
 use Rattle.server_events.proofs.WholeText.{reached_whole}
 use Rattle.server_yard.specs.Installed.{KeepsHistory, IsWholeFile, installs_of}
 use Rattle.server_yard.specs.Passes.{trust_in}
 use Rattle.server_yard.specs.Rolls.{IsQuiet, Notes, Roll}
-use Rattle.server_yard.specs.Seating.{goes_on, is_installing, leaver}
+use Rattle.server_yard.specs.Seating.{goes_on, goes_on_by, leaver, leaver_by}
 use Rattle.server_yard.specs.Standing.{YardState}
 use Rattle.server_yard.specs.Yards.{IsSameBeside, IsSameButDirectory, yard_over, yard_roll, yard_state}
 use Rattle.server_yard.specs.declared.yard.Yard.{Yard}
 use Rattle.server_yard.proofs.Histories.{OneMore, history_on, history_same}
 use Rattle.server_yard.proofs.Installs.{installed_same, installs-other, reached_by}
-use Rattle.server_yard.proofs.Matching.{GoesTo, is_connection's, is_plain, phase_stays}
+use Rattle.server_yard.proofs.Matching.{GoesTo, is_plain, phase_stays, plain_by}
 
-pub own_other : (e : Event) → is_connection's e ≡ true → is_installing e ≡ false
-own_other (Admitted n peer) k = refl
-own_other (Opened n there) k = refl
-own_other (Decided n decision) k = refl
-own_other (Started n) k = refl
-own_other (StartFailed n fault) k = refl
-own_other (Ended n status) k = refl
-own_other (Retired n) k = refl
-own_other (Dropped n cause) k = refl
-own_other (Stepped phase) k = absurd (cc)
-own_other (StepFailed phase) k = absurd (cc)
-own_other Stop k = refl
+other_by : (x : Effect) → concerns_one x ≡ true → installs_by x ≡ false
+other_by (lets_in m peer) k = refl
+other_by (opens m there) k = refl
+other_by (decides m decision) k = refl
+other_by (brings m from to) k = refl
+other_by (lets_go m from) k = refl
+other_by (comes_to phase) k = absurd (cc)
+other_by (fails_at phase) k = absurd (cc)
+other_by ends_all k = refl
 
-pub goes_on_own : (e : Event) → goes_on e ≡ true → is_connection's e ≡ true
-goes_on_own (Admitted n peer) k = refl
-goes_on_own (Opened n there) k = refl
-goes_on_own (Decided n decision) k = refl
-goes_on_own (Started n) k = refl
-goes_on_own (StartFailed n fault) k = refl
-goes_on_own (Ended n status) k = refl
-goes_on_own (Retired n) k = refl
-goes_on_own (Dropped n cause) k = refl
-goes_on_own (Stepped phase) k = absurd (cc)
-goes_on_own (StepFailed phase) k = absurd (cc)
-goes_on_own Stop k = absurd (cc)
+pub own_other : (e : Event) → is_connections e ≡ true → is_installations e ≡ false
+own_other e k = other_by (effect e) k
 
-pub leaver_own : (e : Event) (n : ℕ) → leaver e ≡ Some n → is_connection's e ≡ true
-leaver_own (Admitted m peer) n k = refl
-leaver_own (Opened m there) n k = refl
-leaver_own (Decided m decision) n k = refl
-leaver_own (Started m) n k = refl
-leaver_own (StartFailed m fault) n k = refl
-leaver_own (Ended m status) n k = refl
-leaver_own (Retired m) n k = refl
-leaver_own (Dropped m cause) n k = refl
-leaver_own (Stepped phase) n k = absurd (cc)
-leaver_own (StepFailed phase) n k = absurd (cc)
-leaver_own Stop n k = absurd (cc)
+goes_on_one : (x : Effect) → goes_on_by x ≡ true → concerns_one x ≡ true
+goes_on_one (lets_in m peer) k = refl
+goes_on_one (opens m there) k = refl
+goes_on_one (decides m decision) k = refl
+goes_on_one (brings m from to) k = refl
+goes_on_one (lets_go m from) k = refl
+goes_on_one (comes_to phase) k = absurd (cc)
+goes_on_one (fails_at phase) k = absurd (cc)
+goes_on_one ends_all k = absurd (cc)
+
+pub goes_on_own : (e : Event) → goes_on e ≡ true → is_connections e ≡ true
+goes_on_own e k = goes_on_one (effect e) k
+
+leaver_one : (x : Effect) (n : ℕ) → leaver_by x ≡ Some n → concerns_one x ≡ true
+leaver_one (lets_in m peer) n k = refl
+leaver_one (opens m there) n k = refl
+leaver_one (decides m decision) n k = refl
+leaver_one (brings m from to) n k = refl
+leaver_one (lets_go m from) n k = refl
+leaver_one (comes_to phase) n k = absurd (cc)
+leaver_one (fails_at phase) n k = absurd (cc)
+leaver_one ends_all n k = absurd (cc)
+
+pub leaver_own : (e : Event) (n : ℕ) → leaver e ≡ Some n → is_connections e ≡ true
+leaver_own e n k = leaver_one (effect e) n k
+
+leaver_plainly : (x : Effect) (n : ℕ) → leaver_by x ≡ Some n → plain_by x ≡ true
+leaver_plainly (lets_in m peer) n k = refl
+leaver_plainly (opens m there) n k = absurd (cc)
+leaver_plainly (decides m decision) n k = absurd (cc)
+leaver_plainly (brings m from to) n k = refl
+leaver_plainly (lets_go m from) n k = refl
+leaver_plainly (comes_to phase) n k = absurd (cc)
+leaver_plainly (fails_at phase) n k = absurd (cc)
+leaver_plainly ends_all n k = absurd (cc)
 
 pub leaver_plain : (e : Event) (n : ℕ) → leaver e ≡ Some n → is_plain e ≡ true
-leaver_plain (Admitted m peer) n k = refl
-leaver_plain (Opened m there) n k = absurd (cc)
-leaver_plain (Decided m decision) n k = absurd (cc)
-leaver_plain (Started m) n k = refl
-leaver_plain (StartFailed m fault) n k = refl
-leaver_plain (Ended m status) n k = refl
-leaver_plain (Retired m) n k = refl
-leaver_plain (Dropped m cause) n k = refl
-leaver_plain (Stepped phase) n k = absurd (cc)
-leaver_plain (StepFailed phase) n k = absurd (cc)
-leaver_plain Stop n k = absurd (cc)
+leaver_plain e n k = leaver_plainly (effect e) n k
 
 -- what is noted is one event more
 pub one_more_of : (e : Event) (old new : Roll) → old.server.limit < 2 ^ 64 → FitsSerial e → Notes e old new
@@ -91,7 +92,7 @@ one_more_of e old new small fits noted = record {
 
 -- the installations of a history with one event of a connection more left the same
 pub kept_on : {b b' : Books} {y y' : YardState} {e : Event} {caller : ℕ}
-    → is_connection's e ≡ true → b'.lists ≡ b.lists → y'.directory ≡ y.directory → y'.rules ≡ y.rules → y'.installing ≡ y.installing
+    → is_connections e ≡ true → b'.lists ≡ b.lists → y'.directory ≡ y.directory → y'.rules ≡ y.rules → y'.installing ≡ y.installing
     → OneMore b y.server e caller b' y'.server → KeepsHistory b y → KeepsHistory b' y'
 kept_on {b} {b'} {y} {y'} {e} {caller} own l same r i more k = record {
   history = k.history ++ e ∷ [];

@@ -7,64 +7,52 @@ use Rattle.rule_lookup.specs.Decisions.{decision_from}
 use Rattle.connection_facts.specs.Peers.{Client}
 use Rattle.rule_lookup.specs.declared.decision.Decision.{Decision}
 use Rattle.rules_install.specs.Installing.{Installing}
-use Rattle.server_events.specs.ServerState.{ServerState, after, may_happen}
-use Rattle.server_events.specs.Steps.{Moves, Step}
+use Rattle.server_events.specs.Processes.{concerns_one, is_connections}
+use Rattle.server_events.specs.ServerState.{Effect, ServerState, lets_in, opens, decides, brings, lets_go, comes_to, fails_at, ends_all, after, effect, may_happen, with_effect}
+use Rattle.server_events.specs.Steps.{MovesBy, Step}
 use Rattle.server_events.specs.Worlds.{KeptFile, RulesName, World, kept_by, missing_by, peer_of, standing}
 use Rattle.server_events.specs.declared.event.Event.{Event}
-use Rattle.server_events.specs.declared.event.Event.TheVariants.{Admitted, Opened, Decided, Started, StartFailed, Ended, Retired, Dropped, Stepped, StepFailed, Stop}
+use Rattle.server_events.specs.declared.event.Event.TheVariants.{Opened, Decided}
 use Rattle.server_events.proofs.TableLemmas.{is_step}
 use Rattle.server_yard.specs.Standing.{HasUnderWay, LeadsDecided, LeadsOn, LeadsOpened, Matches, YardState, standing_of}
 
 -- an event that changes nothing but what the table of events says
+abbrev pub plain_by : Effect → Bool
+plain_by (lets_in n peer) = true
+plain_by (brings n from to) = true
+plain_by (lets_go n from) = true
+plain_by _ = false
+
 abbrev pub is_plain : Event → Bool
-is_plain (Admitted n peer) = true
-is_plain (Opened n there) = false
-is_plain (Decided n decision) = false
-is_plain (Started n) = true
-is_plain (StartFailed n fault) = true
-is_plain (Ended n status) = true
-is_plain (Retired n) = true
-is_plain (Dropped n cause) = true
-is_plain (Stepped phase) = false
-is_plain (StepFailed phase) = false
-is_plain Stop = false
+is_plain e = plain_by (effect e)
 
 -- the world after it
 abbrev next_world : World → Event → World
 next_world w e = record w { server = after w.server e }
 
-plain_moves : (w : World) (e : Event) → is_plain e ≡ true → Moves e w (next_world w e)
-plain_moves w (Admitted n peer) k = refl
-plain_moves w (Opened n there) k = absurd (cc)
-plain_moves w (Decided n decision) k = absurd (cc)
-plain_moves w (Started n) k = refl
-plain_moves w (StartFailed n fault) k = refl
-plain_moves w (Ended n status) k = refl
-plain_moves w (Retired n) k = refl
-plain_moves w (Dropped n cause) k = refl
-plain_moves w (Stepped phase) k = absurd (cc)
-plain_moves w (StepFailed phase) k = absurd (cc)
-plain_moves w Stop k = absurd (cc)
+plainly : (w : World) (x : Effect) → plain_by x ≡ true → MovesBy x w (record w { server = with_effect w.server x })
+plainly w (lets_in n peer) k = refl
+plainly w (opens n there) k = absurd (cc)
+plainly w (decides n decision) k = absurd (cc)
+plainly w (brings n from to) k = refl
+plainly w (lets_go n from) k = refl
+plainly w (comes_to phase) k = absurd (cc)
+plainly w (fails_at phase) k = absurd (cc)
+plainly w ends_all k = absurd (cc)
 
 -- an event of a connection keeps the phase
-abbrev pub is_connection's : Event → Bool
-is_connection's (Stepped phase) = false
-is_connection's (StepFailed phase) = false
-is_connection's Stop = false
-is_connection's event = true
+phase_with : (s : ServerState) (x : Effect) → concerns_one x ≡ true → (with_effect s x).phase ≡ s.phase
+phase_with s (lets_in n peer) k = refl
+phase_with s (opens n there) k = refl
+phase_with s (decides n decision) k = refl
+phase_with s (brings n from to) k = refl
+phase_with s (lets_go n from) k = refl
+phase_with s (comes_to phase) k = absurd (cc)
+phase_with s (fails_at phase) k = absurd (cc)
+phase_with s ends_all k = absurd (cc)
 
-pub phase_stays : (s : ServerState) (e : Event) → is_connection's e ≡ true → (after s e).phase ≡ s.phase
-phase_stays s (Admitted n peer) k = refl
-phase_stays s (Opened n there) k = refl
-phase_stays s (Decided n decision) k = refl
-phase_stays s (Started n) k = refl
-phase_stays s (StartFailed n fault) k = refl
-phase_stays s (Ended n status) k = refl
-phase_stays s (Retired n) k = refl
-phase_stays s (Dropped n cause) k = refl
-phase_stays s (Stepped phase) k = absurd (cc)
-phase_stays s (StepFailed phase) k = absurd (cc)
-phase_stays s Stop k = absurd (cc)
+pub phase_stays : (s : ServerState) (e : Event) → is_connections e ≡ true → (after s e).phase ≡ s.phase
+phase_stays s e k = phase_with s (effect e) k
 
 -- a yard goes on by an event of a connection
 pub record GoesTo (y z : YardState) (e : Event) : Type 0 where
@@ -74,7 +62,7 @@ pub record GoesTo (y z : YardState) (e : Event) : Type 0 where
   pub rules : z.rules ≡ y.rules
   pub installing : z.installing ≡ y.installing
 
-module _ (y z : YardState) (e : Event) (own : is_connection's e ≡ true) (to : GoesTo y z e) (files : List KeptFile) (w : World) (at : Matches y files w) where
+module _ (y z : YardState) (e : Event) (own : is_connections e ≡ true) (to : GoesTo y z e) (files : List KeptFile) (w : World) (at : Matches y files w) where
   may_here : may_happen w.server e ≡ true
   may_here = ap (λ (s : ServerState). may_happen s e) at.server ∙ to.may
 
@@ -91,9 +79,9 @@ module _ (y z : YardState) (e : Event) (own : is_connection's e ≡ true) (to : 
     kept = refl;
   })
 
-pub plain_leads : (y z : YardState) (e : Event) → is_plain e ≡ true → is_connection's e ≡ true → GoesTo y z e → LeadsOn e y z
+pub plain_leads : (y z : YardState) (e : Event) → is_plain e ≡ true → is_connections e ≡ true → GoesTo y z e → LeadsOn e y z
 plain_leads y z e plain own to files w at =
-    (next_world w e, record { table = is_step w.server e (may_here y z e own to files w at); moves = plain_moves w e plain }, then_matches y z e own to files w at (next_world w e) files (ap (λ (k : List KeptFile). record w { server = after w.server e; kept = k }) at.kept))
+    (next_world w e, record { table = is_step w.server e (may_here y z e own to files w at); moves = plainly w (effect e) plain }, then_matches y z e own to files w at (next_world w e) files (ap (λ (k : List KeptFile). record w { server = after w.server e; kept = k }) at.kept))
 
 -- what stands under the rules name of a world that is the yard's
 pub standing_is : (y : YardState) (files : List KeptFile) (w : World) → Matches y files w → standing w ≡ standing_of y
@@ -118,7 +106,7 @@ opened_leads y z n bytes to found files w at =
 pub decided_leads : (y z : YardState) (n : ℕ) (bytes : Option (List ℕ)) (decision : Decision) (peer : Client)
     → GoesTo y z (Decided n decision) → peer_of n y.server.connections ≡ Some peer
     → decision_from (option_map reading bytes) (missing_by y.rules) peer ≡ Ok decision → LeadsDecided n bytes decision y z
-decided_leads y z n bytes decision peer to its decides files keeps w at =
+decided_leads y z n bytes decision peer to its is_by_it files keeps w at =
     let e = Decided n decision in
     let step : Step w e (next_world w e) = record {
       table = is_step w.server e (may_here y z e refl to files w at);
@@ -127,7 +115,7 @@ decided_leads y z n bytes decision peer to its decides files keeps w at =
         peer,
         ap (λ (k : List KeptFile). kept_by n k) at.kept ∙ keeps,
         ap (λ (s : ServerState). peer_of n s.connections) at.server ∙ its,
-        ap (λ (o : Option RulesName). decision_from (option_map reading bytes) (missing_by o) peer) at.rules ∙ decides,
+        ap (λ (o : Option RulesName). decision_from (option_map reading bytes) (missing_by o) peer) at.rules ∙ is_by_it,
         refl,
       );
     } in

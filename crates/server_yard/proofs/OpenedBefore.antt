@@ -7,21 +7,21 @@ use Rattle.rules_install.specs.declared.Phase.TheVariants.{Fresh, Filling, Synce
 use Rattle.server_events.specs.declared.event.Stage.{Stage}
 use Rattle.server_events.specs.declared.event.Stage.TheVariants as stage
 use Rattle.server_events.specs.declared.event.Event.{Event}
-use Rattle.server_events.specs.declared.event.Event.TheVariants.{Admitted, Opened, Decided, Started, StartFailed, Ended, Retired, Dropped, Stepped, StepFailed, Stop}
+use Rattle.server_events.specs.declared.event.Event.TheVariants.{Opened}
 use Rattle.server_events.specs.declared.state.Connection.{Connection}
 use Rattle.server_events.specs.Headline.{Reaches}
 use Rattle.server_events.specs.Processes.{Woven}
-use Rattle.server_events.specs.ServerState.{ServerState, after, count_from, is_allowed, is_opened, is_admitted, is_started, is_unstarted, may_happen, newcomer, stage_of, with_stage, without}
-use Rattle.server_events.specs.Steps.{Advances, Legal, Moves, Outside, Step, none, more, beside}
+use Rattle.server_events.specs.ServerState.{Effect, ServerState, lets_in, opens, decides, brings, lets_go, comes_to, fails_at, ends_all, after, count_from, effect, is_admitted, is_opened, may_have, newcomer, stage_of, with_effect, with_stage, without}
+use Rattle.server_events.specs.Steps.{Advances, Legal, MovesBy, Outside, Step, none, more, beside}
 use Rattle.server_events.specs.Table.{Happens}
 use Rattle.server_events.specs.Taken.{is_there}
 use Rattle.server_events.specs.Worlds.{KeptFile, World, kept_by, standing}
 use Rattle.server_events.proofs.Limits.{count_from-with_stage, length-with_stage}
-use Rattle.server_events.proofs.Openings.{kept_by-push_own, moves_same, waiting_keeps}
+use Rattle.server_events.proofs.Openings.{kept_by-push_found, kept_by-push_other, kept_by-push_own, kept_with, same_by, waiting_keeps}
 use Rattle.server_events.proofs.Peers.{peer_of-with_stage, stage_of-with_stage_other, stage_of-without_other}
 use Rattle.server_events.proofs.TableLemmas.{is_step, step_is}
 use Rattle.server_events.proofs.WovenSteps.{its_parts, one_history}
-use Rattle.server_yard.specs.Telling.{AreApart, is_apart}
+use Rattle.server_yard.specs.Telling.{AreApart, apart_by, is_apart}
 
 -- ---- changes of two connections, in either order
 
@@ -84,57 +84,48 @@ its_stage : (n m : ℕ) (s : ServerState) → (m == n) ≡ false → stage_of m 
 its_stage n m s other =
     stage_of-with_stage_other m n stage.Opened s.connections (let back : (n == m) ≡ false = grind (arith, nat_tests, other) in back)
 
-may_there : (n : ℕ) (s : ServerState) (event : Event) → is_apart n event ≡ true → may_happen (opened n s) event ≡ may_happen s event
-may_there n s (Admitted m peer) apart =
+may_there : (n : ℕ) (s : ServerState) (f : Effect) → apart_by n f ≡ true → may_have (opened n s) f ≡ may_have s f
+may_there n s (lets_in m peer) apart =
     ap (λ (k : ℕ). (m == s.last + 1) && nat_lt k s.limit && nat_lt (count_from peer.ip (opened n s).connections) s.per_address) (length-with_stage n stage.Opened s.connections)
     ∙ ap (λ (k : ℕ). (m == s.last + 1) && nat_lt (length s.connections) s.limit && nat_lt k s.per_address) (count_from-with_stage peer.ip n stage.Opened s.connections)
-may_there n s (Opened m there) apart = ap is_admitted (its_stage n m s (not_its n m apart))
-may_there n s (Decided m decision) apart = ap is_opened (its_stage n m s (not_its n m apart))
-may_there n s (Started m) apart = ap is_allowed (its_stage n m s (not_its n m apart))
-may_there n s (StartFailed m fault) apart = ap is_allowed (its_stage n m s (not_its n m apart))
-may_there n s (Ended m status) apart = ap is_started (its_stage n m s (not_its n m apart))
-may_there n s (Retired m) apart = ap is_started (its_stage n m s (not_its n m apart))
-may_there n s (Dropped m cause) apart = ap is_unstarted (its_stage n m s (not_its n m apart))
-may_there n s (Stepped phase) apart = refl
-may_there n s (StepFailed phase) apart = refl
-may_there n s Stop apart = absurd (cc)
+may_there n s (opens m there) apart = ap is_admitted (its_stage n m s (not_its n m apart))
+may_there n s (decides m decision) apart = ap is_opened (its_stage n m s (not_its n m apart))
+may_there n s (brings m from to) apart = ap from (its_stage n m s (not_its n m apart))
+may_there n s (lets_go m from) apart = ap from (its_stage n m s (not_its n m apart))
+may_there n s (comes_to phase) apart = refl
+may_there n s (fails_at phase) apart = refl
+may_there n s ends_all apart = absurd (cc)
 
 -- and leads to the same
 with_connections : (s : ServerState) (cs ds : List Connection) → cs ≡ ds → (record s { connections = cs }) ≡ record s { connections = ds }
 with_connections s cs ds is = ap (λ (xs : List Connection). record s { connections = xs }) is
 
-leads_there : (n : ℕ) (s : ServerState) (event : Event) → stage_of n s.connections ≡ Some stage.Admitted → is_apart n event ≡ true
-    → after (opened n s) event ≡ opened n (after s event)
-leads_there n s (Admitted m peer) waits apart =
+leads_there : (n : ℕ) (s : ServerState) (f : Effect) → stage_of n s.connections ≡ Some stage.Admitted → apart_by n f ≡ true
+    → with_effect (opened n s) f ≡ opened n (with_effect s f)
+leads_there n s (lets_in m peer) waits apart =
     ap (λ (cs : List Connection). record s { last = m; connections = cs }) (sym (with_stage-push n stage.Opened stage.Admitted s.connections (newcomer m peer) waits))
-leads_there n s (Opened m there) waits apart =
+leads_there n s (opens m there) waits apart =
     with_connections s _ _ (with_stage-swap n m stage.Opened stage.Opened s.connections (not_its n m apart))
-leads_there n s (Decided m decision) waits apart =
+leads_there n s (decides m decision) waits apart =
     with_connections s _ _ (with_stage-swap n m stage.Opened (stage.Decided decision.verdict) s.connections (not_its n m apart))
-leads_there n s (Started m) waits apart = with_connections s _ _ (with_stage-swap n m stage.Opened stage.Started s.connections (not_its n m apart))
-leads_there n s (StartFailed m fault) waits apart = with_connections s _ _ (with_stage-without n m stage.Opened s.connections (not_its n m apart))
-leads_there n s (Ended m status) waits apart = with_connections s _ _ (with_stage-without n m stage.Opened s.connections (not_its n m apart))
-leads_there n s (Retired m) waits apart = with_connections s _ _ (with_stage-swap n m stage.Opened stage.Retired s.connections (not_its n m apart))
-leads_there n s (Dropped m cause) waits apart = with_connections s _ _ (with_stage-without n m stage.Opened s.connections (not_its n m apart))
-leads_there n s (Stepped phase) waits apart = refl
-leads_there n s (StepFailed phase) waits apart = refl
-leads_there n s Stop waits apart = absurd (cc)
+leads_there n s (brings m from to) waits apart = with_connections s _ _ (with_stage-swap n m stage.Opened to s.connections (not_its n m apart))
+leads_there n s (lets_go m from) waits apart = with_connections s _ _ (with_stage-without n m stage.Opened s.connections (not_its n m apart))
+leads_there n s (comes_to phase) waits apart = refl
+leads_there n s (fails_at phase) waits apart = refl
+leads_there n s ends_all waits apart = absurd (cc)
 
 -- the connection itself waits on
-waits_on : (n : ℕ) (s : ServerState) (event : Event) → stage_of n s.connections ≡ Some stage.Admitted → is_apart n event ≡ true
-    → stage_of n (after s event).connections ≡ Some stage.Admitted
-waits_on n s (Admitted m peer) waits apart = stage_of-push_found n stage.Admitted s.connections (newcomer m peer) waits
-waits_on n s (Opened m there) waits apart = stage_of-with_stage_other n m stage.Opened s.connections (not_its n m apart) ∙ waits
-waits_on n s (Decided m decision) waits apart =
+waits_on : (n : ℕ) (s : ServerState) (f : Effect) → stage_of n s.connections ≡ Some stage.Admitted → apart_by n f ≡ true
+    → stage_of n (with_effect s f).connections ≡ Some stage.Admitted
+waits_on n s (lets_in m peer) waits apart = stage_of-push_found n stage.Admitted s.connections (newcomer m peer) waits
+waits_on n s (opens m there) waits apart = stage_of-with_stage_other n m stage.Opened s.connections (not_its n m apart) ∙ waits
+waits_on n s (decides m decision) waits apart =
     stage_of-with_stage_other n m (stage.Decided decision.verdict) s.connections (not_its n m apart) ∙ waits
-waits_on n s (Started m) waits apart = stage_of-with_stage_other n m stage.Started s.connections (not_its n m apart) ∙ waits
-waits_on n s (StartFailed m fault) waits apart = stage_of-without_other n m s.connections (not_its n m apart) ∙ waits
-waits_on n s (Ended m status) waits apart = stage_of-without_other n m s.connections (not_its n m apart) ∙ waits
-waits_on n s (Retired m) waits apart = stage_of-with_stage_other n m stage.Retired s.connections (not_its n m apart) ∙ waits
-waits_on n s (Dropped m cause) waits apart = stage_of-without_other n m s.connections (not_its n m apart) ∙ waits
-waits_on n s (Stepped phase) waits apart = waits
-waits_on n s (StepFailed phase) waits apart = waits
-waits_on n s Stop waits apart = absurd (cc)
+waits_on n s (brings m from to) waits apart = stage_of-with_stage_other n m to s.connections (not_its n m apart) ∙ waits
+waits_on n s (lets_go m from) waits apart = stage_of-without_other n m s.connections (not_its n m apart) ∙ waits
+waits_on n s (comes_to phase) waits apart = waits
+waits_on n s (fails_at phase) waits apart = waits
+waits_on n s ends_all waits apart = absurd (cc)
 
 -- ---- what connections keep
 
@@ -142,26 +133,6 @@ waits_on n s Stop waits apart = absurd (cc)
 record Keeps (n : ℕ) (bytes : Option (List ℕ)) (old new : List KeptFile) : Type 0 where
   own : kept_by n new ≡ Some bytes
   others : (m : ℕ) → m ≢ n → kept_by m new ≡ kept_by m old
-
-kept_by-push_found : (n : ℕ) (bytes : Option (List ℕ)) (ks : List KeptFile) (k : KeptFile) → kept_by n ks ≡ Some bytes
-    → kept_by n (ks ++ k ∷ []) ≡ Some bytes
-kept_by-push_found n bytes [] k e = absurd (cc)
-kept_by-push_found n bytes (x ∷ ks) k e =
-    elim (x.serial == n) as (λ b. (if b then Some x.bytes else kept_by n ks) ≡ Some bytes → (if b then Some x.bytes else kept_by n (ks ++ k ∷ [])) ≡ Some bytes) [
-      | true ↦ λ here. here
-      | false ↦ λ later. kept_by-push_found n bytes ks k later
-    ] e
-
-kept_by-push_other : (n : ℕ) (ks : List KeptFile) (k : KeptFile) → (k.serial == n) ≡ false → kept_by n (ks ++ k ∷ []) ≡ kept_by n ks
-kept_by-push_other n [] k other = rw other
-kept_by-push_other n (x ∷ ks) k other =
-    ap (λ (o : Option (Option (List ℕ))). if x.serial == n then Some x.bytes else o) (kept_by-push_other n ks k other)
-
--- what is kept after an event
-abbrev kept_after : World → Event → List KeptFile
-kept_after w (Opened n there) = w.kept ++ record { serial = n; bytes = standing w } ∷ []
-kept_after w Stop = []
-kept_after w event = w.kept
 
 kept_by-push_same : (m : ℕ) (xs ys : List KeptFile) (k : KeptFile) → kept_by m xs ≡ kept_by m ys → kept_by m (xs ++ k ∷ []) ≡ kept_by m (ys ++ k ∷ [])
 kept_by-push_same m xs ys k same = at_end xs ∙ ap (λ o. first_of o (kept_by m (k ∷ []))) same ∙ sym (at_end ys)
@@ -199,20 +170,20 @@ module _ (n : ℕ) (bytes : Option (List ℕ)) (w x : World) (kept : List KeptFi
   advances_there Done m = (m.0, m.1, m.2, ap (λ (y : World). record y { server = opened n x.server; kept = kept }) m.3)
 
   -- the world after an event
-  abbrev then_there : Event → World
-  then_there event = already n (kept_after (already n kept w) event) x
+  abbrev then_there : Effect → World
+  then_there f = already n (kept_with (already n kept w) f) x
 
   plainly : x ≡ record w { server = x.server } → already n kept x ≡ record (already n kept w) { server = opened n x.server }
   plainly m = ap (λ (y : World). record y { server = opened n x.server; kept = kept }) m
 
-  moves_there : (event : Event) → is_apart n event ≡ true → Keeps n bytes w.kept kept → Moves event w x
-      → Moves event (already n kept w) (then_there event)
-  moves_there (Admitted m peer) apart keeps moves = plainly moves
-  moves_there (Opened m there) apart keeps moves = (
+  moves_there : (f : Effect) → apart_by n f ≡ true → Keeps n bytes w.kept kept → MovesBy f w x
+      → MovesBy f (already n kept w) (then_there f)
+  moves_there (lets_in m peer) apart keeps moves = plainly moves
+  moves_there (opens m there) apart keeps moves = (
     moves.0,
     ap (λ (y : World). record y { server = opened n x.server; kept = kept ++ record { serial = m; bytes = standing w } ∷ [] }) moves.1,
   )
-  moves_there (Decided m decision) apart keeps moves = (
+  moves_there (decides m decision) apart keeps moves = (
     moves.0,
     moves.1,
     keeps.others m (λ same. (let never = not_its n m apart in grind (arith, nat_tests, same, never))) ∙ moves.2,
@@ -220,46 +191,40 @@ module _ (n : ℕ) (bytes : Option (List ℕ)) (w x : World) (kept : List KeptFi
     moves.4,
     plainly moves.5,
   )
-  moves_there (Started m) apart keeps moves = plainly moves
-  moves_there (StartFailed m fault) apart keeps moves = plainly moves
-  moves_there (Ended m status) apart keeps moves = plainly moves
-  moves_there (Retired m) apart keeps moves = plainly moves
-  moves_there (Dropped m cause) apart keeps moves = plainly moves
-  moves_there (Stepped phase) apart keeps moves = advances_there phase moves
-  moves_there (StepFailed phase) apart keeps moves =
+  moves_there (brings m from to) apart keeps moves = plainly moves
+  moves_there (lets_go m from) apart keeps moves = plainly moves
+  moves_there (comes_to phase) apart keeps moves = advances_there phase moves
+  moves_there (fails_at phase) apart keeps moves =
       (moves.0, moves.1, moves.2, ap (λ (y : World). record y { server = opened n x.server; kept = kept }) moves.3)
-  moves_there Stop apart keeps moves = absurd (cc)
+  moves_there ends_all apart keeps moves = absurd (cc)
 
   -- a step is one there
   step_there : (event : Event) → is_apart n event ≡ true → stage_of n w.server.connections ≡ Some stage.Admitted → Keeps n bytes w.kept kept
-      → Step w event x → Step (already n kept w) event (then_there event)
+      → Step w event x → Step (already n kept w) event (then_there (effect event))
   step_there event apart waits keeps step =
       let is = step_is step.table in
       record {
-        table = subst (λ (s : ServerState). Happens (opened n w.server) event s) (leads_there n w.server event waits apart ∙ ap (opened n) (sym is.1))
-            (is_step (opened n w.server) event (may_there n w.server event apart ∙ is.0));
-        moves = moves_there event apart keeps step.moves;
+        table = subst (λ (s : ServerState). Happens (opened n w.server) event s) (leads_there n w.server (effect event) waits apart ∙ ap (opened n) (sym is.1))
+            (is_step (opened n w.server) event (may_there n w.server (effect event) apart ∙ is.0));
+        moves = moves_there (effect event) apart keeps step.moves;
       }
 
   keeps_as : {old : List KeptFile} (new : List KeptFile) → x.kept ≡ old → Keeps n bytes old new → Keeps n bytes x.kept new
   keeps_as new is keeps = subst (λ (ks : List KeptFile). Keeps n bytes ks new) (sym is) keeps
 
   -- and what is kept after it
-  keeps_there : (event : Event) → is_apart n event ≡ true → Keeps n bytes w.kept kept → Moves event w x
-      → Keeps n bytes x.kept (kept_after (already n kept w) event)
-  keeps_there (Admitted m peer) apart keeps moves = keeps_as kept (moves_same (Admitted m peer) w x moves).0 keeps
-  keeps_there (Opened m there) apart keeps moves =
+  keeps_there : (f : Effect) → apart_by n f ≡ true → Keeps n bytes w.kept kept → MovesBy f w x
+      → Keeps n bytes x.kept (kept_with (already n kept w) f)
+  keeps_there (lets_in m peer) apart keeps moves = keeps_as kept (same_by (lets_in m peer) w x moves).0 keeps
+  keeps_there (opens m there) apart keeps moves =
       let found : KeptFile = record { serial = m; bytes = standing w } in
-      keeps_as (kept ++ found ∷ []) (moves_same (Opened m there) w x moves).0 (keeps_more n bytes w.kept kept found keeps)
-  keeps_there (Decided m decision) apart keeps moves = keeps_as kept (moves_same (Decided m decision) w x moves).0 keeps
-  keeps_there (Started m) apart keeps moves = keeps_as kept (moves_same (Started m) w x moves).0 keeps
-  keeps_there (StartFailed m fault) apart keeps moves = keeps_as kept (moves_same (StartFailed m fault) w x moves).0 keeps
-  keeps_there (Ended m status) apart keeps moves = keeps_as kept (moves_same (Ended m status) w x moves).0 keeps
-  keeps_there (Retired m) apart keeps moves = keeps_as kept (moves_same (Retired m) w x moves).0 keeps
-  keeps_there (Dropped m cause) apart keeps moves = keeps_as kept (moves_same (Dropped m cause) w x moves).0 keeps
-  keeps_there (Stepped phase) apart keeps moves = keeps_as kept (moves_same (Stepped phase) w x moves).0 keeps
-  keeps_there (StepFailed phase) apart keeps moves = keeps_as kept (moves_same (StepFailed phase) w x moves).0 keeps
-  keeps_there Stop apart keeps moves = absurd (cc)
+      keeps_as (kept ++ found ∷ []) (same_by (opens m there) w x moves).0 (keeps_more n bytes w.kept kept found keeps)
+  keeps_there (decides m decision) apart keeps moves = keeps_as kept (same_by (decides m decision) w x moves).0 keeps
+  keeps_there (brings m from to) apart keeps moves = keeps_as kept (same_by (brings m from to) w x moves).0 keeps
+  keeps_there (lets_go m from) apart keeps moves = keeps_as kept (same_by (lets_go m from) w x moves).0 keeps
+  keeps_there (comes_to phase) apart keeps moves = keeps_as kept (same_by (comes_to phase) w x moves).0 keeps
+  keeps_there (fails_at phase) apart keeps moves = keeps_as kept (same_by (fails_at phase) w x moves).0 keeps
+  keeps_there ends_all apart keeps moves = absurd (cc)
 
 -- ---- the whole way
 
@@ -273,11 +238,11 @@ goes_there : (n : ℕ) (bytes : Option (List ℕ)) (kept : List KeptFile) {w x :
     → stage_of n w.server.connections ≡ Some stage.Admitted → AreApart n events → Keeps n bytes w.kept kept → GoesThere n bytes w kept events x
 goes_there n bytes kept none waits apart keeps = record { last = kept; legal = none; keeps = keeps; waits = waits }
 goes_there n bytes kept (more {u} {v} {w} {event} {events} step rest) waits apart keeps =
-    let after_it : List KeptFile = kept_after (already n kept u) event in
+    let after_it : List KeptFile = kept_with (already n kept u) (effect event) in
     let waits_still : stage_of n v.server.connections ≡ Some stage.Admitted =
-    ap (λ (s : ServerState). stage_of n s.connections) (step_is step.table).1 ∙ waits_on n u.server event waits apart.0 in
+    ap (λ (s : ServerState). stage_of n s.connections) (step_is step.table).1 ∙ waits_on n u.server (effect event) waits apart.0 in
     let keeps_still : Keeps n bytes v.kept after_it =
-    keeps_there n bytes u v kept event apart.0 keeps step.moves in
+    keeps_there n bytes u v kept (effect event) apart.0 keeps step.moves in
     let on = goes_there n bytes after_it rest waits_still apart.1 keeps_still in
     record { last = on.last; legal = more (step_there n bytes u v kept event apart.0 waits keeps step) on.legal; keeps = on.keeps; waits = on.waits }
 goes_there n bytes kept (beside {u} {v} {w} {events} out rest) waits apart keeps =

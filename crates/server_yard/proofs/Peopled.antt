@@ -1,22 +1,24 @@
 -- Who is alive after an event, and from where.
-use Rattle.std.proofs.Common.{◌≡◌, ℕ, ◌+◌, ◌<◌, ◌≤◌, List, [], ◌∷◌, length, true, false, ◌==◌, cond, Option, None, Some, refl, sym, ap, ◌∙◌, arith, add_comm, bytes_eq}
+use Rattle.std.proofs.Common.{◌≡◌, ℕ, ◌+◌, ◌<◌, ◌≤◌, List, [], ◌∷◌, length, Bool, true, false, ◌==◌, not, cond, Option, None, Some, refl, sym, ap, ◌∙◌, arith, add_comm, bytes_eq}
 use Rattle.std.specs.Prelude.{if◌then◌else◌, is_some}
 use Rattle.std.proofs.lemmas.Bool.Decides.{nat_tests}
 use Rattle.connection_facts.specs.Peers.{Client}
 use Rattle.server_events.specs.declared.event.Event.{Event}
-use Rattle.server_events.specs.declared.event.Event.TheVariants.{Admitted, Opened, Decided, Started, StartFailed, Ended, Retired, Dropped, Stepped, StepFailed, Stop}
+use Rattle.server_events.specs.declared.event.Event.TheVariants.{Retired}
 use Rattle.server_events.specs.declared.event.Stage.{Stage}
 use Rattle.server_events.specs.declared.event.Stage.TheVariants as stage
 use Rattle.server_events.specs.declared.state.Connection.{Connection}
-use Rattle.server_events.specs.ServerState.{ServerState, after, count_from, may_happen, with_stage, without}
+use Rattle.server_events.specs.Processes.{installs_by, is_installations}
+use Rattle.server_events.specs.ServerState.{Effect, ServerState, lets_in, opens, decides, brings, lets_go, comes_to, fails_at, ends_all, after, count_from, effect, is_retired, may_happen, may_have, with_effect, with_stage, without}
 use Rattle.server_events.specs.Worlds.{peer_of}
+use Rattle.server_events.proofs.Effects.{Sound, sound}
 use Rattle.server_events.proofs.Limits.{count_from-cons, count_from-with_stage, length-with_stage, one_from}
 use Rattle.server_events.proofs.Peers.{peer_of-with_stage}
 use Rattle.server_events.proofs.Serials.{Rise, Rise-le}
-use Rattle.event_journals.specs.Journals.{FitsSerial}
-use Rattle.event_journals.proofs.Countings.{moves, retired_in, weight}
+use Rattle.event_journals.specs.Journals.{FitsBy, FitsSerial}
+use Rattle.event_journals.proofs.Countings.{moves_with, retired_in, weight}
 use Rattle.server_yard.specs.Rooms.{events_left}
-use Rattle.server_yard.specs.Seating.{goes_on, is_installing, leaver}
+use Rattle.server_yard.specs.Seating.{goes_on, goes_on_by, leaver, leaver_by}
 
 -- nobody comes or goes
 pub record NobodyMoves (w v : ServerState) : Type 0 where
@@ -40,45 +42,45 @@ staged w n s = record {
 pub retired_stays : (w : ServerState) (n : ℕ) → NobodyMoves w (after w (Retired n))
 retired_stays w n = staged w n stage.Retired
 
+stays_with : (w : ServerState) (x : Effect) → goes_on_by x ≡ true → NobodyMoves w (with_effect w x)
+stays_with w (lets_in n peer) k = absurd (cc)
+stays_with w (opens n there) k = staged w n stage.Opened
+stays_with w (decides n decision) k = staged w n (stage.Decided decision.verdict)
+stays_with w (brings n from to) k = staged w n to
+stays_with w (lets_go n from) k = absurd (cc)
+stays_with w (comes_to phase) k = absurd (cc)
+stays_with w (fails_at phase) k = absurd (cc)
+stays_with w ends_all k = absurd (cc)
+
 pub goes_on_stays : (w : ServerState) (e : Event) → goes_on e ≡ true → NobodyMoves w (after w e)
-goes_on_stays w (Admitted n peer) k = absurd (cc)
-goes_on_stays w (Opened n there) k = staged w n stage.Opened
-goes_on_stays w (Decided n decision) k = staged w n (stage.Decided decision.verdict)
-goes_on_stays w (Started n) k = staged w n stage.Started
-goes_on_stays w (StartFailed n fault) k = absurd (cc)
-goes_on_stays w (Ended n status) k = absurd (cc)
-goes_on_stays w (Retired n) k = absurd (cc)
-goes_on_stays w (Dropped n cause) k = absurd (cc)
-goes_on_stays w (Stepped phase) k = absurd (cc)
-goes_on_stays w (StepFailed phase) k = absurd (cc)
-goes_on_stays w Stop k = absurd (cc)
+goes_on_stays w e k = stays_with w (effect e) k
 
 -- an event of an installation changes the phase alone
-pub installing_keeps : (w : ServerState) (e : Event) → is_installing e ≡ true → (after w e).connections ≡ w.connections
-installing_keeps w (Admitted n peer) k = absurd (cc)
-installing_keeps w (Opened n there) k = absurd (cc)
-installing_keeps w (Decided n decision) k = absurd (cc)
-installing_keeps w (Started n) k = absurd (cc)
-installing_keeps w (StartFailed n fault) k = absurd (cc)
-installing_keeps w (Ended n status) k = absurd (cc)
-installing_keeps w (Retired n) k = absurd (cc)
-installing_keeps w (Dropped n cause) k = absurd (cc)
-installing_keeps w (Stepped phase) k = refl
-installing_keeps w (StepFailed phase) k = refl
-installing_keeps w Stop k = absurd (cc)
+keeps_with : (w : ServerState) (x : Effect) → installs_by x ≡ true → (with_effect w x).connections ≡ w.connections
+keeps_with w (lets_in m peer) k = absurd (cc)
+keeps_with w (opens m there) k = absurd (cc)
+keeps_with w (decides m decision) k = absurd (cc)
+keeps_with w (brings m from to) k = absurd (cc)
+keeps_with w (lets_go m from) k = absurd (cc)
+keeps_with w (comes_to phase) k = refl
+keeps_with w (fails_at phase) k = refl
+keeps_with w ends_all k = absurd (cc)
 
-pub installing_stays : (w : ServerState) (e : Event) → is_installing e ≡ true → NobodyMoves w (after w e)
-installing_stays w (Admitted n peer) k = absurd (cc)
-installing_stays w (Opened n there) k = absurd (cc)
-installing_stays w (Decided n decision) k = absurd (cc)
-installing_stays w (Started n) k = absurd (cc)
-installing_stays w (StartFailed n fault) k = absurd (cc)
-installing_stays w (Ended n status) k = absurd (cc)
-installing_stays w (Retired n) k = absurd (cc)
-installing_stays w (Dropped n cause) k = absurd (cc)
-installing_stays w (Stepped phase) k = record { peers = λ n. refl; from = λ ip. refl; live = refl; last = refl; limit = refl; per_address = refl }
-installing_stays w (StepFailed phase) k = record { peers = λ n. refl; from = λ ip. refl; live = refl; last = refl; limit = refl; per_address = refl }
-installing_stays w Stop k = absurd (cc)
+pub installing_keeps : (w : ServerState) (e : Event) → is_installations e ≡ true → (after w e).connections ≡ w.connections
+installing_keeps w e k = keeps_with w (effect e) k
+
+installs_with : (w : ServerState) (x : Effect) → installs_by x ≡ true → NobodyMoves w (with_effect w x)
+installs_with w (lets_in m peer) k = absurd (cc)
+installs_with w (opens m there) k = absurd (cc)
+installs_with w (decides m decision) k = absurd (cc)
+installs_with w (brings m from to) k = absurd (cc)
+installs_with w (lets_go m from) k = absurd (cc)
+installs_with w (comes_to phase) k = record { peers = λ n. refl; from = λ ip. refl; live = refl; last = refl; limit = refl; per_address = refl }
+installs_with w (fails_at phase) k = record { peers = λ n. refl; from = λ ip. refl; live = refl; last = refl; limit = refl; per_address = refl }
+installs_with w ends_all k = absurd (cc)
+
+pub installing_stays : (w : ServerState) (e : Event) → is_installations e ≡ true → NobodyMoves w (after w e)
+installing_stays w e k = installs_with w (effect e) k
 
 some_client : (x y : Client) → ◌≡◌ {A = Option Client} (Some x) (Some y) → x ≡ y
 some_client x y e = cc
@@ -116,60 +118,68 @@ above_none n low cs high h above = go (peer_of n cs) refl where
   go None is = refl
   go (Some peer) is = let below = peer_of-le n peer low cs high h is in absurd (omega (arith, below, above))
 
+not_true : (b : Bool) → not b ≡ true → b ≡ false
+not_true true e = absurd (cc)
+not_true false e = refl
+
 -- nobody is retired by an event by which a connection goes on
+retired_with : (w : ServerState) (x : Effect) → Sound x → goes_on_by x ≡ true → may_have w x ≡ true
+    → retired_in (with_effect w x).connections ≡ retired_in w.connections
+retired_with w (lets_in n peer) its k m = absurd (cc)
+retired_with w (opens n there) its k m = (moves_with w (opens n there) its m).retired
+retired_with w (decides n decision) its k m = (moves_with w (decides n decision) its m).retired
+retired_with w (brings n from to) its k m =
+    let moved = (moves_with w (brings n from to) its m).retired in
+    let none : weight to ≡ 0 = ap (λ b. cond b 1 0) (not_true (is_retired to) k) in
+    omega (arith, moved, none)
+retired_with w (lets_go n from) its k m = absurd (cc)
+retired_with w (comes_to phase) its k m = absurd (cc)
+retired_with w (fails_at phase) its k m = absurd (cc)
+retired_with w ends_all its k m = absurd (cc)
+
 pub retired_goes_on : (w : ServerState) (e : Event) → goes_on e ≡ true → may_happen w e ≡ true
     → retired_in (after w e).connections ≡ retired_in w.connections
-retired_goes_on w (Admitted n peer) k m = absurd (cc)
-retired_goes_on w (Opened n there) k m = (moves w (Opened n there) m).retired
-retired_goes_on w (Decided n decision) k m = (moves w (Decided n decision) m).retired
-retired_goes_on w (Started n) k m = (moves w (Started n) m).retired
-retired_goes_on w (StartFailed n fault) k m = absurd (cc)
-retired_goes_on w (Ended n status) k m = absurd (cc)
-retired_goes_on w (Retired n) k m = absurd (cc)
-retired_goes_on w (Dropped n cause) k m = absurd (cc)
-retired_goes_on w (Stepped phase) k m = absurd (cc)
-retired_goes_on w (StepFailed phase) k m = absurd (cc)
-retired_goes_on w Stop k m = absurd (cc)
+retired_goes_on w e k m = retired_with w (effect e) (sound e) k m
 
 -- no such event has a serial that may not fit
-pub goes_on_fits : (e : Event) → goes_on e ≡ true → FitsSerial e
-goes_on_fits (Admitted n peer) k = absurd (cc)
-goes_on_fits (Opened n there) k = tt
-goes_on_fits (Decided n decision) k = tt
-goes_on_fits (Started n) k = tt
-goes_on_fits (StartFailed n fault) k = absurd (cc)
-goes_on_fits (Ended n status) k = absurd (cc)
-goes_on_fits (Retired n) k = absurd (cc)
-goes_on_fits (Dropped n cause) k = absurd (cc)
-goes_on_fits (Stepped phase) k = absurd (cc)
-goes_on_fits (StepFailed phase) k = absurd (cc)
-goes_on_fits Stop k = absurd (cc)
+on_fits : (x : Effect) → goes_on_by x ≡ true → FitsBy x
+on_fits (lets_in m peer) k = absurd (cc)
+on_fits (opens m there) k = tt
+on_fits (decides m decision) k = tt
+on_fits (brings m from to) k = tt
+on_fits (lets_go m from) k = tt
+on_fits (comes_to phase) k = tt
+on_fits (fails_at phase) k = tt
+on_fits ends_all k = tt
 
-pub installing_fits : (e : Event) → is_installing e ≡ true → FitsSerial e
-installing_fits (Admitted n peer) k = absurd (cc)
-installing_fits (Opened n there) k = absurd (cc)
-installing_fits (Decided n decision) k = absurd (cc)
-installing_fits (Started n) k = absurd (cc)
-installing_fits (StartFailed n fault) k = absurd (cc)
-installing_fits (Ended n status) k = absurd (cc)
-installing_fits (Retired n) k = absurd (cc)
-installing_fits (Dropped n cause) k = absurd (cc)
-installing_fits (Stepped phase) k = tt
-installing_fits (StepFailed phase) k = tt
-installing_fits Stop k = absurd (cc)
+pub goes_on_fits : (e : Event) → goes_on e ≡ true → FitsSerial e
+goes_on_fits e k = on_fits (effect e) k
+
+installs_fits : (x : Effect) → installs_by x ≡ true → FitsBy x
+installs_fits (lets_in m peer) k = absurd (cc)
+installs_fits (opens m there) k = tt
+installs_fits (decides m decision) k = tt
+installs_fits (brings m from to) k = tt
+installs_fits (lets_go m from) k = tt
+installs_fits (comes_to phase) k = tt
+installs_fits (fails_at phase) k = tt
+installs_fits ends_all k = tt
+
+pub installing_fits : (e : Event) → is_installations e ≡ true → FitsSerial e
+installing_fits e k = installs_fits (effect e) k
+
+leaves_fits : (x : Effect) (n : ℕ) → leaver_by x ≡ Some n → FitsBy x
+leaves_fits (lets_in m peer) n k = absurd (cc)
+leaves_fits (opens m there) n k = tt
+leaves_fits (decides m decision) n k = tt
+leaves_fits (brings m from to) n k = tt
+leaves_fits (lets_go m from) n k = tt
+leaves_fits (comes_to phase) n k = tt
+leaves_fits (fails_at phase) n k = tt
+leaves_fits ends_all n k = tt
 
 pub leaver_fits : (e : Event) (n : ℕ) → leaver e ≡ Some n → FitsSerial e
-leaver_fits (Admitted m peer) n k = absurd (cc)
-leaver_fits (Opened m there) n k = tt
-leaver_fits (Decided m decision) n k = tt
-leaver_fits (Started m) n k = tt
-leaver_fits (StartFailed m fault) n k = tt
-leaver_fits (Ended m status) n k = tt
-leaver_fits (Retired m) n k = tt
-leaver_fits (Dropped m cause) n k = tt
-leaver_fits (Stepped phase) n k = tt
-leaver_fits (StepFailed phase) n k = tt
-leaver_fits Stop n k = tt
+leaver_fits e n k = leaves_fits (effect e) n k
 
 -- a connection that may have an event more is not retired
 pub not_retired : (s : Stage) → 1 ≤ events_left s → weight s ≡ 0

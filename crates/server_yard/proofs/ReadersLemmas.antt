@@ -12,18 +12,19 @@ use Rattle.rule_lines.specs.Pairs.{Rule}
 use Rattle.rules_install.specs.declared.Phase.{Phase}
 use Rattle.rules_install.specs.declared.Phase.TheVariants.{Fresh, Filling, Synced, Named, Done}
 use Rattle.server_events.specs.Headline.{Reaches}
-use Rattle.server_events.specs.Steps.{Advances, Legal, Moves, Step, none, more, beside}
+use Rattle.server_events.specs.Processes.{installs_by, is_installations}
+use Rattle.server_events.specs.ServerState.{Effect, lets_in, opens, decides, brings, lets_go, comes_to, fails_at, ends_all, effect}
+use Rattle.server_events.specs.Steps.{Advances, Legal, MovesBy, Step, none, more, beside}
 use Rattle.server_events.specs.Table.{Follows, done}
 use Rattle.server_events.specs.Worlds.{Accepted, RulesName, StandsAt, UnderWay, World}
 use Rattle.server_events.specs.declared.event.Event.{Event}
-use Rattle.server_events.specs.declared.event.Event.TheVariants.{Admitted, Opened, Decided, Started, StartFailed, Ended, Retired, Dropped, Stepped, StepFailed, Stop}
+use Rattle.server_events.specs.declared.event.Event.TheVariants.{Stepped}
 use Rattle.server_events.proofs.StandingTexts.{IsText}
 use Rattle.server_events.proofs.TableLemmas.{may_come_follows, step_is}
 use Rattle.server_events.proofs.WholeText.{Agree, good_reached, good_rules}
 use Rattle.server_yard.proofs.Installs.{reached_by}
 use Rattle.server_yard.specs.Installed.{KeepsHistory, installs_of}
-use Rattle.server_yard.specs.Readers.{IsAbsentOrCompiled, KeptYard, NamesCompiled, NamesStored, NamesStoredSinceDone, ReadersFind, begun_in, is_first}
-use Rattle.server_yard.specs.Seating.{is_installing}
+use Rattle.server_yard.specs.Readers.{IsAbsentOrCompiled, KeptYard, NamesCompiled, NamesStored, NamesStoredSinceDone, ReadersFind, begins_by, begun_in, is_first}
 use Rattle.server_yard.specs.Standing.{YardState}
 
 -- ---- how many texts were accepted
@@ -33,8 +34,11 @@ record Counted (begun : ℕ) (w : World) (n : ℕ) : Type 0 where
   texts : length w.accepted ≡ n + begun
   idle : n ≡ 0 → w.under_way ≡ None
 
+abbrev one_by : Effect → ℕ
+one_by x = cond (begins_by x) 1 0
+
 abbrev one_of : Event → ℕ
-one_of event = cond (is_first event) 1 0
+one_of event = one_by (effect event)
 
 -- a step that accepts nothing, and begins nothing
 counted_same : (m : ℕ) (w v : World) (n : ℕ) → v.accepted ≡ w.accepted → (w.under_way ≡ None → v.under_way ≡ None) → Counted m w n
@@ -54,21 +58,18 @@ counted_advance m Synced w v n a c = counted_same m w v n (ap (λ (x : World). x
 counted_advance m Named w v n a c = counted_same m w v n (ap (λ (x : World). x.accepted) a.4) (λ is. ap (λ (x : World). x.under_way) a.4 ∙ is) c
 counted_advance m Done w v n a c = counted_same m w v n (ap (λ (x : World). x.accepted) a.3) (λ is. ap (λ (x : World). x.under_way) a.3) c
 
-counted_moves : (m : ℕ) (event : Event) (w v : World) (n : ℕ) → Moves event w v → Counted m w n → Counted m v (n + one_of event)
-counted_moves m (Admitted k peer) w v n a c = counted_same m w v n (ap (λ (x : World). x.accepted) a) (λ is. ap (λ (x : World). x.under_way) a ∙ is) c
-counted_moves m (Opened k there) w v n a c =
+counted_moves : (m : ℕ) (x : Effect) (w v : World) (n : ℕ) → MovesBy x w v → Counted m w n → Counted m v (n + one_by x)
+counted_moves m (lets_in k peer) w v n a c = counted_same m w v n (ap (λ (x : World). x.accepted) a) (λ is. ap (λ (x : World). x.under_way) a ∙ is) c
+counted_moves m (opens k there) w v n a c =
     counted_same m w v n (ap (λ (x : World). x.accepted) a.1) (λ is. ap (λ (x : World). x.under_way) a.1 ∙ is) c
-counted_moves m (Decided k decision) w v n a c =
+counted_moves m (decides k decision) w v n a c =
     counted_same m w v n (ap (λ (x : World). x.accepted) a.5) (λ is. ap (λ (x : World). x.under_way) a.5 ∙ is) c
-counted_moves m (Started k) w v n a c = counted_same m w v n (ap (λ (x : World). x.accepted) a) (λ is. ap (λ (x : World). x.under_way) a ∙ is) c
-counted_moves m (StartFailed k fault) w v n a c =
+counted_moves m (brings k from to) w v n a c = counted_same m w v n (ap (λ (x : World). x.accepted) a) (λ is. ap (λ (x : World). x.under_way) a ∙ is) c
+counted_moves m (lets_go k from) w v n a c =
     counted_same m w v n (ap (λ (x : World). x.accepted) a) (λ is. ap (λ (x : World). x.under_way) a ∙ is) c
-counted_moves m (Ended k status) w v n a c = counted_same m w v n (ap (λ (x : World). x.accepted) a) (λ is. ap (λ (x : World). x.under_way) a ∙ is) c
-counted_moves m (Retired k) w v n a c = counted_same m w v n (ap (λ (x : World). x.accepted) a) (λ is. ap (λ (x : World). x.under_way) a ∙ is) c
-counted_moves m (Dropped k cause) w v n a c = counted_same m w v n (ap (λ (x : World). x.accepted) a) (λ is. ap (λ (x : World). x.under_way) a ∙ is) c
-counted_moves m (Stepped phase) w v n a c = counted_advance m phase w v n a c
-counted_moves m (StepFailed phase) w v n a c = counted_same m w v n (ap (λ (x : World). x.accepted) a.3) (λ is. ap (λ (x : World). x.under_way) a.3) c
-counted_moves m Stop w v n a c = counted_same m w v n (ap (λ (x : World). x.accepted) a.1) (λ is. ap (λ (x : World). x.under_way) a.1) c
+counted_moves m (comes_to phase) w v n a c = counted_advance m phase w v n a c
+counted_moves m (fails_at phase) w v n a c = counted_same m w v n (ap (λ (x : World). x.accepted) a.3) (λ is. ap (λ (x : World). x.under_way) a.3) c
+counted_moves m ends_all w v n a c = counted_same m w v n (ap (λ (x : World). x.accepted) a.1) (λ is. ap (λ (x : World). x.under_way) a.1) c
 
 begun-cons : (e : Event) (es : List Event) → begun_in (e ∷ es) ≡ one_of e + begun_in es
 begun-cons e es = sum_by-cons (λ (x : Event). cond (is_first x) 1 0) e es
@@ -80,7 +81,7 @@ counted_run m n (none {w}) c =
 counted_run m n (more {u} {v} {w} {event} {events} step rest) c =
     let first = begun-cons event events in
     let same : (n + one_of event) + begun_in events ≡ n + begun_in (event ∷ events) = omega (arith, first) in
-    subst (λ (k : ℕ). Counted m w k) same (counted_run m (n + one_of event) rest (counted_moves m event u v n step.moves c))
+    subst (λ (k : ℕ). Counted m w k) same (counted_run m (n + one_of event) rest (counted_moves m (effect event) u v n step.moves c))
 counted_run m n (beside {u} {v} out rest) c = counted_run m n rest (record {
   texts = ap (λ (x : World). length x.accepted) out.moves ∙ c.texts;
   idle = λ none. ap (λ (x : World). x.under_way) out.moves ∙ c.idle none;
@@ -105,23 +106,20 @@ rises_advance Synced w v a = same_le w v (ap (λ (x : World). x.acknowledged) a.
 rises_advance Named w v a = same_le w v (ap (λ (x : World). x.acknowledged) a.4)
 rises_advance Done w v a = let is = ap (λ (x : World). x.acknowledged) a.3 in omega (arith, is)
 
-rises_moves : (event : Event) (w v : World) → Moves event w v → w.acknowledged ≤ v.acknowledged
-rises_moves (Admitted m peer) w v a = same_le w v (ap (λ (x : World). x.acknowledged) a)
-rises_moves (Opened m there) w v a = same_le w v (ap (λ (x : World). x.acknowledged) a.1)
-rises_moves (Decided m decision) w v a = same_le w v (ap (λ (x : World). x.acknowledged) a.5)
-rises_moves (Started m) w v a = same_le w v (ap (λ (x : World). x.acknowledged) a)
-rises_moves (StartFailed m fault) w v a = same_le w v (ap (λ (x : World). x.acknowledged) a)
-rises_moves (Ended m status) w v a = same_le w v (ap (λ (x : World). x.acknowledged) a)
-rises_moves (Retired m) w v a = same_le w v (ap (λ (x : World). x.acknowledged) a)
-rises_moves (Dropped m cause) w v a = same_le w v (ap (λ (x : World). x.acknowledged) a)
-rises_moves (Stepped phase) w v a = rises_advance phase w v a
-rises_moves (StepFailed phase) w v a = same_le w v (ap (λ (x : World). x.acknowledged) a.3)
-rises_moves Stop w v a = same_le w v (ap (λ (x : World). x.acknowledged) a.1)
+rises_moves : (x : Effect) (w v : World) → MovesBy x w v → w.acknowledged ≤ v.acknowledged
+rises_moves (lets_in m peer) w v a = same_le w v (ap (λ (x : World). x.acknowledged) a)
+rises_moves (opens m there) w v a = same_le w v (ap (λ (x : World). x.acknowledged) a.1)
+rises_moves (decides m decision) w v a = same_le w v (ap (λ (x : World). x.acknowledged) a.5)
+rises_moves (brings m from to) w v a = same_le w v (ap (λ (x : World). x.acknowledged) a)
+rises_moves (lets_go m from) w v a = same_le w v (ap (λ (x : World). x.acknowledged) a)
+rises_moves (comes_to phase) w v a = rises_advance phase w v a
+rises_moves (fails_at phase) w v a = same_le w v (ap (λ (x : World). x.acknowledged) a.3)
+rises_moves ends_all w v a = same_le w v (ap (λ (x : World). x.acknowledged) a.1)
 
 rises_run : {v w : World} {h : List Event} → Legal v h w → v.acknowledged ≤ w.acknowledged
 rises_run (none {w}) = omega arith
 rises_run (more {u} {v} {w} {event} {events} step rest) =
-    let here = rises_moves event u v step.moves in
+    let here = rises_moves (effect event) u v step.moves in
     let later = rises_run rest in
     omega (arith, here, later)
 rises_run (beside {u} {v} out rest) =
@@ -209,34 +207,31 @@ done_number h w reaches before later is =
 
 -- ---- the installations of a history
 
-other_first : (e : Event) → is_installing e ≡ false → one_of e ≡ 0
-other_first (Admitted n peer) other = refl
-other_first (Opened n there) other = refl
-other_first (Decided n decision) other = refl
-other_first (Started n) other = refl
-other_first (StartFailed n fault) other = refl
-other_first (Ended n status) other = refl
-other_first (Retired n) other = refl
-other_first (Dropped n cause) other = refl
-other_first (Stepped phase) other = absurd (cc)
-other_first (StepFailed phase) other = refl
-other_first Stop other = refl
+other_first : (x : Effect) → installs_by x ≡ false → one_by x ≡ 0
+other_first (lets_in n peer) other = refl
+other_first (opens n there) other = refl
+other_first (decides n decision) other = refl
+other_first (brings n from to) other = refl
+other_first (lets_go n from) other = refl
+other_first (comes_to phase) other = absurd (cc)
+other_first (fails_at phase) other = refl
+other_first ends_all other = refl
 
 begun-installs : (h : List Event) → begun_in (installs_of h) ≡ begun_in h
 begun-installs [] = refl
 begun-installs (x ∷ xs) =
     let rest = begun-installs xs in
     let all = begun-cons x xs in
-    elim (is_installing x) as (λ b. is_installing x ≡ b → begun_in (cond b (x ∷ installs_of xs) (installs_of xs)) ≡ begun_in (x ∷ xs)) [
+    elim (is_installations x) as (λ b. is_installations x ≡ b → begun_in (cond b (x ∷ installs_of xs) (installs_of xs)) ≡ begun_in (x ∷ xs)) [
       | true ↦ λ one. (let some = begun-cons x (installs_of xs) in omega (arith, rest, all, some))
-      | false ↦ λ other. (let zero_here = other_first x other in omega (arith, rest, all, zero_here))
+      | false ↦ λ other. (let zero_here = other_first (effect x) other in omega (arith, rest, all, zero_here))
     ] refl
 
 installs-done : (before later : List Event) → installs_of (before ++ Stepped Done ∷ later) ≡ installs_of before ++ Stepped Done ∷ installs_of later
 installs-done [] later = refl
 installs-done (x ∷ xs) later =
     let rest = installs-done xs later in
-    elim (is_installing x) as (λ b. cond b (x ∷ installs_of (xs ++ Stepped Done ∷ later)) (installs_of (xs ++ Stepped Done ∷ later)) ≡ cond b (x ∷ installs_of xs) (installs_of xs) ++ Stepped Done ∷ installs_of later) [
+    elim (is_installations x) as (λ b. cond b (x ∷ installs_of (xs ++ Stepped Done ∷ later)) (installs_of (xs ++ Stepped Done ∷ later)) ≡ cond b (x ∷ installs_of xs) (installs_of xs) ++ Stepped Done ∷ installs_of later) [
       | true ↦ ap (λ (es : List Event). x ∷ es) rest
       | false ↦ rest
     ]

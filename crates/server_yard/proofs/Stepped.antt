@@ -3,7 +3,7 @@ use Rattle.std.proofs.Common.{◌≡◌, ◌≢◌, ℕ, List, [], ◌∷◌, �
 use Rattle.std.specs.Prelude.{Ok, Err, Result}
 use Rattle.dir_calls.specs.Directory.{Directory}
 use Rattle.dir_calls.specs.declared.fault.DirFault.TheVariants.{NoScratch, NoName, Device, OutOfMemory as NoMemory}
-use Rattle.server_events.specs.UnderWay.{Arrives, HasReached, IsAsFar, IsUnderWay, rules_named}
+use Rattle.server_events.specs.UnderWay.{HasReached, IsAsFar, IsUnderWay, rules_named}
 use Rattle.server_events.specs.UnderWay as way
 use Rattle.rule_lines.specs.Pairs.{Rule}
 use Rattle.rules_install.specs.Installing.{Installing}

@@ -8,12 +8,12 @@ use Rattle.server_events.specs.Steps.{Legal}
 use Rattle.server_events.specs.Worlds.{IsOf, IsStart, World}
 use Rattle.server_events.specs.declared.event.Event.{Event}
 use Rattle.server_yard.specs.Rolls.{IsHistory}
-use Rattle.server_yard.specs.Seating.{is_installing}
+use Rattle.server_events.specs.Processes.{is_installations}
 use Rattle.server_yard.specs.Standing.{HasUnderWay, YardState}
 
 -- the events of the installations alone
 abbrev pub installs_of : List Event → List Event
-installs_of history = filter is_installing history
+installs_of history = filter is_installations history
 
 -- The installations of a history, by themselves, are a history of the headline: they lead from a start to a world with the yard's
 -- directory, rules name, phase and installation under way, whose accepted texts behind those of the start are the lists of rules that are

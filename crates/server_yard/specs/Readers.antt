@@ -7,6 +7,7 @@ use Rattle.dir_calls.specs.NameTable.{CanBeLeft, Names}
 use Rattle.event_journals.specs.Journals.{Books}
 use Rattle.rule_lines.specs.Pairs.{Rule}
 use Rattle.rules_install.specs.declared.Phase.TheVariants.{Fresh, Done}
+use Rattle.server_events.specs.ServerState.{Effect, comes_to, effect}
 use Rattle.server_events.specs.Worlds.{IsOf, RulesName}
 use Rattle.server_events.specs.declared.event.Event.{Event}
 use Rattle.server_events.specs.declared.event.Event.TheVariants.{Stepped}
@@ -28,9 +29,12 @@ IsAbsentOrCompiled d name =
     (names : Names) → CanBeLeft d.names names → (get names name ≡ None) ⊎ ((rules : List Rule) × NamesCompiled d names name rules)
 
 -- whether an event is a first step, by which an installation begins
+abbrev pub begins_by : Effect → Bool
+begins_by (comes_to Fresh) = true
+begins_by _ = false
+
 abbrev pub is_first : Event → Bool
-is_first (Stepped Fresh) = true
-is_first event = false
+is_first event = begins_by (effect event)
 
 -- how many installations began, which is the number of the last of them
 abbrev pub begun_in : List Event → ℕ

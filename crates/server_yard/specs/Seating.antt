@@ -1,12 +1,11 @@
 -- Connections and the places that they were given.
-use Rattle.std.specs.Prelude.{◌≡◌, ◌<◌, ◌≤◌, ◌+◌, ◌-◌, ◌^◌, ◌==◌, ◌⊎◌, ℕ, Bool, true, false, List, Option, Some, None, length, if◌then◌else◌}
+use Rattle.std.specs.Prelude.{◌≡◌, ◌<◌, ◌≤◌, ◌+◌, ◌-◌, ◌^◌, ◌==◌, ◌⊎◌, ℕ, Bool, true, false, not, List, Option, Some, None, length, if◌then◌else◌}
 use Rattle.std.specs.FinMap as map
 use Rattle.child_jobs.specs.Seats.{Seats, is_used}
 use Rattle.connection_facts.specs.Peers.{Client}
-use Rattle.server_events.specs.ServerState.{ServerState, count_from}
+use Rattle.server_events.specs.ServerState.{Effect, ServerState, opens, decides, brings, lets_go, count_from, effect, is_retired}
 use Rattle.server_events.specs.Worlds.{peer_of}
 use Rattle.server_events.specs.declared.event.Event.{Event}
-use Rattle.server_events.specs.declared.event.Event.TheVariants.{Opened, Decided, Started, StartFailed, Ended, Dropped, Stepped, StepFailed}
 use Rattle.server_yard.specs.Rolls.{Roll, serial_at}
 use Rattle.server_yard.specs.Rooms.{room_needed}
 
@@ -46,21 +45,19 @@ abbrev pub HasSpareRoom : Roll → Type 0
 HasSpareRoom roll = roll.room (room_needed roll.server.connections + 1) ≡ true
 
 -- by this event a connection goes on, with its place
+abbrev pub goes_on_by : Effect → Bool
+goes_on_by (opens n there) = true
+goes_on_by (decides n decision) = true
+goes_on_by (brings n from to) = not (is_retired to)
+goes_on_by _ = false
+
 abbrev pub goes_on : Event → Bool
-goes_on (Opened n there) = true
-goes_on (Decided n decision) = true
-goes_on (Started n) = true
-goes_on event = false
+goes_on event = goes_on_by (effect event)
 
 -- by this event a connection goes, and its place is free
-abbrev pub leaver : Event → Option ℕ
-leaver (StartFailed n fault) = Some n
-leaver (Ended n status) = Some n
-leaver (Dropped n cause) = Some n
-leaver event = None
+abbrev pub leaver_by : Effect → Option ℕ
+leaver_by (lets_go n from) = Some n
+leaver_by _ = None
 
--- an event of an installation
-abbrev pub is_installing : Event → Bool
-is_installing (Stepped phase) = true
-is_installing (StepFailed phase) = true
-is_installing event = false
+abbrev pub leaver : Event → Option ℕ
+leaver event = leaver_by (effect event)

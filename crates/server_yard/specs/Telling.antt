@@ -1,17 +1,21 @@
 -- A connection that opened the rules by a handle of its own, beside its yard, which is told of it later.
 use Rattle.std.specs.Prelude.{◌≡◌, ◌≢◌, ⊤, ℕ, Bool, true, false, not, List, [], ◌∷◌, Option, Some, is_some}
-use Rattle.server_events.specs.Live.{concerns}
+use Rattle.server_events.specs.Live.{concerns_by}
 use Rattle.server_events.specs.Processes.{Woven}
+use Rattle.server_events.specs.ServerState.{Effect, effect, ends_all}
 use Rattle.server_events.specs.Worlds.{KeptFile, World, kept_by}
 use Rattle.server_events.specs.declared.event.Event.{Event}
-use Rattle.server_events.specs.declared.event.Event.TheVariants.{Opened, Stop}
+use Rattle.server_events.specs.declared.event.Event.TheVariants.{Opened}
 use Rattle.server_yard.specs.Serving.{IsServers}
 use Rattle.server_yard.specs.Standing.{YardState}
 
 -- an event that neither happens to this connection nor ends all
+abbrev pub apart_by : ℕ → Effect → Bool
+apart_by n ends_all = false
+apart_by n x = not (concerns_by n x)
+
 abbrev pub is_apart : ℕ → Event → Bool
-is_apart n Stop = false
-is_apart n event = not (concerns n event)
+is_apart n event = apart_by n (effect event)
 
 -- each of these events is such
 abbrev pub AreApart : ℕ → List Event → Type 0

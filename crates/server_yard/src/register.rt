@@ -7,12 +7,13 @@ ghost use Rattle.child_jobs.specs.Runs.{place_of};
 ghost use Rattle.child_jobs.specs.Seats.{is_used, live_at, live_of, OneMoreAt, RefusesLimits, with_place};
 ghost use Rattle.child_jobs.specs.declared.table.TableFault.{TableFault};
 ghost use Rattle.event_journals.specs.Journals.{HasOneMore, HasSameRoom, TellsOf, without_last};
+ghost use Rattle.server_events.specs.Processes.{is_installations};
 ghost use Rattle.server_events.specs.ServerState.{after, count_from, is_retired, may_admit, may_happen, stage_of, start};
 ghost use Rattle.server_events.specs.declared.event.Event.TheVariants.{Admitted, Retired};
 ghost use Rattle.server_events.specs.declared.event.Stage.TheVariants as stage;
 ghost use Rattle.server_yard.specs.Rolls.{HasHistory, IsQuiet, Notes, StoresNothing, number_at, serial_at, stage_at};
 ghost use Rattle.server_yard.specs.Rooms.{KeepsRoom, events_left, room_needed, spare_events};
-ghost use Rattle.server_yard.specs.Seating.{GivesSeat, HasSeats, HasSpareRoom, IsAddressFull, IsSpent, KeepsSeats, KeepsSerials, LosesOne, goes_on, is_installing, leaver};
+ghost use Rattle.server_yard.specs.Seating.{GivesSeat, HasSeats, HasSpareRoom, IsAddressFull, IsSpent, KeepsSeats, KeepsSerials, LosesOne, goes_on, leaver};
 ghost use Rattle.server_yard.specs.declared.register.AdmitFault.TheVariants.{Full, FullForAddress, OutOfMemory, Spent};
 
 use child_jobs::{Job, Place, Running, Table, TableFault};
@@ -335,7 +336,7 @@ impl<L: Ledger, J: Journal> Register<L, J> {
 
     /// Notes an event of an installation, into that room.
     pub(crate) fn note_step(&mut self, event: Event)
-        requires kind { is_installing event ≡ true }
+        requires kind { is_installations event ≡ true }
         requires may { may_happen (roll_of self.old).server event ≡ true }
         requires room { HasSpareRoom (roll_of self.old) }
         ensures noted { Notes event (roll_of self.old) (roll_of self.new) }

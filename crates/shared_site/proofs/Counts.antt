@@ -1,10 +1,8 @@
 -- What a turn makes of the number of events, after its caller spoke: one more or none.
-use Rattle.std.proofs.Common.{◌≡◌, ℕ, List, ap, inl, inr, ◌∙◌}
+use Rattle.std.proofs.Common.{◌≡◌, ℕ, ap, inl, inr, ◌∙◌}
 use Rattle.std.specs.Prelude.{None, Option, Some}
 use Rattle.event_journals.specs.Journals.{one_more}
-use Rattle.event_journals.specs.declared.journal.Noted.{Noted}
 use Rattle.server_events.specs.declared.event.Event.{Event}
-use Rattle.server_events.specs.declared.report.Report.{Report}
 use Rattle.server_yard.specs.Rolls.{IsQuiet, Notes, NotesSome, Roll}
 use Rattle.shared_site.specs.Receipts.{CountsAtMostOne}
 use Rattle.shared_site.specs.Turns.{spoken_by}

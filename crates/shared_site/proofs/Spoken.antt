@@ -1,16 +1,12 @@
 -- A turn is the yard's call, where its caller speaks.
-use Rattle.std.proofs.Common.{◌≡◌, ◌<◌, ◌-◌, ◌^◌, ◌==◌, ℕ, List, refl, sym, ap, subst, ◌∙◌}
+use Rattle.std.proofs.Common.{◌≡◌, ◌<◌, ◌-◌, ◌^◌, ◌==◌, ℕ, refl, sym, ap, subst, ◌∙◌}
 use Rattle.std.specs.Prelude.{None, Option, Result, Some, SomeIff, if◌then◌else◌, is_some, option_map}
 use Rattle.std.proofs.lemmas.Option.{none-some, same_Some}
-use Rattle.dir_calls.specs.Directory.{Directory}
 use Rattle.event_journals.specs.Journals.{one_more}
-use Rattle.event_journals.specs.declared.journal.Noted.{Noted}
-use Rattle.rule_lines.specs.Pairs.{Rule}
 use Rattle.rules_install.specs.Installing.{Installing}
 use Rattle.rules_install.specs.declared.Phase.{Phase}
 use Rattle.rules_install.specs.declared.fault.InstallFault.{InstallFault}
 use Rattle.server_events.specs.declared.event.Event.{Event}
-use Rattle.server_events.specs.declared.report.Report.{Report}
 use Rattle.server_yard.specs.Rolls.{Notes, NotesSome, Roll}
 use Rattle.server_yard.specs.Standing.{LeadsOn, YardState}
 use Rattle.server_yard.specs.Stepping.{event_of_step, step_event}

@@ -1,8 +1,6 @@
 -- What a turn does to a yard, and whose turn it is.
-use Rattle.std.specs.Prelude.{◌≡◌, ◌+◌, ◌-◌, ◌^◌, ◌⊎◌, ℕ, Bool, true, List, Option, Some, Result, Err, IfErr, IfNone, IfOk, IfSome, OnErr, is_some, option_map}
+use Rattle.std.specs.Prelude.{◌≡◌, ◌+◌, ◌-◌, ◌^◌, ◌⊎◌, ℕ, Bool, true, Option, Some, Result, Err, IfErr, IfNone, IfOk, IfSome, OnErr, is_some, option_map}
 use Rattle.event_journals.specs.Journals.{one_more}
-use Rattle.event_journals.specs.declared.journal.Noted.{Noted}
-use Rattle.rule_lines.specs.Pairs.{Rule}
 use Rattle.connection_facts.specs.Peers.{Client}
 use Rattle.server_events.specs.ServerState.{stage_of}
 use Rattle.server_events.specs.Worlds.{missing_by, peer_of}
@@ -10,7 +8,6 @@ use Rattle.server_events.specs.declared.event.Event.{Event}
 use Rattle.server_events.specs.declared.event.Event.TheVariants.{Opened}
 use Rattle.server_events.specs.declared.event.Stage.{Stage}
 use Rattle.server_events.specs.declared.event.Stage.TheVariants as stage
-use Rattle.server_events.specs.declared.report.Report.{Report}
 use Rattle.rules_install.specs.Installing.{Installing}
 use Rattle.rules_install.specs.Installs.{installing}
 use Rattle.rules_install.specs.declared.Phase.{Phase}

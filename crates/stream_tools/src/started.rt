@@ -1,5 +1,5 @@
 //! What a program is given when it is started: its words and its variables.
-ghost use Rattle.std.specs.Prelude.{◌≡◌, ℕ, Bool, List, [], false, drop, slice_get, string_bytes, IfOk, IsTrue, OnOk, OnErr};
+ghost use Rattle.std.specs.Prelude.{◌≡◌, ℕ, Bool, List, [], false, drop, map, slice_get, string_bytes, IfOk, IsTrue, OnOk, OnErr};
 ghost use Rattle.stream_tools.specs.Entries.{bytes_found, path_among, texts_around, variable_in, variable_of, with_entries, with_found};
 ghost use Rattle.stream_tools.specs.Programs.{program_by, text_in, texts_of};
 
@@ -143,11 +143,22 @@ pub fn program_of(alloc: Global, words: &[Vec<u8>]) -> Result<Program, AllocErro
     let Some((path, rest)) = words.split_first() else {
         return Ok(Program::new(String::new(alloc), Vec::new(alloc)));
     };
-    let mut args = Vec::new(alloc);
-    for word in rest {
-        args.push(text_of(alloc, word)?)?;
+    let path = text_of(alloc, path)?;
+    Ok(Program::new(path, texts_of(alloc, rest)?))
+}
+
+/// All words as texts. One that is not UTF-8 counts as empty.
+///
+/// # Errors
+/// There was no memory.
+pub fn texts_of(alloc: Global, words: &[Vec<u8>]) -> Result<Vec<String>, AllocError>
+    ensures { IfOk result (λ texts. map string_bytes texts.items ≡ map text_in (texts_of words.now)) }
+{
+    let mut texts = Vec::new(alloc);
+    for word in words {
+        texts.push(text_of(alloc, word)?)?;
     }
-    Ok(Program::new(text_of(alloc, path)?, args))
+    Ok(texts)
 }
 
 /// A word as a text of its own.

@@ -2,11 +2,13 @@
 #![tactic(auto)]
 
 pub mod connections;
+pub mod events;
 pub mod jobs;
 pub mod rules;
 pub mod yards;
 
 pub use connections::{decide_for, finish_for, give_up, open_for, start_for};
+pub use events::{add_event, verdict_word};
 pub use jobs::{EndedJob, EndedJobs, NoPipe};
 pub use rules::{names, rules_name, stuck, with_rules};
 use std::alloc::{AllocError, Global};

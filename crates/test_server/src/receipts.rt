@@ -1,5 +1,4 @@
 //! The log of a server that also keeps what its site answers.
-use rule_lines::Verdict;
 use server_log::{Log, Told};
 use shared_site::Made;
 use std::alloc::{AllocError, Global};
@@ -81,15 +80,8 @@ fn add_receipt(
 fn parts_of(told: &Told<'_>) -> (&'static str, u64) {
     match told {
         Told::Admitted { serial, .. } => ("admitted", *serial),
-        Told::Decided {
-            serial,
-            verdict,
-            ..
-        } => match verdict {
-            Verdict::Allow => ("allowed", *serial),
-            Verdict::Deny => ("denied", *serial),
-        },
-        Told::StartFailed { serial, .. } => ("failed", *serial),
+        Told::Decided { serial, .. } => ("decided", *serial),
+        Told::StartFailed { serial, .. } => ("startfailed", *serial),
         Told::Ended { serial, .. } => ("ended", *serial),
         Told::Retired { serial } => ("retired", *serial),
         Told::Dropped { serial, .. } => ("dropped", *serial),

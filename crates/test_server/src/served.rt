@@ -2,7 +2,7 @@
 ghost use Rattle.std.specs.Prelude.{◌≡◌, ◌<◌, false, IfOk, vec_len};
 ghost use Rattle.shared_site.specs.Callers.{total_share};
 
-use crate::history::history_lines;
+use crate::history::add_history;
 use crate::receipts::ReceiptsLog;
 use crate::scripts::{Clients, Scripts, ServedTally};
 use byte_streams::{Chain, FixCr};
@@ -15,6 +15,7 @@ use server_yard::{Assumptions, Finding, Yard};
 use shared_site::{Caller, Callers, Site};
 use std::alloc::{AllocError, Global};
 use std::io;
+use std::io::Write;
 use std::marker::Brand;
 use std::sync::Wait;
 use std::sync::atomic::Ordering;
@@ -25,6 +26,7 @@ use tcp_service::{
     ChainSource, Chains, ConnectionLimits, HostNames, Log, Mode, Patience, Reserve, Rules,
     RulesHandle, ServeEnd, Service, Supply, serve,
 };
+use test_parts::Answer;
 use ucspi_env::Environment;
 
 /// What is asked of a server.
@@ -80,7 +82,7 @@ struct Ending {
     end: ServeEnd,
     live: u64,
     is_finished: bool,
-    history: String,
+    history: Answer,
     receipts: String,
 }
 
@@ -120,7 +122,8 @@ where
     let log = str::from_utf8(&lines).unwrap_or_default();
     println!(rt; "{end:?}, {live} alive, {kills} kills{rest}")?;
     if with_history {
-        println!(rt; "{history}")?;
+        history.print(rt)?;
+        io::writer(rt).write_all(b"\n")?;
         println!(rt; "{receipts}")?;
     }
     print!(rt; "{log}")
@@ -179,7 +182,8 @@ fn ending_of<L: Assumptions>(
     is_finished: bool,
     receipts: String,
 ) -> io::Result<Ending> {
-    let history = history_lines(alloc, yard.journal())?;
+    let mut history = Answer::new(alloc);
+    add_history(yard.journal(), &mut history);
     Ok(Ending {
         end,
         live: yard.live(),

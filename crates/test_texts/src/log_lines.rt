@@ -3,7 +3,7 @@ use crate::arguments::{Arguments, shown};
 use byte_text::{push_number, push_text, whole_or_none};
 use connection_facts::{DropCause, Peer, StartFault, Status};
 use rule_lines::Verdict;
-use server_log::texts::{
+use server_log::lines::{
     drop_address_line, drop_line, end_line, pid_from, retired_line, start_fault_line, status,
     verdict_line,
 };

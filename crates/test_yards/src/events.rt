@@ -1,5 +1,5 @@
 //! Lists of events, which stand on standard input as in a script of `rulesim`: what they come to, and what journals tell of them.
-use crate::shown::{add_event, add_report};
+use crate::shown::add_report;
 use event_journals::{Counts, Full, Journal};
 use script_words::{Command, read_command};
 use server_events::{Event, replay};

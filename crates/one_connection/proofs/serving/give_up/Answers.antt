@@ -1,5 +1,5 @@
 -- A place is its index.
-use Rattle.std.specs.Prelude.{◌≡◌, ℕ}
+use Rattle.std.specs.Prelude.{ℕ}
 use Rattle.std.proofs.Common.{subst, sym}
 use Rattle.one_connection.proofs.serving.give_up.Goals as goal
 

@@ -1,5 +1,5 @@
 -- A place is its index.
-use Rattle.std.specs.Prelude.{◌≡◌, ℕ}
+use Rattle.std.specs.Prelude.{ℕ}
 use Rattle.std.proofs.Common.{subst, sym}
 use Rattle.rule_lines.specs.declared.instr.Verdict.TheVariants.{Allow}
 use Rattle.server_events.specs.declared.event.Stage.TheVariants as stage

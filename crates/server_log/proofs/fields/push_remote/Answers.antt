@@ -1,7 +1,7 @@
 use Rattle.std.proofs.Common.{◌≡◌, ◌++◌, codes, decimal}
 use Rattle.std.specs.Net.Text.{ipv4_text}
 use Rattle.connection_facts.specs.Peers.{given}
-use Rattle.server_log.specs.Texts.{field, remote_text}
+use Rattle.server_log.specs.Lines.{field, remote_text}
 use Rattle.byte_text.proofs.Appends.{first, next, last, renamed}
 use Rattle.byte_text.proofs.CutParts.{cut_first, cut_later}
 use Rattle.server_log.proofs.fields.push_remote.Goals as goal

@@ -1,5 +1,4 @@
-use Rattle.server_log.specs.Events.{progress, status_lines}
-use Rattle.server_log.specs.Texts.{pid_line}
+use Rattle.server_log.specs.Lines.{pid_line, progress, status_lines}
 use Rattle.server_log.proofs.LogLemmas.{adds_both_is}
 use Rattle.server_log.proofs.lines.add_admitted.Goals as goal
 

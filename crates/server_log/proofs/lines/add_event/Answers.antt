@@ -1,9 +1,8 @@
 -- The lines of the event that it is, and the status behind them.
 use Rattle.std.proofs.Common.{Some, ◌++◌, subst, sym}
-use Rattle.server_log.specs.Events.{cause_lines, error, event_lines, progress}
+use Rattle.server_log.specs.Lines.{cause_lines, drop_text, end_text, error, event_lines, progress, retired_text, start_text}
 use Rattle.server_log.specs.Logs.{Adds}
 use Rattle.server_log.specs.declared.told.Told.{Told}
-use Rattle.server_log.specs.Texts.{drop_text, end_text, retired_text, start_text}
 use Rattle.server_log.proofs.lines.add_event.Goals as goal
 
 pub returns-in-StartFailed : goal.returns-in-StartFailed

@@ -1,5 +1,4 @@
-use Rattle.server_log.specs.Events.{cause_lines, error}
-use Rattle.server_log.specs.Texts.{drop_text}
+use Rattle.server_log.specs.Lines.{cause_lines, drop_text, error}
 use Rattle.server_log.proofs.LogLemmas.{adds_both_is}
 use Rattle.server_log.proofs.lines.add_given_up.Goals as goal
 

@@ -1,6 +1,5 @@
 use Rattle.std.proofs.Common.{Some}
-use Rattle.server_log.specs.Events.{cause_lines, error}
-use Rattle.server_log.specs.Texts.{start_text}
+use Rattle.server_log.specs.Lines.{cause_lines, error, start_text}
 use Rattle.server_log.proofs.LogLemmas.{adds_both_is}
 use Rattle.server_log.proofs.lines.add_refused.Goals as goal
 

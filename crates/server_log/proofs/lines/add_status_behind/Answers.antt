@@ -1,4 +1,4 @@
-use Rattle.server_log.specs.Events.{status_lines}
+use Rattle.server_log.specs.Lines.{status_lines}
 use Rattle.server_log.proofs.LogLemmas.{adds_both_is}
 use Rattle.server_log.proofs.lines.add_status_behind.Goals as goal
 

@@ -1,5 +1,5 @@
 -- As many right receipts as events are all of them.
-use Rattle.std.proofs.Common.{arith, ap, sym, ◌∙◌}
+use Rattle.std.proofs.Common.{arith, ap, ◌∙◌}
 use Rattle.std.specs.Prelude.{◌≡◌, ◌+◌, length}
 use Rattle.event_journals.specs.Full.{full_events, full_notes}
 use Rattle.server_yard.specs.Yards.{yard_journal}

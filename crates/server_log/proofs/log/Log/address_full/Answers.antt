@@ -1,4 +1,4 @@
-use Rattle.server_log.specs.Events.{full_lines}
+use Rattle.server_log.specs.Lines.{full_lines}
 use Rattle.server_log.proofs.LogLemmas.{adds_first}
 use Rattle.server_log.proofs.log.Log.address_full.Goals as goal
 

@@ -1,4 +1,4 @@
-use Rattle.server_log.specs.Events.{no_ends_lines}
+use Rattle.server_log.specs.Lines.{no_ends_lines}
 use Rattle.server_log.proofs.LogLemmas.{adds_first}
 use Rattle.server_log.proofs.log.Log.no_pipe_ends.Goals as goal
 

@@ -1,4 +1,4 @@
-use Rattle.server_log.specs.Events.{status_lines}
+use Rattle.server_log.specs.Lines.{status_lines}
 use Rattle.server_log.proofs.LogLemmas.{adds_first}
 use Rattle.server_log.proofs.log.Log.status.Goals as goal
 

@@ -1,5 +1,5 @@
 use Rattle.std.proofs.Common.{rules}
-use Rattle.server_log.specs.Events.{event_lines}
+use Rattle.server_log.specs.Lines.{event_lines}
 use Rattle.server_log.proofs.LogLemmas.{adds_first, never_refused, tells_later}
 use Rattle.server_log.proofs.log.Log.tell.Goals as goal
 

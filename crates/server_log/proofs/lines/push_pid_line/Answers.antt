@@ -1,6 +1,6 @@
 use Rattle.byte_text.proofs.Appends.{first, next, last}
 use Rattle.byte_text.proofs.CutParts.{cut_first, cut_later}
-use Rattle.server_log.proofs.texts.push_pid_line.Goals as goal
+use Rattle.server_log.proofs.lines.push_pid_line.Goals as goal
 
 pub returns-in_err-push_text : goal.returns-in_err-push_text
 returns-in_err-push_text c =

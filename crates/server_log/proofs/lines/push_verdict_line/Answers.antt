@@ -1,8 +1,8 @@
 use Rattle.std.proofs.Common.{◌≡◌, ◌++◌, codes, decimal}
-use Rattle.server_log.specs.Texts.{local_text, remote_text, verdict_text}
+use Rattle.server_log.specs.Lines.{local_text, remote_text, verdict_text}
 use Rattle.byte_text.proofs.Appends.{first, next, last, renamed}
 use Rattle.byte_text.proofs.CutParts.{cut_first, cut_later}
-use Rattle.server_log.proofs.texts.push_verdict_line.Goals as goal
+use Rattle.server_log.proofs.lines.push_verdict_line.Goals as goal
 
 pub returns-in_err-push_text : goal.returns-in_err-push_text
 returns-in_err-push_text c =

@@ -1,7 +1,7 @@
 use Rattle.std.proofs.Common.{◌≡◌, ◌++◌, codes, decimal, arith}
-use Rattle.server_log.specs.Texts.{start_text}
+use Rattle.server_log.specs.Lines.{start_text}
 use Rattle.byte_text.proofs.Appends.{renamed}
-use Rattle.server_log.proofs.texts.start_fault_line.Goals as goal
+use Rattle.server_log.proofs.lines.start_fault_line.Goals as goal
 
 pub returns : goal.returns
 returns c =

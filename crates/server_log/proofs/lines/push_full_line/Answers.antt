@@ -1,18 +1,18 @@
 use Rattle.byte_text.proofs.Appends.{first, next, last}
 use Rattle.byte_text.proofs.CutParts.{cut_first, cut_later}
-use Rattle.server_log.proofs.texts.push_retired_line.Goals as goal
+use Rattle.server_log.proofs.lines.push_full_line.Goals as goal
 
 pub returns-in_err-push_text : goal.returns-in_err-push_text
 returns-in_err-push_text c =
     cut_first _ c.args.out.now.items c.push_text.new.out.items c.from_residual.result c.from_residual.ensures.0 c.in_err-push_text.ensures
 
-pub returns-in_err-push_number : goal.returns-in_err-push_number
-returns-in_err-push_number c =
+pub returns-in_err-push_address : goal.returns-in_err-push_address
+returns-in_err-push_address c =
     let so_far_1 = first c.args.out.now.items _ c.in_ok-push_text.ensures in
-    cut_later _ c.push_number.new.out.items c.from_residual-in_err-push_number.result c.from_residual-in_err-push_number.ensures.0 so_far_1 c.in_err-push_number.ensures
+    cut_later _ c.push_address.new.out.items c.from_residual-in_err-push_address.result c.from_residual-in_err-push_address.ensures.0 so_far_1 c.in_err-push_address.ensures
 
 pub returns : goal.returns
 returns c =
     let so_far_1 = first c.args.out.now.items _ c.in_ok-push_text.ensures in
-    let so_far_2 = next _ so_far_1 c.in_ok-push_number.ensures in
+    let so_far_2 = next _ so_far_1 c.in_ok-push_address.ensures in
     last _ c.push_text-2.new.out.items c.push_text-2.result so_far_2 c.push_text-2.ensures

@@ -1,0 +1,129 @@
+-- The stage that a connection had before each effect.
+use Rattle.std.proofs.Common.{◌≡◌, ℕ, ◌+◌, ◌≤◌, Bool, true, false, Option, Some, None, refl, ap, arith}
+use Rattle.std.specs.Prelude.{⊤}
+use Rattle.rule_lines.specs.declared.instr.Verdict.TheVariants.{Allow, Deny}
+use Rattle.server_events.specs.declared.event.Stage.{Stage}
+use Rattle.server_events.specs.declared.event.Stage.TheVariants as stage
+use Rattle.server_events.specs.declared.event.Event.{Event}
+use Rattle.server_events.specs.declared.event.Event.TheVariants.{Admitted, Opened, Decided, Started, StartFailed, Ended, Retired, Dropped, Stepped, StepFailed, Stop}
+use Rattle.server_events.specs.ServerState.{Effect, lets_in, opens, decides, brings, lets_go, comes_to, fails_at, ends_all, effect, is_admitted, is_opened, is_allowed, is_started, is_unstarted, is_retired}
+
+-- what a test tells of a stage
+pub is_admitted-true : (s : Option Stage) → is_admitted s ≡ true → s ≡ Some stage.Admitted
+is_admitted-true None e = cc
+is_admitted-true (Some stage.Admitted) e = refl
+is_admitted-true (Some stage.Opened) e = cc
+is_admitted-true (Some (stage.Decided v)) e = cc
+is_admitted-true (Some stage.Started) e = cc
+is_admitted-true (Some stage.Retired) e = cc
+
+pub is_opened-true : (s : Option Stage) → is_opened s ≡ true → s ≡ Some stage.Opened
+is_opened-true None e = cc
+is_opened-true (Some stage.Admitted) e = cc
+is_opened-true (Some stage.Opened) e = refl
+is_opened-true (Some (stage.Decided v)) e = cc
+is_opened-true (Some stage.Started) e = cc
+is_opened-true (Some stage.Retired) e = cc
+
+pub is_allowed-true : (s : Option Stage) → is_allowed s ≡ true → s ≡ Some (stage.Decided Allow)
+is_allowed-true None e = cc
+is_allowed-true (Some stage.Admitted) e = cc
+is_allowed-true (Some stage.Opened) e = cc
+is_allowed-true (Some (stage.Decided Allow)) e = refl
+is_allowed-true (Some (stage.Decided Deny)) e = cc
+is_allowed-true (Some stage.Started) e = cc
+is_allowed-true (Some stage.Retired) e = cc
+
+pub is_started-true : (s : Option Stage) → is_started s ≡ true → s ≡ Some stage.Started
+is_started-true None e = cc
+is_started-true (Some stage.Admitted) e = cc
+is_started-true (Some stage.Opened) e = cc
+is_started-true (Some (stage.Decided v)) e = cc
+is_started-true (Some stage.Started) e = refl
+is_started-true (Some stage.Retired) e = cc
+
+-- how many stages stand before one
+abbrev pub rank : Stage → ℕ
+rank stage.Admitted = 0
+rank stage.Opened = 1
+rank (stage.Decided v) = 2
+rank stage.Started = 3
+rank stage.Retired = 4
+
+-- the stage is neither of those that have effects of their own
+pub not_admitted : (s : Stage) → 2 ≤ rank s → s ≡ stage.Admitted → ⊥
+not_admitted s late is = let low = ap rank is in absurd (omega (arith, low, late))
+
+pub not_opened : (s : Stage) → 2 ≤ rank s → s ≡ stage.Opened → ⊥
+not_opened s late is = let low = ap rank is in absurd (omega (arith, low, late))
+
+-- a connection has the stage just before the one that it is brought to, which comes after its decision
+pub record Brings (from : Option Stage → Bool) (to : Stage) : Type 0 where
+  pub late : 2 ≤ rank to
+  pub had : (s : Option Stage) → from s ≡ true → (t : Stage) × (s ≡ Some t) × (rank to ≡ rank t + 1)
+
+-- a connection that is let go was there, and not retired
+pub record LetsGo (from : Option Stage → Bool) : Type 0 where
+  pub had : (s : Option Stage) → from s ≡ true → (t : Stage) × (s ≡ Some t) × (is_retired t ≡ false)
+
+abbrev pub Sound : Effect → Type 0
+Sound (brings n from to) = Brings from to
+Sound (lets_go n from) = LetsGo from
+Sound _ = ⊤
+
+-- a connection that no child was started for was there
+unstarted_had : (s : Option Stage) → is_unstarted s ≡ true → (t : Stage) × (s ≡ Some t) × (is_retired t ≡ false)
+unstarted_had None e = cc
+unstarted_had (Some stage.Admitted) e = (stage.Admitted, refl, refl)
+unstarted_had (Some stage.Opened) e = (stage.Opened, refl, refl)
+unstarted_had (Some (stage.Decided v)) e = (stage.Decided v, refl, refl)
+unstarted_had (Some stage.Started) e = cc
+unstarted_had (Some stage.Retired) e = cc
+
+pub sound : (e : Event) → Sound (effect e)
+sound (Admitted n peer) = tt
+sound (Opened n there) = tt
+sound (Decided n decision) = tt
+sound (Started n) = record { late = omega arith; had = λ s at. (stage.Decided Allow, is_allowed-true s at, refl) }
+sound (StartFailed n fault) = record { had = λ s at. (stage.Decided Allow, is_allowed-true s at, refl) }
+sound (Ended n status) = record { had = λ s at. (stage.Started, is_started-true s at, refl) }
+sound (Retired n) = record { late = omega arith; had = λ s at. (stage.Started, is_started-true s at, refl) }
+sound (Dropped n cause) = record { had = unstarted_had }
+sound (Stepped phase) = tt
+sound (StepFailed phase) = tt
+sound Stop = tt
+
+-- what comes before a stage is not the last
+pub before_retired : (t u : Stage) → rank u ≡ rank t + 1 → is_retired t ≡ false
+before_retired stage.Admitted u e = refl
+before_retired stage.Opened u e = refl
+before_retired (stage.Decided v) u e = refl
+before_retired stage.Started u e = refl
+before_retired stage.Retired stage.Admitted e = absurd (omega (arith, e))
+before_retired stage.Retired stage.Opened e = absurd (omega (arith, e))
+before_retired stage.Retired (stage.Decided v) e = absurd (omega (arith, e))
+before_retired stage.Retired stage.Started e = absurd (omega (arith, e))
+before_retired stage.Retired stage.Retired e = absurd (omega (arith, e))
+
+-- all effects but those two are of one event each
+abbrev pub IsOf : Effect → Event → Type 0
+IsOf (lets_in n peer) e = e ≡ Admitted n peer
+IsOf (opens n there) e = e ≡ Opened n there
+IsOf (decides n decision) e = e ≡ Decided n decision
+IsOf (comes_to phase) e = e ≡ Stepped phase
+IsOf (fails_at phase) e = e ≡ StepFailed phase
+IsOf ends_all e = e ≡ Stop
+IsOf _ e = ⊤
+
+pub is_of : (e : Event) → IsOf (effect e) e
+is_of (Admitted n peer) = refl
+is_of (Opened n there) = refl
+is_of (Decided n decision) = refl
+is_of (Started n) = tt
+is_of (StartFailed n fault) = tt
+is_of (Ended n status) = tt
+is_of (Retired n) = tt
+is_of (Dropped n cause) = tt
+is_of (Stepped phase) = refl
+is_of (StepFailed phase) = refl
+is_of Stop = refl

@@ -1,6 +1,0 @@
-use Rattle.std.proofs.Common.{◌≡◌, map, string_bytes, take}
-use Rattle.stream_tools.specs.Programs.{text_in, texts_of}
-use Rattle.stream_tools.proofs.started.program_of.Given as goal
-
-abbrev pub invariant-loop-word : goal.invariant-loop-word
-invariant-loop-word l = map string_bytes l.args.items ≡ map text_in (texts_of (take l.word-index l.rest))
