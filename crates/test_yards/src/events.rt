@@ -5,7 +5,7 @@ use script_words::{Command, read_command};
 use server_events::{Event, replay};
 use std::alloc::Global;
 use std::io::Read;
-use test_parts::Answer;
+use test_parts::{Answer, add_event};
 
 /// Reads the events on standard input, and adds what they come to or what a journal tells of them, as the name says; the numbers are two limits,
 /// or first the greatest caller.
