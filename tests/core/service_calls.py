@@ -110,7 +110,7 @@ def check_longer(program, calls):
 SERIAL = r"(\d+)"
 FORMS = [
     ("admitted", log_forms.pid(SERIAL, r"\S+")),
-    ("decided", log_forms.verdict("ok", SERIAL, r"\S+", r"\S+")),
+    ("decided allow", log_forms.verdict("ok", SERIAL, r"\S+", r"\S+")),
     ("ended", log_forms.any_end(SERIAL)),
     ("retired", log_forms.retired(SERIAL)),
     ("dropped", log_forms.drop(SERIAL, "[a-z ]+")),
@@ -118,7 +118,7 @@ FORMS = [
 ]
 TELLS = [(name, re.compile(b"tcpserver: " + form.encode())) for name, form in FORMS]
 # the lives that a connection of a server without rules may have
-LIVES = [["admitted", "opened", "decided", "started", end] for end in ("ended", "retired")] + [["admitted", "opened", "decided", "startfailed"]]
+LIVES = [["admitted", "opened", "decided allow", "started", end] for end in ("ended", "retired")] + [["admitted", "opened", "decided allow", "startfailed"]]
 
 
 def told_by(log):
@@ -132,13 +132,19 @@ def told_by(log):
     return events
 
 
+def event_in(words):
+    """The event that words tell, a decision with its verdict, and the serial of its connection."""
+    name, serial, *rest = words
+    return " ".join([name] + rest) if name == "decided" else name, int(serial)
+
+
 def audit(calls, events, receipts, told):
     """Each receipt of an event that the log tells is the event and the caller at its place in the history, and they come in the order of the log."""
-    stand = [events[int(at) - 1] == [caller, name, serial] for at, caller, name, serial in receipts]
+    stand = [events[int(at) - 1] == (caller, event_in(words)) for at, caller, *words in receipts]
     calls.holds("each receipt stands at its place in the history", all(stand), stand.count(False))
     places = [int(receipt[0]) for receipt in receipts]
     calls.holds("no receipt comes twice or late", all(one < next for one, next in zip(places, places[1:])), len(places))
-    kept = [(name, int(serial)) for _, _, name, serial in receipts]
+    kept = [event_in(words) for _, _, *words in receipts]
     calls.holds("the log tells the event of each receipt and no other", kept == told and len(kept) == 3 * 2000, "%d and %d" % (len(kept), len(told)))
 
 
@@ -150,10 +156,10 @@ def check_history(program, calls):
     end, _, rest = printed.partition(b"\n")
     history, receipts, log = (rest.split(b"\n\n", 2) + [b"", b""])[:3]
     calls.holds("two thousand connections end", (code, end.split(b", ")[:2]) == (0, [b"Count", b"9 alive"]), (code, end))
-    events = [line.split()[:3] for line in history.decode().splitlines()]
-    first = [(name, int(serial)) for caller, name, serial in events if caller == "1"]
+    events = [(caller, event_in(words)) for caller, *words in (line.split() for line in history.decode().splitlines())]
+    first = [event for caller, event in events if caller == "1"]
     calls.holds("one caller lets them in, and no more", first == [("admitted", n) for n in range(1, 2001)], first[-1:])
-    all_told = [(name, int(serial)) for _, name, serial in events]
+    all_told = [event for _, event in events]
     told = [event for event in all_told if event[0] not in ("opened", "started")]
     calls.holds("the log tells each event in its order", told_by(log) == told, "%d of %d" % (len(told_by(log)), len(told)))
     audit(calls, events, [line.split() for line in receipts.decode().splitlines()], told_by(log))

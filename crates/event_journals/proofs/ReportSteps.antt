@@ -13,7 +13,7 @@ use Rattle.server_events.specs.declared.state.Connection.{Connection}
 use Rattle.server_events.specs.Live.{admission_by, retired_of}
 use Rattle.server_events.specs.Reports.{report_of, most_of, is_admission}
 use Rattle.server_events.specs.ServerState.{ServerState, start, is_legal, state_after, after, is_retired, Effect, lets_in, opens, decides, brings, lets_go, comes_to, fails_at, ends_all, effect}
-use Rattle.server_events.proofs.Effects.{IsOf, is_of}
+use Rattle.server_events.proofs.Effects.{IsEventOf, its_event}
 use Rattle.server_events.proofs.History.{is_legal-snoc, is_legal-take, state_after-snoc, last_after, last_state_after, room_for}
 use Rattle.server_events.proofs.LiveLemmas.{live_len, live_count, retired_count, most_up_to, most_next}
 use Rattle.server_events.proofs.Limits.{limit_world_after, within}
@@ -120,7 +120,7 @@ fewer : (h : List Event) (e : Event) → count_by is_admission (h ++ e ∷ []) �
 fewer h e a l r m b = reports _ _ (omega arith) (sym l) (sym r) (omega arith)
 
 -- the report of a history, by an event more
-same_report : (limit per_address : ℕ) (h : List Event) (e : Event) (x : Effect) → IsOf x e → limit < 2 ^ 64 → FitsBy x
+same_report : (limit per_address : ℕ) (h : List Event) (e : Event) (x : Effect) → IsEventOf x e → limit < 2 ^ 64 → FitsBy x
     → is_legal (start limit per_address) (h ++ e ∷ []) ≡ true → Next limit h e x → report_with (report_of h) x ≡ report_of (h ++ e ∷ [])
 same_report limit per_address h e (lets_in n peer) is small fits legal found =
     let serial = admitted_serial limit per_address h n peer (subst (λ (a : Event). is_legal (start limit per_address) (h ++ a ∷ []) ≡ true) is legal) in
@@ -155,6 +155,6 @@ goes_on books books' e report count limit per_address h small fits tells legal =
     let n = found.number in
     let m = tells.number in
     record {
-      report = report ∙ ap (λ (r : Report). next_report r e) tells.report ∙ same_report limit per_address h e (effect e) (is_of e) small fits legal found;
+      report = report ∙ ap (λ (r : Report). next_report r e) tells.report ∙ same_report limit per_address h e (effect e) (its_event e) small fits legal found;
       number = omega (arith, count, n, m);
     }

@@ -28,7 +28,6 @@ with_newcomer r = record {
   most = max (one_more r.live) r.most;
 }
 
--- the report after one more event
 abbrev pub report_with : Report → Effect → Report
 report_with r (lets_in n peer) = with_newcomer r
 report_with r (brings n from to) = if is_retired to then record r { retired = one_more r.retired } else r
@@ -36,6 +35,7 @@ report_with r (lets_go n from) = record r { live = r.live - 1 }
 report_with r ends_all = record r { live = 0; retired = 0 }
 report_with r _ = r
 
+-- the report after one more event
 abbrev pub next_report : Report → Event → Report
 next_report r event = report_with r (effect event)
 
@@ -44,11 +44,11 @@ pub record TellsOf (books : Books) (history : List Event) : Type 0 where
   pub report : books.report ≡ report_of history
   pub number : books.count ≡ min (length history) (2 ^ 64 - 1)
 
--- the serial of a connection that is let in fits into 64 bits
 abbrev pub FitsBy : Effect → Type 0
 FitsBy (lets_in n peer) = n < 2 ^ 64
 FitsBy _ = ⊤
 
+-- the serial of a connection that is let in fits into 64 bits
 abbrev pub FitsSerial : Event → Type 0
 FitsSerial event = FitsBy (effect event)
 

@@ -1,11 +1,12 @@
 -- The stage that a connection had before each effect.
-use Rattle.std.proofs.Common.{◌≡◌, ℕ, ◌+◌, ◌≤◌, Bool, true, false, Option, Some, None, refl, ap, arith}
+use Rattle.std.proofs.Common.{◌≡◌, ℕ, ◌+◌, ◌≤◌, ◌==◌, ◌&&◌, Bool, true, false, Option, Some, None, refl, ap, arith}
 use Rattle.std.specs.Prelude.{⊤}
 use Rattle.rule_lines.specs.declared.instr.Verdict.TheVariants.{Allow, Deny}
 use Rattle.server_events.specs.declared.event.Stage.{Stage}
 use Rattle.server_events.specs.declared.event.Stage.TheVariants as stage
 use Rattle.server_events.specs.declared.event.Event.{Event}
 use Rattle.server_events.specs.declared.event.Event.TheVariants.{Admitted, Opened, Decided, Started, StartFailed, Ended, Retired, Dropped, Stepped, StepFailed, Stop}
+use Rattle.server_events.specs.Live.{ends, retires}
 use Rattle.server_events.specs.ServerState.{Effect, lets_in, opens, decides, brings, lets_go, comes_to, fails_at, ends_all, effect, is_admitted, is_opened, is_allowed, is_started, is_unstarted, is_retired}
 
 -- what a test tells of a stage
@@ -50,14 +51,14 @@ rank (stage.Decided v) = 2
 rank stage.Started = 3
 rank stage.Retired = 4
 
--- the stage is neither of those that have effects of their own
+-- the stage is not that of a newcomer, nor that of one that opened the rules
 pub not_admitted : (s : Stage) → 2 ≤ rank s → s ≡ stage.Admitted → ⊥
 not_admitted s late is = let low = ap rank is in absurd (omega (arith, low, late))
 
 pub not_opened : (s : Stage) → 2 ≤ rank s → s ≡ stage.Opened → ⊥
 not_opened s late is = let low = ap rank is in absurd (omega (arith, low, late))
 
--- a connection has the stage just before the one that it is brought to, which comes after its decision
+-- a connection has the stage just before the one that it is brought to, which comes after its opening
 pub record Brings (from : Option Stage → Bool) (to : Stage) : Type 0 where
   pub late : 2 ≤ rank to
   pub had : (s : Option Stage) → from s ≡ true → (t : Stage) × (s ≡ Some t) × (rank to ≡ rank t + 1)
@@ -105,25 +106,60 @@ before_retired stage.Retired (stage.Decided v) e = absurd (omega (arith, e))
 before_retired stage.Retired stage.Started e = absurd (omega (arith, e))
 before_retired stage.Retired stage.Retired e = absurd (omega (arith, e))
 
--- all effects but those two are of one event each
-abbrev pub IsOf : Effect → Event → Type 0
-IsOf (lets_in n peer) e = e ≡ Admitted n peer
-IsOf (opens n there) e = e ≡ Opened n there
-IsOf (decides n decision) e = e ≡ Decided n decision
-IsOf (comes_to phase) e = e ≡ Stepped phase
-IsOf (fails_at phase) e = e ≡ StepFailed phase
-IsOf ends_all e = e ≡ Stop
-IsOf _ e = ⊤
+-- all effects but those by which a connection is brought somewhere or let go are of one event each
+abbrev pub IsEventOf : Effect → Event → Type 0
+IsEventOf (lets_in n peer) e = e ≡ Admitted n peer
+IsEventOf (opens n there) e = e ≡ Opened n there
+IsEventOf (decides n decision) e = e ≡ Decided n decision
+IsEventOf (comes_to phase) e = e ≡ Stepped phase
+IsEventOf (fails_at phase) e = e ≡ StepFailed phase
+IsEventOf ends_all e = e ≡ Stop
+IsEventOf _ e = ⊤
 
-pub is_of : (e : Event) → IsOf (effect e) e
-is_of (Admitted n peer) = refl
-is_of (Opened n there) = refl
-is_of (Decided n decision) = refl
-is_of (Started n) = tt
-is_of (StartFailed n fault) = tt
-is_of (Ended n status) = tt
-is_of (Retired n) = tt
-is_of (Dropped n cause) = tt
-is_of (Stepped phase) = refl
-is_of (StepFailed phase) = refl
-is_of Stop = refl
+pub its_event : (e : Event) → IsEventOf (effect e) e
+its_event (Admitted n peer) = refl
+its_event (Opened n there) = refl
+its_event (Decided n decision) = refl
+its_event (Started n) = tt
+its_event (StartFailed n fault) = tt
+its_event (Ended n status) = tt
+its_event (Retired n) = tt
+its_event (Dropped n cause) = tt
+its_event (Stepped phase) = refl
+its_event (StepFailed phase) = refl
+its_event Stop = refl
+
+-- who is gone by an event, and who is retired by it, is so by its effect
+abbrev pub ends_by : ℕ → Effect → Bool
+ends_by n (lets_go m from) = n == m
+ends_by n _ = false
+
+abbrev pub retires_by : ℕ → Effect → Bool
+retires_by n (brings m from to) = is_retired to && (n == m)
+retires_by n _ = false
+
+pub ends_as : (n : ℕ) (e : Event) → ends n e ≡ ends_by n (effect e)
+ends_as n (Admitted m peer) = refl
+ends_as n (Opened m there) = refl
+ends_as n (Decided m decision) = refl
+ends_as n (Started m) = refl
+ends_as n (StartFailed m fault) = refl
+ends_as n (Ended m status) = refl
+ends_as n (Retired m) = refl
+ends_as n (Dropped m cause) = refl
+ends_as n (Stepped phase) = refl
+ends_as n (StepFailed phase) = refl
+ends_as n Stop = refl
+
+pub retires_as : (n : ℕ) (e : Event) → retires n e ≡ retires_by n (effect e)
+retires_as n (Admitted m peer) = refl
+retires_as n (Opened m there) = refl
+retires_as n (Decided m decision) = refl
+retires_as n (Started m) = refl
+retires_as n (StartFailed m fault) = refl
+retires_as n (Ended m status) = refl
+retires_as n (Retired m) = refl
+retires_as n (Dropped m cause) = refl
+retires_as n (Stepped phase) = refl
+retires_as n (StepFailed phase) = refl
+retires_as n Stop = refl

@@ -12,11 +12,11 @@ use Rattle.server_events.specs.declared.event.Stage.TheVariants as stage
 use Rattle.server_events.specs.declared.event.Event.{Event}
 use Rattle.server_events.specs.declared.event.Event.TheVariants.{Admitted, Stop}
 use Rattle.server_events.specs.declared.state.Connection.{Connection}
-use Rattle.server_events.specs.Live.{Life, is_stop, stops_by, since_stop, admission, admission_by, ends, ends_by, retires, retires_by, live_of, retired_of, life_of, lives_of}
+use Rattle.server_events.specs.Live.{Life, is_stop, stops_by, since_stop, admission, admission_by, ends, retires, live_of, retired_of, life_of, lives_of}
 use Rattle.server_events.specs.Reports.{greatest}
 use Rattle.server_events.specs.ServerState.{ServerState, start, stage_of, with_stage, without, count_from, is_retired, may_happen, after, phase_after, is_legal, state_after, newcomer, Effect, lets_in, opens, decides, brings, lets_go, comes_to, fails_at, ends_all, effect, may_have, with_effect}
 use Rattle.server_events.proofs.Alive.{alive, alive-kept, alive-ended, alive-admitted}
-use Rattle.server_events.proofs.Effects.{IsOf, Sound, before_retired, is_admitted-true, is_of, is_opened-true, rank, sound}
+use Rattle.server_events.proofs.Effects.{IsEventOf, Sound, before_retired, ends_as, ends_by, is_admitted-true, is_opened-true, its_event, rank, retires_as, retires_by, sound}
 use Rattle.server_events.proofs.Marks.{Marked, marked_after, marked-push, marked-without, marked-with_stage, marked-retired, marked-count}
 use Rattle.server_events.proofs.History.{and_true, room_for}
 use Rattle.server_events.proofs.ListLemmas.{after_last-push, list_any-push, greatest-push, or_false}
@@ -94,9 +94,9 @@ tells_brought : (es : List Event) (w : ServerState) (e : Event) (n : ℕ) (from 
 tells_brought es w e n from to t is next at h =
     elim (is_retired to) as (λ b. is_retired to ≡ b → Tells (es ++ e ∷ []) (record w { connections = with_stage n to w.connections })) [
       | true ↦ λ last.
-          tells_retired es w e n to t last at (λ m. ap (ends_by m) is) (λ m. ap (retires_by m) is ∙ ap (λ b. b && (m == n)) last) (ap admission_by is) h
+          tells_retired es w e n to t last at (λ m. ends_as m e ∙ ap (ends_by m) is) (λ m. retires_as m e ∙ ap (retires_by m) is ∙ ap (λ b. b && (m == n)) last) (ap admission_by is) h
       | false ↦ λ stays.
-          tells_stage es w e n to t stays (before_retired t to next) at (λ m. ap (ends_by m) is) (λ m. ap (retires_by m) is ∙ ap (λ b. b && (m == n)) stays) (ap admission_by is) h
+          tells_stage es w e n to t stays (before_retired t to next) at (λ m. ends_as m e ∙ ap (ends_by m) is) (λ m. retires_as m e ∙ ap (retires_by m) is ∙ ap (λ b. b && (m == n)) stays) (ap admission_by is) h
     ] refl
 
 pub tells_admitted : (es : List Event) (w : ServerState) (n : ℕ) (p : Client) → n ≡ w.last + 1 → Tells es w → Tells (es ++ Admitted n p ∷ []) (record w { last = n; connections = w.connections ++ newcomer n p ∷ [] })
@@ -130,23 +130,23 @@ tells_stop : (w : ServerState) → Tells [] (after w Stop)
 tells_stop w = record { lives = refl; marks = tt; unused = λ m l. (refl, refl); rise = omega arith }
 
 -- one event more than those since a stop, by its effect
-tells_by : (es : List Event) (w : ServerState) (e : Event) (x : Effect) → effect e ≡ x → IsOf x e → Sound x → may_have w x ≡ true → Tells es w → Tells (cond (stops_by x) [] (es ++ e ∷ [])) (with_effect w x)
+tells_by : (es : List Event) (w : ServerState) (e : Event) (x : Effect) → effect e ≡ x → IsEventOf x e → Sound x → may_have w x ≡ true → Tells es w → Tells (cond (stops_by x) [] (es ++ e ∷ [])) (with_effect w x)
 tells_by es w e (lets_in n p) is its s m h =
     subst (λ (a : Event). Tells (es ++ a ∷ []) (with_effect w (lets_in n p))) (sym its) (tells_admitted es w n p (room_for w n p m).next h)
-tells_by es w e (opens n t) is its s m h = tells_stage es w e n stage.Opened stage.Admitted refl refl (is_admitted-true _ m) (λ k. ap (ends_by k) is) (λ k. ap (retires_by k) is) (ap admission_by is) h
-tells_by es w e (decides n d) is its s m h = tells_stage es w e n (stage.Decided d.verdict) stage.Opened refl refl (is_opened-true _ m) (λ k. ap (ends_by k) is) (λ k. ap (retires_by k) is) (ap admission_by is) h
+tells_by es w e (opens n t) is its s m h = tells_stage es w e n stage.Opened stage.Admitted refl refl (is_admitted-true _ m) (λ k. ends_as k e ∙ ap (ends_by k) is) (λ k. retires_as k e ∙ ap (retires_by k) is) (ap admission_by is) h
+tells_by es w e (decides n d) is its s m h = tells_stage es w e n (stage.Decided d.verdict) stage.Opened refl refl (is_opened-true _ m) (λ k. ends_as k e ∙ ap (ends_by k) is) (λ k. retires_as k e ∙ ap (retires_by k) is) (ap admission_by is) h
 tells_by es w e (brings n from to) is its s m h =
     let had = s.had _ m in
     tells_brought es w e n from to had.0 is had.2 had.1 h
 tells_by es w e (lets_go n from) is its s m h =
     let had = s.had _ m in
-    tells_gone es w e n had.0 had.1 (λ k. ap (ends_by k) is) (λ k. ap (retires_by k) is) (ap admission_by is) h
-tells_by es w e (comes_to p) is its s m h = tells_phase es w e (phase_after p) (λ k. ap (ends_by k) is) (λ k. ap (retires_by k) is) (ap admission_by is) h
-tells_by es w e (fails_at p) is its s m h = tells_phase es w e None (λ k. ap (ends_by k) is) (λ k. ap (retires_by k) is) (ap admission_by is) h
+    tells_gone es w e n had.0 had.1 (λ k. ends_as k e ∙ ap (ends_by k) is) (λ k. retires_as k e ∙ ap (retires_by k) is) (ap admission_by is) h
+tells_by es w e (comes_to p) is its s m h = tells_phase es w e (phase_after p) (λ k. ends_as k e ∙ ap (ends_by k) is) (λ k. retires_as k e ∙ ap (retires_by k) is) (ap admission_by is) h
+tells_by es w e (fails_at p) is its s m h = tells_phase es w e None (λ k. ends_as k e ∙ ap (ends_by k) is) (λ k. retires_as k e ∙ ap (retires_by k) is) (ap admission_by is) h
 tells_by es w e ends_all is its s m h = tells_stop w
 
 tells_next : (es : List Event) (w : ServerState) (e : Event) → may_happen w e ≡ true → Tells es w → Tells (cond (is_stop e) [] (es ++ e ∷ [])) (after w e)
-tells_next es w e m h = tells_by es w e (effect e) refl (is_of e) (sound e) m h
+tells_next es w e m h = tells_by es w e (effect e) refl (its_event e) (sound e) m h
 
 -- one event more, that may happen
 pub tells_after : (history : List Event) (w : ServerState) (e : Event) → may_happen w e ≡ true → Tells (since_stop history) w → Tells (since_stop (history ++ e ∷ [])) (after w e)

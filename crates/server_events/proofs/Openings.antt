@@ -21,7 +21,7 @@ use Rattle.server_events.specs.Steps.{Advances, Legal, Moves, Outside, Step, non
 use Rattle.server_events.specs.Worlds.{IsStart, KeptFile, RulesName, StandsFor, World, kept_by, missing_by, missing_in, peer_of, standing}
 use Rattle.server_events.proofs.History.{room_for}
 use Rattle.server_events.proofs.InstalledRuns.{decided_by_file, legal_then}
-use Rattle.server_events.proofs.Effects.{IsOf, Sound, is_admitted-true, is_of, is_opened-true, not_admitted, not_opened, sound}
+use Rattle.server_events.proofs.Effects.{IsEventOf, Sound, is_admitted-true, its_event, is_opened-true, not_admitted, not_opened, sound}
 use Rattle.server_events.proofs.Peers.{stage_of-peer_of, stage_of-with_stage_is, peer_of-with_stage, peer_of-without_other, peer_of-without, stage_of-without_is, stage_of-push_other, peer_of-push_other, stage_of-push_is}
 use Rattle.server_events.proofs.Serials.{Rise, Rise-push, Rise-with_stage, Rise-without, stage_of-le}
 use Rattle.server_events.proofs.TableLemmas.{step_is}
@@ -296,7 +296,7 @@ module _ (before : List Event) (u : World) (reaches : Reaches before u) (n : ℕ
 -- ---- the opening of a decided connection
 
 -- where a connection is opened after an event, it was before, or this was its opening
-opened_by : (s : ServerState) (kept : List KeptFile) (event : Event) (x : Effect) (n : ℕ) → IsOf x event → Sound x → Orderly s kept → stage_of n (with_effect s x).connections ≡ Some stage.Opened → (stage_of n s.connections ≡ Some stage.Opened) ⊎ ((there : Bool) × (event ≡ Opened n there))
+opened_by : (s : ServerState) (kept : List KeptFile) (event : Event) (x : Effect) (n : ℕ) → IsEventOf x event → Sound x → Orderly s kept → stage_of n (with_effect s x).connections ≡ Some stage.Opened → (stage_of n s.connections ≡ Some stage.Opened) ⊎ ((there : Bool) × (event ≡ Opened n there))
 opened_by s kept event (lets_in m peer) n is its order e =
     elim (stage_of-push_is n stage.Opened s.connections (newcomer m peer) e) [ inl before ↦ inl before | inr never ↦ absurd (cc) ]
 opened_by s kept event (opens m there) n is its order e =
@@ -338,7 +338,7 @@ opening_between n before reaches (more {u} {v} {w} {event} {events} step rest) e
       | inl after_it ↦
           let happened = step_is step.table in
           let at : stage_of n (after u.server event).connections ≡ Some stage.Opened = ap (λ (s : ServerState). stage_of n s.connections) (sym happened.1) ∙ after_it in
-          elim (opened_by u.server u.kept event (effect event) n (is_of event) (sound event) (orderly_reached before u reaches) at) [
+          elim (opened_by u.server u.kept event (effect event) n (its_event event) (sound event) (orderly_reached before u reaches) at) [
             | inl earlier ↦ inl earlier
             | inr now ↦ inr (record {
               before = before;

@@ -5,12 +5,12 @@ use Rattle.rules_install.specs.declared.Phase.{Phase}
 use Rattle.rules_install.specs.declared.Phase.TheVariants.{Fresh, Filling, Synced, Named, Done}
 use Rattle.server_events.specs.declared.event.Event.{Event}
 use Rattle.server_events.specs.declared.event.Event.TheVariants.{Stepped, StepFailed}
-use Rattle.server_events.specs.Processes.{InstallerSteps, KeepsInstallers, KeepsServer, ServerSteps, Woven, is_connections, is_installations, none, serves, installs, stops, outside, of_installers, of_server, concerns_one, installs_by}
+use Rattle.server_events.specs.Processes.{InstallerSteps, KeepsInstallers, KeepsServer, ServerSteps, Woven, is_connections, is_installations, none, serves, installs, stops, outside, of_installers, of_server, of_connections, of_installations}
 use Rattle.server_events.specs.ServerState.{ServerState, after, phase_after, start, Effect, lets_in, opens, decides, brings, lets_go, comes_to, fails_at, ends_all, effect, may_have, with_effect}
 use Rattle.server_events.specs.Steps.{Advances, FailsTo, Legal, Step, none as no_more, more, beside, MovesBy}
 use Rattle.server_events.specs.Table.{Happens}
 use Rattle.server_events.specs.Worlds.{Accepted, KeptFile, RulesName, UnderWay, World}
-use Rattle.server_events.proofs.Effects.{IsOf, is_of}
+use Rattle.server_events.proofs.Effects.{IsEventOf, its_event}
 use Rattle.server_events.proofs.TableLemmas.{is_step, step_is}
 
 -- worlds with the same parts
@@ -30,7 +30,7 @@ in_phase phase s = record s { phase = phase }
 
 -- ---- events of connections, which no phase is needed for
 
-may_anyway : (s : ServerState) (phase : Option Phase) (x : Effect) → concerns_one x ≡ true → may_have (in_phase phase s) x ≡ may_have s x
+may_anyway : (s : ServerState) (phase : Option Phase) (x : Effect) → of_connections x ≡ true → may_have (in_phase phase s) x ≡ may_have s x
 may_anyway s phase (lets_in n peer) its = refl
 may_anyway s phase (opens n there) its = refl
 may_anyway s phase (decides n decision) its = refl
@@ -40,7 +40,7 @@ may_anyway s phase (comes_to p) its = absurd (cc)
 may_anyway s phase (fails_at p) its = absurd (cc)
 may_anyway s phase ends_all its = absurd (cc)
 
-after_anyway : (s : ServerState) (phase : Option Phase) (x : Effect) → concerns_one x ≡ true → with_effect (in_phase phase s) x ≡ in_phase phase (with_effect s x)
+after_anyway : (s : ServerState) (phase : Option Phase) (x : Effect) → of_connections x ≡ true → with_effect (in_phase phase s) x ≡ in_phase phase (with_effect s x)
 after_anyway s phase (lets_in n peer) its = refl
 after_anyway s phase (opens n there) its = refl
 after_anyway s phase (decides n decision) its = refl
@@ -74,7 +74,7 @@ aside w v others is =
     to_world w v others (is ∙ ap (λ (x : List KeptFile). record (of_server w) { server = (of_server v).server; kept = x }) (sym (keeping w v is)))
     ∙ ap (λ (x : List KeptFile). record w { server = v.server; kept = x }) (keeping w v is)
 
-server_moves : (x : Effect) (w v : World) → concerns_one x ≡ true → KeepsInstallers w v → MovesBy x (of_server w) (of_server v) → MovesBy x w v
+server_moves : (x : Effect) (w v : World) → of_connections x ≡ true → KeepsInstallers w v → MovesBy x (of_server w) (of_server v) → MovesBy x w v
 server_moves (lets_in n peer) w v its others moves = aside w v others moves
 server_moves (opens n there) w v its others moves =
     let kept = ap (λ (x : World). x.kept) moves.1 in (
@@ -102,7 +102,7 @@ of_server_kept : (w v : World) (kept : List KeptFile) → v ≡ record w { serve
 of_server_kept w v kept is =
     same_world (of_server v) (record (of_server w) { server = (of_server v).server; kept = kept }) (ap (λ (x : World). x.directory) is) (ap (λ (x : World). x.rules) is) refl refl refl refl (ap (λ (x : World). x.kept) is)
 
-part_moves : (x : Effect) (w v : World) → concerns_one x ≡ true → MovesBy x w v → MovesBy x (of_server w) (of_server v)
+part_moves : (x : Effect) (w v : World) → of_connections x ≡ true → MovesBy x w v → MovesBy x (of_server w) (of_server v)
 part_moves (lets_in n peer) w v its moves = of_server_kept w v w.kept moves
 part_moves (opens n there) w v its moves = (moves.0, of_server_kept w v _ moves.1)
 part_moves (decides n decision) w v its moves = (moves.0, moves.1, moves.2, moves.3, moves.4, of_server_kept w v w.kept moves.5)
@@ -113,7 +113,7 @@ part_moves (fails_at p) w v its moves = absurd (cc)
 part_moves ends_all w v its moves = absurd (cc)
 
 -- what a step of a connection leaves to the installers
-left_over : (x : Effect) (w v : World) → concerns_one x ≡ true → MovesBy x w v → (v.accepted ≡ w.accepted) × (v.acknowledged ≡ w.acknowledged) × (v.under_way ≡ w.under_way)
+left_over : (x : Effect) (w v : World) → of_connections x ≡ true → MovesBy x w v → (v.accepted ≡ w.accepted) × (v.acknowledged ≡ w.acknowledged) × (v.under_way ≡ w.under_way)
 left_over (lets_in n peer) w v its moves = (ap (λ x. x.accepted) moves, ap (λ x. x.acknowledged) moves, ap (λ x. x.under_way) moves)
 left_over (opens n there) w v its moves = (ap (λ x. x.accepted) moves.1, ap (λ x. x.acknowledged) moves.1, ap (λ x. x.under_way) moves.1)
 left_over (decides n decision) w v its moves = (ap (λ x. x.accepted) moves.5, ap (λ x. x.acknowledged) moves.5, ap (λ x. x.under_way) moves.5)
@@ -160,7 +160,7 @@ installer_moves Done w v others moves = (moves.0, moves.1, moves.2, of_installer
 installer_fails : (p : Phase) (w v : World) → KeepsServer w v → FailsTo p (of_installers w) (of_installers v) → FailsTo p w v
 installer_fails p w v others moves = (moves.0, moves.1, moves.2, of_installers_is w v (record w { directory = v.directory; under_way = None }) others moves.3 refl refl)
 
-installer_by : (x : Effect) (w v : World) (event : Event) → IsOf x event → installs_by x ≡ true → Step (of_installers w) event (of_installers v) → KeepsServer w v → Step w event v
+installer_by : (x : Effect) (w v : World) (event : Event) → IsEventOf x event → of_installations x ≡ true → Step (of_installers w) event (of_installers v) → KeepsServer w v → Step w event v
 installer_by (comes_to p) w v event is its step others =
     let own = subst (λ (a : Event). Step (of_installers w) a (of_installers v)) is step in
     subst (λ (a : Event). Step w a v) (sym is) (record { table = advances_in w.server v.server p others.server own.table; moves = installer_moves p w v others own.moves })
@@ -175,7 +175,7 @@ installer_by (lets_go n from) w v event is its step others = absurd (cc)
 installer_by ends_all w v event is its step others = absurd (cc)
 
 installer_step : (w v : World) (event : Event) → is_installations event ≡ true → Step (of_installers w) event (of_installers v) → KeepsServer w v → Step w event v
-installer_step w v event its step others = installer_by (effect event) w v event (is_of event) its step others
+installer_step w v event its step others = installer_by (effect event) w v event (its_event event) its step others
 
 -- ---- and back
 
@@ -237,20 +237,20 @@ one_history (installs {u} {v} {w} {event} {events} made rest) = more (installer_
 one_history (stops step rest) = more step (one_history rest)
 one_history (outside out rest) = beside out (one_history rest)
 
-by_effect : {u v w : World} {events : List Event} (x : Effect) (event : Event) → effect event ≡ x → IsOf x event → Step u event v → Woven v events w → Woven u (event ∷ events) w
+by_effect : {u v w : World} {events : List Event} (x : Effect) (event : Event) → effect event ≡ x → IsEventOf x event → Step u event v → Woven v events w → Woven u (event ∷ events) w
 by_effect {u} {v} {w} {events} (comes_to p) event is its step rest =
     subst (λ (a : Event). Woven u (a ∷ events) w) (sym its) (installs (steps_advance u v p (subst (λ (a : Event). Step u a v) its step)) rest)
 by_effect {u} {v} {w} {events} (fails_at p) event is its step rest =
     subst (λ (a : Event). Woven u (a ∷ events) w) (sym its) (installs (steps_failure u v p (subst (λ (a : Event). Step u a v) its step)) rest)
 by_effect {u} {v} {w} {events} ends_all event is its step rest =
     subst (λ (a : Event). Woven u (a ∷ events) w) (sym its) (stops (subst (λ (a : Event). Step u a v) its step) rest)
-by_effect {u} {v} (lets_in n peer) event is its step rest = serves (steps_server u v event (ap concerns_one is) step) rest
-by_effect {u} {v} (opens n there) event is its step rest = serves (steps_server u v event (ap concerns_one is) step) rest
-by_effect {u} {v} (decides n decision) event is its step rest = serves (steps_server u v event (ap concerns_one is) step) rest
-by_effect {u} {v} (brings n from to) event is its step rest = serves (steps_server u v event (ap concerns_one is) step) rest
-by_effect {u} {v} (lets_go n from) event is its step rest = serves (steps_server u v event (ap concerns_one is) step) rest
+by_effect {u} {v} (lets_in n peer) event is its step rest = serves (steps_server u v event (ap of_connections is) step) rest
+by_effect {u} {v} (opens n there) event is its step rest = serves (steps_server u v event (ap of_connections is) step) rest
+by_effect {u} {v} (decides n decision) event is its step rest = serves (steps_server u v event (ap of_connections is) step) rest
+by_effect {u} {v} (brings n from to) event is its step rest = serves (steps_server u v event (ap of_connections is) step) rest
+by_effect {u} {v} (lets_go n from) event is its step rest = serves (steps_server u v event (ap of_connections is) step) rest
 
 pub its_parts : {w v : World} {history : List Event} → Legal w history v → Woven w history v
 its_parts no_more = none
-its_parts (more {u} {v} {w} {event} {events} step rest) = by_effect (effect event) event refl (is_of event) step (its_parts rest)
+its_parts (more {u} {v} {w} {event} {events} step rest) = by_effect (effect event) event refl (its_event event) step (its_parts rest)
 its_parts (beside out rest) = outside out (its_parts rest)

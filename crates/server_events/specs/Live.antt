@@ -1,16 +1,17 @@
 -- Who is alive after a list of events, told from the events alone.
-use Rattle.std.specs.Prelude.{◌≤◌, ℕ, length, take, List, Bool, true, false, ◌&&◌, ◌==◌, not, map, Option, Some, None, bytes_eq}
+use Rattle.std.specs.Prelude.{◌≤◌, ℕ, length, take, List, Bool, true, false, ◌==◌, not, map, Option, Some, None, bytes_eq}
 use Rattle.std.specs.List.{after_last, filter, filter_map, list_any}
 use Rattle.connection_facts.specs.Peers.{Client}
 use Rattle.server_events.specs.declared.event.Event.{Event}
+use Rattle.server_events.specs.declared.event.Event.TheVariants.{StartFailed, Ended, Retired, Dropped}
 use Rattle.server_events.specs.declared.state.Connection.{Connection}
-use Rattle.server_events.specs.ServerState.{Effect, lets_in, opens, decides, brings, lets_go, ends_all, effect, is_retired}
+use Rattle.server_events.specs.ServerState.{Effect, lets_in, opens, decides, brings, lets_go, ends_all, effect}
 
--- all connections end at once
 abbrev pub stops_by : Effect → Bool
 stops_by ends_all = true
 stops_by _ = false
 
+-- all connections end at once
 abbrev pub is_stop : Event → Bool
 is_stop event = stops_by (effect event)
 
@@ -23,23 +24,21 @@ pub record Life : Type 0 where
   pub serial : ℕ
   pub peer : Client
 
--- the connection that an event lets in
 abbrev pub admission_by : Effect → Option Life
 admission_by (lets_in n peer) = Some (record { serial = n; peer = peer })
 admission_by _ = None
 
+-- the connection that an event lets in
 abbrev pub admission : Event → Option Life
 admission event = admission_by (effect event)
 
 -- by this event the connection n is gone: its start failed, or it ended, or it was dropped
-abbrev pub ends_by : ℕ → Effect → Bool
-ends_by n (lets_go m from) = n == m
-ends_by n _ = false
-
 abbrev pub ends : ℕ → Event → Bool
-ends n event = ends_by n (effect event)
+ends n (StartFailed m fault) = n == m
+ends n (Ended m status) = n == m
+ends n (Dropped m cause) = n == m
+ends n _ = false
 
--- something happens to the connection n, which was let in before
 abbrev pub concerns_by : ℕ → Effect → Bool
 concerns_by n (opens m there) = n == m
 concerns_by n (decides m decision) = n == m
@@ -47,16 +46,14 @@ concerns_by n (brings m from to) = n == m
 concerns_by n (lets_go m from) = n == m
 concerns_by n _ = false
 
+-- something happens to the connection n, which was let in before
 abbrev pub concerns : ℕ → Event → Bool
 concerns n event = concerns_by n (effect event)
 
 -- by this event the connection n is retired
-abbrev pub retires_by : ℕ → Effect → Bool
-retires_by n (brings m from to) = is_retired to && (n == m)
-retires_by n _ = false
-
 abbrev pub retires : ℕ → Event → Bool
-retires n event = retires_by n (effect event)
+retires n (Retired m) = n == m
+retires n _ = false
 
 -- those admitted and not yet ended, start-failed, dropped or stopped; retired ones stay until a stop
 abbrev pub live_of : List Event → List Life

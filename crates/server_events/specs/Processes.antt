@@ -6,24 +6,24 @@ use Rattle.server_events.specs.ServerState.{Effect, comes_to, fails_at, ends_all
 use Rattle.server_events.specs.Steps.{Outside, Step}
 use Rattle.server_events.specs.Worlds.{World}
 
--- an event of a connection
-abbrev pub concerns_one : Effect → Bool
-concerns_one (comes_to phase) = false
-concerns_one (fails_at phase) = false
-concerns_one ends_all = false
-concerns_one _ = true
+abbrev pub of_connections : Effect → Bool
+of_connections (comes_to phase) = false
+of_connections (fails_at phase) = false
+of_connections ends_all = false
+of_connections _ = true
 
+-- an event of a connection
 abbrev pub is_connections : Event → Bool
-is_connections event = concerns_one (effect event)
+is_connections event = of_connections (effect event)
+
+abbrev pub of_installations : Effect → Bool
+of_installations (comes_to phase) = true
+of_installations (fails_at phase) = true
+of_installations _ = false
 
 -- an event of an installation; one that is killed within a call fails there
-abbrev pub installs_by : Effect → Bool
-installs_by (comes_to phase) = true
-installs_by (fails_at phase) = true
-installs_by _ = false
-
 abbrev pub is_installations : Event → Bool
-is_installations event = installs_by (effect event)
+is_installations event = of_installations (effect event)
 
 -- the world as a server has it that installs nothing: it knows of no text and of no installation, and sees the directory as others left it
 abbrev pub of_server : World → World

@@ -96,8 +96,8 @@ may_admit w n peer =
 abbrev pub newcomer : ℕ → Client → Connection
 newcomer n peer = record { serial = n; peer = peer; stage = stage.Admitted }
 
--- What an event does to the state. It lets a connection in; that connection opens the rules, and is decided; it is brought from a stage of some
--- kind to another, or is let go from one. Or it brings the installation to a phase, or to none on its way there. Or it ends all.
+-- What an event does to the state: it lets a connection in, or has it open the rules, or decides it, or brings it from a stage of some kind to another, or
+-- lets it go from one; or it brings the installation to a phase, or fails on the way there; or it ends all.
 pub data Effect : Type 0 where
   lets_in : ℕ → Client → Effect
   opens : ℕ → Bool → Effect

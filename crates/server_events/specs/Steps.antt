@@ -87,7 +87,7 @@ MayBeAt w state =
 abbrev pub MayLeave : World → Directory → Type 0
 MayLeave w image = (state : Directory) × MayBeAt w state × IsImage state image
 
--- what an event does beside what the table of events says of it
+-- what an effect is beside what it does to the state
 abbrev pub MovesBy : Effect → World → World → Type 0
 MovesBy (opens n there) w w' =
     (there ≡ is_some (standing w)) × (w' ≡ record w { server = w'.server; kept = w.kept ++ record { serial = n; bytes = standing w } ∷ [] })
@@ -100,6 +100,7 @@ MovesBy ends_all w w' =
     MayLeave w w'.directory × (w' ≡ record w { directory = w'.directory; server = w'.server; under_way = None; kept = [] })
 MovesBy _ w w' = w' ≡ record w { server = w'.server }
 
+-- what an event does beside what the table of events says of it
 abbrev pub Moves : Event → World → World → Type 0
 Moves event w w' = MovesBy (effect event) w w'
 

@@ -1,4 +1,4 @@
-//! What a server opens before it begins: its words, files, folder, socket and program.
+//! What a server opens before it begins: its files, folder, socket and program.
 ghost use Rattle.std.specs.Prelude.{◌≡◌, map, string_bytes, IfOk};
 ghost use Rattle.server_parts.specs.Services.{program_by};
 

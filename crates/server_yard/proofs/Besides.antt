@@ -1,7 +1,7 @@
 -- A server's calls, over the directory as others left it, are its steps by itself.
 use Rattle.std.proofs.Common.{◌≡◌, true, List, Option, None, refl, sym, ap, subst, ◌∙◌}
 use Rattle.rules_install.specs.declared.Phase.{Phase}
-use Rattle.server_events.specs.Processes.{concerns_one, is_connections, of_server}
+use Rattle.server_events.specs.Processes.{of_connections, is_connections, of_server}
 use Rattle.server_events.specs.ServerState.{Effect, ServerState, lets_in, opens, decides, brings, lets_go, comes_to, fails_at, ends_all, effect}
 use Rattle.server_events.specs.Steps.{MovesBy, Step}
 use Rattle.server_events.specs.Worlds.{KeptFile, World}
@@ -15,7 +15,7 @@ use Rattle.server_yard.proofs.Matching.{phase_stays}
 plainly : (u v : World) → v ≡ record u { server = v.server } → v ≡ record u { server = v.server; kept = v.kept }
 plainly u v is = is ∙ ap (λ (ks : List KeptFile). record u { server = v.server; kept = ks }) (sym (ap (λ (x : World). x.kept) is))
 
-moved_by : (x : Effect) (u v : World) → concerns_one x ≡ true → MovesBy x u v → v ≡ record u { server = v.server; kept = v.kept }
+moved_by : (x : Effect) (u v : World) → of_connections x ≡ true → MovesBy x u v → v ≡ record u { server = v.server; kept = v.kept }
 moved_by (lets_in n peer) u v own moves = plainly u v moves
 moved_by (opens n there) u v own moves =
     moves.1 ∙ ap (λ (ks : List KeptFile). record u { server = v.server; kept = ks }) (sym (ap (λ (x : World). x.kept) moves.1))

@@ -8,7 +8,7 @@ use Rattle.event_journals.specs.Journals.{Books, FitsSerial}
 use Rattle.rule_lines.specs.Pairs.{Rule}
 use Rattle.rule_lines.specs.Lookups.{WhereKnown}
 use Rattle.connection_facts.specs.Peers.{Client}
-use Rattle.server_events.specs.Processes.{concerns_one, installs_by, is_connections, is_installations}
+use Rattle.server_events.specs.Processes.{of_connections, of_installations, is_connections, is_installations}
 use Rattle.server_events.specs.ServerState.{Effect, ServerState, lets_in, opens, decides, brings, lets_go, comes_to, fails_at, ends_all, effect}
 use Rattle.server_events.specs.Worlds.{RulesName, StandsFor}
 use Rattle.server_events.specs.declared.event.Event.{Event}
@@ -25,7 +25,7 @@ use Rattle.server_yard.proofs.Histories.{OneMore, history_on, history_same}
 use Rattle.server_yard.proofs.Installs.{installed_same, installs-other, reached_by}
 use Rattle.server_yard.proofs.Matching.{GoesTo, is_plain, phase_stays, plain_by}
 
-other_by : (x : Effect) → concerns_one x ≡ true → installs_by x ≡ false
+other_by : (x : Effect) → of_connections x ≡ true → of_installations x ≡ false
 other_by (lets_in m peer) k = refl
 other_by (opens m there) k = refl
 other_by (decides m decision) k = refl
@@ -38,7 +38,7 @@ other_by ends_all k = refl
 pub own_other : (e : Event) → is_connections e ≡ true → is_installations e ≡ false
 own_other e k = other_by (effect e) k
 
-goes_on_one : (x : Effect) → goes_on_by x ≡ true → concerns_one x ≡ true
+goes_on_one : (x : Effect) → goes_on_by x ≡ true → of_connections x ≡ true
 goes_on_one (lets_in m peer) k = refl
 goes_on_one (opens m there) k = refl
 goes_on_one (decides m decision) k = refl
@@ -51,7 +51,7 @@ goes_on_one ends_all k = absurd (cc)
 pub goes_on_own : (e : Event) → goes_on e ≡ true → is_connections e ≡ true
 goes_on_own e k = goes_on_one (effect e) k
 
-leaver_one : (x : Effect) (n : ℕ) → leaver_by x ≡ Some n → concerns_one x ≡ true
+leaver_one : (x : Effect) (n : ℕ) → leaver_by x ≡ Some n → of_connections x ≡ true
 leaver_one (lets_in m peer) n k = refl
 leaver_one (opens m there) n k = refl
 leaver_one (decides m decision) n k = refl

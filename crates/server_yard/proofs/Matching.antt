@@ -7,7 +7,7 @@ use Rattle.rule_lookup.specs.Decisions.{decision_from}
 use Rattle.connection_facts.specs.Peers.{Client}
 use Rattle.rule_lookup.specs.declared.decision.Decision.{Decision}
 use Rattle.rules_install.specs.Installing.{Installing}
-use Rattle.server_events.specs.Processes.{concerns_one, is_connections}
+use Rattle.server_events.specs.Processes.{of_connections, is_connections}
 use Rattle.server_events.specs.ServerState.{Effect, ServerState, lets_in, opens, decides, brings, lets_go, comes_to, fails_at, ends_all, after, effect, may_happen, with_effect}
 use Rattle.server_events.specs.Steps.{MovesBy, Step}
 use Rattle.server_events.specs.Worlds.{KeptFile, RulesName, World, kept_by, missing_by, peer_of, standing}
@@ -41,7 +41,7 @@ plainly w (fails_at phase) k = absurd (cc)
 plainly w ends_all k = absurd (cc)
 
 -- an event of a connection keeps the phase
-phase_with : (s : ServerState) (x : Effect) → concerns_one x ≡ true → (with_effect s x).phase ≡ s.phase
+phase_with : (s : ServerState) (x : Effect) → of_connections x ≡ true → (with_effect s x).phase ≡ s.phase
 phase_with s (lets_in n peer) k = refl
 phase_with s (opens n there) k = refl
 phase_with s (decides n decision) k = refl

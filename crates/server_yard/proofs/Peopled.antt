@@ -8,7 +8,7 @@ use Rattle.server_events.specs.declared.event.Event.TheVariants.{Retired}
 use Rattle.server_events.specs.declared.event.Stage.{Stage}
 use Rattle.server_events.specs.declared.event.Stage.TheVariants as stage
 use Rattle.server_events.specs.declared.state.Connection.{Connection}
-use Rattle.server_events.specs.Processes.{installs_by, is_installations}
+use Rattle.server_events.specs.Processes.{of_installations, is_installations}
 use Rattle.server_events.specs.ServerState.{Effect, ServerState, lets_in, opens, decides, brings, lets_go, comes_to, fails_at, ends_all, after, count_from, effect, is_retired, may_happen, may_have, with_effect, with_stage, without}
 use Rattle.server_events.specs.Worlds.{peer_of}
 use Rattle.server_events.proofs.Effects.{Sound, sound}
@@ -56,7 +56,7 @@ pub goes_on_stays : (w : ServerState) (e : Event) → goes_on e ≡ true → Nob
 goes_on_stays w e k = stays_with w (effect e) k
 
 -- an event of an installation changes the phase alone
-keeps_with : (w : ServerState) (x : Effect) → installs_by x ≡ true → (with_effect w x).connections ≡ w.connections
+keeps_with : (w : ServerState) (x : Effect) → of_installations x ≡ true → (with_effect w x).connections ≡ w.connections
 keeps_with w (lets_in m peer) k = absurd (cc)
 keeps_with w (opens m there) k = absurd (cc)
 keeps_with w (decides m decision) k = absurd (cc)
@@ -69,7 +69,7 @@ keeps_with w ends_all k = absurd (cc)
 pub installing_keeps : (w : ServerState) (e : Event) → is_installations e ≡ true → (after w e).connections ≡ w.connections
 installing_keeps w e k = keeps_with w (effect e) k
 
-installs_with : (w : ServerState) (x : Effect) → installs_by x ≡ true → NobodyMoves w (with_effect w x)
+installs_with : (w : ServerState) (x : Effect) → of_installations x ≡ true → NobodyMoves w (with_effect w x)
 installs_with w (lets_in m peer) k = absurd (cc)
 installs_with w (opens m there) k = absurd (cc)
 installs_with w (decides m decision) k = absurd (cc)
@@ -155,7 +155,7 @@ on_fits ends_all k = tt
 pub goes_on_fits : (e : Event) → goes_on e ≡ true → FitsSerial e
 goes_on_fits e k = on_fits (effect e) k
 
-installs_fits : (x : Effect) → installs_by x ≡ true → FitsBy x
+installs_fits : (x : Effect) → of_installations x ≡ true → FitsBy x
 installs_fits (lets_in m peer) k = absurd (cc)
 installs_fits (opens m there) k = tt
 installs_fits (decides m decision) k = tt

@@ -12,7 +12,7 @@ use Rattle.rule_lines.specs.Pairs.{Rule}
 use Rattle.rules_install.specs.declared.Phase.{Phase}
 use Rattle.rules_install.specs.declared.Phase.TheVariants.{Fresh, Filling, Synced, Named, Done}
 use Rattle.server_events.specs.Headline.{Reaches}
-use Rattle.server_events.specs.Processes.{installs_by, is_installations}
+use Rattle.server_events.specs.Processes.{of_installations, is_installations}
 use Rattle.server_events.specs.ServerState.{Effect, lets_in, opens, decides, brings, lets_go, comes_to, fails_at, ends_all, effect}
 use Rattle.server_events.specs.Steps.{Advances, Legal, MovesBy, Step, none, more, beside}
 use Rattle.server_events.specs.Table.{Follows, done}
@@ -207,7 +207,7 @@ done_number h w reaches before later is =
 
 -- ---- the installations of a history
 
-other_first : (x : Effect) → installs_by x ≡ false → one_by x ≡ 0
+other_first : (x : Effect) → of_installations x ≡ false → one_by x ≡ 0
 other_first (lets_in n peer) other = refl
 other_first (opens n there) other = refl
 other_first (decides n decision) other = refl

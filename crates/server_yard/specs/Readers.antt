@@ -28,11 +28,11 @@ abbrev pub IsAbsentOrCompiled : Directory → List ℕ → Type 0
 IsAbsentOrCompiled d name =
     (names : Names) → CanBeLeft d.names names → (get names name ≡ None) ⊎ ((rules : List Rule) × NamesCompiled d names name rules)
 
--- whether an event is a first step, by which an installation begins
 abbrev pub begins_by : Effect → Bool
 begins_by (comes_to Fresh) = true
 begins_by _ = false
 
+-- whether an event is a first step, by which an installation begins
 abbrev pub is_first : Event → Bool
 is_first event = begins_by (effect event)
 

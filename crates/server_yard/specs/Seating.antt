@@ -44,20 +44,20 @@ IsAddressFull ip server =
 abbrev pub HasSpareRoom : Roll → Type 0
 HasSpareRoom roll = roll.room (room_needed roll.server.connections + 1) ≡ true
 
--- by this event a connection goes on, with its place
 abbrev pub goes_on_by : Effect → Bool
 goes_on_by (opens n there) = true
 goes_on_by (decides n decision) = true
 goes_on_by (brings n from to) = not (is_retired to)
 goes_on_by _ = false
 
+-- by this event a connection goes on, with its place
 abbrev pub goes_on : Event → Bool
 goes_on event = goes_on_by (effect event)
 
--- by this event a connection goes, and its place is free
 abbrev pub leaver_by : Effect → Option ℕ
 leaver_by (lets_go n from) = Some n
 leaver_by _ = None
 
+-- by this event a connection goes, and its place is free
 abbrev pub leaver : Event → Option ℕ
 leaver event = leaver_by (effect event)

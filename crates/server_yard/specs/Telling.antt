@@ -9,11 +9,11 @@ use Rattle.server_events.specs.declared.event.Event.TheVariants.{Opened}
 use Rattle.server_yard.specs.Serving.{IsServers}
 use Rattle.server_yard.specs.Standing.{YardState}
 
--- an event that neither happens to this connection nor ends all
 abbrev pub apart_by : ℕ → Effect → Bool
 apart_by n ends_all = false
 apart_by n x = not (concerns_by n x)
 
+-- an event that neither happens to this connection nor ends all
 abbrev pub is_apart : ℕ → Event → Bool
 is_apart n event = apart_by n (effect event)
 

@@ -1,4 +1,4 @@
-//! Events in the words of a script.
+//! Events in the words of a script, an end by a signal as one with code 0.
 use crate::Answer;
 use connection_facts::Status;
 use rule_lines::Verdict;
@@ -34,7 +34,7 @@ fn add_address(address: [u8; 4], out: &mut Answer) {
     out.count(".", u64::from(d));
 }
 
-/// Adds an event that is no admission, opening or decision.
+/// Adds an event that is no admission, opening or decision; nothing for these.
 fn add_end(event: &Event, out: &mut Answer) {
     match event {
         Event::Started { serial } => out.count("started ", *serial),
@@ -47,7 +47,8 @@ fn add_end(event: &Event, out: &mut Answer) {
         Event::Dropped { serial, .. } => out.count("dropped ", *serial),
         Event::Stepped { phase } => add_phase("phase ", *phase, out),
         Event::StepFailed { phase } => add_phase("failed ", *phase, out),
-        _ => out.text("stop"),
+        Event::Stop => out.text("stop"),
+        Event::Admitted { .. } | Event::Opened { .. } | Event::Decided { .. } => {}
     }
 }
 

@@ -1,4 +1,5 @@
 //! The log of a server that also keeps what its site answers.
+use rule_lines::Verdict;
 use server_log::{Log, Told};
 use shared_site::Made;
 use std::alloc::{AllocError, Global};
@@ -28,8 +29,8 @@ impl<'a, R: Wait, W: Write + Drop> ReceiptsLog<'a, R, W> {
         }
     }
 
-    /// Each receipt in the order in which they came, in a line: the place of the event in the history, the number of its caller, what it was, and
-    /// the serial of its connection.
+    /// Each receipt in the order in which they came, in a line: the place of the event in the history, the number of its caller, what it was, the
+    /// serial of its connection, and of a decision the verdict.
     ///
     /// # Errors
     /// There was no memory for one of them.
@@ -72,8 +73,24 @@ fn add_receipt(
 ) -> Result<(), AllocError> {
     let (at, caller) = (made.at(), made.caller());
     let (what, serial) = parts_of(told);
-    let line = format!(in alloc; "{at} {caller} {what} {serial}\n")?;
+    let verdict = verdict_in(told);
+    let line = format!(in alloc; "{at} {caller} {what} {serial}{verdict}\n")?;
     lines.push_str(&line)
+}
+
+// The verdict of a decision, behind a space; of another event nothing.
+fn verdict_in(told: &Told<'_>) -> &'static str {
+    match told {
+        Told::Decided {
+            verdict: Verdict::Allow,
+            ..
+        } => " allow",
+        Told::Decided {
+            verdict: Verdict::Deny,
+            ..
+        } => " deny",
+        _ => "",
+    }
 }
 
 // What an event was, and the serial of its connection.
