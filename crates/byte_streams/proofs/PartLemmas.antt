@@ -1,7 +1,7 @@
 -- The lines of a text, by what stands before it.
 use Rattle.std.proofs.Common.{◌≡◌, ℕ, suc, ◌+◌, ◌-◌, ◌<◌, Bool, true, false, cond, eqb, List, [], ◌∷◌, ◌++◌, length, take, drop, get_or, refl, sym, ap, subst, ◌∙◌, arith, length-take, add-one, drop-cons}
 use Rattle.std.specs.List.{onto_first}
-use Rattle.std.proofs.lemmas.Bool.{eqb-true}
+use Rattle.std.proofs.lemmas.Bool.{eqb-true, false_from_ne_true}
 use Rattle.std.proofs.lemmas.List.{get_or-take, take_rest, take-append-drop}
 use Rattle.std.proofs.lemmas.List.Elements.{All-from_get_or}
 use Rattle.std.proofs.lemmas.List.Splits.{slice_split_at, slice_split_none}
@@ -66,19 +66,15 @@ cut_at text k found =
     ∙ ap (λ tail. take k text ++ tail) (drop-cons text k 0 inside ∙ ap (λ b. b ∷ drop (suc k) text) (eqb-true _ _ found.1))
     ∙ ap (λ tail. take k text ++ 10 ∷ tail) (ap (λ n. drop n text) (sym (add-one k)) ∙ sym (take_rest text (k + 1)))
 
-not_true : (t : Bool) → (t ≡ true → ⊥) → t ≡ false
-not_true true never = absurd (never refl)
-not_true false never = refl
-
 pub one_line_before : (text : List ℕ) (k : ℕ) → NoneBefore (Passes (is_byte 10) text) 0 (length text) k → IsOneLine (take k text)
 one_line_before text k found =
     All-from_get_or (λ b. eqb b 10 ≡ false) (take k text) 0 (λ i below.
     let within : i < k = omega (arith, length-take {A = ℕ}) in
-    not_true (eqb (get_or (take k text) i 0) 10) (λ feed. found.before i (omega arith) within (ap (λ b. eqb b 10) (sym (get_or-take k text i 0 within)) ∙ feed)))
+    false_from_ne_true (eqb (get_or (take k text) i 0) 10) (λ feed. found.before i (omega arith) within (ap (λ b. eqb b 10) (sym (get_or-take k text i 0 within)) ∙ feed)))
 
 pub one_line_all : (text : List ℕ) → Nowhere (Passes (is_byte 10) text) 0 (length text) → IsOneLine text
 one_line_all text none =
-    All-from_get_or (λ b. eqb b 10 ≡ false) text 0 (λ i below. not_true (eqb (get_or text i 0) 10) (λ feed. none i (omega arith) below feed))
+    All-from_get_or (λ b. eqb b 10 ≡ false) text 0 (λ i below. false_from_ne_true (eqb (get_or text i 0) 10) (λ feed. none i (omega arith) below feed))
 
 -- its first part is a line
 pub parts_of-at : (text : List ℕ) (k : ℕ) → NoneBefore (Passes (is_byte 10) text) 0 (length text) k × Passes (is_byte 10) text k → parts_of text ≡ take k text ∷ parts_of (behind text k)

@@ -8,6 +8,7 @@ use Rattle.server_events.specs.declared.event.Event.{Event}
 use Rattle.server_events.specs.declared.event.Event.TheVariants.{Admitted, Opened, Decided, Started, StartFailed, Ended, Retired, Dropped, Stepped, StepFailed, Stop}
 use Rattle.server_events.specs.Live.{ends, retires}
 use Rattle.server_events.specs.ServerState.{Effect, lets_in, opens, decides, brings, lets_go, comes_to, fails_at, ends_all, effect, is_admitted, is_opened, is_allowed, is_started, is_unstarted, is_retired}
+use Rattle.server_events.specs.Table.{IsUnstarted, not_opened as unopened, not_decided, not_started}
 
 -- what a test tells of a stage
 pub is_admitted-true : (s : Option Stage) → is_admitted s ≡ true → s ≡ Some stage.Admitted
@@ -43,6 +44,15 @@ is_started-true (Some (stage.Decided v)) e = cc
 is_started-true (Some stage.Started) e = refl
 is_started-true (Some stage.Retired) e = cc
 
+-- a connection that no child was started for has a stage before that
+pub is_unstarted-true : (s : Option Stage) → is_unstarted s ≡ true → (t : Stage) × (s ≡ Some t) × IsUnstarted t
+is_unstarted-true None e = cc
+is_unstarted-true (Some stage.Admitted) e = (stage.Admitted, refl, unopened)
+is_unstarted-true (Some stage.Opened) e = (stage.Opened, refl, not_decided)
+is_unstarted-true (Some (stage.Decided v)) e = (stage.Decided v, refl, not_started)
+is_unstarted-true (Some stage.Started) e = cc
+is_unstarted-true (Some stage.Retired) e = cc
+
 -- how many stages stand before one
 abbrev pub rank : Stage → ℕ
 rank stage.Admitted = 0
@@ -72,14 +82,14 @@ Sound (brings n from to) = Brings from to
 Sound (lets_go n from) = LetsGo from
 Sound _ = ⊤
 
--- a connection that no child was started for was there
+-- a connection that no child was started for was there, and isn't retired
+unstarted_stays : {t : Stage} → IsUnstarted t → is_retired t ≡ false
+unstarted_stays unopened = refl
+unstarted_stays not_decided = refl
+unstarted_stays not_started = refl
+
 unstarted_had : (s : Option Stage) → is_unstarted s ≡ true → (t : Stage) × (s ≡ Some t) × (is_retired t ≡ false)
-unstarted_had None e = cc
-unstarted_had (Some stage.Admitted) e = (stage.Admitted, refl, refl)
-unstarted_had (Some stage.Opened) e = (stage.Opened, refl, refl)
-unstarted_had (Some (stage.Decided v)) e = (stage.Decided v, refl, refl)
-unstarted_had (Some stage.Started) e = cc
-unstarted_had (Some stage.Retired) e = cc
+unstarted_had s at = let u = is_unstarted-true s at in (u.0, u.1, unstarted_stays u.2)
 
 pub sound : (e : Event) → Sound (effect e)
 sound (Admitted n peer) = tt

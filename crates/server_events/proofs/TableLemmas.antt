@@ -9,7 +9,7 @@ use Rattle.server_events.specs.declared.event.Event.TheVariants.{Admitted, Opene
 use Rattle.server_events.specs.Table.{Follows, fresh, filling, filling_on, synced, named, done, IsUnstarted, not_opened, not_decided, not_started, Happens, admitted, opened, decided, started, start_failed, ended, retired, dropped, stepped, failed, stop, Runs, none, more}
 use Rattle.server_events.specs.ServerState.{ServerState, after, may_come, may_happen, is_legal, state_after, is_admitted, is_opened, is_allowed, is_started, is_unstarted}
 use Rattle.server_events.proofs.History.{and_true, both_true, room_for, has_room}
-use Rattle.server_events.proofs.Effects.{is_admitted-true, is_opened-true, is_allowed-true, is_started-true}
+use Rattle.server_events.proofs.Effects.{is_admitted-true, is_opened-true, is_allowed-true, is_started-true, is_unstarted-true}
 
 pub follows_may_come : {before : Option Phase} {p : Phase} → Follows before p → may_come before p ≡ true
 follows_may_come fresh = refl
@@ -50,15 +50,6 @@ pub unstarted_is : {s : Stage} → IsUnstarted s → is_unstarted (Some s) ≡ t
 unstarted_is not_opened = refl
 unstarted_is not_decided = refl
 unstarted_is not_started = refl
-
--- a connection that no child was started for has a stage before that
-pub is_unstarted-true : (s : Option Stage) → is_unstarted s ≡ true → (t : Stage) × (s ≡ Some t) × IsUnstarted t
-is_unstarted-true None e = cc
-is_unstarted-true (Some stage.Admitted) e = (stage.Admitted, refl, not_opened)
-is_unstarted-true (Some stage.Opened) e = (stage.Opened, refl, not_decided)
-is_unstarted-true (Some (stage.Decided v)) e = (stage.Decided v, refl, not_started)
-is_unstarted-true (Some stage.Started) e = cc
-is_unstarted-true (Some stage.Retired) e = cc
 
 -- where the table has a step, the event may happen, and leads there
 pub step_is : {w v : ServerState} {e : Event} → Happens w e v → (may_happen w e ≡ true) × (v ≡ after w e)

@@ -50,7 +50,8 @@ after_anyway s phase (comes_to p) its = absurd (cc)
 after_anyway s phase (fails_at p) its = absurd (cc)
 after_anyway s phase ends_all its = absurd (cc)
 
-phase_stays : (s : ServerState) (event : Event) → is_connections event ≡ true → (after s event).phase ≡ s.phase
+-- an event of a connection keeps the phase
+pub phase_stays : (s : ServerState) (event : Event) → is_connections event ≡ true → (after s event).phase ≡ s.phase
 phase_stays s event its = ap (λ (t : ServerState). t.phase) (after_anyway s s.phase (effect event) its)
 
 -- what happens happens in another phase too

@@ -9,7 +9,7 @@ use Rattle.server_events.specs.declared.event.Event.{Event}
 use Rattle.server_events.proofs.TableLemmas.{step_is}
 use Rattle.server_yard.specs.Serving.{IsServers, StepsByItself, over}
 use Rattle.server_yard.specs.Standing.{Leads, Matches, YardState}
-use Rattle.server_yard.proofs.Matching.{phase_stays}
+use Rattle.server_events.proofs.WovenSteps.{phase_stays}
 
 -- an event of a connection changes the server and what is kept, and nothing else
 plainly : (u v : World) → v ≡ record u { server = v.server } → v ≡ record u { server = v.server; kept = v.kept }

@@ -23,7 +23,8 @@ use Rattle.server_yard.specs.Yards.{IsSameBeside, IsSameButDirectory, yard_over,
 use Rattle.server_yard.specs.declared.yard.Yard.{Yard}
 use Rattle.server_yard.proofs.Histories.{OneMore, history_on, history_same}
 use Rattle.server_yard.proofs.Installs.{installed_same, installs-other, reached_by}
-use Rattle.server_yard.proofs.Matching.{GoesTo, is_plain, phase_stays, plain_by}
+use Rattle.server_events.proofs.WovenSteps.{phase_stays}
+use Rattle.server_yard.proofs.Matching.{GoesTo, is_plain, plain_by}
 
 other_by : (x : Effect) → of_connections x ≡ true → of_installations x ≡ false
 other_by (lets_in m peer) k = refl

@@ -7,13 +7,14 @@ use Rattle.rule_lookup.specs.Decisions.{decision_from}
 use Rattle.connection_facts.specs.Peers.{Client}
 use Rattle.rule_lookup.specs.declared.decision.Decision.{Decision}
 use Rattle.rules_install.specs.Installing.{Installing}
-use Rattle.server_events.specs.Processes.{of_connections, is_connections}
+use Rattle.server_events.specs.Processes.{is_connections}
 use Rattle.server_events.specs.ServerState.{Effect, ServerState, lets_in, opens, decides, brings, lets_go, comes_to, fails_at, ends_all, after, effect, may_happen, with_effect}
 use Rattle.server_events.specs.Steps.{MovesBy, Step}
 use Rattle.server_events.specs.Worlds.{KeptFile, RulesName, World, kept_by, missing_by, peer_of, standing}
 use Rattle.server_events.specs.declared.event.Event.{Event}
 use Rattle.server_events.specs.declared.event.Event.TheVariants.{Opened, Decided}
 use Rattle.server_events.proofs.TableLemmas.{is_step}
+use Rattle.server_events.proofs.WovenSteps.{phase_stays}
 use Rattle.server_yard.specs.Standing.{HasUnderWay, LeadsDecided, LeadsOn, LeadsOpened, Matches, YardState, standing_of}
 
 -- an event that changes nothing but what the table of events says
@@ -39,20 +40,6 @@ plainly w (lets_go n from) k = refl
 plainly w (comes_to phase) k = absurd (cc)
 plainly w (fails_at phase) k = absurd (cc)
 plainly w ends_all k = absurd (cc)
-
--- an event of a connection keeps the phase
-phase_with : (s : ServerState) (x : Effect) → of_connections x ≡ true → (with_effect s x).phase ≡ s.phase
-phase_with s (lets_in n peer) k = refl
-phase_with s (opens n there) k = refl
-phase_with s (decides n decision) k = refl
-phase_with s (brings n from to) k = refl
-phase_with s (lets_go n from) k = refl
-phase_with s (comes_to phase) k = absurd (cc)
-phase_with s (fails_at phase) k = absurd (cc)
-phase_with s ends_all k = absurd (cc)
-
-pub phase_stays : (s : ServerState) (e : Event) → is_connections e ≡ true → (after s e).phase ≡ s.phase
-phase_stays s e k = phase_with s (effect e) k
 
 -- a yard goes on by an event of a connection
 pub record GoesTo (y z : YardState) (e : Event) : Type 0 where

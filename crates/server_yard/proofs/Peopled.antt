@@ -1,6 +1,7 @@
 -- Who is alive after an event, and from where.
-use Rattle.std.proofs.Common.{◌≡◌, ℕ, ◌+◌, ◌<◌, ◌≤◌, List, [], ◌∷◌, length, Bool, true, false, ◌==◌, not, cond, Option, None, Some, refl, sym, ap, ◌∙◌, arith, add_comm, bytes_eq}
+use Rattle.std.proofs.Common.{◌≡◌, ℕ, ◌+◌, ◌<◌, ◌≤◌, List, [], ◌∷◌, length, Bool, true, false, ◌==◌, cond, Option, None, Some, refl, sym, ap, ◌∙◌, arith, add_comm, bytes_eq}
 use Rattle.std.specs.Prelude.{if◌then◌else◌, is_some}
+use Rattle.std.proofs.lemmas.Bool.{not-true}
 use Rattle.std.proofs.lemmas.Bool.Decides.{nat_tests}
 use Rattle.connection_facts.specs.Peers.{Client}
 use Rattle.server_events.specs.declared.event.Event.{Event}
@@ -118,10 +119,6 @@ above_none n low cs high h above = go (peer_of n cs) refl where
   go None is = refl
   go (Some peer) is = let below = peer_of-le n peer low cs high h is in absurd (omega (arith, below, above))
 
-not_true : (b : Bool) → not b ≡ true → b ≡ false
-not_true true e = absurd (cc)
-not_true false e = refl
-
 -- nobody is retired by an event by which a connection goes on
 retired_with : (w : ServerState) (x : Effect) → Sound x → goes_on_by x ≡ true → may_have w x ≡ true
     → retired_in (with_effect w x).connections ≡ retired_in w.connections
@@ -130,7 +127,7 @@ retired_with w (opens n there) its k m = (moves_with w (opens n there) its m).re
 retired_with w (decides n decision) its k m = (moves_with w (decides n decision) its m).retired
 retired_with w (brings n from to) its k m =
     let moved = (moves_with w (brings n from to) its m).retired in
-    let none : weight to ≡ 0 = ap (λ b. cond b 1 0) (not_true (is_retired to) k) in
+    let none : weight to ≡ 0 = ap (λ b. cond b 1 0) (not-true (is_retired to) k) in
     omega (arith, moved, none)
 retired_with w (lets_go n from) its k m = absurd (cc)
 retired_with w (comes_to phase) its k m = absurd (cc)

@@ -1,8 +1,8 @@
 -- The folders of a search path, by its first colon.
-use Rattle.std.proofs.Common.{◌≡◌, ℕ, suc, ◌+◌, ◌-◌, ◌<◌, Bool, true, false, eqb, List, [], ◌∷◌, ◌++◌, length, take, drop, get_or, Vec, refl, sym, ap, ◌∙◌, append_assoc, arith, length-take, add-one, drop-cons}
+use Rattle.std.proofs.Common.{◌≡◌, ℕ, suc, ◌+◌, ◌-◌, ◌<◌, false, eqb, List, [], ◌∷◌, ◌++◌, length, take, drop, get_or, Vec, refl, sym, ap, ◌∙◌, append_assoc, arith, length-take, add-one, drop-cons}
 use Rattle.std.specs.declared.alloc.Global.{Global}
 use Rattle.std.specs.List.{All}
-use Rattle.std.proofs.lemmas.Bool.{eqb-true}
+use Rattle.std.proofs.lemmas.Bool.{eqb-true, false_from_ne_true}
 use Rattle.std.proofs.lemmas.List.{get_or-take, map-append, take_rest, take-append-drop}
 use Rattle.std.proofs.lemmas.List.Elements.{All-from_get_or}
 use Rattle.std.proofs.lemmas.List.Splits.{slice_split_at, slice_split_none}
@@ -21,19 +21,15 @@ cut_at text k found =
     ∙ ap (λ tail. take k text ++ tail) (drop-cons text k 0 inside ∙ ap (λ b. b ∷ drop (suc k) text) (eqb-true _ _ found.1))
     ∙ ap (λ tail. take k text ++ 58 ∷ tail) (ap (λ n. drop n text) (sym (add-one k)) ∙ sym (take_rest text (k + 1)))
 
-not_true : (t : Bool) → (t ≡ true → ⊥) → t ≡ false
-not_true true never = absurd (never refl)
-not_true false never = refl
-
 no_colon_before : (text : List ℕ) (k : ℕ) → NoneBefore (Passes (is_byte 58) text) 0 (length text) k → All (λ b. eqb b 58 ≡ false) (take k text)
 no_colon_before text k found =
     All-from_get_or (λ b. eqb b 58 ≡ false) (take k text) 0 (λ i below.
     let within : i < k = omega (arith, length-take {A = ℕ}) in
-    not_true (eqb (get_or (take k text) i 0) 58) (λ colon. found.before i (omega arith) within (ap (λ b. eqb b 58) (sym (get_or-take k text i 0 within)) ∙ colon)))
+    false_from_ne_true (eqb (get_or (take k text) i 0) 58) (λ colon. found.before i (omega arith) within (ap (λ b. eqb b 58) (sym (get_or-take k text i 0 within)) ∙ colon)))
 
 no_colon : (text : List ℕ) → Nowhere (Passes (is_byte 58) text) 0 (length text) → All (λ b. eqb b 58 ≡ false) text
 no_colon text none =
-    All-from_get_or (λ b. eqb b 58 ≡ false) text 0 (λ i below. not_true (eqb (get_or text i 0) 58) (λ colon. none i (omega arith) below colon))
+    All-from_get_or (λ b. eqb b 58 ≡ false) text 0 (λ i below. false_from_ne_true (eqb (get_or text i 0) 58) (λ colon. none i (omega arith) below colon))
 
 folders_of-at : (text : List ℕ) (k : ℕ) → NoneBefore (Passes (is_byte 58) text) 0 (length text) k × Passes (is_byte 58) text k → folders_of text ≡ take k text ∷ folders_of (behind text k)
 folders_of-at text k found =

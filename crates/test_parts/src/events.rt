@@ -21,22 +21,6 @@ pub fn add_event(event: &Event, out: &mut Answer) {
             out.text(" ");
             out.text(verdict_word(decision.verdict));
         }
-        other => add_end(other, out),
-    }
-}
-
-/// Adds an address.
-fn add_address(address: [u8; 4], out: &mut Answer) {
-    let [a, b, c, d] = address;
-    out.count(" ", u64::from(a));
-    out.count(".", u64::from(b));
-    out.count(".", u64::from(c));
-    out.count(".", u64::from(d));
-}
-
-/// Adds an event that is no admission, opening or decision; nothing for these.
-fn add_end(event: &Event, out: &mut Answer) {
-    match event {
         Event::Started { serial } => out.count("started ", *serial),
         Event::StartFailed { serial, .. } => out.count("startfailed ", *serial),
         Event::Ended { serial, status } => {
@@ -48,8 +32,16 @@ fn add_end(event: &Event, out: &mut Answer) {
         Event::Stepped { phase } => add_phase("phase ", *phase, out),
         Event::StepFailed { phase } => add_phase("failed ", *phase, out),
         Event::Stop => out.text("stop"),
-        Event::Admitted { .. } | Event::Opened { .. } | Event::Decided { .. } => {}
     }
+}
+
+/// Adds an address.
+fn add_address(address: [u8; 4], out: &mut Answer) {
+    let [a, b, c, d] = address;
+    out.count(" ", u64::from(a));
+    out.count(".", u64::from(b));
+    out.count(".", u64::from(c));
+    out.count(".", u64::from(d));
 }
 
 /// Adds a phase behind a text.

@@ -1,5 +1,4 @@
 //! The log of a server that also keeps what its site answers.
-use rule_lines::Verdict;
 use server_log::{Log, Told};
 use shared_site::Made;
 use std::alloc::{AllocError, Global};
@@ -7,6 +6,7 @@ use std::io;
 use std::io::Write;
 use std::sync::{Mutex, Wait};
 use tcp_service::Observer;
+use test_parts::verdict_word;
 
 /// A log, and a receipt of each event that it is told of, as the site answered it.
 #[derive(Drop)]
@@ -64,7 +64,7 @@ impl<R: Wait, W: Write> Observer for ReceiptsLog<'_, R, W> {
     }
 }
 
-// Adds the line of a receipt.
+// Adds the line of a receipt; behind a decision stands its verdict.
 fn add_receipt(
     alloc: Global,
     lines: &mut String,
@@ -73,24 +73,13 @@ fn add_receipt(
 ) -> Result<(), AllocError> {
     let (at, caller) = (made.at(), made.caller());
     let (what, serial) = parts_of(told);
-    let verdict = verdict_in(told);
-    let line = format!(in alloc; "{at} {caller} {what} {serial}{verdict}\n")?;
-    lines.push_str(&line)
-}
-
-// The verdict of a decision, behind a space; of another event nothing.
-fn verdict_in(told: &Told<'_>) -> &'static str {
-    match told {
-        Told::Decided {
-            verdict: Verdict::Allow,
-            ..
-        } => " allow",
-        Told::Decided {
-            verdict: Verdict::Deny,
-            ..
-        } => " deny",
-        _ => "",
+    let line = format!(in alloc; "{at} {caller} {what} {serial}")?;
+    lines.push_str(&line)?;
+    if let Told::Decided { verdict, .. } = told {
+        lines.push_str(" ")?;
+        lines.push_str(verdict_word(*verdict))?;
     }
+    lines.push_str("\n")
 }
 
 // What an event was, and the serial of its connection.

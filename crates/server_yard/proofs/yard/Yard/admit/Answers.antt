@@ -4,7 +4,8 @@ use Rattle.server_events.specs.ServerState.{ServerState}
 use Rattle.server_events.specs.declared.event.Event.TheVariants as event
 use Rattle.server_yard.specs.Yards.{yard_roll}
 use Rattle.server_yard.proofs.Keeping.{admitted_or_not, if_ok, kept_on, kept_quiet, one_more_of}
-use Rattle.server_yard.proofs.Matching.{phase_stays, plain_leads}
+use Rattle.server_events.proofs.WovenSteps.{phase_stays}
+use Rattle.server_yard.proofs.Matching.{plain_leads}
 use Rattle.server_yard.proofs.yard.Yard.admit.Goals as goal
 
 pub invariant_of-self : goal.invariant_of-self

@@ -3,7 +3,7 @@ use mathlib.Core.Logic.{∥∥₁_map}
 use Rattle.server_events.specs.ServerState.{ServerState}
 use Rattle.server_yard.specs.Yards.{yard_roll}
 use Rattle.server_yard.proofs.Keeping.{goes_on_own, kept_on, one_more_of}
-use Rattle.server_yard.proofs.Matching.{phase_stays}
+use Rattle.server_events.proofs.WovenSteps.{phase_stays}
 use Rattle.server_yard.proofs.Peopled.{goes_on_fits}
 use Rattle.server_yard.proofs.yard.Yard.advance.Goals as goal
 

@@ -3,7 +3,8 @@ use mathlib.Core.Logic.{∥∥₁_map}
 use Rattle.server_events.specs.ServerState.{ServerState}
 use Rattle.server_yard.specs.Yards.{yard_roll}
 use Rattle.server_yard.proofs.Keeping.{kept_on, leaver_own, leaver_plain, one_more_of}
-use Rattle.server_yard.proofs.Matching.{phase_stays, plain_leads}
+use Rattle.server_events.proofs.WovenSteps.{phase_stays}
+use Rattle.server_yard.proofs.Matching.{plain_leads}
 use Rattle.server_yard.proofs.Peopled.{leaver_fits}
 use Rattle.server_yard.proofs.yard.Yard.leave.Goals as goal
 

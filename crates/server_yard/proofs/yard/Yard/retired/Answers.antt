@@ -6,7 +6,8 @@ use Rattle.server_events.specs.declared.event.Event.TheVariants as event
 use Rattle.server_yard.specs.Rolls.{number_at}
 use Rattle.server_yard.specs.Yards.{yard_roll, yard_seat}
 use Rattle.server_yard.proofs.Keeping.{kept_on, one_more_of}
-use Rattle.server_yard.proofs.Matching.{phase_stays, plain_leads}
+use Rattle.server_events.proofs.WovenSteps.{phase_stays}
+use Rattle.server_yard.proofs.Matching.{plain_leads}
 use Rattle.server_yard.proofs.yard.Yard.retired.Goals as goal
 
 pub invariant_of-self : goal.invariant_of-self
