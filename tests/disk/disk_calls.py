@@ -288,6 +288,19 @@ def check_stop(disks, at):
     disks.holds("a stop at call %d" % at, holds, answers)
 
 
+REMOVED = [
+    (TWO_FILES[0], "done"),
+    ("remove name", "done"),
+    ("open name", "none"),
+    ("crash kept name", "none"),
+    ("crash settled name", OLD),
+    ("settle", "done"),
+    ("crash settled name", "none"),
+    ("remove name", "done"),
+    ("failures", "0"),
+]
+
+
 def scratch_files(disks):
     """Scratch files of a disk: taken away with a mishap, and not opened."""
     first, _both = calls_of(disks, *TWO_FILES)
@@ -298,6 +311,7 @@ def scratch_files(disks):
         # `fresh` takes two calls, and the name is taken away by the third
         disks.script("a scratch file is taken away, " + mishap, ["disk", str(first + 3), mishap], script)
     disks.script("the scratch file is not opened", ["disk", "0", "fails"], UNOPENED)
+    disks.script("a name that is taken away comes back by a stop until names are settled", ["disk", "0", "fails"], REMOVED)
 
 
 ALLOW, DENY = "install :allow|", "install 10.:deny|:deny|"
