@@ -15,7 +15,7 @@ use ucspi_env::Environment;
 
 /// A program and its arguments. Where its path has no slash the launcher looks for it along the search path of the process that starts it, and
 /// not along a `PATH` among the variables that the program is given.
-#[derive(Debug, Drop)]
+#[derive(Drop)]
 pub struct Program {
     path: String,
     args: Vec<String>,

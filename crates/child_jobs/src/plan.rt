@@ -7,7 +7,7 @@ use ucspi_env::Environment;
 
 /// What a server does with each connection that it lets in: the program that is run, the variables that it inherits, and the banner that is
 /// written to it first. All connections share it: what is a connection's own, as its two ends, stands beside it.
-#[derive(Debug, Drop)]
+#[derive(Drop)]
 pub struct Plan {
     program: Program,
     inherited: Environment,

@@ -39,7 +39,7 @@ impl<T: Drop> From<AllocFailed<T>> for PeerFault {
 
 /// The other end of a connection: its address and port, and the names of its host and user where they are known. Each name
 /// has 1 to 255 bytes without a zero byte; the host's is in lower case.
-#[derive(Debug, Drop)]
+#[derive(Drop)]
 pub struct Peer {
     ip: [u8; 4],
     port: u16,

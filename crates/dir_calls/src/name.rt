@@ -33,7 +33,7 @@ pub enum NameFault {
 }
 
 /// The name of a file: 1 to 255 bytes of UTF-8 without a slash and without a zero byte, and neither `.` nor `..`.
-#[derive(Debug, Drop)]
+#[derive(Drop)]
 pub struct Name {
     text: String,
 }

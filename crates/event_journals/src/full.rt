@@ -9,7 +9,7 @@ use server_events::{Event, Report};
 use std::alloc::{AllocError, Global};
 
 /// Stores each event with its caller, and the rules of each installation, and keeps the report beside them.
-#[derive(Debug, Drop)]
+#[derive(Drop)]
 pub struct Full {
     counts: Counts,
     notes: Vec<Noted>,

@@ -7,7 +7,7 @@ use server_events::{Event, Report};
 use std::alloc::AllocError;
 
 /// An event, and the number of who called it.
-#[derive(Debug, Drop)]
+#[derive(Drop)]
 pub struct Noted {
     /// What happened.
     pub event: Event,

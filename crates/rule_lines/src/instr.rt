@@ -16,7 +16,7 @@ pub enum Verdict {
 }
 
 /// A name of the child's environment, and the value that a rule gives it.
-#[derive(Debug, Drop)]
+#[derive(Drop)]
 pub struct Setting {
     name: String,
     value: String,
@@ -58,7 +58,7 @@ impl Setting {
 
 /// The settings of an instruction, in order. Each name is not empty and has no `=`; names and values are UTF-8 without a
 /// zero byte.
-#[derive(Debug, Drop)]
+#[derive(Drop)]
 pub struct Settings {
     list: Vec<Setting>,
 }
@@ -139,7 +139,7 @@ fn is_value(value: &[u8]) -> bool
 }
 
 /// What a rule says: a verdict, and the settings that a child of an allowed connection gets.
-#[derive(Debug, Drop)]
+#[derive(Drop)]
 pub struct Instr {
     /// Whether the connection may be made.
     pub verdict: Verdict,

@@ -11,14 +11,14 @@ use itoa::Buffer;
 use memchr::memchr;
 
 /// A kept line, read: its addresses, and the code of its instruction.
-#[derive(Clone, Copy, Debug)]
+#[derive(Clone, Copy)]
 pub(crate) struct KeptLine<'a> {
     pub(crate) addresses: ReadAddress<'a>,
     pub(crate) code: &'a [u8],
 }
 
 /// Where a kept line begins, and how many rules the lines before it have.
-#[derive(Clone, Copy, Debug)]
+#[derive(Clone, Copy)]
 pub(crate) struct LinePlace {
     pub(crate) start: usize,
     pub(crate) before: usize,
@@ -95,7 +95,7 @@ pub(crate) fn count_in(addresses: &ReadAddress<'_>) -> usize
 }
 
 /// How many rules there are, and how many bytes their addresses and the codes of their instructions have.
-#[derive(Clone, Copy, Debug)]
+#[derive(Clone, Copy)]
 pub(crate) struct Tally {
     pub(crate) rules: usize,
     pub(crate) bytes: usize,

@@ -25,7 +25,7 @@ use std::str;
 
 /// The rules of a text in order, one for each address. The list keeps the text, with the code of each instruction in its place, and
 /// reads a rule out of it when it is asked for: so it takes less memory than the text, however many rules that has.
-#[derive(Debug, Drop)]
+#[derive(Drop)]
 pub struct RuleList {
     kept: Vec<u8>,
     tally: Tally,
@@ -49,7 +49,7 @@ impl Model for RuleList {
 }
 
 /// A rule of a list: an address with its instruction, lent by the list.
-#[derive(Debug, Drop)]
+#[derive(Drop)]
 pub struct Pair<'a> {
     line: KeptLine<'a>,
     /// Which of the line's addresses it has.
@@ -122,7 +122,7 @@ impl<'a> Pair<'a> {
 }
 
 /// A rule as it is stored: its address, and the code of its instruction.
-#[derive(Debug, Drop)]
+#[derive(Drop)]
 pub struct StoredRule {
     /// The address.
     pub key: Vec<u8>,

@@ -11,7 +11,7 @@ use std::alloc::{AllocError, Global};
 
 /// The parts of a range line whose rules are being written, so that the line is not read again for each of them. It is closed where it has no
 /// numbers.
-#[derive(Debug, Drop)]
+#[derive(Drop)]
 pub(crate) struct OpenRange {
     /// How many rules the lines before its own have.
     pub(crate) before: usize,

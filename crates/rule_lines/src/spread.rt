@@ -8,7 +8,7 @@ ghost use Rattle.rule_lines.specs.ReadAddresses.{addresses_read};
 use memchr::{memchr, memchr2, memrchr};
 
 /// The numbers of a range: `count` of them, from `first` on.
-#[derive(Clone, Copy, Debug)]
+#[derive(Clone, Copy)]
 pub struct Numbers {
     /// The first number.
     pub first: u8,
@@ -17,7 +17,7 @@ pub struct Numbers {
 }
 
 /// An address of a rule line, read.
-#[derive(Clone, Copy, Debug)]
+#[derive(Clone, Copy)]
 pub enum ReadAddress<'a> {
     /// An address that stands for itself, its letters from the first `=` on in lower case.
     One(&'a [u8]),

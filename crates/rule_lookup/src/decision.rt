@@ -24,7 +24,7 @@ pub enum Missing {
 }
 
 /// The address of a rule.
-#[derive(Debug, Drop)]
+#[derive(Drop)]
 pub struct Address {
     text: String,
 }
@@ -65,7 +65,7 @@ impl Address {
 }
 
 /// By what a decision was made.
-#[derive(Debug, Drop)]
+#[derive(Drop)]
 pub enum Found {
     /// By the first rule with this address.
     Address(Address),
@@ -88,7 +88,7 @@ impl Found {
 }
 
 /// What was decided of a connection.
-#[derive(Debug, Drop)]
+#[derive(Drop)]
 pub struct Decision {
     /// By what it was decided.
     pub found: Found,

@@ -21,7 +21,7 @@ use rule_lines::spread::{ReadAddress, read_address};
 use std::alloc::{AllocError, Global};
 
 /// What is found in a line.
-#[derive(Clone, Copy, Debug)]
+#[derive(Clone, Copy)]
 pub struct Findings {
     /// It is a rule, and none of its addresses is a form of some peer.
     pub no_client: bool,

@@ -10,7 +10,7 @@ use memchr::memchr;
 use rule_lines::spread::{Numbers, number};
 
 /// The numbers of a range, and the line that it stands in.
-#[derive(Clone, Copy, Debug)]
+#[derive(Clone, Copy)]
 pub struct Span {
     /// The numbers.
     pub numbers: Numbers,

@@ -11,7 +11,7 @@ use thiserror::Error;
 pub struct SameName;
 
 /// The name of the rules file, and the other one under which a new file is made.
-#[derive(Debug, Drop)]
+#[derive(Drop)]
 pub struct FileNames {
     cdb: Name,
     tmp: Name,

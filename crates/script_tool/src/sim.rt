@@ -73,7 +73,7 @@ fn run_lines<R: BufRead, W: Write>(
 }
 
 /// What became of a line that is a command.
-#[derive(Debug, Drop)]
+#[derive(Drop)]
 pub enum LineOutcome {
     /// It was carried out, and prints this.
     Printed(Vec<u8>),

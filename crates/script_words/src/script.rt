@@ -15,7 +15,7 @@ use server_events::Event;
 use std::alloc::{AllocError, Global};
 
 /// What a line asks for.
-#[derive(Debug, Drop)]
+#[derive(Drop)]
 pub enum Command<'a> {
     /// Nothing: it is empty or a comment.
     Skip,

@@ -7,7 +7,7 @@ use std::alloc::{AllocError, Global};
 use std::collections::BTreeMap;
 
 /// A count for each address. An address that has none left is forgotten.
-#[derive(Debug, Drop)]
+#[derive(Drop)]
 pub(crate) struct AddressCounts {
     counts: BTreeMap<[u8; 4], u64>,
 }

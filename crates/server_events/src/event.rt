@@ -20,7 +20,7 @@ pub enum Stage {
 }
 
 /// One thing that happened. A serial is the number of a connection, from 1. Each kind says where it may happen.
-#[derive(Debug, Drop)]
+#[derive(Drop)]
 pub enum Event {
     /// A connection was let in: where its serial is one above the last, fewer connections than the limit are alive, and fewer
     /// of them than the limit per address have this peer's address.

@@ -15,7 +15,7 @@ use std::collections::BTreeMap;
 use std::marker::Model;
 
 /// A connection that is alive.
-#[derive(Debug, Drop)]
+#[derive(Drop)]
 pub struct Connection {
     /// Its number.
     pub serial: u64,
@@ -26,7 +26,7 @@ pub struct Connection {
 }
 
 /// The limits, the connections that are alive, the last serial, and the phase of the installation under way.
-#[derive(Debug, Drop)]
+#[derive(Drop)]
 pub struct State {
     limit: u64,
     per_address: u64,

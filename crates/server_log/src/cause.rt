@@ -4,7 +4,7 @@ ghost use Rattle.std.specs.Prelude.{◌≡◌};
 use std::marker::Model;
 
 /// What the system was asked for, as a program or a path, and its words for its error.
-#[derive(Debug, Drop)]
+#[derive(Drop)]
 pub struct Cause<'a> {
     what: &'a [u8],
     why: &'a str,

@@ -7,7 +7,7 @@ use rule_lookup::parse_address;
 use std::marker::Model;
 
 /// Where a server listens, and which program it starts for each connection.
-#[derive(Debug, Drop)]
+#[derive(Drop)]
 pub struct Operands<'a> {
     address: [u8; 4],
     port: u16,

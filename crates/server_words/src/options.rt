@@ -10,7 +10,7 @@ use std::alloc::{AllocError, Global};
 use std::marker::Model;
 
 /// An option that was given.
-#[derive(Clone, Copy, Debug)]
+#[derive(Clone, Copy)]
 pub struct Given<'a> {
     /// Its letter.
     pub letter: char,
@@ -19,7 +19,7 @@ pub struct Given<'a> {
 }
 
 /// The options that were given, in their order. Of one that was given more than once the last counts.
-#[derive(Debug, Drop)]
+#[derive(Drop)]
 pub struct Options<'a> {
     given: Vec<Given<'a>>,
 }

@@ -22,7 +22,7 @@ pub enum Lacking {
 }
 
 /// Why words get the usage line: what is lacking, and the word that stands in its place, which is empty where none does.
-#[derive(Debug, Drop)]
+#[derive(Drop)]
 pub struct UsageCause<'a> {
     lacking: Lacking,
     word: &'a str,

@@ -19,7 +19,7 @@ use std::alloc::Global;
 use std::marker::Model;
 
 /// What the words of `tcpserver` ask for. Texts are parts of the words that were read.
-#[derive(Debug, Drop)]
+#[derive(Drop)]
 pub struct ServerWords<'a> {
     level: Level,
     prints_port: bool,

@@ -52,7 +52,7 @@ impl StageName {
 
 /// The wrappers of each connection: the stages that its input goes through and those of its output, each in the order in which it
 /// does, and whether both ways are recorded at the network's side.
-#[derive(Debug, Drop)]
+#[derive(Drop)]
 pub struct Wrapping {
     records: bool,
     input: Vec<StageName>,

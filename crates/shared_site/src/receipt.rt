@@ -68,7 +68,7 @@ impl Made {
 }
 
 /// Which event a caller made, and where it stands in the history. It is made of what `turns` answered alone.
-#[derive(Debug, Drop)]
+#[derive(Drop)]
 pub struct Receipt {
     /// The caller's number, from 1.
     pub caller: u64,

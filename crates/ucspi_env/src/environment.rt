@@ -9,7 +9,7 @@ use std::collections::btree_map::Iter;
 use std::marker::Model;
 
 /// A value for each of some names.
-#[derive(Debug, Drop)]
+#[derive(Drop)]
 pub struct Environment {
     variables: BTreeMap<String, String>,
 }

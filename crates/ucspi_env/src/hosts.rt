@@ -50,7 +50,7 @@ impl<T: Drop> From<AllocFailed<T>> for HostFault {
 }
 
 /// The names of addresses, and the addresses of names.
-#[derive(Debug, Drop)]
+#[derive(Drop)]
 pub struct HostTable {
     names: BTreeMap<[u8; 4], String>,
     // of each address that a name has the four bytes, and then the name, in lower case

@@ -7,7 +7,7 @@ use std::alloc::{AllocError, Global};
 use std::marker::Model;
 
 /// The server's end of a connection: its address and port, and the name of its host where it is known, which may be empty.
-#[derive(Debug, Drop)]
+#[derive(Drop)]
 pub struct Local {
     ip: [u8; 4],
     port: u16,
