@@ -22,17 +22,19 @@ NAME = b"tcpserver: "
 CAUSE = NAME + b"cause: "
 # what a server says of its rules at the start, before it lets anybody in
 NO_NAMES = b"tcpserver: rules by name, and no names"
-NUMBER = rb"(\d+)"
-ADDRESS = rb"(\d+\.\d+\.\d+\.\d+)"
+# (the server's numbers have 64 bits; a longer one was written by somebody else)
+DIGITS = rb"\d{1,19}"
+NUMBER = rb"(%s)" % DIGITS
+ADDRESS = rb"(\d{1,3}\.\d{1,3}\.\d{1,3}\.\d{1,3})"
 CAUSES = rb"(banner fault|directory fault|rules read fault|rules damaged|out of memory|no thread)"
 FAULTS = rb"(not found|refused|failed|out of memory|no pipe ends)"
-VERDICT = rb"(ok|deny) (\d+) [^ :]*:%s:\d+ [^ :]*:%s:[^ :]*:\d+" % (ADDRESS, ADDRESS)
+VERDICT = rb"(ok|deny) %s [^ :]*:%s:%s [^ :]*:%s:[^ :]*:%s" % (NUMBER, ADDRESS, DIGITS, ADDRESS, DIGITS)
 FORMS = [
-    ("status", re.compile(rb"status: (\d+)/(\d+)")),
+    ("status", re.compile(rb"status: %s/%s" % (NUMBER, NUMBER))),
     ("pid", re.compile(rb"pid %s from %s" % (NUMBER, ADDRESS))),
     ("verdict", re.compile(VERDICT)),
     # (later versions may print more behind the status)
-    ("end", re.compile(rb"end %s status (\d+|signal)(?: .*)?" % NUMBER)),
+    ("end", re.compile(rb"end %s status (%s|signal)(?: .*)?" % (NUMBER, DIGITS))),
     ("retired", re.compile(rb"retired %s" % NUMBER)),
     ("full", re.compile(rb"drop %s address full" % ADDRESS)),
     ("drop", re.compile(rb"drop %s %s" % (NUMBER, CAUSES))),
@@ -262,7 +264,7 @@ class Events:
 
 
 def main():
-    if len(sys.argv) > 2 or (len(sys.argv) == 2 and not sys.argv[1].isdigit()):
+    if len(sys.argv) > 2 or (len(sys.argv) == 2 and not re.fullmatch("[0-9]{1,19}", sys.argv[1])):
         print("usage: ucspi-log-events [PER] < log | ucspi rulesim", file=sys.stderr)
         return 100
     events = Events(sys.stdin.buffer.read(), int(sys.argv[1]) if len(sys.argv) == 2 else None)

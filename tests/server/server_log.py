@@ -270,11 +270,19 @@ def audits(suite):
         (head + ok + end + free + b"sh: 1: " + second + b"echo: fault\n", "admitted 2 live 1 retired 0 most 1", 0),
         (head + ok + b"12 > " + end + b"1 of tcpserver: all\n", "admitted 1 live 1 retired 0 most 1", 0),
     ]
+    # any program can write a number into the log that the server has not; behind other words such a line is passed over
+    long = b"9" * 5000
+    for form in (b"pid %s from 1.1.1.1", b"pid 2 from %s.1.1.1", b"status: %s/1", b"status: 1/%s", b"end %s status 0", b"retired %s", b"drop %s no thread"):
+        forged = b"tcpserver: " + form.replace(b"%s", long) + b"\n"
+        cases += [(head + ok + before + forged + end + free, "admitted 1 live 0 retired 0 most 1", code) for before, code in ((b"sh: ", 0), (b"", 1))]
     script = os.path.join(SCRIPTS, "log_events.py")
     for log, wanted, code in cases:
         words = subprocess.run([sys.executable, script], input=log, stdout=subprocess.PIPE, stderr=subprocess.DEVNULL, timeout=server_runs.WAIT)
         ended = subprocess.run([suite.program, "rulesim"], input=words.stdout, stdout=subprocess.PIPE, timeout=server_runs.WAIT)
-        suite.expect("the log %r" % log, (ended.stdout.decode().strip(), words.returncode), (wanted, code))
+        suite.expect("the log %r" % log[:300], (ended.stdout.decode().strip(), words.returncode), (wanted, code))
+    for per in ("9" * 5000, "²", "-1", ""):
+        words = subprocess.run([sys.executable, script, per], input=head, stdout=subprocess.PIPE, stderr=subprocess.PIPE, timeout=server_runs.WAIT)
+        suite.expect("a limit of %r" % per[:9], (words.returncode, words.stderr[:6], words.stdout), (100, b"usage:", b""))
     # the checks of this version's logs pass over nothing
     whole, longer = [head + ok + b"sh: 1: " + log_forms.log(log_forms.end(1, "signal") + more) + free for more in ("", " more")]
     suite.expect("ends of this version", (log_forms.events_of(whole).faults, len(log_forms.events_of(longer).faults)), ([], 1))
