@@ -7,6 +7,7 @@
 # make dist       packs an archive for x86-64 Linux with glibc into dist/, and its SHA-256
 # make deb        packs a Debian package into dist/, which stands beside Debian's ucspi-tcp
 # make check      proves everything from nothing, and runs all tests
+# make edits      tries the edits of tests/edits, which the prover has to refuse: an hour or two, before a release
 # make bench      times the tools and the server, and measures their memory
 
 PREFIX ?= /usr/local
@@ -20,7 +21,7 @@ PROBES := $(foreach name,test_calls test_disks test_server test_texts ucspi_benc
 RT_JOBS ?= $(shell awk -v most=$$(nproc) '/^MemAvailable/ { room = int($$2 / 4000000); print room < 1 ? 1 : room < most ? room : most }' /proc/meminfo)
 SOURCES := HANDLES crates.txt $(shell find crates -name out -prune -o -type f -print)
 
-.PHONY: all try run check probes bench install uninstall dist deb
+.PHONY: all try run check edits probes bench install uninstall dist deb
 
 all: $(PROGRAM)
 
@@ -50,6 +51,9 @@ check:
 	RT_JOBS=$(RT_JOBS) rt ci
 	touch $(PROGRAM) $(PROBE)
 	tests/run
+
+edits:
+	scripts/edits
 
 probes: $(PROBES)
 

@@ -1,8 +1,13 @@
-"""Compares the table of promises in docs/PROOFS.md with the sources: each crate is there, and each function, law and clause that a row names stands in
-it; and so is what would notice a breach, which each row names: a must-fail edit, or a group of `tests/run`.
+"""Compares the table of promises in docs/PROOFS.md with the sources: each crate is there, and each function, law and
+clause that a row names stands in it; and so is what would notice a breach, which each row names: an edit, or a group
+of `tests/run`.
 
-A row's contracts are parts with a `;` or `and` between them: the name of a function, of a law, of a module or of a crate, then those of its clauses.
+A row's contracts are parts with a `;` or `and` between them: the name of a function, of a law, of a module or of a
+crate, then those of its clauses. An edit stands in `crates/CRATE/must-fail/`, where the gate tries it, or in
+`tests/edits/CRATE/`, where `scripts/edits` does. Of each it is looked here that it can be made: its old texts stand
+in the files that it names, once.
 """
+import glob
 import os
 import re
 
@@ -54,22 +59,43 @@ def amiss(crate, part):
     return [clause for clause in clauses if not re.search(r"\bensures %s\b" % clause, text)]
 
 
-def unknown(notice, groups):
+def edits():
+    """The files of all edits, by the names that rows have for them: CRATE/NAME.edit."""
+    found = {}
+    for folder in (os.path.join(TOP, "crates", "*", "must-fail"), os.path.join(TOP, "tests", "edits", "*")):
+        for path in glob.glob(os.path.join(folder, "*.edit")):
+            crate, name = path.replace(os.sep + "must-fail", "").split(os.sep)[-2:]
+            found["%s/%s" % (crate, name)] = path
+    return found
+
+
+def unmade(name, path):
+    """The old texts of an edit that do not stand once in the file that it names."""
+    lost, crate, text = [], os.path.join(TOP, "crates", name.partition("/")[0]), ""
+    with open(path, encoding="utf-8") as edit:
+        for line in edit.read().split("\n"):
+            word, _, rest = line.partition(": ")
+            if word == "file":
+                with open(os.path.join(crate, rest.strip()), encoding="utf-8") as file:
+                    text = file.read()
+            elif word == "old" and text.count(rest) != 1:
+                lost.append(rest)
+    return lost
+
+
+def unknown(notice, groups, known):
     """The names of a last cell that are neither an edit nor a group; the cell itself where it names nothing."""
     names = re.findall(r"`([^`]+)`", notice)
-
-    def is_known(name):
-        crate, _, edit = name.partition("/")
-        return os.path.isfile(os.path.join(TOP, "crates", crate, "must-fail", edit)) if edit.endswith(".edit") else name in groups
-
-    return [name for name in names if not is_known(name)] if names else [notice]
+    return [name for name in names if name not in (known if name.endswith(".edit") else groups)] if names else [notice]
 
 
 def check(groups, failures):
     """How many parts and names were looked at; `groups` are the names of all groups of tests and of their parts."""
-    checks = Checks("promises", failures)
+    checks, known = Checks("promises", failures), edits()
+    for name, path in sorted(known.items()):
+        checks.expect("%s: what stands no more in the file that it edits" % name, unmade(name, path), [])
     for crate, contract, notice in rows():
-        checks.expect("%s: what is neither an edit nor a group" % crate, unknown(notice, groups), [])
+        checks.expect("%s: what is neither an edit nor a group" % crate, unknown(notice, groups, known), [])
         if not is_crate(crate):
             checks.fail("there is no crate " + crate)
             continue
