@@ -17,11 +17,18 @@ from shared.checks import TOP, Checks
 from shared.server_runs import free_port, listens, wait_until
 
 TOOLS = ("addcr", "delcr", "fixcrio", "recordio", "rulesim", "tcprules", "tcprulescheck", "tcpserver")
-DOCUMENTS = ["README.md"] + sorted("docs/" + name for name in os.listdir(os.path.join(TOP, "docs")) if name.endswith(".md") and name != "COOKBOOK.md")
 COOKBOOK = "docs/COOKBOOK.md"
-# what users read, in the terms that they search for; the documents for provers have terms of their own, which they explain
-FOR_PROVERS = ("ARCHITECTURE", "DECISIONS", "DIRECTORIES", "HEADLINE", "INSTALLATIONS", "PROOFS")
-FOR_USERS = [name for name in DOCUMENTS + [COOKBOOK, "CHANGELOG.md"] if os.path.basename(name)[:-3] not in FOR_PROVERS]
+
+
+def pages_in(folder):
+    """The documents of a folder."""
+    return sorted("%s/%s" % (folder, name) for name in os.listdir(os.path.join(TOP, folder)) if name.endswith(".md"))
+
+
+# what maintainers read has terms of its own, which GLOSSARY.md explains; what users read has those that they search for
+INTERNALS = pages_in("docs/internals")
+FOR_USERS = ["README.md", "CHANGELOG.md"] + pages_in("docs")
+DOCUMENTS = ["README.md"] + [name for name in pages_in("docs") if name != COOKBOOK] + INTERNALS
 # files of which users read the comments
 COMMENTED = ("Makefile", "completions", "examples", "scripts")
 # terms that no document for users has, each with the one that stands for it
@@ -182,11 +189,11 @@ def check_links(checks, name, text):
 
 def check_changes(checks):
     """The files that a change touches, as the architecture lists them, are there."""
-    with open(os.path.join(TOP, "docs", "ARCHITECTURE.md"), encoding="utf-8") as file:
+    with open(os.path.join(TOP, "docs", "internals", "ARCHITECTURE.md"), encoding="utf-8") as file:
         part = file.read().partition("\n## What a change touches\n")[2].partition("\n## ")[0]
     paths = re.findall(r"`(\w+(?:/[\w.]+)+)`", part)
     lost = [path for path in paths if not any(os.path.isfile(os.path.join(TOP, top, path)) for top in ("", "crates"))]
-    checks.holds("docs/ARCHITECTURE.md: files that a change touches", len(paths) > 40 and not lost, lost)
+    checks.holds("docs/internals/ARCHITECTURE.md: files that a change touches", len(paths) > 40 and not lost, lost)
 
 
 def check_comments(checks):

@@ -1,4 +1,4 @@
-"""Compares the table of promises in docs/PROOFS.md with the sources: each crate is there, and each function, law and
+"""Compares the table of promises in docs/internals/PROOFS.md with the sources: each crate is there, and each function, law and
 clause that a row names stands in it; and so is what would notice a breach, which each row names: an edit, or a group
 of `tests/run`.
 
@@ -16,7 +16,7 @@ from shared.checks import TOP, Checks
 
 def rows():
     """The rows of the table: the crate, its contracts, and what would notice a breach."""
-    with open(os.path.join(TOP, "docs", "PROOFS.md"), encoding="utf-8") as file:
+    with open(os.path.join(TOP, "docs", "internals", "PROOFS.md"), encoding="utf-8") as file:
         text = file.read()
     table = text[text.index("| Promise | Crate |"):]
     lines = table[:table.index("\n\n")].split("\n")[2:]
