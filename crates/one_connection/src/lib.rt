@@ -1,4 +1,10 @@
 //! One connection, from its admission to the start of its child.
+//!
+//! The server uses `serve_one`, over the agent of the connection. A child runs only if the decision by the file that
+//! was found is to allow, with its environment. What may have been found is the agent's to say: see `LoggedAgent` of
+//! `tcp_service`, and `YardAgent` here, which tests use alone (`serve_by_yard`). No clause joins `serve_one` with what
+//! an installed text decides: `rules_install::laws::decides` does that. A denial that is called want of memory before
+//! the decision breaks no clause.
 #![tactic(auto)]
 
 pub mod agent;

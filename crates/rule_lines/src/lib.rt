@@ -1,5 +1,12 @@
 //! The rules language of `tcprules`: rule texts, their pairs of address and instruction, and the codes of instructions
 //! (the `tcprules` page of ucspi-tcp; `docs/RULES.md`).
+//!
+//! `tcprules` uses `parse_owned`: it gives the rules of an accepted text in order, and refuses any other text with the
+//! fault of the first faulty line. `accept` answers the same and keeps nothing. Each `RuleList` has the rules of some
+//! accepted text (`of_text`), and the crates above rest on that. A list keeps its text, with codes in the place of
+//! instructions; contracts speak of the list of rules, one for each address. `write_rule` reads rules one after
+//! another; `get` looks from the first line on. `decode_instr` and `encode_instr` are inverse to each other (`exact`,
+//! `laws::one_instr`). That parsing succeeds with ample memory is tested only.
 #![tactic(auto)]
 
 pub mod code;

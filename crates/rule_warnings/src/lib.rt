@@ -1,5 +1,10 @@
 //! What a rule text says less than it seems to: lines that decide for nobody, or that are no rules at all
 //! (`docs/RULES.md`).
+//!
+//! `tcprules -n` uses `write_warnings`, over any writer. The definition compares each line with all lines before it;
+//! the code keeps a table of the addresses that it has seen. The warning `no client has this address` is exact:
+//! `laws::exact_forms` gives for each other address a peer that has it among its forms. That two texts of 64 MiB take
+//! at most twice the memory of compiling them is tested only.
 #![tactic(auto)]
 
 mod addresses;

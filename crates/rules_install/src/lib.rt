@@ -1,4 +1,10 @@
 //! Installing a rule text: compiled into a scratch file, which takes the place of the rules file as a whole.
+//!
+//! `tcprules` uses `whole::finish`, which makes all steps that are left and no other call of the directory (`series`).
+//! `prepare` and `finish` are the halves of `whole::install`: the text, and then the disk. Each `Install` is
+//! consistent, however far it has come (`Install::consistent`), so its caller proves nothing about it. By
+//! `laws::decides` an installed file decides as its text. That an installation gets done is not proved: it may end with
+//! a fault at each step.
 #![tactic(auto)]
 
 pub mod fault;

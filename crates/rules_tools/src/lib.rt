@@ -1,4 +1,11 @@
 //! The tools for rules: `tcprules` installs them, and `tcprulescheck` tells which of them decides.
+//!
+//! The program's path goes through `install_text`, `run_review` and `tell_decision`, each one call from its input to
+//! its answer. They take any reader, writer and folder. A `RulesFolder` is a directory of which each call needs what
+//! the one before it gave: a turn, then a cleared folder, then an installation. `Alone` gives turns where nobody else
+//! uses the directory, in tests. `run_tcprules` and `run_tcprulescheck` lend these calls the system's folder and
+//! streams: of these two only safety is proved. Tested: two installers at once, what they say while they wait, buffered
+//! lines of `-n`, and causes.
 #![tactic(auto)]
 
 pub mod cause;

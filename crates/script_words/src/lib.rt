@@ -1,4 +1,8 @@
-//! The words of a script of `rulesim`: what each line asks for.
+//! The words of a script of `rulesim`: what each line asks for; and lines of a log that are read back.
+//!
+//! `rulesim` uses `read_command` for scripts and `read_line` for the lines of a log. A verdict's line is read as what
+//! it was written of, if no field was cut or marked (`laws::reads_what_was_written`). What is read was written so
+//! (`laws::was_written_as_read`).
 #![tactic(auto)]
 
 mod event_words;

@@ -1,4 +1,11 @@
-//! What happens in a server: events, which lists of them may happen, what they come to, and what the headline says of them.
+//! What happens in a server: events, which lists of them may happen, what they come to, and what the headline says of
+//! them.
+//!
+//! `laws::headline` is of definitions alone; `docs/internals/HEADLINE.md` reads it phrase by phrase. Two calls tie code
+//! to it: `make_step` for each step of an installation here, and each call of a yard in `server_yard`. `rulesim` uses
+//! `replay`, which reports a legal list or names its first illegal event. What all events have in common is said of
+//! their eight effects (`specs/ServerState.antt`). `laws::taken`, `witness`, `older` and `refusals` show that the
+//! headline is not about nothing.
 #![tactic(auto)]
 
 mod addresses;

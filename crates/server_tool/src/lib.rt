@@ -1,4 +1,8 @@
 //! `tcpserver`: the service of `tcp_service` over the system's sockets, files and programs, as its words ask for it.
+//!
+//! `run_tcpserver` is proved safe, and no more. Its words are `server_words`', its service is `tcp_service`'s; that the
+//! one is lent to the other as the words say, and what is opened, printed and exited with, is read here and tested with
+//! real clients.
 #![tactic(auto)]
 
 mod causes;

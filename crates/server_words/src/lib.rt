@@ -1,4 +1,10 @@
-//! The words of `tcpserver`: options, host, port, program. They are read into plain values, and nothing is opened or looked up.
+//! The words of `tcpserver`: options, host, port, program. They are read into plain values, and nothing is opened or
+//! looked up.
+//!
+//! `tcpserver` uses `read_server_words`, which gives what the words ask for or their first fault. `laws::first_fault`
+//! says the same as a list of checks of which the first that fails counts. Option words are read by `read_words`, whose
+//! contract is a relation with a rule for each case; by `laws::by_the_rules` each list of words has exactly one
+//! reading. What the server does with these values is `server_tool`'s.
 #![tactic(auto)]
 
 pub mod fault;

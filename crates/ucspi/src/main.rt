@@ -1,4 +1,8 @@
-//! The program `ucspi`: the name by which it was called, or its first word, names a tool; `rulesim` where there is none.
+//! The program `ucspi`: the name by which it was called, or its first word, names a tool; `rulesim` where there is
+//! none.
+//!
+//! `main` lends the system's streams, files, sockets and programs to `ucspi_tools::run_program`. What it lends is a
+//! premise, which its lines state: `docs/internals/PROOFS.md` lists them.
 #![tactic(auto)]
 
 use std::io;

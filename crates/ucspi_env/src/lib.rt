@@ -1,4 +1,8 @@
 //! What a child of `tcpserver` is told: its environment; and what the server knows of the names of hosts.
+//!
+//! The crates above use `build`. It makes the environment in three layers: what is inherited without the names that a
+//! connection gives, what the connection tells, and the rule's settings in order. `HostTable::read` gives exactly what
+//! the lines of a host table say, or the number of the first bad line.
 #![tactic(auto)]
 
 pub mod child;

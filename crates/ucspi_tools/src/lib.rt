@@ -1,5 +1,10 @@
-//! The tools of `ucspi` as library functions, and the program that its words ask for: which tool that is, why a run of it fails, and the code
-//! with which it exits then.
+//! The tools of `ucspi` as library functions, and the program that its words ask for: which tool that is, why a run of
+//! it fails, and the code with which it exits then.
+//!
+//! The program uses `run_program`: it runs the one tool that name and words choose, once, and exits by its answer
+//! (`runs`). What a tool does is a relation of its own, of which `run_program` knows nothing. `SystemTools` says it of
+//! `addcr` and `delcr`, and takes each other tool as a call that `main` lends. The texts of faults, of the version and
+//! of the help are tested only.
 #![tactic(auto)]
 
 mod about;
