@@ -1,11 +1,11 @@
-"""Compares the table of promises in docs/internals/PROOFS.md with the sources: each crate is there, and each function, law and
-clause that a row names stands in it; and so is what would notice a breach, which each row names: an edit, or a group
-of `tests/run`.
+"""Compares the list of promises in docs/internals/PROOFS.md with the sources: each crate is there, and each function,
+law and clause that a promise names stands in it; and so is what would notice a breach, which each promise names: an
+edit, or a group of `tests/run`.
 
-A row's contracts are parts with a `;` or `and` between them: the name of a function, of a law, of a module or of a
-crate, then those of its clauses. An edit stands in `crates/CRATE/must-fail/`, where the gate tries it, or in
-`tests/edits/CRATE/`, where `scripts/edits` does. Of each it is looked here that it can be made: its old texts stand
-in the files that it names, once.
+Below a promise stand its crate with the contracts, and then what would notice a breach. Contracts are parts with a `;`
+or `and` between them: the name of a function, of a law, of a module or of a crate, then those of its clauses. An edit
+stands in `crates/CRATE/must-fail/`, where the gate tries it, or in `tests/edits/CRATE/`, where `scripts/edits` does.
+Of each it is looked here that it can be made: its old texts stand in the files that it names, once.
 """
 import glob
 import os
@@ -15,13 +15,14 @@ from shared.checks import TOP, Checks
 
 
 def rows():
-    """The rows of the table: the crate, its contracts, and what would notice a breach."""
+    """The promises of the list: the crate of each, its contracts, and what would notice a breach."""
     with open(os.path.join(TOP, "docs", "internals", "PROOFS.md"), encoding="utf-8") as file:
         text = file.read()
-    table = text[text.index("| Promise | Crate |"):]
-    lines = table[:table.index("\n\n")].split("\n")[2:]
-    cells = [line.strip("|").split(" | ")[-3:] for line in lines]
-    return [(crate.strip(" `"), contract.strip(), notice.strip()) for crate, contract, notice in cells]
+    part = text[text.index("\n## The promises\n") + 1:].partition("\n## ")[0]
+    for promise in re.split(r"^- ", part, flags=re.M)[1:]:
+        lines = [" ".join(line.split()) for line in re.split(r"^  - ", promise.partition("\n\n")[0], flags=re.M)]
+        crate, _, contract = lines[1].partition(": ")
+        yield crate.strip("`"), contract, lines[2]
 
 
 def is_crate(name):
