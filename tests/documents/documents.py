@@ -29,6 +29,9 @@ def pages_in(folder):
 INTERNALS = pages_in("docs/internals")
 FOR_USERS = ["README.md", "CHANGELOG.md"] + pages_in("docs")
 DOCUMENTS = ["README.md"] + [name for name in pages_in("docs") if name != COOKBOOK] + INTERNALS
+# how many words maintainers have to read: of some pages, and in all
+WORDS = {"ARCHITECTURE": 2500, "DECISIONS": 3000, "HEADLINE": 2000, "PROOFS": 3500}
+ALL_WORDS = 14000
 # files of which users read the comments
 COMMENTED = ("Makefile", "completions", "examples", "scripts")
 # terms that no document for users has, each with the one that stands for it
@@ -196,6 +199,22 @@ def check_changes(checks):
     checks.holds("docs/internals/ARCHITECTURE.md: files that a change touches", len(paths) > 40 and not lost, lost)
 
 
+def check_internals(checks):
+    """What maintainers read is short, and each term has one meaning."""
+    lengths = {}
+    for name in INTERNALS:
+        with open(os.path.join(TOP, name), encoding="utf-8") as file:
+            text = file.read()
+        lengths[name] = len(text.split())
+        checks.expect("%s: lines of at most 120 columns" % name, [line for line in text.split("\n") if len(line) > 120], [])
+        most = WORDS.get(os.path.basename(name)[:-3], ALL_WORDS)
+        checks.holds("%s: at most %d words" % (name, most), lengths[name] <= most, lengths[name])
+    checks.holds("docs/internals: at most %d words" % ALL_WORDS, sum(lengths.values()) <= ALL_WORDS, lengths)
+    with open(os.path.join(TOP, "docs", "internals", "GLOSSARY.md"), encoding="utf-8") as file:
+        terms = re.findall(r"^- \*\*(.*?)\*\*", file.read(), re.M)
+    checks.expect("GLOSSARY.md: terms that it has twice", sorted({term for term in terms if terms.count(term) > 1}), [])
+
+
 def check_comments(checks):
     """The comments of what users read have the terms of the trade too."""
     for part in COMMENTED:
@@ -220,6 +239,7 @@ def check(program, failures):
     check_readme(checks)
     check_comments(checks)
     check_changes(checks)
+    check_internals(checks)
     for name in DOCUMENTS + [COOKBOOK, "CHANGELOG.md"]:
         with open(os.path.join(TOP, name), encoding="utf-8") as file:
             text = file.read()
