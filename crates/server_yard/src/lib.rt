@@ -4,8 +4,8 @@
 //! Each call of `Yard` that is an event is one step of the headline's world over an honest directory (`step`), one
 //! event of the table over any directory (`noted`), and a step over whatever directory other processes left (`beside`).
 //! The type keeps the rest, so a caller has no premise. `tcpserver` opens the rules outside the lock and uses `opened`;
-//! `open`, `install_begin` and `install_step` are used by tests alone, since `tcprules` is another process. Nothing
-//! ties a call to the thread that makes it: `tcp_service` does.
+//! `open`, `install_begin` and `install_step` are used by tests alone, since `tcprules` is another process. Which
+//! thread makes which call is said in `tcp_service`.
 #![tactic(auto)]
 
 pub mod assumptions;
