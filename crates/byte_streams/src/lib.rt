@@ -1,9 +1,10 @@
-//! A pump: it reads a stream, passes it through a chain of line wrappers and writes it out, under the eyes of a tap.
+//! A pump: it reads a stream, passes it through a chain of line wrappers and writes it out, while a tap looks on.
 //!
 //! The crates above use `pump` and `pump_counted`: what was written is what the chain makes of what was read, as far as
-//! the end says. By the contract of `LineStage` a stage's text doesn't depend on how the input is cut. Each chain is
-//! generic over one kind of stage. A `Recorder` is the tap of `recordio`. No clause says that a fault which is answered
-//! was one of the reader or the writer: tests do. That a `Patient` stream waits as long as it should is tested only.
+//! the end says. By the contract of `LineStage` what a wrapper writes doesn't depend on how the input is cut. A chain
+//! is generic over its kind of wrapper. A `Recorder` is the tap of `recordio`. No clause says that a fault which is
+//! answered was one of the reader or the writer: tests do. That a `Patient` stream waits as long as it should is tested
+//! only.
 #![tactic(auto)]
 
 pub mod chain;
