@@ -1,6 +1,6 @@
-//! Tests of an installation over directories in memory, and of a site: its calls in turn, its receipts and their audit, by one caller, by two, and by eight in threads of their own.
+//! A test of a site by eight callers in threads of their own, with their receipts and the audit of these.
 //!
-//! They stand apart from the crate `shared_site` that they test, so that it is proved once for itself and not once more for its tests.
+//! It stands apart from the crate `shared_site` that it tests, so that that one is proved once for itself and not once more for its test.
 #![tactic(auto)]
 
 use connection_facts::{Peer, PeerFault};
@@ -11,17 +11,9 @@ mod calls;
 #[cfg(test)]
 mod children;
 #[cfg(test)]
-mod each_call_fails;
-#[cfg(test)]
 mod eight_threads;
 #[cfg(test)]
-mod four_ends;
-#[cfg(test)]
 mod sites;
-#[cfg(test)]
-mod two_callers;
-#[cfg(test)]
-mod two_installations;
 
 /// A peer with the address `n`.`n`.`n`.`n`.
 pub fn peer_of(alloc: Global, n: u8) -> Result<Peer, PeerFault> {
