@@ -41,7 +41,7 @@ TERMS = {
 }
 # where a term is the right one
 MEANT = {
-    "docs/SCRIPTS.md": ["a *stop*"], "docs/RELIABILITY.md": ["fault injection"], "docs/TOOLS.md": ["device fault"], "docs/COOKBOOK.md": ["is stopped"],
+    "docs/RELIABILITY.md": ["fault injection"], "docs/TOOLS.md": ["device fault"], "docs/COOKBOOK.md": ["is stopped"],
     "examples/rsync/tcpserver-rsync.service": ["systemctl stop"],
 }
 # a port in the arguments of a server behind the shell's back
