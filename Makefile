@@ -1,27 +1,39 @@
-# make            proves and builds the program ucspi: in half an hour or so on four quiet cores with 16 GB, and what out/ has of it is used
-# make try        builds it without proofs within two minutes, and makes the stored run of rulesim; ARGS="tcprulescheck x" runs any tool of it
+# Times are those of four quiet cores, with processor time behind them.
+#
+# make try        builds the program without proofs in a minute (2 minutes of a processor), and makes the stored run of rulesim;
+#                 ARGS="tcprulescheck x" runs any tool of it
+# make test       builds it and the small programs of the tests so, and runs all tests that need no proved program; GROUPS="cookbook" runs some
+# make            proves and builds the program in half an hour (80 minutes of a processor); what out/ has of it is used
 # make run        makes the stored run on the proved program
-# make install    PREFIX=..  puts the program, a link of each tool's name, the man pages, bash's completion and the log reader in place; it builds
-#                 nothing. MANDIR is the folder of the pages, DESTDIR stands in front of all, FORCE=1 replaces files of others
+# make install    PREFIX=..  puts the program, a link of each tool's name, the man pages, bash's completion and the log reader in place; it
+#                 builds nothing. MANDIR is the folder of the pages, DESTDIR stands in front of all, FORCE=1 replaces files of others
 # make uninstall  takes them away, and no file of others
 # make dist       packs an archive for x86-64 Linux with glibc into dist/, and its SHA-256
 # make deb        packs a Debian package into dist/, which stands beside Debian's ucspi-tcp
-# make check      proves everything from nothing, and runs all tests
+# make check      proves everything from nothing in an hour (260 minutes of a processor), and runs all tests
 # make edits      tries the edits of tests/edits, which the prover has to refuse: an hour or two, before a release
 # make bench      times the tools and the server, and measures their memory
+# make clean      takes away all that was built, proofs too
+# make help       prints this
 
-PREFIX ?= /usr/local
+prefix ?= /usr/local
+PREFIX ?= $(prefix)
+MANDIR ?= $(mandir)
 PROGRAM := crates/ucspi/out/ucspi
-TRIED := out/try/ucspi
+TOOLS := addcr delcr fixcrio recordio rulesim tcprules tcprulescheck tcpserver
 # the small programs of the tests and of the benchmarks: one program, which looks at the name by which it is called
+SMALL := test_calls test_disks test_server test_texts ucspi_bench test_yards
 PROBE := crates/test_programs/out/test_programs
-PROBES := $(foreach name,test_calls test_disks test_server test_texts ucspi_bench test_yards,crates/test_programs/out/$(name))
+PROBES := $(addprefix crates/test_programs/out/,$(SMALL))
+# both, built without proofs
+TRIED := out/try/ucspi
+TRIED_PROBE := out/try/test_programs
 # how many checks stand side by side, each on one processor (one that is given several takes a third more of them in all): one for each
 # processor, and for each 4 GB of free memory, twice what the largest takes
 RT_JOBS ?= $(shell awk -v most=$$(nproc) '/^MemAvailable/ { room = int($$2 / 4000000); print room < 1 ? 1 : room < most ? room : most }' /proc/meminfo)
 SOURCES := HANDLES crates.txt $(shell find crates -name out -prune -o -type f -print)
 
-.PHONY: all try run check edits probes bench install uninstall dist deb
+.PHONY: all try test run check edits probes bench install uninstall dist deb clean help
 
 all: $(PROGRAM)
 
@@ -36,11 +48,18 @@ $(PROBE): $(SOURCES)
 $(PROBES): $(PROBE)
 	ln -f $< $@
 
-$(TRIED): $(SOURCES)
-	@scripts/try build $@
+$(TRIED): $(filter %.rt crates.txt,$(SOURCES))
+	@scripts/try build ucspi $@ $(TOOLS)
+
+$(TRIED_PROBE): $(filter %.rt crates.txt,$(SOURCES))
+	@scripts/try build test_programs $@ $(SMALL)
 
 try: $(TRIED)
 	@scripts/try run $(TRIED) $(ARGS)
+
+test:
+	@$(MAKE) -s -j 2 $(TRIED) $(TRIED_PROBE)
+	@tests/run --tried $(GROUPS)
 
 run:
 	@test -e $(PROGRAM) || echo "There is no proved program yet: it is proved and built first, in half an hour or so on four cores; make try takes two."
@@ -72,3 +91,9 @@ dist: $(PROGRAM)
 
 deb: $(PROGRAM)
 	@PROGRAM="$(PROGRAM)" scripts/package deb
+
+clean:
+	rm -rf out dist crates/*/out
+
+help:
+	@sed -n '/^#/!q; s/^# \{0,1\}//p' Makefile

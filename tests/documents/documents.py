@@ -2,8 +2,8 @@
 has a group of its own, `cookbook`, and the man pages too.) Looks at the links and the terms of all documents.
 
 The lines of one document run in one shell, in a folder of their own that has the examples. `make` is a command that takes the program that is there for
-the one that it would build; the port 2525 is another one, which is free. A server in the foreground is started at a free port of this machine alone, and
-ended once it listens.
+the one that it would build, and the tests that it would run are one group; the port 2525 is another one, which is free. A server in the foreground is
+started at a free port of this machine alone, and ended once it listens.
 """
 import os
 import re
@@ -50,7 +50,8 @@ LIMIT = 600
 MARK = "--- the end of a command"
 MAKE = """#!/bin/sh
 if test $# = 0; then set -- all; fi
-exec /usr/bin/make -s -C '%(top)s' -o '%(program)s' -o '%(tried)s' PROGRAM='%(program)s' TRIED='%(tried)s' DESTDIR='%(folder)s' "$@"
+exec /usr/bin/make -s -C '%(top)s' -o '%(program)s' -o '%(tried)s' PROGRAM='%(program)s' TRIED='%(tried)s' TRIED_PROBE='%(tried)s' GROUPS=promises \\
+    DESTDIR='%(folder)s' "$@"
 """
 
 
@@ -177,11 +178,11 @@ def anchors_in(text):
     return {re.sub(r"[^\w\- ]", "", heading.lower()).replace(" ", "-") for heading in re.findall(r"^#+ (.*)$", text, re.M)}
 
 
-def check_links(checks, name, text):
+def check_links(checks, name, text, top=TOP):
     """Each link leads to a file that is there, and to a heading that it has."""
     lost = []
     for path, anchor in re.findall(r"\]\(([^)#:]*)(?:#([^)]*))?\)", text):
-        path = os.path.normpath(os.path.join(TOP, os.path.dirname(name), path)) if path else os.path.join(TOP, name)
+        path = os.path.normpath(os.path.join(top, os.path.dirname(name), path)) if path else os.path.join(top, name)
         if not os.path.exists(path):
             lost.append(path)
         elif anchor:
