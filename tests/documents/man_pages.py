@@ -448,6 +448,7 @@ def check_examples(checks, program, page):
     rules = '10.0.0-3.:allow,RELAYCLIENT=""\n=.example.org:allow,RELAYCLIENT=""\n192.0.2.66:deny\n:allow\n'
     with tempfile.TemporaryDirectory() as folder:
         os.symlink(program, os.path.join(folder, "ucspi"))
+        os.symlink(os.path.join(TOP, "scripts", "log_events.py"), os.path.join(folder, "ucspi-log-events"))
         for tool in usages():
             with open(os.path.join(folder, tool), "w") as file:
                 file.write('#!/bin/sh\nexec ucspi %s "$@"\n' % tool)
@@ -467,7 +468,7 @@ def check(program, failures):
     checks = PageChecks("man_pages", failures)
     names = sorted(name[:-2] for name in os.listdir(os.path.join(TOP, "man")) if name.endswith(".1"))
     server = os.path.exists(os.path.join(TOP, "crates", SERVER_FAULT))
-    wanted = set(usages()) | {"ucspi"} | ({"tcpserver"} if "tcpserver" in names else set())
+    wanted = set(usages()) | {"ucspi", "ucspi-log-events"} | ({"tcpserver"} if "tcpserver" in names else set())
     checks.same("one page for each tool", set(names), wanted)
     pages = [Page(name) for name in names] + [Page("tcprules", 5)]
     for tool in sorted(FAULTS):

@@ -12,7 +12,8 @@ import subprocess
 import tarfile
 import tempfile
 
-from documents import installing
+from documents import cookbook, installing
+from documents.documents import check_links
 from documents.installing import LIMIT, PATH, TOOLS, Place, check_clean, check_foreign, files, pages
 from shared.checks import TOP, Checks
 
@@ -20,7 +21,9 @@ DEBIAN = "ucspi-tcp"
 # all that the sources of the packages are, beside the program
 PARTS = ("CHANGELOG.md", "README.md", "VERSION", "completions", "docs", "examples", "man", "scripts")
 # what the install script may call: sh and some programs of POSIX
-APPLETS = ("sh", "cat", "chmod", "dirname", "grep", "ln", "mkdir", "mv", "readlink", "rm", "sed", "test")
+APPLETS = ("sh", "cat", "chmod", "dirname", "grep", "ln", "mkdir", "mv", "readlink", "rm", "rmdir", "sed", "test")
+# what lintian may say: no licence has been chosen, which the README and the package say
+OF_LICENCE = ("copyright-without-copyright-notice",)
 
 
 def skip(what):
@@ -42,6 +45,26 @@ def run(words, **how):
 def make(program, folder, *targets):
     words = ["make", "-s", "-o", program, "PROGRAM=" + program, "DIST=" + folder] + list(targets)
     return run(words, cwd=TOP, stdin=subprocess.DEVNULL)
+
+
+def shown_examples():
+    """The files of examples/ that the cookbook shows."""
+    return {path for recipe in cookbook.recipes().values() for path, _ in recipe.files}
+
+
+def check_pages(checks, name, folder, found):
+    """The links of the documents that are packed lead to what is packed too, and none is left out that users need."""
+    checks.holds("%s: the documents for users" % name, {"README.md", "docs/COOKBOOK.md", "docs/TCPSERVER.md", "docs/RULES.md"} <= found, sorted(found))
+    for path in sorted(path for path in found if path.endswith(".md")):
+        with open(os.path.join(folder, path), encoding="utf-8") as file:
+            check_links(checks, path, file.read(), folder)
+
+
+def check_stripped(checks, name, path):
+    if not shutil.which("readelf"):
+        return skip("whether the program has symbols, since readelf is not installed")
+    checks.holds(name + ": no symbols", b".symtab" not in run(["readelf", "-SW", path])[1])
+    return None
 
 
 def digests(folder):
@@ -94,14 +117,38 @@ def check_archive(checks, program, made, room):
     checks.expect("it is unpacked", run(["tar", "-xzf", path], cwd=room), (0, b""))
     folder = os.path.join(room, name)
     found = set(files(folder))
-    wanted = {"bin/" + tool for tool in TOOLS + ("ucspi", "ucspi-log-events")} | {"man/" + page for page in pages()}
-    wanted |= {"install", "README.md", "CHANGELOG.md", "VERSION", "completions/ucspi"}
-    for part in ("docs", "examples"):
-        wanted |= {os.path.join(part, path) for path in files(os.path.join(TOP, part))}
+    wanted = {"bin/" + tool for tool in TOOLS + ("ucspi", "ucspi-log-events")} | {"man/man%s/%s" % (page[-1], page) for page in pages()}
+    wanted |= {"install", "Makefile", "README.md", "CHANGELOG.md", "VERSION", "completions/ucspi"} | shown_examples()
+    wanted |= {os.path.join("docs", path) for path in files(os.path.join(TOP, "docs"))}
     checks.expect("what is in it", sorted(found), sorted(wanted))
-    with open(program, "rb") as one, open(os.path.join(folder, "bin", "ucspi"), "rb") as other:
-        checks.expect("the program is the one that was built", one.read() == other.read(), True)
+    packed, stripped = os.path.join(folder, "bin", "ucspi"), os.path.join(room, "stripped")
+    checks.expect("strip", run(["strip", "-o", stripped, program]), (0, b""))
+    with open(stripped, "rb") as one, open(packed, "rb") as other:
+        checks.expect("the program is the one that was built, but for its symbols", one.read() == other.read(), True)
+    check_stripped(checks, "the archive", packed)
+    check_pages(checks, "the archive", folder, found)
+    check_manpath(checks, "the archive", os.path.join(folder, "bin"), os.path.join(folder, "man", "man1", "tcpserver.1"))
     return folder
+
+
+def check_manpath(checks, name, path, page):
+    """With the folder of the tools in front of PATH `man` finds our page, whatever other one there is."""
+    if not shutil.which("man"):
+        return skip("which page man finds, since it is not installed")
+    code, said = run(["man", "-w", "tcpserver"], env={"PATH": path + ":" + PATH})
+    checks.expect(name + ": man tcpserver", (code, os.path.realpath(said.decode().strip())), (0, os.path.realpath(page)))
+    return None
+
+
+def check_make(checks, folder, room):
+    """The commands of the README install from the unpacked archive, too."""
+    place = Place(os.path.join(room, "made"), None)
+    os.mkdir(place.folder)
+    for action, left in (("install", installing.wanted_files()), ("uninstall", [])):
+        words = ["make", "-s", "-C", folder, action, "DESTDIR=" + place.folder, "PREFIX=/usr"]
+        checks.expect("the archive: make " + action, run(words), (0, b""))
+        checks.expect("the archive: after make " + action, files(place.root) if os.path.exists(place.root) else [], left)
+    checks.holds("the archive: make says what it does", b"make install" in run(["make", "-s", "-C", folder])[1])
 
 
 def libraries(program):
@@ -190,10 +237,27 @@ def check_package(checks, made, room):
     checks.expect("it is unpacked", run(["dpkg-deb", "-x", path, root])[0], 0)
     found = {"/" + name for name in files(root)}
     doc = "/usr/share/doc/gaqolchu/"
-    wanted = {"/usr/bin/ucspi", "/usr/bin/ucspi-log-events", "/usr/share/bash-completion/completions/ucspi", doc + "changelog.gz", doc + "README.md"}
+    wanted = {"/usr/bin/ucspi", "/usr/bin/ucspi-log-events", "/usr/share/bash-completion/completions/ucspi"}
+    wanted |= {doc + name for name in ("changelog.gz", "copyright", "README.md", "CHANGELOG.md", "man")}
     wanted |= {"/usr/lib/ucspi/bin/" + tool for tool in TOOLS} | {"/usr/share/man/man%s/%sucspi.gz" % (page[-1], page) for page in pages()}
-    wanted |= {doc + "examples/" + name for name in files(os.path.join(TOP, "examples"))}
+    wanted |= {"/usr/lib/ucspi/man/man%s/%s.gz" % (page[-1], page) for page in pages()}
+    wanted |= {doc + name for name in shown_examples()} | {doc + "docs/" + name for name in files(os.path.join(TOP, "docs"))}
     checks.expect("its files", sorted(found), sorted(wanted))
+    lost = [name for name in found if os.path.islink(root + name) and not os.path.exists(root + name)]
+    checks.expect("links in it that lead nowhere", lost, [])
+    check_stripped(checks, "the package", root + "/usr/bin/ucspi")
+    check_pages(checks, "the package", root + doc, {name[len(doc):] for name in found if name.startswith(doc)})
+    check_manpath(checks, "the package", root + "/usr/lib/ucspi/bin", root + "/usr/share/man/man1/tcpserver.1ucspi.gz")
+    needs_gcc = any("libgcc_s" in path for path in libraries(root + "/usr/bin/ucspi"))
+    checks.expect("what it depends on", fields.get("Depends"), "libc6 (>= 2.34)" + (", libgcc-s1" if needs_gcc else ""))
+    with open(root + doc + "copyright", encoding="ascii") as one, open(os.path.join(TOP, "README.md"), encoding="utf-8") as other:
+        checks.holds("that no licence has been chosen", "No licence has been chosen" in one.read() and "No licence has been chosen" in " ".join(other.read().split()))
+    if shutil.which("lintian"):
+        said = run(["lintian", "--allow-root", path])[1].decode()
+        found_amiss = [line for line in said.splitlines() if re.match("[EW]: ", line) and not line.split()[2] in OF_LICENCE]
+        checks.expect("lintian", found_amiss, [])
+    else:
+        skip("what lintian says, which is not installed")
     owners = run(["dpkg-deb", "-c", path])[1].decode().split("\n")[:-1]
     checks.expect("whose they are", {line.split()[1] for line in owners}, {"root/root"})
     others = debian_files()
@@ -242,6 +306,7 @@ def check(program, failures):
         folder = check_archive(checks, program, made, room)
         check_alone(checks, folder, room)
         check_script(checks, folder, room)
+        check_make(checks, folder, room)
         if has_dpkg:
             check_package(checks, made, room)
             check_put_in_place(checks, made, room)
