@@ -16,6 +16,7 @@ import sys
 import time
 
 from shared import failed_calls, log_forms, plain_texts, server_runs
+from shared.checks import needs_proved
 
 CONNECTIONS = 2000
 ADDRESSES = 250
@@ -315,16 +316,9 @@ def limited_to(suite, room):
 # a large log
 
 
-def is_tried(program):
-    """A program that was built without proofs is slow, and keeps what it is done with."""
-    return os.path.basename(os.path.dirname(program)) == "try"
-
-
+@needs_proved(3)
 def large_log(suite):
     """A log of 100 MB, in memory that doesn't grow with it."""
-    if is_tried(suite.program):
-        print("verdict_lines: a log of 100 MB: skipped: the program was built without proofs")
-        return
     path, connections = suite.path("large"), 0
     with open(path, "wb") as file:
         file.write(b"|10.1.:deny\n|=.bad.example:deny\n|:allow\ninstall\nverdicts\n")

@@ -1,4 +1,5 @@
 """The harness of all groups: it counts what was tried, and tells what was not as it should be, with the group's name in front."""
+import functools
 import os
 import subprocess
 import sys
@@ -14,6 +15,26 @@ LIMIT = 600
 def built(crate, name=None):
     """The path of a program of this repository, once it is built."""
     return os.path.join(TOP, "crates", crate, "out", name or crate)
+
+
+# that the program was built without proofs: it checks each access, so it is many times as slow, and takes other memory
+TRIED = "TESTS_TRIED"
+# how many tests were left out for that
+left_out = [0]
+
+
+def needs_proved(tests):
+    """Marks a check of so many tests that is too slow for a program without proofs, or that looks at its memory: there it is left out."""
+    def marked(check):
+        @functools.wraps(check)
+        def made(checks, *given, **how):
+            if TRIED in os.environ:
+                print("%s: %s: skipped: needs the proved program" % (checks.group, check.__name__.replace("_", " ")))
+                left_out[0] += tests
+                return None
+            return check(checks, *given, **how)
+        return made
+    return marked
 
 
 def python_words(call, *words):
