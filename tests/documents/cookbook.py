@@ -496,8 +496,25 @@ def audited_log(checks, kitchen):
         checks.expect("the log of the document: what does not fit", events.faults, [])
 
 
+def over(checks, kitchen):
+    """The two lines that have a run script find the new programs: one for scripts that look in PATH, one for those that have the server's path."""
+    with open(COOKBOOK, encoding="utf-8") as file:
+        lines = re.findall(r"^    # (sed -i .*) /service/mail/run$", file.read(), re.M)
+    cases = [
+        ("exec tcpserver 0 25 true\n", "PATH=/opt/ucspi/bin:$PATH\nexec tcpserver 0 25 true\n"),
+        ("exec /usr/bin/tcpserver 0 25 true\n", "exec /opt/ucspi/bin/tcpserver 0 25 true\n"),
+        ("exec softlimit -m 9 /usr/local/bin/tcpserver 0 25 true\n", "exec softlimit -m 9 /opt/ucspi/bin/tcpserver 0 25 true\n"),
+    ]
+    checks.expect("lines that change a run script", len(lines), 2)
+    for line, (text, wanted) in zip(lines + lines[1:], cases):
+        kitchen.write("run", "#!/bin/sh\n" + text)
+        kitchen.run(line + " run")
+        checks.expect(line, kitchen.read("run"), "#!/bin/sh\n" + wanted)
+
+
 # the recipes by what of them runs in Python; each title of the document has its lines run too
 SERVICES = {
+    "From djb's in five minutes": [over],
     "A mail service under daemontools": [mail],
     "qmail, and POP3": [qmail, pop3],
     "Exim and Sendmail": [exim],
