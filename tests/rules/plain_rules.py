@@ -4,7 +4,7 @@ kind, the compiled file, and the decisions. Beside it one text of 64 MiB. Texts 
 import os
 import tempfile
 
-from shared.checks import Runs
+from shared.checks import Runs, needs_proved
 from shared.compiled_files import cdb, content
 from shared.plain_texts import PEERS, TEXT_LIMIT, Texts, code, decision, first_difference, question, rules_in
 
@@ -55,6 +55,7 @@ def letters(number):
     return "".join(digits[number // 36 ** place % 36] for place in (4, 3, 2, 1, 0))
 
 
+@needs_proved(6)
 def check_long_text(runs):
     """A text of 67,108,864 bytes in millions of short rules is compiled whole, and each rule that is asked for is found."""
     count = TEXT_LIMIT // len("=00000:deny\n")

@@ -12,7 +12,7 @@ import subprocess
 import tempfile
 
 from shared import plain_texts, refusals
-from shared.checks import Checks
+from shared.checks import Checks, is_tried
 
 TEXTS = 10000
 # how many of them one shell looks over
@@ -355,7 +355,7 @@ def measured(words, path, folder):
 
 def check_long_text(program, checks):
     """A text of 67,108,864 bytes: its warnings, and at most twice the memory of compiling it."""
-    size = SHORT_TEXT if os.sep + "try" + os.sep in program else LONG_TEXT
+    size = SHORT_TEXT if is_tried() else LONG_TEXT
     lines, length, number = [], 0, 0
     while length < size - 200:
         lines.append(b"%d.%d.%d.%d:allow\n" % (number % 251, number >> 16, number >> 8 & 255, number & 255))
@@ -385,7 +385,7 @@ def short_line(number):
 
 def check_short_lines(program, checks):
     """A text of 64 MiB of lines of 20 bytes, each of which has an address more to be seen: at most twice the memory of compiling it."""
-    size = SHORT_TEXT if os.sep + "try" + os.sep in program else LONG_TEXT
+    size = SHORT_TEXT if is_tried() else LONG_TEXT
     count = size // len(short_line(0))
     with tempfile.TemporaryDirectory() as folder:
         path = os.path.join(folder, "text")
@@ -400,7 +400,7 @@ def check_short_lines(program, checks):
 
 def check_wide_ranges(program, checks):
     """A text of ranges of 256 addresses each: its warnings, and at most twice the memory of compiling it."""
-    count = 100 if os.sep + "try" + os.sep in program else 5000
+    count = 100 if is_tried() else 5000
     lines = [b"0-255.%d.%d.1:deny\n" % (number // 250, number % 250) for number in range(count)]
     # covered by one line, and by two; one address of it stood in none
     lines += [b"5.0.7.1:allow\n", b"17-30.0.9.1:allow\n", b"0.0.3-4.1:allow\n", b"0.0.0-250.1:allow\n", b":deny\n"]

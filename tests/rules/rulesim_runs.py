@@ -5,7 +5,7 @@ import os
 import subprocess
 import tempfile
 
-from shared.checks import LIMIT, Runs
+from shared.checks import LIMIT, Runs, needs_proved
 
 UCSPI_USAGE = "ucspi: usage: ucspi TOOL ...\n"
 RULESIM_USAGE = "rulesim: usage: rulesim\n"
@@ -281,6 +281,7 @@ def check_line_limit(runs):
     runs.expect("a long line without a colon", runs.run([], b"|" + b"a" * 70000 + b"\ninstall\n").stdout, b"installed\n")
 
 
+@needs_proved(2)
 def check_text_limit(runs):
     """A text of 67,108,864 bytes is accepted, and one byte more is too long."""
     line = b"|" + b"a" * 1023 + b"\n"
@@ -288,6 +289,7 @@ def check_text_limit(runs):
         runs.expect("a text at its limit", runs.run([], line * 65536 + more + b"install\n").stdout, wanted)
 
 
+@needs_proved(1)
 def check_file_limit(runs):
     """A text whose compiled file would pass 1,073,741,824 bytes is refused, and the one before stays."""
     line = b'|1.2.3.0-255:allow,A="' + b"a" * 9900 + b'"\n'

@@ -23,16 +23,22 @@ TRIED = "TESTS_TRIED"
 left_out = [0]
 
 
+def is_tried():
+    """Whether the program was built without proofs."""
+    return TRIED in os.environ
+
+
 def needs_proved(tests):
     """Marks a check of so many tests that is too slow for a program without proofs, or that looks at its memory: there it is left out."""
     def marked(check):
         @functools.wraps(check)
-        def made(checks, *given, **how):
-            if TRIED in os.environ:
-                print("%s: %s: skipped: needs the proved program" % (checks.group, check.__name__.replace("_", " ")))
-                left_out[0] += tests
-                return None
-            return check(checks, *given, **how)
+        def made(*given):
+            if not is_tried():
+                return check(*given)
+            group = next(one.group for one in given if isinstance(one, Checks))
+            print("%s: %s: skipped: needs the proved program" % (group, check.__name__.replace("_", " ")))
+            left_out[0] += tests
+            return None
         return made
     return marked
 

@@ -12,7 +12,7 @@ import threading
 import time
 
 from shared import small_programs
-from shared.checks import LIMIT, Runs
+from shared.checks import LIMIT, Runs, needs_proved
 from shared.plain_streams import added, deleted, fixed
 
 USAGE = {
@@ -376,6 +376,7 @@ class Streams(Runs):
         ended = self.run(["addcr"], b"a\n", preexec_fn=ignore)
         self.ended("SIGCHLD ignored, and no program", ended, 0, b"a\r\n")
 
+    @needs_proved(4)
     def check_big(self):
         text = big_text()
         self.ended("addcr on 64 MiB", self.run(["addcr"], text), 0, added(text))

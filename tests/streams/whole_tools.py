@@ -11,7 +11,7 @@ import tempfile
 import threading
 
 from shared import compiled_files, failed_calls
-from shared.checks import Checks
+from shared.checks import Checks, needs_proved
 from shared.server_runs import free_port, listens, read_all, wait_until
 
 # how long what ends within seconds is waited for, in seconds
@@ -184,6 +184,7 @@ def check_reads(checks, program, folder):
 # a long script
 
 
+@needs_proved(1)
 def check_script(checks, program):
     """Comments of a mebibyte each, with a question behind each of them."""
     process = subprocess.Popen([program, "rulesim"], stdin=subprocess.PIPE, stdout=subprocess.PIPE, stderr=subprocess.PIPE)
