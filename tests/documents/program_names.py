@@ -146,7 +146,7 @@ def check_uninstall(names, program, folder):
         file.write("another's\n")
     names.expect("make uninstall", make("uninstall", program, folder).returncode, 0)
     names.expect("what is left of the programs", os.listdir(names.bin), ["addcr"])
-    names.expect("what is left of the man pages", os.listdir(names.man), [])
+    names.holds("nothing is left of the man pages", not os.path.exists(names.man))
     names.expect("make uninstall again", make("uninstall", program, folder).returncode, 0)
 
 
@@ -161,7 +161,8 @@ def check(program, failures):
         tools = tools_of(program)
         links = sorted(name for name in os.listdir(names.bin) if os.path.islink(os.path.join(names.bin, name)))
         names.expect("a link for each tool", links, sorted(tools))
-        names.expect("a man page for each tool, and one for the program", sorted(os.listdir(names.man)), sorted(name + ".1" for name in tools + ["ucspi"]))
+        pages = sorted(name + ".1" for name in tools + ["ucspi", "ucspi-log-events"])
+        names.expect("a man page for each tool, the program and the log reader", sorted(os.listdir(names.man)), pages)
         check_usage(names, tools)
         check_runs(names)
         check_links(names)
