@@ -357,7 +357,8 @@ def late(_signal, _frame):
 
 def run_check(suite, check):
     """Runs one check within its time; whatever it meets is a failure of its own."""
-    name = check.__name__.replace("_", " ")
+    name, group = check.__name__.replace("_", " "), suite.group
+    suite.group = "%s.%s" % (group, check.__name__)
     before = signal.signal(signal.SIGALRM, late)
     signal.setitimer(signal.ITIMER_REAL, CHECK_TIME)
     try:
@@ -368,6 +369,7 @@ def run_check(suite, check):
     finally:
         signal.setitimer(signal.ITIMER_REAL, 0)
         signal.signal(signal.SIGALRM, before)
+        suite.group = group
         suite.end_running()
 
 
