@@ -99,7 +99,7 @@ impl<'a> Arguments<'a> {
 }
 
 /// Puts the variable of a text like `NAME=VALUE`.
-pub fn put(alloc: Global, variables: &mut Environment, text: &str) -> Result<(), AllocError> {
+fn put(alloc: Global, variables: &mut Environment, text: &str) -> Result<(), AllocError> {
     let (name, value) = text.split_once('=').unwrap_or((text, ""));
     variables.put(alloc, name, value)
 }

@@ -1,5 +1,5 @@
-//! Environments, servers' ends and host tables.
-use crate::arguments::{Arguments, put};
+//! Environments and host tables.
+use crate::arguments::Arguments;
 use connection_facts::Peer;
 use rule_lookup::Decision;
 use std::alloc::Global;
@@ -23,18 +23,6 @@ pub fn push_built(
     }
 }
 
-/// Adds the variables, and then a copy of them to which one more was put.
-pub fn push_variables(alloc: Global, given: &Arguments<'_>, out: &mut Answer) {
-    let Ok(mut copy) = given.variables().copy(alloc) else {
-        return out.fail();
-    };
-    if let Some(more) = given.known("put") {
-        out.note(put(alloc, &mut copy, more));
-    }
-    push_all(given, given.variables(), out);
-    push_all(given, &copy, out);
-}
-
 /// Adds how many variables there are, whether there is none, each at its place, what is behind the last, and one by its name.
 fn push_all(given: &Arguments<'_>, variables: &Environment, out: &mut Answer) {
     out.number(variables.len() as u64);
@@ -46,17 +34,6 @@ fn push_all(given: &Arguments<'_>, variables: &Environment, out: &mut Answer) {
     }
     out.debug_line(&variables.at(variables.len()));
     out.debug_line(&variables.get(given.text("name")));
-}
-
-/// Adds a server's end.
-pub fn push_local(alloc: Global, given: &Arguments<'_>, out: &mut Answer) {
-    let Ok(local) = given.local(alloc) else {
-        return out.fail();
-    };
-    out.debug(&local.ip());
-    out.count(" ", local.port() as u64);
-    out.text(" ");
-    out.debug_line(&local.host());
 }
 
 /// Adds the name that a host table gives an address, or whether it says that a name has the address.

@@ -1,13 +1,10 @@
-//! Makes one call of rule texts, decisions, environments, host tables, lines of the log or option words, and prints the answer. The first word
-//! names the call, and the words after it are its arguments, as `port=25`; those of `options` are option words, those of `letters` letters and
-//! then option words, and those of `encode` settings. With no words it does nothing.
+//! Makes one call of rule texts, decisions, environments or host tables, and prints the answer. The first word names the call, and the words
+//! after it are its arguments, as `port=25`; those of `encode` are settings. With no words it does nothing.
 #![tactic(auto)]
 
 mod arguments;
 mod environments;
-mod log_lines;
 mod lookups;
-mod option_words;
 mod rules;
 mod sources;
 
@@ -21,8 +18,6 @@ use test_parts::Answer;
 /// Adds the answer of a call.
 fn answer_call(alloc: Global, call: &str, words: &[String], input: &[u8], out: &mut Answer) {
     match call {
-        "options" => option_words::push_options(alloc, words, out),
-        "letters" => option_words::push_letters(alloc, words, out),
         "encode" => rules::push_encoded(alloc, words, out),
         _ => answer_words(alloc, call, words, input, out),
     }
@@ -46,27 +41,12 @@ fn answer_rules(alloc: Global, call: &str, given: &Arguments<'_>, out: &mut Answ
     }
 }
 
-/// Adds the answer of a call of the ends of a connection, or else of another one.
+/// Adds the answer of a call of the ends of a connection, or of a host table.
 fn answer_ends(alloc: Global, call: &str, given: &Arguments<'_>, out: &mut Answer) {
     match call {
-        "peer" | "forms" | "decide" | "build" | "ok" | "deny" => {
-            lookups::push_lookup(alloc, call, given, out);
-        }
-        "variables" => environments::push_variables(alloc, given, out),
-        "local" => environments::push_local(alloc, given, out),
+        "peer" | "forms" | "decide" | "build" => lookups::push_lookup(alloc, call, given, out),
         "hosts" => environments::push_hosts(alloc, given, out),
-        _ => answer_texts(alloc, call, given, out),
-    }
-}
-
-/// Adds the answer of a call of option words or of lines of the log.
-fn answer_texts(alloc: Global, call: &str, given: &Arguments<'_>, out: &mut Answer) {
-    match call {
-        "meanings" => option_words::push_meanings(given, out),
-        "number" => option_words::push_number(given, out),
-        "memory" => option_words::push_faults(out),
-        "whole" => log_lines::push_whole(alloc, given, out),
-        _ => log_lines::push_line(alloc, call, given, out),
+        _ => out.fail(),
     }
 }
 

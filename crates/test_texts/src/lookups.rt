@@ -1,7 +1,6 @@
 //! Peers, their forms, and decisions.
 use crate::arguments::Arguments;
 use crate::environments::push_built;
-use crate::log_lines::push_verdict;
 use crate::sources::{Faulty, fault_of};
 use connection_facts::Peer;
 use rule_lines::{Limits, ListPairs, RuleList, Setting, Settings, Verdict, parse};
@@ -26,8 +25,6 @@ fn push_about(alloc: Global, call: &str, given: &Arguments<'_>, peer: &Peer, out
     match call {
         "peer" => push_peer(peer, out),
         "forms" => push_forms(alloc, peer, out),
-        "ok" => push_verdict(alloc, given, Verdict::Allow, peer, out),
-        "deny" => push_verdict(alloc, given, Verdict::Deny, peer, out),
         _ => push_decided(alloc, call, given, peer, out),
     }
 }
