@@ -13,7 +13,7 @@ use thiserror::Error;
 pub type BoxedStage = Box<dyn LineStage + Send + Drop>;
 
 /// Why a chain took no piece.
-#[derive(Clone, Copy, PartialEq, Eq, Debug, Error)]
+#[derive(Clone, Copy, Debug, Error)]
 pub enum ChainFault {
     /// Since the last `renew` a call met want of memory, or was `finish`.
     #[error("the chain has failed or is finished")]

@@ -22,7 +22,7 @@ const FIRST: usize = 4 * 1024;
 const MOST: usize = 64 * 1024;
 
 /// Why a pump ended.
-#[derive(Clone, Copy, PartialEq, Eq, Debug)]
+#[derive(Clone, Copy, Debug)]
 pub enum Why {
     /// The reader has nothing left, and all was written.
     End,
@@ -41,7 +41,7 @@ pub enum Why {
 }
 
 /// How a pump ended.
-#[derive(Clone, Copy, PartialEq, Eq, Debug)]
+#[derive(Clone, Copy, Debug)]
 pub struct PumpEnd {
     /// How many bytes were read, where that fits into 64 bits.
     pub taken: u64,

@@ -9,7 +9,7 @@ use memchr::memchr;
 use std::alloc::AllocError;
 
 /// Which way a stream goes.
-#[derive(Clone, Copy, PartialEq, Eq, Debug)]
+#[derive(Clone, Copy)]
 pub enum Way {
     /// From the network to the program.
     Input,

@@ -43,18 +43,18 @@ pub trait LineStage {
 }
 
 /// Puts a carriage return before each line feed, as `addcr`.
-#[derive(Clone, Copy, PartialEq, Eq, Debug)]
+#[derive(Clone, Copy)]
 pub struct AddCr;
 
 /// Takes one carriage return away at the end of each line and of the text, as `delcr`.
-#[derive(Clone, Copy, PartialEq, Eq, Debug, Default)]
+#[derive(Clone, Copy, Default)]
 pub struct DelCr {
     // a carriage return was read, and is not written yet
     held: bool,
 }
 
 /// Puts a carriage return before each line feed that has none, as `fixcrio`.
-#[derive(Clone, Copy, PartialEq, Eq, Debug, Default)]
+#[derive(Clone, Copy, Default)]
 pub struct FixCr {
     // the last byte was a carriage return
     after_cr: bool,

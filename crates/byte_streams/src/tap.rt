@@ -39,7 +39,7 @@ pub trait Tap {
 }
 
 /// A tap that looks at nothing.
-#[derive(Clone, Copy, PartialEq, Eq, Debug, Default)]
+#[derive(Clone, Copy, Default)]
 pub struct NoTap;
 
 impl Tap for NoTap {

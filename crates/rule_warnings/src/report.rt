@@ -18,7 +18,7 @@ use std::io::Write;
 use thiserror::Error;
 
 /// Why the warnings of a text are not all written.
-#[derive(Clone, Copy, PartialEq, Eq, Debug, Error)]
+#[derive(Clone, Copy, Debug, Error)]
 pub enum WarnFault {
     /// The text is not accepted, and nothing was written.
     #[error("{0}")]

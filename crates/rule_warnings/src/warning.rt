@@ -6,7 +6,7 @@ use byte_text::{push_number, push_text};
 use std::alloc::AllocError;
 
 /// Why a line of an accepted rule text says less than it seems to.
-#[derive(Clone, Copy, PartialEq, Eq, Debug)]
+#[derive(Clone, Copy)]
 pub enum WarningKind {
     /// Of no peer at all any of its addresses is a lookup form.
     NoClient,
@@ -21,7 +21,7 @@ pub enum WarningKind {
 }
 
 /// A warning, and the number of its line.
-#[derive(Clone, Copy, PartialEq, Eq, Debug)]
+#[derive(Clone, Copy)]
 pub struct Warning {
     /// The line's number, from 1; 0 for a text without lines.
     pub line: u64,

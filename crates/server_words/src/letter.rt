@@ -9,7 +9,7 @@ ghost use Rattle.server_words.specs.Letters.{is_mark, listed_as, marked_by, mean
 pub const TCPSERVER_LETTERS: &str = "vQq1c:k:m:x:XB:l:N:hHpPsSw:ROodDt:b:r!u!g!U!";
 
 /// What a character is as an option.
-#[derive(Clone, Copy, PartialEq, Eq, Debug)]
+#[derive(Clone, Copy)]
 pub enum Meaning {
     /// A letter without a value.
     Plain,

@@ -5,7 +5,7 @@ ghost use Rattle.server_words.specs.Plans.{level_of};
 use crate::Options;
 
 /// Which lines of the log `tcpserver` prints. Of `-v`, `-Q` and `-q` the last given counts.
-#[derive(Clone, Copy, PartialEq, Eq, Debug)]
+#[derive(Clone, Copy)]
 pub enum Level {
     /// None (`-q`).
     Quiet,

@@ -5,7 +5,7 @@ ghost use Rattle.server_words.specs.Limits.{count_in, limits_in};
 use crate::{Options, WordFault, number_in};
 
 /// How many connections a server lets in.
-#[derive(Clone, Copy, PartialEq, Eq, Debug)]
+#[derive(Clone, Copy)]
 pub struct ConnectionLimits {
     /// At most so many at once: the number of `-c`, 1 to 10,000, else 40.
     pub connections: u64,

@@ -8,7 +8,7 @@ use std::alloc::{AllocError, Global};
 use std::marker::Model;
 
 /// A stage that changes a text by its lines, by the name of its wrapper.
-#[derive(Clone, Copy, PartialEq, Eq, Debug)]
+#[derive(Clone, Copy)]
 pub enum StageName {
     /// `addcr`, which acts on output.
     AddCr,
