@@ -15,18 +15,17 @@ import tempfile
 import threading
 import time
 
-from disk.two_users import COMMON, OTHER, ROOT, THIRD
+from disk.two_users import COMMON, MAY_FAIL, OTHER, ROOT, THIRD, WAITING
 from shared import compiled_files, failed_calls
 from shared.checks import LIMIT, Checks
 
 RULES, SCRATCH, LOCK = "rules", "tmp", ".tcprules.lock"
-WAITING = "tcprules: waiting for another installation\n"
-MAY_FAIL = "tcprules: device fault at named\n"
-# how long a call is held up, after which of that another installation begins; how long one may take beside what it takes alone; in seconds
-HELD_UP, BEGINS, MORE = 0.8, 0.3, 1
+# how long a call is held up, and a sync, which takes long on a slow disk; how long each sync of the other run takes then; when that one begins; how long
+# one may take beside what it takes alone; in seconds
+HELD_UP, LONG, SLOW, BEGINS, MORE = 0.8, 4.5, 1.5, 0.3, 1
 # so many runs in a hundred may take longer, where the machine is busy; how many cases are tried at once
-FEW, AT_ONCE = 10, 6
-CALLS = "openat,unlink,unlinkat,rename,renameat,renameat2,link,linkat,fsync,fdatasync,fchmod,fchmodat,chmod,fcntl,flock,statx,newfstatat,fstat,pwrite64,ftruncate"
+FEW, AT_ONCE = 10, 12
+CALLS = "openat,unlink,unlinkat,rename,renameat,renameat2,link,linkat,fsync,fdatasync,fchmod,fchmodat,chmod,fcntl,flock,statx,newfstatat,fstat,pwrite64"
 CALL = re.compile(r"(?:\d+ +)?(\w+)\((.*)")
 # a user who holds what he can open of the folder in which this runs: by flock, alone or with others, and by a lock of its bytes with others
 HOLDER = r"""
@@ -157,7 +156,7 @@ class Folder(Checks):
             found = self.rules()
             if found not in [file_of(number) for number in range(max(1, self.last - 8), self.last + 1)]:
                 self.amiss.append(found)
-            time.sleep(0.001)
+            time.sleep(0.002)
 
     @contextlib.contextmanager
     def watched(self):
@@ -187,8 +186,13 @@ class Folder(Checks):
 
 
 def injected(call, number, how):
-    """In front of a program: this happens at its call of this name and number."""
-    return ["strace", "-qq", "-o", os.devnull, "-e", "trace=" + call, "-e", "inject=%s:%s:when=%d" % (call, how, number)]
+    """In front of a program: this happens at its call of this name and number, or at all of them from `1+` on."""
+    return ["strace", "-qq", "-o", os.devnull, "-e", "trace=" + call, "-e", "inject=%s:%s:when=%s" % (call, how, number)]
+
+
+def held_up(seconds):
+    """What is injected where a call takes so long."""
+    return "delay_enter=%d" % (seconds * 1e6)
 
 
 def calls_of(program, top, user, is_left):
@@ -296,11 +300,12 @@ def try_held_up(case, failures, program, top):
     if is_left:
         folder.left(OTHER)
     with folder.watched():
-        first = folder.start(first_user, before=injected(call, number, "delay_enter=%d" % (HELD_UP * 1e6)))
+        is_long = call == "fsync"
+        first = folder.start(first_user, before=injected(call, number, held_up(LONG if is_long else HELD_UP)))
         time.sleep(BEGINS)
         if is_taken:
             folder.take_away()
-        second = folder.start(second_user)
+        second = folder.start(second_user, before=injected("fsync", "1+", held_up(SLOW)) if is_long else ())
         while first.poll() is None or second.poll() is None:
             folder.take_away(hidden=True)
             time.sleep(0.01)
@@ -403,7 +408,8 @@ def check(program, failures):
         os.chmod(top, 0o755)
         program = shutil.copy(program, os.path.join(top, "ucspi"))
         calls, calls_left = (calls_of(program, top, OTHER, is_left) for is_left in (False, True))
-        tries = [pool.submit(try_killed, case, failures, program, top, calls_left) for case in (killed_alone, killed_root, killed_beside_root, root_killed_beside)]
+        kills = (killed_alone, killed_root, killed_beside_root, root_killed_beside)
+        tries = [pool.submit(try_killed, case, failures, program, top, calls_left) for case in kills]
         names = ((rules_of_that_name, 0o775), (locks_of_others, 0o1777), (readable_left, 0o775))
         tries += [pool.submit(try_names, case, failures, program, top, mode) for case, mode in names]
         tries += [pool.submit(try_held_up, case, failures, program, top) for case in cases_held_up(calls, calls_left)]

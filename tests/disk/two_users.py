@@ -33,8 +33,8 @@ RULES_NAME, SCRATCH = "rules", "tmp"
 WAITING = "tcprules: waiting for another installation\n"
 MOVED_HERE = 0x80
 EVENT = struct.Struct("iIII")
-# the reasons for which a run may fail whose scratch file somebody takes away
-FAULTS = ["tcprules: device fault at %s\n" % where for where in ("fresh", "records", "named", "done")]
+# what a run tells whose scratch file somebody has taken away, or that may not replace the rules
+MAY_FAIL = "tcprules: device fault at named\n"
 
 
 class User(NamedTuple):
@@ -344,17 +344,15 @@ class Test(Checks):
         told = {run.number for run in runs if run.code == 0}
         before = numbers - {run.number for run in runs}
         self.holds(self.name("renames onto %s" % name), len(told | numbers - before) <= renames <= len(runs), (len(told | numbers), renames, len(runs)))
-        self.holds(self.name("most texts of %s are seen" % name), len(told - numbers) <= len(told) // 4, len(told - numbers))
-        lies = sorted(numbers - before - told)
-        if not self.taken:
-            self.expect(self.name("texts under %s whose runs failed" % name), lies, [])
+        self.holds(self.name("most texts of %s are seen" % name), len(told - numbers) <= len(told) // 2, len(told - numbers))
+        self.expect(self.name("texts under %s whose runs failed" % name), sorted(numbers - before - told), [])
 
     def judge_ends(self, runs):
         """What the runs answered."""
         for run in runs:
             told = run.told.replace(WAITING, "", 1)
             may_fail = not self.may_replace(run) or "scratch" in self.taken
-            is_known = (run.code, told) == (0, "") or may_fail and run.code == 111 and told in FAULTS
+            is_known = (run.code, told) == (0, "") or may_fail and (run.code, told) == (111, MAY_FAIL)
             if not is_known or run.code == 0 and not self.may_replace(run):
                 self.fail(self.name("an end of %s" % run.user.name), run[1:])
         for user in (ROOT, OTHER):

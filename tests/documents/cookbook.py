@@ -482,13 +482,15 @@ def waiting(checks, kitchen):
     kitchen.needs_server()
     kitchen.needs("env", "echo")
     port = free_port()
-    line = "trap '' CHLD; exec env --default-signal=CHLD tcpserver -v -c 2 127.0.0.1 %d echo hello" % port
-    kitchen.start(["sh", "-c", line], "waiting-log")
+    words = ["env", "--ignore-signal=CHLD", "env", "--default-signal=CHLD", "tcpserver", "-v", "-c", "2", "127.0.0.1", str(port), "echo", "hello"]
+    kitchen.start(words, "waiting-log")
     wait_until("a server", lambda: listens(port))
     for _ in range(3):
         checks.expect("a program that is waited for", converse(port, ""), "hello\n")
     wait_until("the end of each", lambda: kitchen.read("waiting-log").count("tcpserver: end ") == 3)
     checks.holds("no place is given up", "retired" not in kitchen.read("waiting-log"))
+    ended = kitchen.run(" ".join(words[:2] + words[4:]))
+    checks.expect("without that", (ended.returncode, ended.stdout), (111, "tcpserver: cannot wait for programs\ntcpserver: cause: SIGCHLD is ignored\n"))
 
 
 def audited_log(checks, kitchen):

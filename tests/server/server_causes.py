@@ -1,6 +1,8 @@
 """The line of a cause: under -v a fault of the system is followed by one more line that says what the system was asked for, and its words; so is the
 usage line, by what is lacking. Without -v there is none."""
 import os
+import shutil
+import signal
 import socket
 
 from shared import compiled_files, failed_calls, log_forms
@@ -55,6 +57,29 @@ def faults_of_the_start(suite):
         told(suite, "a port in use", ["127.0.0.1", str(port), "true"], 111, "cannot listen", "127.0.0.1:%d: Address already in use" % port)
         told(suite, "a port in use, at any address", ["0", str(port), "true"], 111, "cannot listen", "0.0.0.0:%d: Address already in use" % port)
     told(suite, "an address of another machine", ["192.0.2.1", "2", "true"], 111, "cannot listen", "192.0.2.1:2: Cannot assign requested address")
+
+
+def ignored_ends(suite):
+    """The system forgets how programs end where SIGCHLD is ignored, and then alone."""
+
+    def ignore(*numbers):
+        return lambda: [signal.signal(number, signal.SIG_IGN) for number in numbers]
+
+    cause = "SIGCHLD is ignored"
+    told(suite, "SIGCHLD ignored", SERVE, 111, "cannot wait for programs", cause, preexec_fn=ignore(signal.SIGCHLD))
+    told(suite, "SIGCHLD ignored, and no host table", ["-N", "/nonexistent"] + SERVE, 111, "cannot wait for programs", cause, preexec_fn=ignore(signal.SIGCHLD))
+    others = [number for number in signal.valid_signals() if number not in (signal.SIGKILL, signal.SIGSTOP, signal.SIGCHLD, 32, 33)]
+    told(suite, "all ignored that may be", SERVE, 111, "cannot wait for programs", cause, preexec_fn=ignore(*others, signal.SIGCHLD))
+    suite.expect("wrong words", suite.run(["-v", "-z"], preexec_fn=ignore(signal.SIGCHLD)), (100, b"", b"tcpserver: unknown option -z\n"))
+    for numbers in (others, [signal.SIGCHLD + 1], [signal.SIGCHLD - 1], [signal.SIGCHLD + 4]):
+        with suite.start(["-v", "-k", "1"], ["echo", "hi"], preexec_fn=ignore(*numbers)) as server:
+            suite.expect("others ignored: the client", server.ask(), b"hi\n")
+            suite.expect("others ignored: the end", (server.end(), server.lines()[-2:]), (0, [log_forms.end(1), log_forms.status(0, 40)]))
+    # where the system does not tell which are ignored it begins (it opens three descriptors, if it has to, and then looks)
+    run = failed_calls.Library(suite.folder).run("open", "EACCES", 1, 4)
+    with suite.start(["-v", "-c", "1"], [shutil.which("true")], env=dict(os.environ, **run.environment), preexec_fn=ignore(signal.SIGCHLD)) as server:
+        server.ask()
+        suite.expect("an untold signal", (server.end(), server.lines()[-1]), (111, "no places left"))
 
 
 def starts(suite):
@@ -146,6 +171,6 @@ def named_rules(suite):
             suite.expect("no warning of " + path, (server.end(), NAMES in server.all_lines()), (0, False))
 
 
-CHECKS = [usage, faults_of_words, faults_of_the_start, starts, drops, accepting, named_rules]
+CHECKS = [usage, faults_of_words, faults_of_the_start, ignored_ends, starts, drops, accepting, named_rules]
 COMMON = []
 HANDED = [starts, drops]
