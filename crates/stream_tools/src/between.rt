@@ -23,7 +23,7 @@ use thiserror::Error;
 use ucspi_env::Environment;
 
 /// Why a program could not be run between pumps.
-#[derive(Clone, Copy, PartialEq, Eq, Debug, Error)]
+#[derive(Clone, Copy, Debug, Error)]
 pub enum BetweenFault {
     /// It could not be started, gave no pipe ends, or its input got no thread.
     #[error("cannot start")]
@@ -56,7 +56,7 @@ pub struct Lane<E, S, T> {
 }
 
 /// How the two pumps of a program ended.
-#[derive(Clone, Copy, PartialEq, Eq, Debug)]
+#[derive(Clone, Copy)]
 pub struct PumpEnds {
     /// The one that gave it its input.
     pub input: PumpEnd,
@@ -65,7 +65,7 @@ pub struct PumpEnds {
 }
 
 /// How a program ended that ran between two pumps, and how these ended.
-#[derive(Clone, Copy, PartialEq, Eq, Debug)]
+#[derive(Clone, Copy)]
 pub struct RunEnd {
     /// How the program ended.
     pub status: Status,
@@ -111,7 +111,13 @@ where
     ensures fault { IfErr result (λ why. IsNotStarted L.refuses launcher run.entry.0.now run.entry.1.now why
         ⊎ ((job : L.Job) × IsRunOf L.Job.program L.Job.environment run.entry.0.now run.entry.1.now job)) }
 {
-    let mut job = start_job(alloc, launcher, run.0, run.1)?;
+    let mut job = match start_job(alloc, launcher, run.0, run.1) {
+        Ok(job) => job,
+        Err(fault) => {
+            drop(lanes);
+            return Err(fault);
+        }
+    };
     let pumps = serve(rt, alloc, &mut job, lanes, watch);
     end_of(job, pumps)
 }
@@ -162,6 +168,7 @@ where
         T.watches T.sees T.ends lanes.1 pumps.output) }
 {
     let Ok((to, from)) = job.ends() else {
+        drop(lanes);
         return None;
     };
     let (input, output) = lanes;

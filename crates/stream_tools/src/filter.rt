@@ -18,7 +18,7 @@ pub const TURNS: u64 = 1 << 40;
 const _: () = prove!(TURNS == 1_099_511_627_776);
 
 /// Why a stream was not passed on to its end.
-#[derive(Clone, Copy, PartialEq, Eq, Debug, Error)]
+#[derive(Clone, Copy, Debug, Error)]
 pub enum FilterFault {
     /// It could not be read, or took more than 2^40 reads.
     #[error("read fault")]

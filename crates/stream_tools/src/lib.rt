@@ -25,4 +25,4 @@ pub use launcher::{OsJob, OsLauncher};
 pub use process::NotStarted;
 pub use search::SearchPath;
 pub use shared::SharedWriter;
-pub use tools::{run_addcr, run_delcr, run_fixcrio, run_recordio};
+pub use tools::{run_fixcrio, run_recordio};

@@ -24,7 +24,7 @@ pub struct ChildProcess {
 }
 
 /// Why a program was not started: what is told of it, and the system's number of its error (`errno`), where the system refused it.
-#[derive(Clone, Copy, PartialEq, Eq, Debug)]
+#[derive(Clone, Copy)]
 pub struct NotStarted {
     /// What is told.
     pub fault: StartFault,

@@ -1,6 +1,5 @@
 //! The tools over the standard streams and the system's programs.
 use crate::between::BetweenFault;
-use crate::filter::{FilterFault, add_returns, delete_returns};
 use crate::fixcrio::fix_between;
 use crate::launcher::OsLauncher;
 use crate::recordio::record_between;
@@ -26,24 +25,23 @@ use ucspi_env::Environment;
 /// The descriptor of standard input.
 const STANDARD_INPUT: RawFd = 0;
 
-/// Passes standard input to standard output with a carriage return before each line feed.
-///
-/// # Errors
-/// As of `filter::add_returns`.
-pub fn run_addcr<R: Input + Print + AllocGlobal + Clock>(rt: &R) -> Result<(), FilterFault> {
-    let mut reader = Patient::new(rt, rt.reader());
-    let mut writer = Patient::new(rt, io::writer(rt));
-    add_returns(rt.alloc(), &mut reader, &mut writer)
+/// What a tool was told that runs a program: the program, its variables, and where programs are looked for.
+#[derive(Drop)]
+struct ToldRun {
+    program: Program,
+    variables: Environment,
+    search: SearchPath,
 }
 
-/// Passes standard input to standard output without one carriage return at the end of each line.
-///
-/// # Errors
-/// As of `filter::delete_returns`.
-pub fn run_delcr<R: Input + Print + AllocGlobal + Clock>(rt: &R) -> Result<(), FilterFault> {
-    let mut reader = Patient::new(rt, rt.reader());
-    let mut writer = Patient::new(rt, io::writer(rt));
-    delete_returns(rt.alloc(), &mut reader, &mut writer)
+impl ToldRun {
+    /// The program that words name, with the variables that this process was given.
+    fn by_words<E: Env>(alloc: Global, env: &E, words: &[Vec<u8>]) -> Result<ToldRun, AllocError> {
+        Ok(ToldRun {
+            program: program_of(alloc, words)?,
+            variables: inherited_variables(alloc, &SystemGiven(env))?,
+            search: SearchPath::own(alloc, env)?,
+        })
+    }
 }
 
 /// Runs a program whose lines get a carriage return where they have none, both ways.
@@ -55,27 +53,29 @@ where
     R: Env + Input + Print + AllocGlobal + Processes + Threads + Wait + Sync + Clock + Net + Files,
     R::Reader: Send,
 {
+    let told = ToldRun::by_words(rt.alloc(), rt, words)?;
+    let status = fix_told(rt, &told);
+    drop(told);
+    status
+}
+
+/// `fixcrio` of a program that was told, over the standard streams.
+fn fix_told<R>(rt: &R, told: &ToldRun) -> Result<Status, BetweenFault>
+where
+    R: Input + Print + AllocGlobal + Processes + Threads + Wait + Sync + Clock + Net + Files,
+    R::Reader: Send,
+{
     let alloc = rt.alloc();
-    let (program, variables) = told_run(alloc, rt, words)?;
-    let search = SearchPath::own(alloc, rt)?;
-    let launcher = OsLauncher::new(rt, &search);
-    let run = (&program, &variables);
-    let input = Patient::new(rt, rt.reader());
-    let output = Patient::new(rt, io::writer(rt));
-    let end = fix_between(rt, alloc, launcher, run, (input, output), |pipe| {
+    let launcher = OsLauncher::new(rt, &told.search);
+    let run = (&told.program, &told.variables);
+    let streams = (
+        Patient::new(rt, rt.reader()),
+        Patient::new(rt, io::writer(rt)),
+    );
+    let end = fix_between(rt, alloc, launcher, run, streams, |pipe| {
         Watch::new(alloc, rt, STANDARD_INPUT, pipe.as_raw_fd())
     })?;
     Ok(end.status)
-}
-
-/// The program that words name, and the variables that this process was given.
-fn told_run<E: Env>(
-    alloc: Global,
-    env: &E,
-    words: &[Vec<u8>],
-) -> Result<(Program, Environment), AllocError> {
-    let program = program_of(alloc, words)?;
-    Ok((program, inherited_variables(alloc, &SystemGiven(env))?))
 }
 
 /// Runs a program, and records what goes both ways on `errors`.
@@ -88,19 +88,35 @@ where
     R::Reader: Send,
     E: Write + Send + Drop,
 {
-    let alloc = rt.alloc();
-    let (program, variables) = told_run(alloc, rt, words)?;
-    let search = SearchPath::own(alloc, rt)?;
-    let launcher = OsLauncher::new(rt, &search);
-    let run = (&program, &variables);
-    let input = Patient::new(rt, rt.reader());
-    let output = Patient::new(rt, io::writer(rt));
     let errors = Mutex::new(errors);
-    let errors = (
-        SharedWriter::new(rt, &errors),
-        SharedWriter::new(rt, &errors),
+    let status = match ToldRun::by_words(rt.alloc(), rt, words) {
+        Ok(told) => {
+            let status = record_told(rt, &errors, &told);
+            drop(told);
+            status
+        }
+        Err(_) => Err(BetweenFault::OutOfMemory),
+    };
+    drop(errors);
+    status
+}
+
+/// `recordio` of a program that was told, over the standard streams.
+fn record_told<R, E>(rt: &R, errors: &Mutex<E>, told: &ToldRun) -> Result<Status, BetweenFault>
+where
+    R: Input + Print + AllocGlobal + Processes + Threads + Wait + Sync + Clock + Net + Files,
+    R::Reader: Send,
+    E: Write + Send + Drop,
+{
+    let alloc = rt.alloc();
+    let launcher = OsLauncher::new(rt, &told.search);
+    let run = (&told.program, &told.variables);
+    let streams = (
+        Patient::new(rt, rt.reader()),
+        Patient::new(rt, io::writer(rt)),
     );
-    let end = record_between(rt, alloc, launcher, run, (input, output), errors, |pipe| {
+    let errors = (SharedWriter::new(rt, errors), SharedWriter::new(rt, errors));
+    let end = record_between(rt, alloc, launcher, run, streams, errors, |pipe| {
         Watch::new(alloc, rt, STANDARD_INPUT, pipe.as_raw_fd())
     })?;
     Ok(end.status)
