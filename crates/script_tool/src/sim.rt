@@ -22,7 +22,7 @@ pub const MOST_LINES: u64 = 1 << 40;
 const _: () = prove!(MOST_LINES == 1_099_511_627_776);
 
 /// Why a run of `rulesim` does not come to the end of its script.
-#[derive(Clone, Copy, PartialEq, Eq, Debug, Error)]
+#[derive(Clone, Copy, Debug, Error)]
 pub enum SimFault {
     /// This line, from 1, is no command.
     #[error("line {0}: bad command")]

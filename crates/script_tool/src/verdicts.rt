@@ -20,7 +20,7 @@ use std::alloc::{AllocError, Global};
 use std::io::{BufRead, Write};
 
 /// How many lines tell a verdict, how many of these verdicts would be another now, and how many lines of a verdict can't be read.
-#[derive(Clone, Copy, PartialEq, Eq, Debug)]
+#[derive(Clone, Copy)]
 pub struct Sums {
     told: u64,
     changed: u64,

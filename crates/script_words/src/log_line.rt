@@ -15,7 +15,7 @@ use std::str;
 const FIELD: usize = 100;
 
 /// An end of a connection: the name of its host, if it is known, its address and its port.
-#[derive(Clone, Copy, PartialEq, Eq, Debug)]
+#[derive(Clone, Copy)]
 pub struct End<'a> {
     /// The name of its host.
     pub host: Option<&'a str>,
@@ -26,7 +26,7 @@ pub struct End<'a> {
 }
 
 /// What the line of a verdict tells.
-#[derive(Clone, Copy, PartialEq, Eq, Debug)]
+#[derive(Clone, Copy)]
 pub struct VerdictLine<'a> {
     /// Whether the connection may be made.
     pub verdict: Verdict,
@@ -41,7 +41,7 @@ pub struct VerdictLine<'a> {
 }
 
 /// What a line of a log is.
-#[derive(Clone, Copy, PartialEq, Eq, Debug)]
+#[derive(Clone, Copy)]
 pub enum LogLine<'a> {
     /// It is no verdict's.
     Other,

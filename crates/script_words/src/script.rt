@@ -51,7 +51,7 @@ pub enum Command<'a> {
 }
 
 /// Why a line gives no command.
-#[derive(Clone, Copy, PartialEq, Eq, Debug)]
+#[derive(Clone, Copy)]
 pub enum LineEnd {
     /// It is none.
     Bad,

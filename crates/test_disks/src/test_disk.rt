@@ -9,7 +9,7 @@ use std::cell::Cell;
 use std::io::{self, ErrorKind};
 
 /// What befalls a call.
-#[derive(Clone, Copy, PartialEq, Eq, Debug)]
+#[derive(Clone, Copy)]
 pub enum Mishap {
     /// It fails and does nothing.
     Fails,

@@ -79,7 +79,7 @@ impl Job for EndedJob {
 }
 
 /// Starts such jobs: with a status, without one, or none at all.
-#[derive(Clone, Copy, PartialEq, Eq, Debug)]
+#[derive(Clone, Copy)]
 pub enum EndedJobs {
     /// They have ended.
     Ending(Status),
