@@ -5,31 +5,38 @@
 //! premise, which its lines state: `docs/internals/PROOFS.md` lists them.
 #![tactic(auto)]
 
+mod calls;
+
+use byte_streams::Patient;
+use calls::StandardCalls;
+use server_tool::run_tcpserver;
+use server_words::Mode;
 use std::io;
 use std::process::ExitCode;
-use ucspi_tools::standard::{check, install, review};
-use ucspi_tools::{
-    Mode, Patient, SystemGiven, SystemTools, run_fixcrio, run_program, run_recordio, run_script,
-    run_tcpserver,
-};
+use stream_tools::started::SystemGiven;
+use stream_tools::{run_fixcrio, run_recordio};
+use ucspi_tools::{SystemTools, run_program};
 
 fn main(rt: HostRuntime) -> ExitCode {
     let alloc = rt.alloc();
+    let calls = StandardCalls {
+        rt: &rt,
+        errors: rt.stderr(),
+        serve: |mode: Mode, words: &[Vec<u8>], causes: &mut Vec<u8>| {
+            run_tcpserver(&rt, Patient::new(&rt, rt.stderr()), words, mode, causes)
+        },
+        fix: |words: &[Vec<u8>]| run_fixcrio(&rt, words),
+        record: |words: &[Vec<u8>]| run_recordio(&rt, Patient::new(&rt, rt.stderr()), words),
+    };
     let mut tools = SystemTools {
         alloc,
         input: Patient::new(&rt, rt.reader()),
         output: Patient::new(&rt, io::writer(&rt)),
         errors: Patient::new(&rt, rt.stderr()),
         causes: Vec::new(alloc),
-        serve: |mode: Mode, words: &[Vec<u8>], causes: &mut Vec<u8>| {
-            run_tcpserver(&rt, Patient::new(&rt, rt.stderr()), words, mode, causes)
-        },
-        simulate: || run_script(&rt),
-        install: |cdb: &str, tmp: &str| install(&rt, rt.stderr(), cdb, tmp),
-        review: || review(&rt, rt.stderr()),
-        check: |cdb: &str| check(&rt, cdb),
-        fix: |words: &[Vec<u8>]| run_fixcrio(&rt, words),
-        record: |words: &[Vec<u8>]| run_recordio(&rt, Patient::new(&rt, rt.stderr()), words),
+        calls,
     };
-    ExitCode::from(run_program(alloc, &SystemGiven(&rt), &mut tools))
+    let code = run_program(alloc, &SystemGiven(&rt), &mut tools);
+    drop(tools);
+    ExitCode::from(code)
 }

@@ -10,7 +10,7 @@ use memchr::memrchr;
 use server_words::Mode;
 
 /// What words ask for.
-#[derive(Clone, Copy, PartialEq, Eq, Debug)]
+#[derive(Clone, Copy)]
 pub enum ToolChoice<'a> {
     /// A run of `tcpserver`.
     Tcpserver {

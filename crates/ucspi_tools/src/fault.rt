@@ -24,7 +24,7 @@ pub const WARNED: u8 = 1;
 const LINE: usize = 512;
 
 /// Why a run of a tool fails. It prints as what stands behind the tool's name.
-#[derive(Clone, Copy, PartialEq, Eq, Debug, Error)]
+#[derive(Clone, Copy, Debug, Error)]
 pub enum ToolFault {
     /// The words are not those of this tool.
     #[error("usage: {usage}", usage = .0.usage())]

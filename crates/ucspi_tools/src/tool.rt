@@ -3,7 +3,7 @@ ghost use Rattle.std.specs.Prelude.{◌≡◌, bytes_eq};
 ghost use Rattle.ucspi_tools.specs.Choices.{name_of, purpose_text, tool_of, usage_text};
 
 /// A tool.
-#[derive(Clone, Copy, PartialEq, Eq, Debug)]
+#[derive(Clone, Copy, Debug)]
 pub enum Tool {
     /// Serves TCP connections by a program.
     Tcpserver,

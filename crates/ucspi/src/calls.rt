@@ -1,0 +1,109 @@
+//! The tools over the system, and over the streams of the process.
+ghost use Rattle.ucspi_tools.specs.Systems.{anything};
+
+use byte_streams::Patient;
+use connection_facts::Status;
+use rules_tools::{
+    CheckFailure, ReviewFault, RulesFailure, run_review, run_tcprules, run_tcprulescheck,
+};
+use script_tool::{SimFault, run_script};
+use server_parts::ServerFault;
+use server_words::Mode;
+use std::fs::{File, Files};
+use std::io;
+use std::io::{BufWriter, Write};
+use std::os::unix::fs::FileExt;
+use std::rt::Env;
+use std::time::Clock;
+use stream_tools::BetweenFault;
+use ucspi_tools::Calls;
+
+/// The tools over the system, and over its standard streams, each of which is waited for where it was left non-blocking. Those that start
+/// threads are lent as calls that may be made at any time, since the system has threads in `main` alone.
+#[derive(Drop)]
+pub struct StandardCalls<'a, R, E, S, F, P> {
+    /// The system.
+    pub rt: &'a R,
+    /// Standard error.
+    pub errors: E,
+    /// `tcpserver`.
+    pub serve: S,
+    /// `fixcrio`.
+    pub fix: F,
+    /// `recordio`.
+    pub record: P,
+}
+
+impl<R, E, S, F, P> Calls for StandardCalls<'_, R, E, S, F, P>
+where
+    R: Env + Input + Print + AllocGlobal + Files<File = File> + Clock,
+    E: Write + Copy + Drop,
+    S: Fn(Mode, &[Vec<u8>], &mut Vec<u8>) -> Result<(), ServerFault>,
+    F: Fn(&[Vec<u8>]) -> Result<Status, BetweenFault>,
+    P: Fn(&[Vec<u8>]) -> Result<Status, BetweenFault>,
+{
+    ghost ready = { λ calls. S.IsAlwaysCallable calls.serve × F.IsAlwaysCallable calls.fix × P.IsAlwaysCallable calls.record };
+
+    ghost parts = { anything };
+
+    fn serve(
+        &self,
+        by_name: Mode,
+        words: &[Vec<u8>],
+        causes: &mut Vec<u8>,
+    ) -> Result<(), ServerFault> {
+        (self.serve)(by_name, words, causes)
+    }
+
+    fn simulate(&self) -> Result<(), SimFault> {
+        run_script(self.rt)
+    }
+
+    fn install(&self, cdb: &str, tmp: &str) -> Result<(), RulesFailure> {
+        let mut reader = Patient::new(self.rt, self.rt.reader());
+        let mut errors = Patient::new(self.rt, self.errors);
+        let alloc = self.rt.alloc();
+        let done = run_tcprules(alloc, self.rt, &mut reader, &mut errors, cdb, tmp);
+        drop(errors);
+        drop(reader);
+        done
+    }
+
+    fn review(&self) -> Result<bool, ReviewFault> {
+        let errors = Patient::new(self.rt, self.errors);
+        let Ok(mut lines) = BufWriter::new(self.rt.alloc(), errors) else {
+            return Err(ReviewFault::OutOfMemory);
+        };
+        let outcome = self.review_on(&mut lines);
+        drop(lines);
+        outcome
+    }
+
+    fn check(&self, cdb: &str) -> Result<(), CheckFailure> {
+        let mut writer = Patient::new(self.rt, io::writer(self.rt));
+        let told = run_tcprulescheck(self.rt, self.rt, &mut writer, cdb);
+        drop(writer);
+        told
+    }
+
+    fn fix(&self, words: &[Vec<u8>]) -> Result<Status, BetweenFault> {
+        (self.fix)(words)
+    }
+
+    fn record(&self, words: &[Vec<u8>]) -> Result<Status, BetweenFault> {
+        (self.record)(words)
+    }
+}
+
+impl<R: Input + AllocGlobal + Clock, E, S, F, P> StandardCalls<'_, R, E, S, F, P> {
+    // Looks over the rule text that standard input has, and writes all its warnings.
+    fn review_on<W: Write>(&self, lines: &mut W) -> Result<bool, ReviewFault> {
+        let mut reader = Patient::new(self.rt, self.rt.reader());
+        let outcome = run_review(self.rt.alloc(), &mut reader, lines);
+        drop(reader);
+        match (outcome, lines.flush()) {
+            (Ok(_), Err(_)) => Err(ReviewFault::WriteFault),
+            (outcome, _) => outcome,
+        }
+    }
+}
