@@ -12,6 +12,7 @@ import socket
 import time
 
 from shared import failed_calls, log_forms, server_runs
+from shared.checks import needs_proved
 from shared.server_runs import read_all
 
 OVER, PUMPED = "handed over", "pumped"
@@ -303,6 +304,7 @@ def idle_costs(suite):
         suite.audit("60 sessions", server)
 
 
+@needs_proved(6)
 def little_memory(suite):
     """Forty connections at once where memory is limited as `softlimit -m 30000000` does it."""
     limits = ["prlimit"] + ["--%s=%d" % (kind, LITTLE_MEMORY) for kind in ("data", "stack", "as")]
