@@ -11,6 +11,7 @@ import threading
 import time
 
 from shared import failed_calls, server_runs
+from shared.checks import needs_proved
 from shared.clients import Together
 from shared.server_runs import read_all
 
@@ -88,6 +89,7 @@ def descriptors(suite):
     resource.setrlimit(resource.RLIMIT_NOFILE, before)
 
 
+@needs_proved(35)
 def memory(suite):
     """Less memory, or less address space, than all clients take at once: the C library reserves 64 MiB for a thread where it can."""
     little = [(kind, 10000000) for kind in ("data", "stack", "as")]
