@@ -2,8 +2,10 @@ pub mod AnyKey
 pub mod FaultLemmas
 pub mod FirstFound
 pub mod Passing
+pub mod PieceLemmas
 pub mod ProbeLemmas
 pub mod Probing
 pub mod ReadLemmas
 pub mod Records
+pub mod StageLemmas
 pub mod StoredRules

@@ -3,3 +3,4 @@ pub mod Compiled
 pub mod Parts
 pub mod Reading
 pub mod Sources
+pub mod Stages

@@ -1,6 +1,5 @@
 -- The parts of a lookup in a compiled file.
-use Rattle.std.specs.Prelude.{◌≡◌, ℕ, ◌+◌, ◌*◌, Bool, not, List, map, find, take, drop, Option, Some, None, option_map, Result, IfOk, IfErr, Vec, vec_items, IsTrue, if◌then◌else◌}
-use Rattle.std.specs.Global.{Global}
+use Rattle.std.specs.Prelude.{◌≡◌, ◌≤◌, ℕ, ◌+◌, ◌*◌, Bool, not, List, length, map, find, take, drop, Option, Some, None, Result, IfOk, IfErr, IsTrue, if◌then◌else◌}
 use Rattle.std.specs.List.{range_with_len}
 use Rattle.cdb_write.specs.Format.{hash_of, two_numbers_at}
 use Rattle.cdb_write.specs.Slots.{probe}
@@ -9,6 +8,11 @@ use Rattle.rule_lines.specs.Lookups.{Finding}
 use Rattle.rule_lines.specs.Lookups.Finding.{Has, Absent, Broken}
 use Rattle.rule_lines.specs.declared.source.FindFault.{FindFault}
 use Rattle.rule_lines.specs.declared.source.FindFault.TheVariants.{Short, Device, OutOfMemory}
+use Rattle.rule_lines.specs.Codes.{decoded}
+use Rattle.rule_lookup.specs.declared.decision.DecideFault.{DecideFault}
+use Rattle.rule_lookup.specs.declared.decision.DecideFault.TheVariants.{Find, Code, OutOfMemory as NoMemory}
+use Rattle.cdb_read.specs.declared.cdb_file.Stored.{Stored}
+use Rattle.cdb_read.specs.declared.window.Window.{Window}
 
 -- so many bytes from a place on
 abbrev pub bytes_at : List ℕ → ℕ → ℕ → List ℕ
@@ -30,14 +34,28 @@ found_in_probe file key slots = found_at file key (find (λ (slot : ℕ × ℕ).
 abbrev pub found_in_slots : List ℕ → List ℕ → ℕ × ℕ → Finding
 found_in_slots file key pointer = found_in_probe file key (probe (hash_of key) (slots_from file pointer))
 
--- an answer says what is found
-abbrev pub IsAnswer : Finding → Option (List ℕ) → Type 0
-IsAnswer found (Some value) = found ≡ Has value
-IsAnswer found None = found ≡ Absent
+-- the place of a record's value, and the value
+abbrev pub value_place : Stored → ℕ
+value_place stored = stored.place + 8 + stored.key_len
 
--- so an answer does that is one of bytes of its own, where it is no fault
-abbrev pub Tells : Finding → Result (Option (Vec ℕ Global)) FindFault → Type 0
-Tells found result = IfOk result (λ value. IsAnswer found (option_map vec_items value))
+abbrev pub value_of : List ℕ → Stored → List ℕ
+value_of file stored = bytes_at file (value_place stored) stored.value_len
+
+-- a record's value lies in a file
+abbrev pub IsInside : List ℕ → Stored → Type 0
+IsInside file stored = value_place stored + stored.value_len ≤ length file
+
+-- an answer is a record whose value is what is found, and lies in the file
+abbrev pub IsRecord : List ℕ → Finding → Option Stored → Type 0
+IsRecord file found (Some stored) = (found ≡ Has (value_of file stored)) × IsInside file stored
+IsRecord file found None = found ≡ Absent
+
+abbrev pub Tells : List ℕ → Finding → Result (Option Stored) FindFault → Type 0
+Tells file found result = IfOk result (IsRecord file found)
+
+-- bytes of a file that were read together
+abbrev pub IsWindowOf : List ℕ → Window → Type 0
+IsWindowOf file window = window.bytes.items ≡ bytes_at file window.place (length window.bytes.items)
 
 -- a fault where something is to be found in a file of which it is known, or not, that it is honest and that it is sound
 abbrev pub IsFault : Bool → Bool → Finding → FindFault → Type 0
@@ -52,5 +70,13 @@ ReadFails honest sound Device = IsTrue sound → ⊥
 ReadFails honest sound OutOfMemory = Unit {0}
 
 -- an answer that is a fault is one where this is to be found
-abbrev pub FailsOf : Bool → Bool → Finding → Result (Option (Vec ℕ Global)) FindFault → Type 0
+abbrev pub FailsOf : {X : Type 0} → Bool → Bool → Finding → Result X FindFault → Type 0
 FailsOf honest sound found result = IfErr result (IsFault honest sound found)
+
+-- a fault where a value inside such a file is decoded
+abbrev pub CodeFails : Bool → Bool → List ℕ → DecideFault → Type 0
+CodeFails honest sound value (Find Short) = IsTrue honest → ⊥
+CodeFails honest sound value (Find Device) = IsTrue sound → ⊥
+CodeFails honest sound value (Find OutOfMemory) = ⊥
+CodeFails honest sound value (Code fault) = IsTrue honest → decoded value ≡ None
+CodeFails honest sound value NoMemory = Unit {0}

@@ -1,18 +1,50 @@
 //! Lookups in a compiled file.
-ghost use Rattle.std.specs.Prelude.{◌≡◌, ◌≢◌, ◌≤◌, ◌<◌, ◌+◌, ◌*◌, ◌^◌, length, IsTrue, IfOk, IfErr, OnOk};
+ghost use Rattle.std.specs.Prelude.{◌≡◌, ◌≢◌, ◌≤◌, ◌<◌, ◌+◌, ◌*◌, ◌^◌, ◌%◌, length, Some, IsTrue, IfOk, IfErr, OnOk};
 ghost use Rattle.cdb_write.specs.Format.{two_numbers_at};
-ghost use Rattle.cdb_read.specs.Parts.{FailsOf, IsFault, ReadFails, Tells, bytes_at, found_in_slots, record_at};
+ghost use Rattle.cdb_read.specs.Parts.{CodeFails, FailsOf, IsFault, IsInside, IsWindowOf, ReadFails, Tells, bytes_at, found_in_slots, record_at, value_of, value_place};
 ghost use Rattle.cdb_read.specs.Reading.{lies_in, reading};
 ghost use Rattle.cdb_read.specs.Sources.{trust_of};
+ghost use Rattle.rule_lines.specs.Codes.{decoded};
 ghost use Rattle.rule_lines.specs.Lookups.Trust.{Sound};
 
+use crate::stage::{Stage, text_front};
+use crate::window::{FIRST_PIECE, PIECE, Window};
 use byteorder::{ByteOrder, LittleEndian};
 use cdb_write::hash;
 use cdb_write::layout::HEADER_LENGTH;
 use dir_calls::RulesFile;
-use rule_lines::{FindFault, PairSource};
+use rule_lines::{CodeFault, FindFault, Instr, PairSource, decode_instr};
+use rule_lookup::{DecideFault, RuleSource};
 use std::alloc::Global;
 use std::marker::Model;
+
+/// Where a record stands: its place, and the lengths of its key and of its value.
+#[derive(Clone, Copy)]
+struct Stored {
+    place: u32,
+    key_len: u32,
+    value_len: u32,
+}
+
+impl Stored {
+    /// The place of its value.
+    fn value_place(self) -> u64
+        ensures { result ≡ value_place self }
+    {
+        u64::from(self.place) + 8 + u64::from(self.key_len)
+    }
+}
+
+/// The index that is so many behind the first, where the last index is followed by 0.
+fn turned(first: u64, passed: u64, slots: u64) -> u64
+    requires first_inside { first < slots }
+    requires passed_inside { passed < slots }
+    requires fits { slots < 2 ^ 32 }
+    ensures { result ≡ (first + passed) % slots }
+{
+    let index = first + passed;
+    if index < slots { index } else { index - slots }
+}
 
 /// An opened compiled file, as a source of pairs.
 #[derive(Drop)]
@@ -64,6 +96,7 @@ impl<F: RulesFile> CdbFile<F> {
     fn bytes_at(&self, alloc: Global, place: u64, len: usize) -> Result<Vec<u8>, FindFault>
         requires fits { place + len < 2 ^ 64 }
         requires inside { IsTrue F.honest → place + len ≤ length (F.bytes self.now) }
+        ensures length { IfOk result (λ v. length v.items ≡ len) }
         ensures bytes { IsTrue F.honest → IfOk result (λ v. v.items ≡ bytes_at (F.bytes self.now) place len) }
         ensures fault { IfErr result (ReadFails F.honest F.sound) }
     {
@@ -86,31 +119,57 @@ impl<F: RulesFile> CdbFile<F> {
         Ok((first, second))
     }
 
-    /// The value of the record at a place, or `None` where it is seen to have another key.
-    fn value_at(&self, alloc: Global, place: u32, key: &[u8]) -> Result<Option<Vec<u8>>, FindFault>
-        ensures found { IsTrue F.honest → Tells (record_at (F.bytes self.now) key.now place) result }
+    /// The record at a place, or `None` where it is seen to have another key.
+    fn record_at(&self, alloc: Global, place: u32, key: &[u8]) -> Result<Option<Stored>, FindFault>
+        ensures found { IsTrue F.honest → Tells (F.bytes self.now) (record_at (F.bytes self.now) key.now place) result }
         ensures fault { IfErr result (IsFault F.honest F.sound (record_at (F.bytes self.now) key.now place)) }
     {
-        let place = u64::from(place);
-        if !self.holds(place, 8) {
+        let record = u64::from(place);
+        if !self.holds(record, 8) {
             return Err(FindFault::Short);
         }
-        let (key_len, value_len) = self.two_numbers(place)?;
+        let (key_len, value_len) = self.two_numbers(record)?;
         if key_len as usize != key.len() {
             return Ok(None);
         }
-        if !self.holds(place + 8, u64::from(key_len)) {
+        if !self.holds(record + 8, u64::from(key_len)) {
             return Err(FindFault::Short);
         }
-        let record_key = self.bytes_at(alloc, place + 8, key.len())?;
+        let record_key = self.bytes_at(alloc, record + 8, key.len())?;
         if record_key.as_slice() != key {
             return Ok(None);
         }
-        let value_place = place + 8 + u64::from(key_len);
-        if !self.holds(value_place, u64::from(value_len)) {
+        if !self.holds(record + 8 + u64::from(key_len), u64::from(value_len)) {
             return Err(FindFault::Short);
         }
-        Ok(Some(self.bytes_at(alloc, value_place, value_len as usize)?))
+        Ok(Some(Stored {
+            place,
+            key_len,
+            value_len,
+        }))
+    }
+
+    /// The two numbers at a place, by the bytes of a window or, where it has not these, of one that is read in its place.
+    fn windowed_numbers(
+        &self,
+        alloc: Global,
+        window: &mut Window,
+        place: u64,
+        end: u64,
+    ) -> Result<(u32, u32), FindFault>
+        requires fits { place + 8 ≤ end }
+        requires inside { IsTrue F.honest → end ≤ length (F.bytes self.now) }
+        requires read { IsTrue F.honest → IsWindowOf (F.bytes self.now) window.old }
+        ensures numbers { IsTrue F.honest → IfOk result (λ pair. pair ≡ two_numbers_at (F.bytes self.now) place) }
+        ensures read { IsTrue F.honest → IfOk result (λ pair. IsWindowOf (F.bytes self.now) window.new) }
+        ensures fault { IfErr result (ReadFails F.honest F.sound) }
+    {
+        if window.has_numbers(place) {
+            return Ok(window.numbers(place));
+        }
+        window.bytes = self.bytes_at(alloc, place, window.next_len(end - place))?;
+        window.place = place;
+        Ok(window.numbers(place))
     }
 
     /// What the slots of a table have for a key: the first of the probe that is not passed decides.
@@ -120,39 +179,43 @@ impl<F: RulesFile> CdbFile<F> {
         key: &[u8],
         table: u32,
         slots: u32,
-    ) -> Result<Option<Vec<u8>>, FindFault>
+    ) -> Result<Option<Stored>, FindFault>
         requires some_slots { 0 < slots }
         requires inside { IsTrue F.honest → table + 8 * slots ≤ length (F.bytes self.now) }
-        ensures found { IsTrue F.honest → Tells (found_in_slots (F.bytes self.now) key.now (table, slots)) result }
+        ensures found { IsTrue F.honest → Tells (F.bytes self.now) (found_in_slots (F.bytes self.now) key.now (table, slots)) result }
         ensures fault { FailsOf F.honest F.sound (found_in_slots (F.bytes self.now) key.now (table, slots)) result }
     {
         let key_hash = hash(key);
         let first = u64::from(key_hash / 256 % slots);
-        for passed in 0..u64::from(slots) {
-            let index = (first + passed) % u64::from(slots);
-            let (slot_hash, place) = self.two_numbers(u64::from(table) + 8 * index)?;
+        let count = u64::from(slots);
+        let begin = u64::from(table);
+        let mut window = Window::empty(alloc);
+        for passed in 0..count {
+            let slot = begin + 8 * turned(first, passed, count);
+            let (slot_hash, place) = self.windowed_numbers(
+                alloc,
+                &mut window,
+                slot,
+                begin + 8 * count,
+            )?;
             if place == 0 {
                 return Ok(None);
             }
             if slot_hash != key_hash {
                 continue;
             }
-            if let Some(value) = self.value_at(alloc, place, key)? {
-                return Ok(Some(value));
+            if let Some(stored) = self.record_at(alloc, place, key)? {
+                return Ok(Some(stored));
             }
         }
         Ok(None)
     }
-}
 
-impl<F: RulesFile> PairSource for CdbFile<F> {
-    ghost finds = { λ source key. reading (F.bytes source) key };
-
-    ghost trust = { λ _. trust_of F.honest F.sound };
-
-    ghost may_fail = { λ _ _. trust_of F.honest F.sound ≢ Sound };
-
-    fn find(&self, alloc: Global, key: &[u8]) -> Result<Option<Vec<u8>>, FindFault> {
+    /// The record that a lookup finds.
+    fn find_record(&self, alloc: Global, key: &[u8]) -> Result<Option<Stored>, FindFault>
+        ensures found { IsTrue F.honest → Tells (F.bytes self.now) (reading (F.bytes self.now) key.now) result }
+        ensures fault { FailsOf F.honest F.sound (reading (F.bytes self.now) key.now) result }
+    {
         if !self.holds(0, HEADER_LENGTH as u64) {
             return Err(FindFault::Short);
         }
@@ -164,5 +227,89 @@ impl<F: RulesFile> PairSource for CdbFile<F> {
             return Err(FindFault::Short);
         }
         self.find_in_table(alloc, key, table, slots)
+    }
+
+    /// The value of a record.
+    fn value_of(&self, alloc: Global, stored: Stored) -> Result<Vec<u8>, FindFault>
+        requires inside { IsTrue F.honest → IsInside (F.bytes self.now) stored }
+        ensures value { IsTrue F.honest → IfOk result (λ v. v.items ≡ value_of (F.bytes self.now) stored) }
+        ensures fault { IfErr result (ReadFails F.honest F.sound) }
+    {
+        self.bytes_at(alloc, stored.value_place(), stored.value_len as usize)
+    }
+
+    /// Refuses a value that is no code by the piece that shows it; one that it lets pass may still be none.
+    fn check_code(&self, alloc: Global, stored: Stored) -> Result<(), DecideFault>
+        requires inside { IsTrue F.honest → IsInside (F.bytes self.now) stored }
+        ensures refused { IfErr result (CodeFails F.honest F.sound (value_of (F.bytes self.now) stored)) }
+    {
+        let len = stored.value_len as usize;
+        let mut stage = Stage::Nothing;
+        let mut done = 0;
+        while done < len {
+            let count = (len - done).min(PIECE);
+            let piece = match self.bytes_at(alloc, stored.value_place() + done as u64, count) {
+                Ok(piece) => piece,
+                Err(fault) => return Err(DecideFault::of_look_up(fault)),
+            };
+            let Some(front) = text_front(&piece, done + count == len) else {
+                return Err(DecideFault::Code(CodeFault::NotCode));
+            };
+            stage = stage.from(&piece[..front]);
+            if stage.is_no_code() {
+                return Err(DecideFault::Code(CodeFault::NotCode));
+            }
+            done += front;
+        }
+        if stage.may_end() {
+            Ok(())
+        } else {
+            Err(DecideFault::Code(CodeFault::NotCode))
+        }
+    }
+
+    /// The instruction whose code the value of a record is.
+    fn decode(&self, alloc: Global, stored: Stored) -> Result<Instr, DecideFault>
+        requires inside { IsTrue F.honest → IsInside (F.bytes self.now) stored }
+        ensures decoded { IsTrue F.honest
+            → IfOk result (λ instr. decoded (value_of (F.bytes self.now) stored) ≡ Some instr) }
+        ensures refused { IfErr result (CodeFails F.honest F.sound (value_of (F.bytes self.now) stored)) }
+    {
+        if stored.value_len as usize > FIRST_PIECE {
+            self.check_code(alloc, stored)?;
+        }
+        let code = match self.value_of(alloc, stored) {
+            Ok(code) => code,
+            Err(fault) => return Err(DecideFault::of_look_up(fault)),
+        };
+        match decode_instr(alloc, &code) {
+            Ok(instr) => Ok(instr),
+            Err(fault) => Err(DecideFault::of_code(fault)),
+        }
+    }
+}
+
+impl<F: RulesFile> PairSource for CdbFile<F> {
+    ghost finds = { λ source key. reading (F.bytes source) key };
+
+    ghost trust = { λ _. trust_of F.honest F.sound };
+
+    ghost may_fail = { λ _ _. trust_of F.honest F.sound ≢ Sound };
+
+    fn find(&self, alloc: Global, key: &[u8]) -> Result<Option<Vec<u8>>, FindFault> {
+        match self.find_record(alloc, key)? {
+            Some(stored) => Ok(Some(self.value_of(alloc, stored)?)),
+            None => Ok(None),
+        }
+    }
+}
+
+impl<F: RulesFile> RuleSource for CdbFile<F> {
+    fn find_instr(&self, alloc: Global, key: &[u8]) -> Result<Option<Instr>, DecideFault> {
+        match self.find_record(alloc, key) {
+            Ok(Some(stored)) => Ok(Some(self.decode(alloc, stored)?)),
+            Ok(None) => Ok(None),
+            Err(fault) => Err(DecideFault::of_look_up(fault)),
+        }
     }
 }

@@ -8,5 +8,7 @@
 
 pub mod cdb_file;
 pub mod laws;
+mod stage;
+mod window;
 
 pub use cdb_file::CdbFile;

@@ -1,5 +1,5 @@
 -- The first form under which a source has something decides.
-use Rattle.std.proofs.Common.{◌≡◌, ℕ, suc, ◌+◌, ◌<◌, ◌≤◌, true, cond, List, [], ◌∷◌, Some, Result, Ok, Err, IfOk, IfErr, String, string_bytes, arith, map, length, get_or, drop, find, refl, sym, ap, subst, ◌∙◌}
+use Rattle.std.proofs.Common.{◌≡◌, ◌≢◌, ℕ, suc, ◌+◌, ◌<◌, ◌≤◌, true, cond, List, [], ◌∷◌, Option, Some, None, Result, Ok, Err, IfOk, IfErr, String, string_bytes, arith, map, length, get_or, drop, find, refl, sym, ap, subst, ◌∙◌}
 use Rattle.std.specs.List.{Any}
 use Rattle.std.proofs.lemmas.List.{at_drop_all, at_drop_more, length-map, get_or-map}
 use Rattle.std.specs.declared.alloc.Global.{Global}
@@ -9,7 +9,8 @@ use Rattle.rule_lines.specs.Lookups.{Finding, Has, Absent, Broken, Trust, Unknow
 use Rattle.rule_lookup.specs.declared.decision.Decision.{Decision}
 use Rattle.rule_lookup.specs.declared.decision.DecideFault.{DecideFault}
 use Rattle.rule_lookup.specs.declared.decision.DecideFault.TheVariants.{Find, Code, OutOfMemory}
-use Rattle.rule_lookup.specs.Decisions.{asked, by_default, is_there, by_first, by_finding, by_code, DecisionFails, LookupFails, CodeFails}
+use Rattle.rule_lines.specs.declared.instr.Instr.{Instr}
+use Rattle.rule_lookup.specs.Decisions.{asked, by_default, by_rule, is_there, by_first, by_finding, by_code, instr_by, instr_in, DecisionFails, LookupFails}
 
 -- what follows from a fact is known where the fact is
 pub WhereKnown-map : (t : Trust) {A B : Type 0} → (A → B) → WhereKnown t A → WhereKnown t B
@@ -26,6 +27,39 @@ pub WhereKnown-of : (t : Trust) {A : Type 0} → A → WhereKnown t A
 WhereKnown-of Unknown a = tt
 WhereKnown-of Honest a = a
 WhereKnown-of Sound a = a
+
+-- only where nothing is found no instruction is
+instr_by-some : (o : Option Instr) → instr_by o ≡ Ok None → ⊥
+instr_by-some None is = cc
+instr_by-some (Some instr) is = cc
+
+pub Absent-from : (x : Finding) → instr_in x ≡ Ok None → x ≡ Absent
+Absent-from Absent is = refl
+Absent-from (Has code) is = absurd (instr_by-some (decoded code) is)
+Absent-from Broken is = absurd (cc)
+
+is_there-from : (x : Finding) (r : Result (Option Instr) DecideFault) → r ≢ Ok None → instr_in x ≡ r → is_there x ≡ true
+is_there-from Absent r some is = absurd (some (sym is))
+is_there-from (Has code) r some is = refl
+is_there-from Broken r some is = refl
+
+-- what a look-up decides
+abbrev decided_by : List ℕ → Result (Option Instr) DecideFault → Result Decision DecideFault
+decided_by form (Err fault) = Err fault
+decided_by form (Ok None) = Ok by_default
+decided_by form (Ok (Some instr)) = Ok (by_rule form instr)
+
+by_code-is : (form : List ℕ) (o : Option Instr) → by_code form o ≡ decided_by form (instr_by o)
+by_code-is form None = refl
+by_code-is form (Some instr) = refl
+
+by_finding-is : (form : List ℕ) (x : Finding) → by_finding form x ≡ decided_by form (instr_in x)
+by_finding-is form Absent = refl
+by_finding-is form (Has code) = by_code-is form (decoded code)
+by_finding-is form Broken = refl
+
+device_no_memory : (let device : DecideFault = Find Device in device ≡ OutOfMemory) → ⊥
+device_no_memory is = cc
 
 module _ (finds : List ℕ → Finding) (t : Trust) (forms : List (List ℕ)) (i : ℕ) (form : List ℕ) (inside : i < length forms) (at : form ≡ get_or forms i form) where
   -- whether the search stops at this form
@@ -58,37 +92,34 @@ module _ (finds : List ℕ → Finding) (t : Trust) (forms : List (List ℕ)) (i
       back (subst (Any P) (sym here) (suc any.0, any.1, omega (arith, any.2), any.3, any.4))) so_far absent
 
   -- where it has something this decides
-  pub first-here : (x : Finding) → is_there x ≡ true → WhereKnown t (find (λ f. is_there (finds f)) (drop i forms) ≡ find (λ f. is_there (finds f)) forms) → WhereKnown t (finds form ≡ x) → WhereKnown t (by_first finds (find (λ f. is_there (finds f)) forms) ≡ by_finding form x)
-  first-here x there so_far has =
-      WhereKnown-map2 t (λ s e. sym (ap (by_first finds) (sym (step ∙ ap (λ b. cond b (Some form) (find (λ f. is_there (finds f)) (drop (i + 1) forms))) (ap is_there e ∙ there)) ∙ s)) ∙ ap (by_finding form) e) so_far has
+  here : (r : Result (Option Instr) DecideFault) → r ≢ Ok None → WhereKnown t (find (λ f. is_there (finds f)) (drop i forms) ≡ find (λ f. is_there (finds f)) forms) → WhereKnown t (instr_in (finds form) ≡ r) → WhereKnown t (by_first finds (find (λ f. is_there (finds f)) forms) ≡ decided_by form r)
+  here r some so_far is =
+      WhereKnown-map2 t (λ s e.
+      let there = is_there-from (finds form) r some e in
+      sym (ap (by_first finds) (sym (step ∙ ap (λ b. cond b (Some form) (find (λ f. is_there (finds f)) (drop (i + 1) forms))) there) ∙ s)) ∙ by_finding-is form (finds form) ∙ ap (decided_by form) e) so_far is
 
-  -- a value under the form decides by its code
-  pub decided-here : (code : List ℕ) (r : Result Decision DecideFault) → WhereKnown t (find (λ f. is_there (finds f)) (drop i forms) ≡ find (λ f. is_there (finds f)) forms) → WhereKnown t (finds form ≡ Has code) → IfOk r (λ decision. by_code form (decoded code) ≡ Ok decision) → IfOk r (λ decision. WhereKnown t (by_first finds (find (λ f. is_there (finds f)) forms) ≡ Ok decision))
-  decided-here code (Ok decision) so_far has decided =
-      WhereKnown-map t (λ h. h ∙ decided) (first-here (Has code) refl so_far has)
-  decided-here code (Err fault) so_far has decided = tt
-
-  pub refused-by_code : (code : List ℕ) (fault : DecideFault) → WhereKnown t (find (λ f. is_there (finds f)) (drop i forms) ≡ find (λ f. is_there (finds f)) forms) → WhereKnown t (finds form ≡ Has code) → CodeFails form code fault → DecisionFails t (by_first finds (find (λ f. is_there (finds f)) forms)) fault
-  refused-by_code code (Find fault) so_far has fails = absurd fails
-  refused-by_code code (Code fault) so_far has fails =
-      WhereKnown-map t (λ h. h ∙ fails) (first-here (Has code) refl so_far has)
-  refused-by_code code OutOfMemory so_far has fails = tt
-
-  pub refused-here : (code : List ℕ) (r : Result Decision DecideFault) → WhereKnown t (find (λ f. is_there (finds f)) (drop i forms) ≡ find (λ f. is_there (finds f)) forms) → WhereKnown t (finds form ≡ Has code) → IfErr r (CodeFails form code) → IfErr r (DecisionFails t (by_first finds (find (λ f. is_there (finds f)) forms)))
-  refused-here code (Ok decision) so_far has fails = tt
-  refused-here code (Err fault) so_far has fails = refused-by_code code fault so_far has fails
+  -- an instruction under the form decides
+  pub decided-here : (instr : Instr) (r : Result Decision DecideFault) → WhereKnown t (find (λ f. is_there (finds f)) (drop i forms) ≡ find (λ f. is_there (finds f)) forms) → WhereKnown t (instr_in (finds form) ≡ Ok (Some instr)) → IfOk r (λ decision. decision ≡ by_rule form instr) → IfOk r (λ decision. WhereKnown t (by_first finds (find (λ f. is_there (finds f)) forms) ≡ Ok decision))
+  decided-here instr (Ok decision) so_far has is =
+      WhereKnown-map t (λ h. h ∙ ap (λ (d : Decision). Ok d) (sym is)) (here (Ok (Some instr)) (λ e. absurd (cc)) so_far has)
+  decided-here instr (Err fault) so_far has is = tt
 
   -- a look-up that fails makes the decision fail
-  pub refused-look_up : (fault : DecideFault) → WhereKnown t (find (λ f. is_there (finds f)) (drop i forms) ≡ find (λ f. is_there (finds f)) forms) → LookupFails t (finds form) fault → DecisionFails t (by_first finds (find (λ f. is_there (finds f)) forms)) fault
-  refused-look_up (Find Short) so_far fails = first-here Broken refl so_far fails
+  pub refused-look_up : (fault : DecideFault) → WhereKnown t (find (λ f. is_there (finds f)) (drop i forms) ≡ find (λ f. is_there (finds f)) forms) → LookupFails t (instr_in (finds form)) fault → DecisionFails t (by_first finds (find (λ f. is_there (finds f)) forms)) fault
+  refused-look_up (Find Short) so_far fails = here (Err (Find Short)) (λ e. absurd (cc)) so_far fails
   refused-look_up (Find Device) so_far fails = fails
   refused-look_up (Find NoMemoryToFind) so_far fails = fails
-  refused-look_up (Code fault) so_far fails = absurd fails
+  refused-look_up (Code fault) so_far fails = here (Err (Code fault)) (λ e. absurd (cc)) so_far fails
   refused-look_up OutOfMemory so_far fails = tt
 
--- a decision by a code is no fault of a device
-pub no_device : {P : Type 0} (form code : List ℕ) (r : Result Decision DecideFault) → IfErr r (CodeFails form code) → r ≡ Err (Find Device) → P
-no_device form code r fails is = absurd (subst (λ (r : Result Decision DecideFault). IfErr r (CodeFails form code)) is fails)
+-- want of memory says nothing of a decision
+pub refused-memory : (t : Trust) (expected : Result Decision DecideFault) (r : Result Decision DecideFault) → IfErr r (λ fault. fault ≡ OutOfMemory) → IfErr r (DecisionFails t expected)
+refused-memory t expected (Ok decision) memory = tt
+refused-memory t expected (Err fault) memory = rw memory tt
+
+-- and is no fault of a device
+pub no_device : {P : Type 0} (r : Result Decision DecideFault) → IfErr r (λ fault. fault ≡ OutOfMemory) → r ≡ Err (Find Device) → P
+no_device r memory is = absurd (device_no_memory (subst (λ (r : Result Decision DecideFault). IfErr r (λ fault. fault ≡ OutOfMemory)) is memory))
 
 -- a form that is read from a list of texts is one of the forms that they are
 pub form_at : (texts : List (String Global)) (forms : List (List ℕ)) (i : ℕ) (text : String Global) → map string_bytes texts ≡ forms → i < length texts → text ≡ get_or texts i text → (i < length forms) × (string_bytes text ≡ get_or forms i (string_bytes text))

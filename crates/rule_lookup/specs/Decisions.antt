@@ -5,6 +5,9 @@ use Rattle.rule_lines.specs.declared.code.CodeFault.TheVariants.{NotCode}
 use Rattle.rule_lines.specs.declared.instr.Instr.{Instr}
 use Rattle.rule_lines.specs.declared.instr.Verdict.{Verdict}
 use Rattle.rule_lines.specs.declared.instr.Verdict.TheVariants.{Allow, Deny}
+use Rattle.rule_lines.specs.declared.code.DecodeFault.{DecodeFault}
+use Rattle.rule_lines.specs.declared.code.DecodeFault.TheVariants.{Code as NoCode, OutOfMemory as NoMemoryToDecode}
+use Rattle.rule_lines.specs.declared.source.FindFault.{FindFault}
 use Rattle.rule_lines.specs.declared.source.FindFault.TheVariants.{Short, Device, OutOfMemory as NoMemoryToFind}
 use Rattle.rule_lines.specs.Codes.{decoded}
 use Rattle.rule_lines.specs.Lookups.{Finding, Has, Absent, Broken, Trust, Sound, WhereKnown}
@@ -124,16 +127,32 @@ decision_in rules peer = by_first_listed rules (find (λ form. is_some (rule_for
 abbrev pub decision_of : List ℕ → Client → Decision
 decision_of text peer = decision_in (pairs_of text) peer
 
--- a look-up under one form fails
-abbrev pub LookupFails : Trust → Finding → DecideFault → Type 0
-LookupFails trust found (Find Short) = WhereKnown trust (found ≡ Broken)
-LookupFails trust found (Find Device) = trust ≢ Sound
-LookupFails trust found (Find NoMemoryToFind) = ⊥
-LookupFails trust found (Code fault) = ⊥
-LookupFails trust found OutOfMemory = Unit {0}
+-- what a value says, if it is a code
+abbrev pub instr_by : Option Instr → Result (Option Instr) DecideFault
+instr_by None = Err (Code NotCode)
+instr_by (Some instr) = Ok (Some instr)
 
--- what was found under a form is refused where it is no code
-abbrev pub CodeFails : List ℕ → List ℕ → DecideFault → Type 0
-CodeFails form code (Find fault) = ⊥
-CodeFails form code (Code fault) = by_code form (decoded code) ≡ Err (Code fault)
-CodeFails form code OutOfMemory = Unit {0}
+-- what is found under a key, as an instruction
+abbrev pub instr_in : Finding → Result (Option Instr) DecideFault
+instr_in Absent = Ok None
+instr_in (Has code) = instr_by (decoded code)
+instr_in Broken = Err (Find Short)
+
+-- a look-up fails where it does by its definition; for a device fault only where the source is not sound
+abbrev pub LookupFails : Trust → Result (Option Instr) DecideFault → DecideFault → Type 0
+LookupFails trust expected (Find Short) = WhereKnown trust (expected ≡ Err (Find Short))
+LookupFails trust expected (Find Device) = trust ≢ Sound
+LookupFails trust expected (Find NoMemoryToFind) = ⊥
+LookupFails trust expected (Code fault) = WhereKnown trust (expected ≡ Err (Code fault))
+LookupFails trust expected OutOfMemory = Unit {0}
+
+-- what a look-up that failed is for a decision
+abbrev pub of_look_up : FindFault → DecideFault
+of_look_up Short = Find Short
+of_look_up Device = Find Device
+of_look_up NoMemoryToFind = OutOfMemory
+
+-- and a value that was not decoded
+abbrev pub of_code : DecodeFault → DecideFault
+of_code (NoCode fault) = Code fault
+of_code NoMemoryToDecode = OutOfMemory

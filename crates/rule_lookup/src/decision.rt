@@ -1,15 +1,13 @@
 //! Decisions.
-ghost use Rattle.std.specs.Prelude.{◌≡◌, Ok, Err, IfOk, IfErr, IfNone, option_map, vec_items};
-ghost use Rattle.rule_lines.specs.Codes.{decoded};
-ghost use Rattle.rule_lines.specs.Lookups.{WhereKnown, Answers};
-ghost use Rattle.rule_lookup.specs.Decisions.{decision_by, decision_from, finds_of, trust_of, by_default, without_file, DecisionFails, LookupFails, CodeFails, MayFail, MayFailFrom, by_code};
+ghost use Rattle.std.specs.Prelude.{◌≡◌, Ok, Err, IfOk, IfErr, IfNone};
+ghost use Rattle.rule_lines.specs.Lookups.{WhereKnown};
+ghost use Rattle.rule_lookup.specs.Decisions.{decision_by, decision_from, finds_of, trust_of, by_default, without_file, by_rule, DecisionFails, MayFail, MayFailFrom, of_look_up, of_code};
 ghost use Rattle.rule_lookup.specs.declared.decision.DecideFault.TheVariants.{OutOfMemory};
 
 use crate::form::forms;
+use crate::source::RuleSource;
 use connection_facts::Peer;
-use rule_lines::{
-    CodeFault, DecodeFault, FindFault, Instr, PairSource, Settings, Verdict, decode_instr,
-};
+use rule_lines::{CodeFault, DecodeFault, FindFault, Instr, Settings, Verdict};
 use std::alloc::{AllocError, AllocFailed, Global};
 use std::marker::Model;
 use thiserror::Error;
@@ -165,10 +163,33 @@ impl<T: Drop> From<AllocFailed<T>> for DecideFault {
     }
 }
 
+impl DecideFault {
+    /// What a look-up that failed is for a decision.
+    pub fn of_look_up(fault: FindFault) -> DecideFault
+        ensures { result ≡ of_look_up fault }
+    {
+        match fault {
+            FindFault::Short => DecideFault::Find(FindFault::Short),
+            FindFault::Device => DecideFault::Find(FindFault::Device),
+            FindFault::OutOfMemory => DecideFault::OutOfMemory,
+        }
+    }
+
+    /// What a value that was not decoded is for a decision.
+    pub fn of_code(fault: DecodeFault) -> DecideFault
+        ensures { result ≡ of_code fault }
+    {
+        match fault {
+            DecodeFault::Code(fault) => DecideFault::Code(fault),
+            DecodeFault::OutOfMemory => DecideFault::OutOfMemory,
+        }
+    }
+}
+
 /// The decision for a peer: by the first of its lookup forms under which the source has something. Without a source it is
 /// that of a missing rules file, which takes no memory. A fault is that of this form, or of a device that failed under one of
 /// those before it; want of memory is always `OutOfMemory` itself.
-pub fn decide<S: PairSource>(
+pub fn decide<S: RuleSource>(
     alloc: Global,
     source: Option<&S>,
     missing: Missing,
@@ -189,7 +210,7 @@ pub fn decide<S: PairSource>(
     }
 }
 
-fn decide_by<S: PairSource>(alloc: Global, source: &S, peer: &Peer) -> Result<Decision, DecideFault>
+fn decide_by<S: RuleSource>(alloc: Global, source: &S, peer: &Peer) -> Result<Decision, DecideFault>
     ensures decided { IfOk result (λ decision. WhereKnown (S.trust source.now)
         (decision_by (S.finds source.now) peer.now ≡ Ok decision)) }
     ensures refused { IfErr result (DecisionFails (S.trust source.now) (decision_by (S.finds source.now) peer.now)) }
@@ -198,44 +219,22 @@ fn decide_by<S: PairSource>(alloc: Global, source: &S, peer: &Peer) -> Result<De
 {
     let forms = forms(alloc, peer)?;
     for form in &forms {
-        if let Some(code) = found_under(alloc, source, form.as_str())? {
-            return by_code(alloc, form.as_str(), code.as_slice());
+        if let Some(instr) = source.find_instr(alloc, form.as_bytes())? {
+            return by_instr(alloc, form.as_str(), instr);
         }
     }
     Ok(Decision::by_default(alloc))
 }
 
-/// What the source has under a form.
-fn found_under<S: PairSource>(
-    alloc: Global,
-    source: &S,
-    form: &str,
-) -> Result<Option<Vec<u8>>, DecideFault>
-    ensures found { IfOk result (λ code. Answers (S.trust source.now) (S.finds source.now form.now)
-        (option_map vec_items code)) }
-    ensures refused { IfErr result (LookupFails (S.trust source.now) (S.finds source.now form.now)) }
-    ensures device { result ≡ Err (DecideFault.Find FindFault.Device) → S.may_fail source.now form.now }
+/// The decision by a rule with this address and this instruction.
+fn by_instr(alloc: Global, form: &str, instr: Instr) -> Result<Decision, DecideFault>
+    ensures decided { IfOk result (λ decision. decision ≡ by_rule form.now instr) }
+    ensures refused { IfErr result (λ fault. fault ≡ OutOfMemory) }
 {
-    match source.find(alloc, form.as_bytes()) {
-        Ok(code) => Ok(code),
-        Err(FindFault::Short) => Err(DecideFault::Find(FindFault::Short)),
-        Err(FindFault::Device) => Err(DecideFault::Find(FindFault::Device)),
-        Err(FindFault::OutOfMemory) => Err(DecideFault::OutOfMemory),
-    }
-}
-
-/// The decision by a rule with this address whose instruction has this code.
-fn by_code(alloc: Global, form: &str, code: &[u8]) -> Result<Decision, DecideFault>
-    ensures decided { IfOk result (λ decision. by_code form.now (decoded code.now) ≡ Ok decision) }
-    ensures refused { IfErr result (CodeFails form.now code.now) }
-{
-    match decode_instr(alloc, code) {
-        Ok(Instr { verdict, settings }) => Ok(Decision {
-            found: Found::Address(Address::new(alloc, form)?),
-            verdict,
-            settings,
-        }),
-        Err(DecodeFault::Code(CodeFault::NotCode)) => Err(DecideFault::Code(CodeFault::NotCode)),
-        Err(DecodeFault::OutOfMemory) => Err(DecideFault::OutOfMemory),
-    }
+    let address = Address::new(alloc, form)?;
+    Ok(Decision {
+        found: Found::Address(address),
+        verdict: instr.verdict,
+        settings: instr.settings,
+    })
 }

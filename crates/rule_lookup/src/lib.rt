@@ -12,8 +12,10 @@ mod answer;
 pub mod decision;
 pub mod form;
 pub mod laws;
+pub mod source;
 
 pub use address::parse_address;
 pub use answer::append_answer;
 pub use decision::{Address, DecideFault, Decision, Found, Missing, decide};
 pub use form::forms;
+pub use source::{RuleSource, find_and_decode};

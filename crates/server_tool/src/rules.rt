@@ -5,8 +5,7 @@ use cdb_read::CdbFile;
 use connection_facts::Peer;
 use dir_calls::{Dir, DirFault, Name, RulesFile};
 use dir_disk::{Disk, DiskDir, OsDir, OsFile, SystemDisk, SystemFile};
-use rule_lines::{PairSource, decode_instr};
-use rule_lookup::forms;
+use rule_lookup::{DecideFault, RuleSource, forms};
 use rules_tools::path::{folder_path, split_path};
 use server_parts::has_named_rule;
 use server_yard::{Assumptions, Finding};
@@ -125,8 +124,11 @@ fn first_damaged<F: RulesFile>(
     addresses: Vec<String>,
 ) -> Option<String> {
     for address in addresses {
-        if let Some(code) = file.find(alloc, address.as_bytes()).ok()? {
-            return decode_instr(alloc, &code).is_err().then_some(address);
+        match file.find_instr(alloc, address.as_bytes()) {
+            Ok(None) => {}
+            Ok(Some(_)) => return None,
+            Err(DecideFault::Code(_)) => return Some(address),
+            Err(_) => return None,
         }
     }
     None

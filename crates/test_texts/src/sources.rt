@@ -3,7 +3,8 @@ ghost use Rattle.std.specs.Prelude.{⊤};
 ghost use Rattle.rule_lines.specs.Lookups.Finding.{Absent};
 ghost use Rattle.rule_lines.specs.Lookups.Trust.{Unknown};
 
-use rule_lines::{FindFault, ListPairs, PairSource, RuleList};
+use rule_lines::{FindFault, Instr, ListPairs, PairSource, RuleList};
+use rule_lookup::{DecideFault, RuleSource, find_and_decode};
 use std::alloc::Global;
 
 /// A list that answers a fault, or else bytes that are no code, under one key or under all.
@@ -31,6 +32,12 @@ impl PairSource for Faulty<'_> {
             Some(fault) => Err(fault),
             None => Ok(Some(Vec::from_slice(alloc, b"+A\0")?)),
         }
+    }
+}
+
+impl RuleSource for Faulty<'_> {
+    fn find_instr(&self, alloc: Global, key: &[u8]) -> Result<Option<Instr>, DecideFault> {
+        find_and_decode(alloc, self, key)
     }
 }
 

@@ -1,11 +1,14 @@
 use Rattle.std.proofs.Common.{◌≡◌, drop, IsTrue}
 use Rattle.cdb_write.specs.Format.{hash_of}
 use Rattle.cdb_write.specs.Slots.{probe}
-use Rattle.cdb_read.specs.Parts.{found_in_probe, found_in_slots, slots_from}
+use Rattle.cdb_read.specs.Parts.{IsWindowOf, found_in_probe, found_in_slots, slots_from}
 use Rattle.cdb_read.proofs.cdb_file.CdbFile.find_in_table.Given as goal
 
 abbrev pub invariant-loop-passed : goal.invariant-loop-passed
-invariant-loop-passed g l =
-    IsTrue g.F.RulesFile.honest
-    → found_in_probe (g.F.RulesFile.bytes l.self) l.key (drop l.passed (probe (hash_of l.key) (slots_from (g.F.RulesFile.bytes l.self) (l.table, l.slots))))
-    ≡ found_in_slots (g.F.RulesFile.bytes l.self) l.key (l.table, l.slots)
+invariant-loop-passed g l = record {
+  left :
+      IsTrue g.F.RulesFile.honest
+      → found_in_probe (g.F.RulesFile.bytes l.self) l.key (drop l.passed (probe (hash_of l.key) (slots_from (g.F.RulesFile.bytes l.self) (l.table, l.slots))))
+      ≡ found_in_slots (g.F.RulesFile.bytes l.self) l.key (l.table, l.slots);
+  read : IsTrue g.F.RulesFile.honest → IsWindowOf (g.F.RulesFile.bytes l.self) l.window;
+}
