@@ -61,8 +61,10 @@ def cases(probe, folder):
     yield "a scratch file that is closed", probe.answers(folder, "fresh t sync append x"), wanted
     wanted = ["done", "in 245", "done", "done", '1000000 bytes, "\\0\\0\\0\\0\\0\\0\\0\\0\\0\\0\\0\\0\\0\\0\\0\\0"']
     yield "a long file", probe.answers(folder, "fresh t zeros 1000000 sync settle open t"), wanted
-    wanted = ['6 bytes, "aXYdef"', "done", '6 bytes, "aXYdef"']
-    yield "a name moved onto itself", probe.answers(folder, "open rules rename rules rules open rules"), wanted
+    wanted = ANSWERS[:-3] + ["done", '6 bytes, "aXYdef"']
+    yield "a name moved onto itself", probe.answers(folder, REPLACEMENT.split(" open ")[0] + " rename rules rules open rules"), wanted
+    wanted = ['6 bytes, "aXYdef"', DEVICE, '6 bytes, "aXYdef"', "done", "done", DEVICE, "none", "2"]
+    yield "a file that was not made is not moved", probe.answers(folder, "open rules rename rules u open rules fresh t sync rename rules u open u failures"), wanted
     yield "a folder that is not there", probe.answers(folder + "/gone", "failures"), ["no such folder"]
     yield "a file in the place of the folder", probe.answers(folder + "/rules", "failures"), ["no such folder"]
     yield "an empty path", probe.answers("", "failures"), ["no such folder"]
@@ -117,7 +119,7 @@ def system_calls(probe, folder, words):
 
 def trace_cases(probe, folder):
     """The order of the system calls, and how many a long file takes."""
-    wanted = ["openat folder folder", "unlink tmp", "openat tmp tmp", "pwrite64 tmp", "pwrite64 tmp", "fsync tmp", "close tmp", "rename tmp rules", "fsync folder", "close folder"]
+    wanted = ["openat folder folder", "unlink tmp", "openat tmp tmp", "pwrite64 tmp", "pwrite64 tmp", "fsync tmp", "rename tmp rules", "fsync folder", "close folder", "close rules"]
     words = "fresh tmp append abc append def patch 1 XY sync rename tmp rules settle"
     yield "the system calls of a replacement", system_calls(probe, folder, words), wanted
     calls = system_calls(probe, folder, "fresh tmp zeros 655360 sync")

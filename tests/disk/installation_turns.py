@@ -1,6 +1,6 @@
 """Installations in one folder take turns, and each keeps to one folder: who waits for whom, for how long, and what is told of it.
 
-Each case has a folder of its own, and all of them run side by side, since one takes a minute.
+The scratch file is the lock: an exclusive lock of its first byte, of the open file. Each case has a folder of its own, and all of them run side by side, since one takes a minute.
 Where strace is installed, calls of an installation that runs are held up by it.
 """
 import concurrent.futures
@@ -10,13 +10,14 @@ import os
 import pwd
 import shutil
 import stat
+import struct
 import subprocess
 import tempfile
 import time
 
 from shared.checks import Checks
 
-LOCK = ".tcprules.lock"
+SCRATCH = "tmp"
 WAITING = "tcprules: waiting for another installation\n"
 FRESH = "tcprules: device fault at fresh\n"
 GIVEN_UP = 60
@@ -27,9 +28,21 @@ OLD, NEW, DENIED = b"10.:deny\n", b":deny\n", "rule :\ndeny connection\n"
 
 @contextlib.contextmanager
 def held(path, how=fcntl.LOCK_EX):
-    """A path that another process holds: as a folder, or as a file that is made where it is not there."""
-    descriptor = os.open(path, os.O_RDONLY if os.path.isdir(path) else os.O_RDWR | os.O_CREAT, 0o600)
+    """A path that another process holds by `flock`, which is no lock of an installation."""
+    descriptor = os.open(path, os.O_RDONLY)
     fcntl.flock(descriptor, how)
+    try:
+        yield descriptor
+    finally:
+        os.close(descriptor)
+
+
+@contextlib.contextmanager
+def claimed(path, kind=fcntl.F_WRLCK):
+    """A scratch file that another process has, as an installation has it, or that is locked by a reader. It is made where it is not there."""
+    mode = os.O_RDWR | os.O_CREAT if kind == fcntl.F_WRLCK else os.O_RDONLY
+    descriptor = os.open(path, mode, 0o600)
+    fcntl.fcntl(descriptor, fcntl.F_OFD_SETLK, struct.pack("hhqqi4x", kind, os.SEEK_SET, 0, 1, 0))
     try:
         yield descriptor
     finally:
@@ -78,6 +91,12 @@ class Folder(Checks):
             _, errors = process.communicate()
         return process.returncode, errors.decode()
 
+    def leave_scratch(self, mode):
+        """Leaves a part of a scratch file, with these permissions."""
+        with open(self.path(SCRATCH), "wb") as scratch:
+            scratch.write(b"a part")
+        os.chmod(self.path(SCRATCH), mode)
+
     def install(self, text=NEW, **how):
         """Makes a whole installation: its exit code, its lines, and how many seconds it took."""
         began = time.monotonic()
@@ -91,75 +110,86 @@ class Folder(Checks):
         self.expect(name + ": the rules", self.rules() == self.old, False)
 
 
-def lock_file_waited_for(folder):
-    """Another process has the lock file for more than three seconds: that is told after three, and waited for."""
-    with held(folder.path(LOCK)):
+def scratch_file_waited_for(folder):
+    """Another process has the scratch file for more than three seconds: that is told after three, and waited for."""
+    with claimed(folder.path(SCRATCH)):
         began = time.monotonic()
         process = folder.start()
         told = process.stderr.readline().decode()
         waited = time.monotonic() - began
-        folder.expect("after three seconds nothing has changed", (process.poll(), sorted(os.listdir(folder.place))), (None, [LOCK, "rules"]))
+        folder.expect("after three seconds nothing has changed", (process.poll(), sorted(os.listdir(folder.place))), (None, ["rules", SCRATCH]))
         time.sleep(1)
         folder.expect("it waits on", process.poll(), None)
-        os.unlink(folder.path(LOCK))
+        os.unlink(folder.path(SCRATCH))
     code, errors = folder.end(process)
-    folder.expect_installed("a lock that is given back", (code, told + errors, time.monotonic() - began), SLACK, WAITING)
+    folder.expect_installed("a scratch file that is given up", (code, told + errors, time.monotonic() - began), SLACK, WAITING)
     folder.expect("it is told after three seconds", 2.9 < waited < SLACK, True)
 
 
-def lock_file_held_for_good(folder):
-    """Another process has the lock file: after a minute the wait is given up, and nothing has changed."""
-    with held(folder.path(LOCK)):
-        code, told, seconds = folder.install(words=("-v", "rules", "tmp"))
-    folder.expect("a lock that is not given back", (code, told), (111, WAITING + FRESH + "tcprules: cause: .: Resource temporarily unavailable\n"))
+def scratch_file_held_for_good(folder):
+    """Another process has the scratch file: after a minute the wait is given up, and nothing has changed."""
+    with claimed(folder.path(SCRATCH)):
+        code, told, seconds = folder.install(words=("-v", "rules", SCRATCH))
+    folder.expect("a scratch file that is not given up", (code, told), (111, WAITING + FRESH + "tcprules: cause: .: Resource temporarily unavailable\n"))
     folder.expect("a minute", GIVEN_UP <= seconds < GIVEN_UP + SLACK, True)
-    folder.expect("nothing has changed", (folder.rules() == folder.old, sorted(os.listdir(folder.place))), (True, [LOCK, "rules"]))
+    folder.expect("nothing has changed", (folder.rules() == folder.old, sorted(os.listdir(folder.place))), (True, ["rules", SCRATCH]))
 
 
-def folder_held_by_a_reader(folder):
-    """Who may open the folder may hold it, and holds nobody up."""
+def held_by_a_reader(folder):
+    """Who may open the folder or the scratch file that is left there may hold it, and holds nobody up."""
     for how, name in ((fcntl.LOCK_SH, "shared"), (fcntl.LOCK_EX, "alone")):
         with held(folder.place, how):
             folder.expect_installed("a folder that is held, " + name, folder.install(), SLACK)
+        folder.leave_scratch(0o644)
+        with held(folder.path(SCRATCH), how):
+            folder.expect_installed("a scratch file that is held, " + name, folder.install(), SLACK)
+    folder.leave_scratch(0o644)
+    with claimed(folder.path(SCRATCH), fcntl.F_RDLCK):
+        folder.expect_installed("a scratch file that a reader has locked", folder.install(), SLACK)
 
 
-def folder_held_by_an_older_tcprules(folder):
-    """A `tcprules` that knows no lock file holds the folder while its scratch file stands there: it is waited for."""
-    with held(folder.place):
-        with open(folder.path("tmp"), "wb") as scratch:
-            scratch.write(b"a part")
-        began = time.monotonic()
-        process = folder.start()
-        told = process.stderr.readline().decode()
-        time.sleep(1)
-        folder.expect("its scratch file is not touched", (process.poll(), folder.rules("tmp")), (None, b"a part"))
-        os.rename(folder.path("tmp"), folder.path("rules"))
-    code, errors = folder.end(process)
-    folder.expect_installed("an older one that has ended", (code, told + errors, time.monotonic() - began), SLACK, WAITING)
-
-
-def lock_file_left(folder):
-    """What an installation that was killed has left holds nobody up."""
-    with held(folder.path(LOCK)):
-        pass
-    folder.expect_installed("a lock file that is left", folder.install(), 2)
+def scratch_file_left(folder):
+    """What an installation that was killed has left holds nobody up who can open it, and others wait for it."""
+    folder.leave_scratch(0o600)
+    folder.expect_installed("a scratch file that is left", folder.install(), 2)
     if os.geteuid() == 0:
         os.chmod(folder.place, 0o777)
-        with held(folder.path(LOCK)):
-            pass
-        folder.expect_installed("one that another user has left", folder.install(**as_nobody()), 2)
+        folder.leave_scratch(0o600)
+        os.chown(folder.path(SCRATCH), pwd.getpwnam("nobody").pw_uid, -1)
+        folder.expect_installed("one that another user has left", folder.install(), 2)
+        folder.leave_scratch(0o600)
+        process = folder.start(**as_nobody())
+        folder.expect("one that is not this user's is waited for", process.stderr.readline().decode(), WAITING)
+        os.unlink(folder.path(SCRATCH))
+        code, errors = folder.end(process)
+        folder.expect_installed("one that is not there any more", (code, errors, 0), 2)
 
 
-def lock_name_taken(folder):
-    """A link under the name of the lock file is not followed, and nothing there is opened that is no file."""
-    os.symlink(folder.path("elsewhere"), folder.path(LOCK))
-    folder.expect("a link", folder.install()[:2], (111, FRESH))
-    folder.expect("what it names is not made", os.path.exists(folder.path("elsewhere")), False)
-    os.unlink(folder.path(LOCK))
-    os.mkfifo(folder.path(LOCK))
-    code, told, seconds = folder.install()
-    folder.expect("a pipe", (code, told, seconds < SLACK), (111, FRESH, True))
+def scratch_name_taken(folder):
+    """What is no file under the scratch name is not followed, opened or taken away."""
+    path = folder.path(SCRATCH)
+    for name, make, take, why in (
+        ("a link", lambda: os.symlink("elsewhere", path), os.unlink, "Too many levels of symbolic links"),
+        ("a folder", lambda: os.mkdir(path), os.rmdir, "Is a directory"),
+        ("a pipe", lambda: os.mkfifo(path), os.unlink, "Invalid argument"),
+    ):
+        make()
+        code, told, seconds = folder.install(words=("-v", "rules", SCRATCH))
+        folder.expect(name, (code, told, seconds < SLACK), (111, FRESH + "tcprules: cause: tmp: %s\n" % why, True))
+        folder.expect(name + ": nothing is made or taken away", sorted(os.listdir(folder.place)), ["rules", SCRATCH])
+        take(path)
     folder.expect("the rules then", folder.rules() == folder.old, True)
+
+
+def another_scratch_file(folder):
+    """A scratch file that somebody takes away, and another one in its place: the rules are the old ones, and the other file stays there."""
+    for name, put, why in (("none", lambda: None, "No such file or directory"), ("another", lambda: folder.leave_scratch(0o600), "Stale file handle")):
+        process = folder.start(words=("-v", "rules", SCRATCH), before=slow("fsync", 2))
+        come_to("the scratch file", lambda: is_written(folder.path(SCRATCH)))
+        os.unlink(folder.path(SCRATCH))
+        put()
+        folder.expect(name, folder.end(process), (111, "tcprules: device fault at named\ntcprules: cause: tmp: %s\n" % why))
+        folder.expect(name + ": the rules then", folder.rules() == folder.old, True)
 
 
 def slow(call, when, how="delay_enter"):
@@ -182,11 +212,11 @@ def is_written(path):
 
 
 def two_installations(folder):
-    """Two of them: while the first is under way nobody but its user can open its lock file, and the second waits for it."""
-    first = folder.start(b"11.:deny\n", before=slow("fsync", 2))
-    come_to("the scratch file", lambda: is_written(folder.path("tmp")))
-    mode = os.stat(folder.path(LOCK)).st_mode
-    folder.expect("who may open the lock file", (stat.S_ISREG(mode), stat.S_IMODE(mode)), (True, 0o600))
+    """Two of them: while the first is under way nobody but its user can open its scratch file, and the second waits for it."""
+    first = folder.start(b"11.:deny\n", before=slow("pwrite64", 2))
+    come_to("the scratch file", lambda: is_written(folder.path(SCRATCH)))
+    mode = os.stat(folder.path(SCRATCH)).st_mode
+    folder.expect("who may open the scratch file", (stat.S_ISREG(mode), stat.S_IMODE(mode)), (True, 0o600))
     second = folder.start()
     folder.expect("the first", folder.end(first), (0, ""))
     code, errors = folder.end(second)
@@ -209,9 +239,9 @@ def turned(folder, name, before, made):
     return ended
 
 
-def turned_before_it_has_the_lock(folder):
+def turned_before_it_is_its_turn(folder):
     os.mkdir(folder.path("v1"))
-    with held(folder.path("v1", LOCK)):
+    with claimed(folder.path("v1", SCRATCH)):
         os.rename(folder.path("v1"), folder.path("v0"))
         os.mkdir(folder.path("v2"))
         os.symlink("v0", folder.path("cur"))
@@ -219,8 +249,8 @@ def turned_before_it_has_the_lock(folder):
         folder.expect("it waits", process.stderr.readline().decode(), WAITING)
         os.symlink("v2", folder.path("new"))
         os.rename(folder.path("new"), folder.path("cur"))
-        os.unlink(folder.path("v0", LOCK))
-    folder.expect("a link that is turned while the lock is waited for", folder.end(process), (111, FRESH + "tcprules: cause: cur: Stale file handle\n"))
+        os.unlink(folder.path("v0", SCRATCH))
+    folder.expect("a link that is turned while another one is waited for", folder.end(process), (111, FRESH + "tcprules: cause: cur: Stale file handle\n"))
     folder.expect("the folder before", os.listdir(folder.path("v0")), [])
 
 
@@ -236,8 +266,8 @@ def turned_after_the_rename(folder):
     folder.expect("the rules stand in the folder before", os.path.exists(folder.path("v1", "rules")), True)
 
 
-CASES = [lock_file_held_for_good, lock_file_waited_for, folder_held_by_a_reader, folder_held_by_an_older_tcprules, lock_file_left, lock_name_taken, turned_before_it_has_the_lock]
-SLOW_CASES = [two_installations, turned_before_the_rename, turned_after_the_rename]
+CASES = [scratch_file_held_for_good, scratch_file_waited_for, held_by_a_reader, scratch_file_left, scratch_name_taken, turned_before_it_is_its_turn]
+SLOW_CASES = [two_installations, another_scratch_file, turned_before_the_rename, turned_after_the_rename]
 
 
 def try_case(case, failures, program):

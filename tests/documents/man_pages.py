@@ -31,7 +31,7 @@ VERBOSE = ("tcprules", "tcprulescheck")
 # what a page writes for a part of a text that changes
 PLACES = {"u64": "N", "char": "L", "Phase": "PHASE", "LineFault": "line N: KIND"}
 # pages of others that ours refer to, which need not be installed here
-OUTSIDE = {"flock(2)", "multilog(8)", "runsv(8)", "setpriv(1)", "supervise(8)", "svlogd(8)"}
+OUTSIDE = {"fcntl(2)", "multilog(8)", "runsv(8)", "setpriv(1)", "supervise(8)", "svlogd(8)"}
 # the sections that each page has
 SECTIONS = ("NAME", "DESCRIPTION", "EXAMPLES", "COMPATIBILITY", "SEE ALSO", "HISTORY", "AUTHORS")
 # pages of others to which a page has to refer

@@ -32,8 +32,7 @@ SETTINGS = {"SETTING_%d" % number: "set %d" % number for number in range(MANY)}
 
 
 def check_locks(checks, program, folder):
-    """A folder without locks, of which each `flock` in turn fails, and then each of them: exit code 111, and the rules and the scratch file are not
-    touched. The empty lock file stays there, and holds up nobody."""
+    """A folder without locks, in which the lock of the scratch file fails: exit code 111, the rules are not touched, and no scratch file is left."""
     library = failed_calls.Library(folder)
     place = os.path.join(folder, "locked")
     os.mkdir(place)
@@ -46,14 +45,13 @@ def check_locks(checks, program, folder):
     checks.expect("the old rules", install(OLD), (0, b"", ""))
     old = compiled_files.content(place, "rules")
     for error, why in (("ENOLCK", "No locks available"), ("EOPNOTSUPP", "Operation not supported"), ("EIO", "Input/output error")):
-        for first, last in ((1, 1), (2, 2), (1, failed_calls.ALL)):
-            name = "flock, %s, calls %d to %d: " % (error, first, last)
-            run = library.run("flock", error, first, last)
+        for first, last in ((1, 1), (1, failed_calls.ALL)):
+            name = "fcntl, %s, calls %d to %d: " % (error, first, last)
+            run = library.run("fcntl", error, first, last)
             ended = install(NEW, **run.environment)
-            checks.expect(name + "how it ends", ended, (111, b"", FRESH + "tcprules: cause: .: %s\n" % why))
+            checks.expect(name + "how it ends", ended, (111, b"", FRESH + "tcprules: cause: tmp: %s\n" % why))
             checks.holds(name + "a call failed", run.end())
-            # (where the lock file was locked, and the folder could not be, it is taken away)
-            checks.expect(name + "what stands there", sorted(os.listdir(place)), ["rules"] if first == 2 else [".tcprules.lock", "rules"])
+            checks.expect(name + "what stands there", os.listdir(place), ["rules"])
             checks.holds(name + "the rules are the old ones", compiled_files.content(place, "rules") == old)
     checks.expect("with locks", install(NEW), (0, b"", ""))
     checks.expect("with locks: what stands there", os.listdir(place), ["rules"])

@@ -1,6 +1,8 @@
 -- What a directory over a disk is made of.
-use Rattle.std.specs.Prelude.{ℕ, List}
+use Rattle.std.specs.Prelude.{ℕ, List, Option}
+use Rattle.std.specs.Option.{option_map}
 use Rattle.dir_calls.specs.Directory.{Directory}
+use Rattle.dir_calls.specs.Moments.{ImagesSince}
 use Rattle.dir_disk.specs.OsDir.{kept_back}
 use Rattle.dir_disk.specs.declared.os_dir.DiskDir.{DiskDir}
 
@@ -19,3 +21,14 @@ os_state state dir = kept_back (os_pending dir) (state (os_disk dir))
 -- how often its device has failed
 abbrev pub os_failed : {D F H P Q : Type 0} {d : _} {f : _} → DiskDir D F H P Q d f → ℕ
 os_failed dir = dir.failures
+
+-- the number of the file that was made last, once it is closed
+abbrev pub os_made : {D F H P Q : Type 0} {d : _} {f : _} → (P → ℕ) → DiskDir D F H P Q d f → Option ℕ
+os_made number dir = option_map number dir.made
+
+-- its moment, and what a stop since a moment may have left
+abbrev pub os_moment : {D F H P Q : Type 0} {d : _} {f : _} → (D → ℕ) → DiskDir D F H P Q d f → ℕ
+os_moment moment dir = moment (os_disk dir)
+
+abbrev pub os_left_since : {D F H P Q : Type 0} {d : _} {f : _} → (D → ImagesSince) → DiskDir D F H P Q d f → ImagesSince
+os_left_since left_since dir = left_since (os_disk dir)

@@ -168,23 +168,25 @@ pub trait Disk {
         ensures failed { IsTrue honest → OnErr result (Spoils (state self.old) (state self.new)) }
         ensures time { IsTrue honest → StepElapses state moment left_since self.old self.new };
 
-    /// Closes the file that was made last: nobody writes it any more (close).
-    fn close(&mut self, file: Self::Handle)
-        requires may { IsTrue honest → (state self.old).scratch ≡ Some (number file) }
+    /// Promises that the file that was made last is written no more. It may stay open, so that others see that this process has it.
+    fn close(&mut self, file: &Self::Handle)
+        requires may { IsTrue honest → (state self.old).scratch ≡ Some (number file.now) }
         ensures done { IsTrue honest → state self.new ≡ closed (state self.old) }
         ensures time { IsTrue honest → StepElapses state moment left_since self.old self.new };
 
-    /// Moves one name onto another as one step (rename).
+    /// Moves one name onto another as one step (rename), where it stands for this file. Another file is never moved, whoever has made it.
     ///
     /// # Errors
     /// `NotFound` where there is no such name; others of the system, and then the name may be moved.
     fn rename(
         &mut self,
         folder: &Self::Folder,
+        file: &Self::Handle,
         from: &Self::Path,
         to: &Self::Path,
     ) -> io::Result<()>
-        ensures found { IsTrue honest → OnOk result (IsSome (number_of (state self.old) (named from.now))) }
+        ensures own { IsTrue honest → OnOk result
+            (number_of (state self.old) (named from.now) ≡ Some (number file.now)) }
         ensures done { IsTrue honest → OnOk result
             (state self.new ≡ after (renames (named from.now) (named to.now)) (state self.old)) }
         ensures absent { IsTrue honest → OnNotFound result

@@ -10,7 +10,7 @@ use std::sync::atomic::{AtomicU32, Ordering};
 /// What a call was about that failed.
 #[derive(Clone, Copy, PartialEq, Eq, Debug)]
 pub enum FailedOn {
-    /// The folder itself, or its lock.
+    /// The folder itself, or who has its scratch file.
     Folder,
     /// The name that the call was given, or the file that stands there.
     Name,
@@ -50,6 +50,16 @@ impl Notes {
         self.on.set(on);
         store(&self.error, &outcome);
         outcome
+    }
+
+    /// The same, where no failure is noted yet.
+    pub(crate) fn note_first<T>(&self, on: FailedOn, outcome: io::Result<T>) -> io::Result<T>
+        ensures { result ≡ outcome }
+    {
+        if self.last().is_some() {
+            return outcome;
+        }
+        self.note(on, outcome)
     }
 
     /// Notes of the reads of a file that is opened, or `None` where there are too many files already.

@@ -7,6 +7,7 @@
 //! the path is refused, and which error is noted.
 #![tactic(auto)]
 
+pub mod claims;
 pub mod disk;
 pub mod failure;
 pub mod lock;
@@ -17,14 +18,15 @@ mod patient;
 mod scratch;
 pub mod system_disk;
 
+pub use claims::{Alone, Claims};
 pub use dir_calls::{
     Choice, ClearableDir, DeviceFault, Dir, DirFault, FuseDir, MemDir, MemFile, Name, NameFault,
     RulesFile, replace_file,
 };
 pub use disk::{Disk, DiskFile, Look};
 pub use failure::{DiskFailure, FailedOn};
-pub use lock::LockTry;
+pub use lock::{Locked, Waits};
 pub use mem_disk::MemDisk;
-pub use os_dir::{DiskDir, FolderError, FolderFault, OsDir, find_folder};
+pub use os_dir::{DiskDir, FolderError, FolderFault, LockedDir, OsDir, find_folder};
 pub use os_file::OsFile;
-pub use system_disk::{SystemDisk, SystemFile, SystemPath};
+pub use system_disk::{ClaimedDisk, SystemDisk, SystemFile, SystemPath};

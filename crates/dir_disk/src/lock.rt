@@ -1,147 +1,172 @@
-//! The lock of a folder of the system, which programs that change names there take one after another.
+//! Files that are claimed by a lock: of several processes that make a file under one name one has it, and the others wait.
+use crate::claims::Claims;
 use crate::system_disk::is_same;
-use std::alloc::{AllocError, Global};
-use std::fs::{File, Files, OpenOptions, TryLockError};
-use std::io::{self, ErrorKind};
-use std::os::unix::fs::OpenOptionsExt;
+use os::RangeLock;
+use std::fs::{File, Files, OpenOptions, Permissions};
+use std::io::{self, ErrorKind, Read};
+use std::os::fd::AsRawFd;
+use std::os::unix::fs::{MetadataExt, OpenOptionsExt, PermissionsExt};
 
-/// What stands behind the path of a folder in that of its lock file.
-const NAME: &str = "/.tcprules.lock";
+/// The permissions of a file that is not complete: nobody else can open it, and so nobody can lock it who may not write in its folder.
+const HIDDEN: u32 = 0o600;
 
-/// Who may open the lock file: its owner alone. So nobody can hold the lock who may only read the folder.
-const MODE: u32 = 0o600;
+/// The system's errors for a file that another process has, for a folder, for a link, and for what else is no file.
+const TAKEN: i32 = 11;
 
-/// What a try for the lock of a folder came to.
-#[derive(Clone, Copy, PartialEq, Eq, Debug)]
-pub enum LockTry {
-    /// It is taken.
-    Taken,
-    /// The lock file is taken, but another process holds the folder itself: anybody may who can open the folder, and so does a `tcprules`
-    /// that knows no lock file.
-    FolderHeld,
-    /// Another process has the lock file, or has just given it back.
-    Held,
+const IS_FOLDER: i32 = 21;
+
+const IS_LINK: i32 = 40;
+
+const INVALID: i32 = 22;
+
+/// Where the system tells which permissions the process masks, in one of the first lines.
+const STATUS: &str = "/proc/self/status";
+
+const MASK: &str = "Umask:\t";
+
+/// How long one waits for a file that another process has.
+pub trait Waits {
+    /// Waits a little, and answers whether to try again.
+    fn wait(&mut self) -> bool;
 }
 
-/// The lock file of a folder, where it is held.
+/// A file is claimed by an exclusive lock of its first byte, which lasts until it is closed: by this process, or by the system where that was
+/// killed. A free one is what a killed process has left, and is taken away while its lock is held. Only who may write a file can have such a lock.
 #[derive(Drop)]
-pub(crate) struct LockFile<F: Drop> {
-    path: String,
-    held: Option<F>,
+pub struct Locked<W> {
+    waits: W,
+    // the permissions of a file that is complete, where it was made with others
+    mode: Option<u32>,
+    made: bool,
 }
 
-impl<F: Drop> LockFile<F> {
-    /// That of a folder, which is not held.
-    pub(crate) fn new(alloc: Global, folder: &str) -> Result<LockFile<F>, AllocError> {
-        let mut path = String::with_capacity(alloc, folder.len().saturating_add(NAME.len()))?;
-        path.push_str(folder)?;
-        path.push_str(NAME)?;
-        Ok(LockFile { path, held: None })
+impl<W> Locked<W> {
+    /// Files for which others are waited for in this way.
+    pub fn new(waits: W) -> Locked<W> {
+        Locked {
+            waits,
+            mode: None,
+            made: false,
+        }
     }
 }
 
-impl LockFile<File> {
-    /// Tries to take the lock file, if it is not held yet, and then the folder itself.
-    pub(crate) fn try_take<R: Files<File = File>>(
-        &mut self,
-        files: &R,
-        folder: &File,
-    ) -> io::Result<LockTry> {
-        if self.held.is_none() {
-            match open(files, self.path.as_str())? {
-                Opened::File(file) => self.held = self.hold(files, file)?,
-                Opened::Gone => {}
-                Opened::Denied => self.take_away(files, folder)?,
-            }
-        }
-        if self.held.is_none() {
-            return Ok(LockTry::Held);
-        }
-        match try_hold(folder)? {
-            true => Ok(LockTry::Taken),
-            false => Ok(LockTry::FolderHeld),
-        }
-    }
-
-    /// Takes the lock file away, if it is held, and gives the lock back. Where it can't be taken away, it stays, and nobody holds it.
-    pub(crate) fn release<R: Files<File = File>>(&mut self, files: &R) {
-        let held = self.held.take();
-        if let Some(file) = &held
-            && is_at(files, file, self.path.as_str()).unwrap_or(false)
-        {
-            let _ = files.remove_file(self.path.as_str());
-        }
-    }
-
-    // The lock file, held, or `None` where another process has it, or had it and has taken it away since it was opened.
-    fn hold<R: Files<File = File>>(&self, files: &R, file: File) -> io::Result<Option<File>> {
-        let ours = try_hold(&file)? && is_at(files, &file, self.path.as_str())?;
-        Ok(ours.then_some(file))
-    }
-
-    // Takes a lock file away that belongs to another user, unless it is held: it may be left by a process that was killed. Whoever holds it
-    // holds the folder too.
-    fn take_away<R: Files<File = File>>(&self, files: &R, folder: &File) -> io::Result<()> {
-        if !try_hold(folder)? {
-            return Ok(());
-        }
-        match files.remove_file(self.path.as_str()) {
-            Err(error) if error.kind() == ErrorKind::NotFound => Ok(()),
+impl<R: Files<File = File>, W: Waits> Claims<R> for Locked<W> {
+    fn make(&mut self, files: &R, path: &str, mode: u32) -> io::Result<File> {
+        let mask = read_mask(files);
+        self.mode = mask.map(|mask| mode & !mask);
+        let first = if mask.is_some() { HIDDEN } else { mode };
+        let outcome = match make_held(files, path, first) {
+            Err(error) if is_taken(&error) => match take_free(files, path) {
+                Err(error) if error.kind() != ErrorKind::NotFound => Err(error),
+                _ => make_held(files, path, first),
+            },
             outcome => outcome,
+        };
+        self.made |= outcome.is_ok();
+        outcome
+    }
+
+    fn complete(&mut self, file: &File) -> io::Result<()> {
+        match self.mode {
+            Some(mode) => file.set_permissions(Permissions::from_mode(mode)),
+            None => Ok(()),
         }
+    }
+
+    fn take_away(&mut self, files: &R, path: &str) -> io::Result<()> {
+        take_free(files, path)
+    }
+
+    // (what is taken away after a file was made is that file: where another process has the name by then, nothing is left to be done)
+    fn wait(&mut self) -> bool {
+        !self.made && self.waits.wait()
     }
 }
 
-// What comes of opening a lock file.
-#[derive(Drop)]
-enum Opened {
-    // It is open.
-    File(File),
-    // It was there, and was taken away meanwhile.
-    Gone,
-    // It is there, and belongs to another user.
-    Denied,
+// The error that another process has a file.
+fn taken() -> io::Error {
+    io::Error::from_raw_os_error(TAKEN)
 }
 
-// Opens a lock file, and makes it where it is not there.
-fn open<R: Files<File = File>>(files: &R, path: &str) -> io::Result<Opened> {
+fn is_taken(error: &io::Error) -> bool {
+    error.kind() == ErrorKind::WouldBlock
+}
+
+// Makes a new file at a path, and locks it. Another process may have found it before it was locked, and taken it away.
+fn make_held<R: Files<File = File>>(files: &R, path: &str, mode: u32) -> io::Result<File> {
     let made = OpenOptions::new()
         .read(true)
         .write(true)
         .create_new(true)
-        .mode(MODE)
+        .mode(mode)
         .open(files, path);
-    match made {
-        Ok(file) => Ok(Opened::File(file)),
-        Err(error) if error.kind() == ErrorKind::AlreadyExists => open_there(files, path, error),
-        Err(error) => Err(error),
+    let file = match made {
+        Err(error) if error.kind() == ErrorKind::AlreadyExists => return Err(taken()),
+        made => made?,
+    };
+    match hold(files, &file, path) {
+        Ok(true) => Ok(file),
+        Ok(false) => Err(taken()),
+        Err(error) => {
+            // no process can lock it, so it is of no use
+            if matches!(is_at(files, &file, path), Ok(true)) {
+                let _ = files.remove_file(path);
+            }
+            Err(error)
+        }
     }
 }
 
-// Opens a lock file that is there. A link is not followed, and what is no file is refused, by the error that something is there; a pipe that is
-// put there meanwhile does not block, since it is opened to be read and written.
-fn open_there<R: Files<File = File>>(
-    files: &R,
-    path: &str,
-    there: io::Error,
-) -> io::Result<Opened> {
-    match files.symlink_metadata(path) {
-        Ok(found) if !found.is_file() => return Err(there),
-        Err(error) if error.kind() == ErrorKind::NotFound => return Ok(Opened::Gone),
-        Err(error) => return Err(error),
-        Ok(_) => {}
+// Takes away what stands at a path, where it is a file that no process has. What is no file is left there: it has no lock by which two processes
+// could agree which of them takes it away, and so one might take away the other's new file.
+fn take_free<R: Files<File = File>>(files: &R, path: &str) -> io::Result<()> {
+    let found = files.symlink_metadata(path)?;
+    if !found.is_file() {
+        let error = match (found.is_dir(), found.is_symlink()) {
+            (true, _) => IS_FOLDER,
+            (_, true) => IS_LINK,
+            _ => INVALID,
+        };
+        return Err(io::Error::from_raw_os_error(error));
     }
-    match OpenOptions::new().read(true).write(true).open(files, path) {
-        Ok(file) => Ok(Opened::File(file)),
-        Err(error) => match error.kind() {
-            ErrorKind::NotFound => Ok(Opened::Gone),
-            ErrorKind::PermissionDenied => Ok(Opened::Denied),
-            _ => Err(error),
-        },
+    // (a pipe that is put there meanwhile does not block an opening to read and write)
+    let opened = OpenOptions::new().read(true).write(true).open(files, path);
+    let file = match opened {
+        Err(error) if error.kind() == ErrorKind::PermissionDenied => return Err(taken()),
+        opened => opened?,
+    };
+    if !hold(files, &file, path)? && !is_read_alone(files, &file, path)? {
+        return Err(taken());
+    }
+    files.remove_file(path)
+}
+
+// Locks a file, if no other process has it, and answers whether it is locked and still stands at its path.
+fn hold<R: Files<File = File>>(files: &R, file: &File, path: &str) -> io::Result<bool> {
+    Ok(lock(file, RangeLock::Exclusive)? && is_at(files, file, path)?)
+}
+
+// Whether a file is locked by readers alone, and still stands at its path. Who may read a file can have a lock together with others, which keeps
+// nobody from sharing it; whoever has made a file shares its lock with nobody.
+fn is_read_alone<R: Files<File = File>>(files: &R, file: &File, path: &str) -> io::Result<bool> {
+    Ok(lock(file, RangeLock::Shared)? && is_at(files, file, path)?)
+}
+
+// Locks the first byte of a file, if no other process has a lock in the way, and answers whether it is locked.
+fn lock(file: &File, kind: RangeLock) -> io::Result<bool> {
+    if os::try_lock_range(file.as_raw_fd(), kind, 0, 1) == 0 {
+        return Ok(true);
+    }
+    let error = io::Error::from_raw_os_error(os::errno());
+    if is_taken(&error) {
+        Ok(false)
+    } else {
+        Err(error)
     }
 }
 
-// Whether an opened file is what stands at a path.
+// Whether an opened file stands at a path.
 fn is_at<R: Files<File = File>>(files: &R, file: &File, path: &str) -> io::Result<bool> {
     match is_same(file.metadata(), files.symlink_metadata(path)) {
         Err(error) if error.kind() == ErrorKind::NotFound => Ok(false),
@@ -149,11 +174,16 @@ fn is_at<R: Files<File = File>>(files: &R, file: &File, path: &str) -> io::Resul
     }
 }
 
-// Holds a file, if no other process does.
-fn try_hold(file: &File) -> io::Result<bool> {
-    match file.try_lock() {
-        Ok(()) => Ok(true),
-        Err(TryLockError::WouldBlock) => Ok(false),
-        Err(TryLockError::Error(error)) => Err(error),
+// The permissions that the process masks, where the system tells them.
+fn read_mask<R: Files<File = File>>(files: &R) -> Option<u32> {
+    let mut start = [0; 256];
+    let mut file = OpenOptions::new().read(true).open(files, STATUS).ok()?;
+    let count = file.read(&mut start).ok()?;
+    let text = str::from_utf8(&start[..count]).ok()?;
+    for line in text.lines() {
+        if let Some(mask) = line.strip_prefix(MASK) {
+            return u32::from_str_radix(mask, 8).ok();
+        }
     }
+    None
 }

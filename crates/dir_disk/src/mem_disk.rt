@@ -234,16 +234,25 @@ impl Disk for MemDisk {
         Ok(())
     }
 
-    fn close(&mut self, file: MemHandle) {
+    fn close(&mut self, file: &MemHandle) {
         let past = self.past.and(&self.folder, &None);
         self.folder.leave();
         self.past = past;
     }
 
-    fn rename(&mut self, folder: &MemFolder, from: &MemPath, to: &MemPath) -> io::Result<()> {
+    fn rename(
+        &mut self,
+        folder: &MemFolder,
+        file: &MemHandle,
+        from: &MemPath,
+        to: &MemPath,
+    ) -> io::Result<()> {
         let Some(number) = self.folder.number(from.name()) else {
             return Err(io::Error::from(ErrorKind::NotFound));
         };
+        if number != file.number {
+            return Err(not_opened());
+        }
         let past = self.past.and(&self.folder, &None);
         self.folder
             .rename(self.alloc, from.name(), to.name(), number)

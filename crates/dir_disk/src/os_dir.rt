@@ -1,8 +1,10 @@
 //! Folders of a disk, and so of the system.
-ghost use Rattle.std.specs.Prelude.{◌≡◌, ◌≢◌, ◌⊎◌, Err, false, None, Option, Some, IsTrue, IfErr, IfOk, IsErr, OnOk, OnErr, Ok, List, ℕ};
+ghost use Rattle.std.specs.Prelude.{◌≡◌, ◌≢◌, ◌⊎◌, ◌∷◌, [], Contains, Err, false, None, Option, Some, IsSome, IsTrue, IfErr, IfOk, IsErr, OnOk, OnErr, Ok, List, ℕ};
 ghost use Rattle.std.specs.Option.{option_map};
 ghost use Rattle.std.specs.IoError.{error_kind};
+ghost use Rattle.dir_calls.specs.Calls.{renames};
 ghost use Rattle.dir_calls.specs.Directory.{number_of};
+ghost use Rattle.dir_calls.specs.Methods.{CallElapses, CallIncludes, DoesCall};
 ghost use Rattle.dir_calls.specs.Replacing.{KeepsWhatLasts};
 ghost use Rattle.dir_disk.specs.OsDir.{Holds, Holds_honest-prop, SparesOthers, kept_back};
 ghost use Rattle.dir_calls.specs.Moments.{CountsFault};
@@ -10,12 +12,13 @@ ghost use Rattle.dir_disk.specs.OsFile.{IsFoundAt};
 ghost use Rattle.dir_disk.specs.KeptImages.{kept_image, disk_image};
 ghost use Rattle.std.proofs.Common.{subst, sym};
 
+use crate::claims::{Alone, Claims};
 use crate::disk::Disk;
-use crate::lock::LockTry;
+use crate::lock::{Locked, Waits};
 use crate::os_file::OsFile;
 use crate::patient::{TRIES, is_file, move_name, not_opened, opened, remove_name, settle};
 use crate::scratch::{BUFFER, give_up, make_room, overwrite, renew, sync_kept};
-use crate::system_disk::SystemDisk;
+use crate::system_disk::{ClaimedDisk, SystemDisk};
 use dir_calls::{ClearableDir, Dir, DirFault, Name};
 use std::alloc::{AllocError, Global};
 use std::fs::{File, Files};
@@ -72,6 +75,10 @@ impl From<AllocError> for FolderError {
 ///
 /// After a device fault of `fresh`, `append`, `patch` or `sync` there is no scratch file: what was kept back or written may be lost, and
 /// the system tells of a failed write once alone, so a later `sync` must not succeed.
+///
+/// `rename` moves no file but the one that `fresh` made last and `sync` made lasting: where a name stands for another one, as where another process
+/// has put it there meanwhile, that is a device fault, and nothing is moved. That file stays open until the next `fresh` or `remove`, so that
+/// others see that it is this process's.
 #[derive(Drop)]
 pub struct DiskDir<D: Disk + Drop> {
     disk: D,
@@ -82,6 +89,8 @@ pub struct DiskDir<D: Disk + Drop> {
     written: u64,
     // what is still to be written at its end
     pending: Vec<u8>,
+    // the last scratch file, once it is closed
+    made: Option<D::Handle>,
     failures: u64,
     // room for the paths of a call, so that it takes no memory
     path: D::Path,
@@ -89,11 +98,14 @@ pub struct DiskDir<D: Disk + Drop> {
     ghost holds: { IsTrue D.honest → Holds D.number (D.state disk) scratch written } by { Holds_honest-prop D.honest D.number (D.state disk) scratch written },
 }
 
-/// A folder of the system.
+/// A folder of the system, in which no other process is known to make files.
 pub type OsDir<R> = DiskDir<SystemDisk<R>>;
 
+/// A folder of the system in which several processes make files under one name: one has it, and the others wait for it.
+pub type LockedDir<R, W> = DiskDir<ClaimedDisk<R, Locked<W>>>;
+
 impl<D: Disk + Drop> DiskDir<D> {
-    ghost use Rattle.dir_disk.specs.OsParts.{os_disk, os_failed, os_state};
+    ghost use Rattle.dir_disk.specs.OsParts.{os_disk, os_failed, os_made, os_state};
 
     /// The folder of a disk. None of its files may be open to be written.
     ///
@@ -101,7 +113,8 @@ impl<D: Disk + Drop> DiskDir<D> {
     /// Want of memory.
     pub fn over(alloc: Global, disk: D) -> Result<Self, AllocError>
         requires { IsTrue D.honest → (D.state disk).scratch ≡ None }
-        ensures { IfOk result (λ dir. os_disk dir ≡ disk) }
+        ensures disk { IfOk result (λ dir. os_disk dir ≡ disk) }
+        ensures none_made { IfOk result (λ dir. os_made D.number dir ≡ None) }
     {
         let (path, onto) = rooms(alloc, &disk)?;
         Ok(DiskDir {
@@ -110,6 +123,7 @@ impl<D: Disk + Drop> DiskDir<D> {
             scratch: None,
             written: 0,
             pending: Vec::new(alloc),
+            made: None,
             failures: 0,
             path,
             onto,
@@ -141,6 +155,7 @@ impl<D: Disk + Drop> DiskDir<D> {
     {
         let scratch = self.scratch.take();
         give_up(&mut self.disk, scratch);
+        self.made = None;
         self.pending.clear();
         self.disk.put_path(&mut self.path, name);
         let outcome = remove_name(&mut self.disk, &mut self.folder, &self.path);
@@ -181,7 +196,7 @@ where
     /// # Errors
     /// Want of memory.
     pub fn at(alloc: Global, files: R, folder: &str) -> Result<Self, AllocError> {
-        let disk = SystemDisk::new(alloc, files, folder)?;
+        let disk = ClaimedDisk::new(alloc, files, Alone, folder)?;
         DiskDir::over(alloc, disk)
     }
 }
@@ -217,45 +232,14 @@ fn unusable(error: &io::Error) -> FolderError {
     }
 }
 
-impl<R: Files<File = File> + Drop> DiskDir<SystemDisk<R>> {
-    ghost use Rattle.dir_disk.specs.OsParts.{os_failed};
-
-    /// Tries to take the lock of the folder, without waiting; it is held until `unlock`, or until this value is dropped. Of programs that
-    /// all take it only one at a time changes names there. It is a file beside the names of the folder, `.tcprules.lock`, that only its owner can
-    /// open, and the folder itself (both by `flock`): that one for the sake of programs that take it alone, as a `tcprules` that knows
-    /// no lock file. It tells nothing of programs that take neither, nor of another machine over a network file system.
-    ///
-    /// A process that was killed holds nothing any more: the file that it left is taken by the next one.
+impl<R: Files<File = File> + Drop, W: Waits + Drop> DiskDir<ClaimedDisk<R, Locked<W>>> {
+    /// The folder of the system at a path, without a look at what stands there, in which others are waited for in this way.
     ///
     /// # Errors
-    /// `Device`, where the folder can't be opened for reading, or its file system has no such locks, or the lock file can't be made. Nothing has
-    /// changed then.
-    pub fn try_lock(&mut self) -> Result<LockTry, DirFault>
-        ensures faults { IfErr result (λ fault. fault ≡ DirFault.Device) }
-        ensures counted { CountsFault (os_failed self.old) (os_failed self.new) result }
-    {
-        let outcome = match opened(&self.disk, &mut self.folder) {
-            Some(folder) => self.disk.try_lock(folder),
-            None => Err(not_opened()),
-        };
-        told(&mut self.failures, outcome)
-    }
-
-    /// Gives the lock file back, if it is held, and takes it away, as well as that can be done. The folder itself is held until this value is
-    /// dropped.
-    pub fn unlock(&mut self) {
-        self.disk.unlock();
-    }
-
-    /// Whether something stands under a name, or may stand there where the system doesn't say. No failure is counted.
-    pub fn may_stand(&mut self, name: &Name) -> bool
-        ensures { os_failed self.new ≡ os_failed self.old }
-    {
-        self.disk.put_path(&mut self.path, name);
-        match is_file(&self.disk, &self.path) {
-            Ok(_) => true,
-            Err(error) => error.kind() != ErrorKind::NotFound,
-        }
+    /// Want of memory.
+    pub fn locked(alloc: Global, files: R, waits: W, folder: &str) -> Result<Self, AllocError> {
+        let disk = ClaimedDisk::new(alloc, files, Locked::new(waits), folder)?;
+        DiskDir::over(alloc, disk)
     }
 }
 
@@ -354,6 +338,8 @@ fn open_file<D: Disk>(
 }
 
 impl<D: Disk + Drop> Dir for DiskDir<D> {
+    ghost use Rattle.dir_disk.specs.OsParts.{os_failed, os_left_since, os_made, os_moment, os_state};
+
     type File = OsFile<D::File>;
 
     ghost state = { λ dir. kept_back dir.pending.items (D.state dir.disk) };
@@ -379,6 +365,7 @@ impl<D: Disk + Drop> Dir for DiskDir<D> {
         self.disk.put_path(&mut self.path, name);
         let folder = folder_of(&self.disk, &mut self.folder, &mut self.failures)?;
         let scratch = self.scratch.take();
+        self.made = None;
         let (written, pending) = (self.written, &mut self.pending);
         let outcome = renew(
             &mut self.disk,
@@ -429,14 +416,43 @@ impl<D: Disk + Drop> Dir for DiskDir<D> {
         let Some(file) = self.scratch.take() else {
             return Err(DirFault::NoScratch);
         };
-        let outcome = sync_kept(&mut self.disk, file, self.written, &mut self.pending);
+        let outcome = sync_kept(
+            &mut self.disk,
+            file,
+            self.written,
+            &mut self.pending,
+            &mut self.made,
+        );
         told(&mut self.failures, outcome)
     }
 
-    fn rename(&mut self, alloc: Global, from: &Name, to: &Name) -> Result<(), DirFault> {
+    fn rename(&mut self, alloc: Global, from: &Name, to: &Name) -> Result<(), DirFault>
+        // nothing is moved but the file that was made last, whatever was done to names beside it
+        ensures own { IsTrue D.honest → OnOk result
+            (number_of (os_state D.state self.old) from.now ≡ os_made D.number self.old) }
+        ensures does { IsTrue D.honest
+            → DoesCall (os_state D.state) (renames from.now to.now) self.old self.new result }
+        ensures found { IsTrue D.honest → OnOk result (IsSome (number_of (os_state D.state self.old) from.now)) }
+        ensures no_name { IsTrue D.honest → result ≡ Err DirFault.NoName
+            → number_of (os_state D.state self.old) from.now ≡ None }
+        ensures no_memory { IsTrue D.honest → result ≡ Err DirFault.OutOfMemory
+            → IsSome (number_of (os_state D.state self.old) from.now) }
+        ensures faults { IfErr result (Contains (DirFault.NoName ∷ DirFault.Device ∷ DirFault.OutOfMemory ∷ [])) }
+        ensures counted { CountsFault (os_failed self.old) (os_failed self.new) result }
+        ensures time { IsTrue D.honest → CallElapses (os_state D.state) (os_moment D.moment)
+            (os_left_since D.left_since) (renames from.now to.now) self.old self.new }
+        ensures within { IsTrue D.honest → OnOk result (CallIncludes (os_state D.state) (os_moment D.moment)
+            (os_left_since D.left_since) (renames from.now to.now) self.old self.new) }
+    {
         self.disk.put_path(&mut self.path, from);
         self.disk.put_path(&mut self.onto, to);
-        let outcome = move_name(&mut self.disk, &mut self.folder, &self.path, &self.onto);
+        let outcome = move_name(
+            &mut self.disk,
+            &mut self.folder,
+            &self.made,
+            &self.path,
+            &self.onto,
+        );
         told_move(&mut self.failures, outcome)
     }
 

@@ -1,6 +1,6 @@
 //! Calls of a disk, tried again where a signal interrupts them.
 ghost use Rattle.std.specs.Prelude.{◌≡◌, ◌<◌, ◌+◌, ◌^◌, false, IsTrue, None, Some, IsSome, IsErr, IsErrAnd, length, IfErr, OnOk, OnErr};
-ghost use Rattle.std.specs.Option.{ForSome};
+ghost use Rattle.std.specs.Option.{ForSome, option_map};
 ghost use Rattle.std.specs.IoError.{error_kind};
 ghost use Rattle.dir_calls.specs.Directory.{number_of, scratch_of};
 ghost use Rattle.dir_calls.specs.Calls.{renames, settles, after, without};
@@ -76,8 +76,15 @@ pub(crate) fn unlink<D: Disk>(disk: &mut D, folder: &D::Folder, path: &D::Path) 
 }
 
 // Moves one name onto another.
-fn rename<D: Disk>(disk: &mut D, folder: &D::Folder, from: &D::Path, to: &D::Path) -> io::Result<()>
-    ensures found { IsTrue D.honest → OnOk result (IsSome (number_of (D.state disk.old) (D.named from.now))) }
+fn rename<D: Disk>(
+    disk: &mut D,
+    folder: &D::Folder,
+    file: &D::Handle,
+    from: &D::Path,
+    to: &D::Path,
+) -> io::Result<()>
+    ensures own { IsTrue D.honest → OnOk result
+        (number_of (D.state disk.old) (D.named from.now) ≡ Some (D.number file.now)) }
     ensures done { IsTrue D.honest → OnOk result
         (D.state disk.new ≡ after (renames (D.named from.now) (D.named to.now)) (D.state disk.old)) }
     ensures absent { IsTrue D.honest → OnNotFound result
@@ -87,7 +94,7 @@ fn rename<D: Disk>(disk: &mut D, folder: &D::Folder, from: &D::Path, to: &D::Pat
     ensures time { IsTrue D.honest → StepElapses D.state D.moment D.left_since disk.old disk.new }
 {
     for _ in 0..TRIES {
-        let outcome = disk.rename(folder, from, to);
+        let outcome = disk.rename(folder, file, from, to);
         if !was_interrupted(&outcome) {
             return outcome;
         }
@@ -127,13 +134,28 @@ pub(crate) fn remove_name<D: Disk>(
     }
 }
 
-/// Moves one name onto another in a folder that is opened if it is not open yet.
+// What is answered where a name is to be moved for which no file was made.
+fn not_made<D: Disk>(disk: &D, path: &D::Path) -> io::Result<()>
+    ensures failed { IsErr result }
+    ensures absent { IsTrue D.honest → OnNotFound result
+        (number_of (D.state disk.now) (D.named path.now) ≡ None) }
+{
+    match is_file(disk, path) {
+        Ok(_) => Err(not_opened()),
+        Err(error) => Err(error),
+    }
+}
+
+/// Moves one name onto another, where it stands for the file that was made, in a folder that is opened if it is not open yet.
 pub(crate) fn move_name<D: Disk>(
     disk: &mut D,
     folder: &mut Option<D::Folder>,
+    made: &Option<D::Handle>,
     from: &D::Path,
     to: &D::Path,
 ) -> io::Result<()>
+    ensures own { IsTrue D.honest → OnOk result
+        (number_of (D.state disk.old) (D.named from.now) ≡ option_map D.number made.now) }
     ensures found { IsTrue D.honest → OnOk result (IsSome (number_of (D.state disk.old) (D.named from.now))) }
     ensures done { IsTrue D.honest → OnOk result
         (D.state disk.new ≡ after (renames (D.named from.now) (D.named to.now)) (D.state disk.old)) }
@@ -143,8 +165,11 @@ pub(crate) fn move_name<D: Disk>(
         (MovesOrNot (D.named from.now) (D.named to.now) (D.state disk.old) (D.state disk.new)) }
     ensures time { IsTrue D.honest → StepElapses D.state D.moment D.left_since disk.old disk.new }
 {
+    let Some(file) = made else {
+        return not_made(disk, from);
+    };
     match opened(disk, folder) {
-        Some(folder) => rename(disk, folder, from, to),
+        Some(folder) => rename(disk, folder, file, from, to),
         None => Err(not_opened()),
     }
 }

@@ -42,7 +42,7 @@ pub(crate) fn write_kept<D: Disk>(
             Ok((file, end))
         }
         Err(error) => {
-            disk.close(file);
+            disk.close(&file);
             Err(error)
         }
     }
@@ -92,29 +92,32 @@ pub(crate) fn overwrite<D: Disk>(
     match write_all(disk, &file, place, bytes) {
         Ok(()) => Ok((file, written)),
         Err(error) => {
-            disk.close(file);
+            disk.close(&file);
             Err(error)
         }
     }
 }
 
-/// Writes the bytes that are kept back, then has the file made lasting, and closes it.
+/// Writes the bytes that are kept back, then has the file made lasting, and closes it. It is the one that was made then.
 pub(crate) fn sync_kept<D: Disk>(
     disk: &mut D,
     file: D::Handle,
     written: u64,
     pending: &mut Vec<u8>,
+    made: &mut Option<D::Handle>,
 ) -> io::Result<()>
     requires writable { IsTrue D.honest → IsWritable (D.state disk.old) (D.number file) written }
     ensures done { IsTrue D.honest → OnOk result
         (D.state disk.new ≡ after syncs (kept_back pending.old.items (D.state disk.old))) }
     ensures closed { IsTrue D.honest → (D.state disk.new).scratch ≡ None }
+    ensures made { IsTrue D.honest → OnOk result (option_map D.number made.new ≡ (D.state disk.old).scratch) }
     ensures failed { IsTrue D.honest → OnErr result (GivesUp (D.state disk.old) (D.state disk.new)) }
     ensures time { IsTrue D.honest → StepElapses D.state D.moment D.left_since disk.old disk.new }
 {
     let (file, _written) = write_kept(disk, file, written, pending)?;
     let outcome = sync(disk, &file);
-    disk.close(file);
+    disk.close(&file);
+    *made = Some(file);
     outcome
 }
 
@@ -137,7 +140,7 @@ pub(crate) fn let_go<D: Disk>(
         return Ok(());
     };
     let (file, _written) = write_kept(disk, file, written, pending)?;
-    disk.close(file);
+    disk.close(&file);
     Ok(())
 }
 
@@ -148,7 +151,7 @@ pub(crate) fn give_up<D: Disk>(disk: &mut D, scratch: Option<D::Handle>)
     ensures time { IsTrue D.honest → StepElapses D.state D.moment D.left_since disk.old disk.new }
 {
     if let Some(file) = scratch {
-        disk.close(file);
+        disk.close(&file);
     }
 }
 

@@ -2,20 +2,26 @@
 ghost use Rattle.std.specs.Prelude.{◌≡◌, [], ⊤, true, false, refl};
 ghost use Rattle.dir_calls.specs.NoDirectory.{no_directory, not_honest};
 
+use crate::claims::{Alone, Claims};
 use crate::disk::{Disk, DiskFile, Look};
 use crate::failure::{DiskFailure, FailedOn, FileNotes, Notes};
-use crate::lock::{LockFile, LockTry};
 use dir_calls::Name;
 use std::alloc::{AllocError, Global};
-use std::fs::{File, Files, Metadata, OpenFile, OpenOptions};
+use std::fs::{Files, Metadata, OpenFile, OpenOptions};
 use std::io::{self, ErrorKind};
-use std::os::unix::fs::{FileExt, MetadataExt, OpenOptionsExt};
+use std::os::unix::fs::{FileExt, MetadataExt};
 
 /// How many bytes a slash and a name have at most.
 const LONGEST: usize = 256;
 
-/// The system's errors for a file of a folder that is gone, for a folder in the place of a file, and for what a call can't be made of.
+/// How often a name that another process has is tried for: more often than there is time for.
+const TRIES: u32 = 1_000_000;
+
+/// The system's errors for a file of a folder that is gone, for what is no folder, for a folder in the place of a file, and for what a call can't
+/// be made of.
 const STALE: i32 = 116;
+
+const NO_FOLDER: i32 = 20;
 
 const IS_FOLDER: i32 = 21;
 
@@ -25,15 +31,20 @@ const INVALID: i32 = 22;
 /// of the system: that it does what `Disk` says is the premise of all that stands on it.
 ///
 /// Before each change of a name, and before the folder is synced, the folder that was opened is compared with what stands at its path now: where
-/// that is another folder, as where a link on the way was turned, nothing is changed, and the call fails. Between that look and the call
-/// itself the path may still be turned.
+/// that is another folder, as where a link on the way was turned, nothing is changed, and the call fails. So it is of the file that is to be
+/// renamed: where another one stands under its name, nothing is moved. Between such a look and the call itself the path may still be turned.
+///
+/// Files are made and taken away as its `Claims` do that: where another process has the name, these are asked whether to wait for it.
 #[derive(Drop)]
-pub struct SystemDisk<R: Files + Drop> {
+pub struct ClaimedDisk<R: Files + Drop, C: Drop> {
     files: R,
     folder: String,
-    lock: LockFile<R::File>,
+    claims: C,
     notes: Notes,
 }
+
+/// A folder of the system in which no other process is known to make files.
+pub type SystemDisk<R> = ClaimedDisk<R, Alone>;
 
 /// The path of a name in a folder of the system.
 #[derive(Drop)]
@@ -73,19 +84,24 @@ pub struct SystemFile<F: FileExt + Drop> {
     notes: Option<FileNotes>,
 }
 
-impl<R: Files + Drop> SystemDisk<R> {
+impl<R: Files + Drop, C: Drop> ClaimedDisk<R, C> {
     /// The folder at a path.
-    pub(crate) fn new(alloc: Global, files: R, folder: &str) -> Result<Self, AllocError> {
-        Ok(SystemDisk {
+    pub(crate) fn new(
+        alloc: Global,
+        files: R,
+        claims: C,
+        folder: &str,
+    ) -> Result<Self, AllocError> {
+        Ok(ClaimedDisk {
             files,
             folder: String::from_str(alloc, folder)?,
-            lock: LockFile::new(alloc, folder)?,
+            claims,
             notes: Notes::new(alloc)?,
         })
     }
 
-    /// The call that failed, where the last call of the system did, a read of an opened file too: so the cause of a fault can be told, right
-    /// after it.
+    /// The call that failed, where the last call of the system did, a read of an opened file too: so the cause of a fault can be told. A file that
+    /// is taken away after a failure leaves it noted.
     pub fn failure(&self) -> Option<DiskFailure> {
         self.notes.last()
     }
@@ -105,10 +121,38 @@ impl<R: Files + Drop> SystemDisk<R> {
         self.notes.note(on, outcome)
     }
 
-    // Sees that the folder that was opened stands at its path still.
+    // Whether the folder that was opened stands at its path still.
+    fn same_folder(&self, folder: &R::File) -> io::Result<()> {
+        is_same(folder.metadata(), self.files.metadata(self.folder.as_str())).and_then(unless_other)
+    }
+
+    // Sees that it does.
     fn sees_same(&self, folder: &R::File) -> io::Result<()> {
-        let same = is_same(folder.metadata(), self.files.metadata(self.folder.as_str()));
-        self.note(FailedOn::Folder, same.and_then(unless_other))
+        self.note(FailedOn::Folder, self.same_folder(folder))
+    }
+
+    // Sees that an opened file is what stands at a path.
+    fn sees_file(&self, file: &R::File, path: &str) -> io::Result<()> {
+        let same = is_same(file.metadata(), self.files.symlink_metadata(path));
+        self.note(FailedOn::Name, same.and_then(unless_other))
+    }
+}
+
+impl<R: Files + Drop, C: Claims<R> + Drop> ClaimedDisk<R, C> {
+    // Whether to try a call again that found the name with another process.
+    fn waits<T>(&mut self, outcome: &io::Result<T>) -> bool {
+        match outcome {
+            Err(error) => error.kind() == ErrorKind::WouldBlock && self.claims.wait(),
+            Ok(_) => false,
+        }
+    }
+}
+
+// What a call was about that made a file or took one away.
+fn about<T>(outcome: &io::Result<T>) -> FailedOn {
+    match outcome {
+        Err(error) if error.kind() == ErrorKind::WouldBlock => FailedOn::Folder,
+        _ => FailedOn::Name,
     }
 }
 
@@ -130,21 +174,6 @@ fn unless_other(same: bool) -> io::Result<()> {
     }
 }
 
-impl<R: Files<File = File> + Drop> SystemDisk<R> {
-    /// Tries to take the lock of the folder, which was opened. A try that a signal interrupts is one that finds it held.
-    pub(crate) fn try_lock(&mut self, folder: &File) -> io::Result<LockTry> {
-        match self.lock.try_take(&self.files, folder) {
-            Err(error) if error.kind() == ErrorKind::Interrupted => Ok(LockTry::Held),
-            outcome => self.note(FailedOn::Folder, outcome),
-        }
-    }
-
-    /// Gives the lock file back, and takes it away.
-    pub(crate) fn unlock(&mut self) {
-        self.lock.release(&self.files);
-    }
-}
-
 /// Nothing is known of a file of the system.
 impl<F: FileExt + Drop> DiskFile for SystemFile<F> {
     ghost bytes = { λ _. [] };
@@ -160,7 +189,7 @@ impl<F: FileExt + Drop> DiskFile for SystemFile<F> {
     }
 }
 
-impl<R: Files + Drop> Disk for SystemDisk<R>
+impl<R: Files + Drop, C: Claims<R> + Drop> Disk for ClaimedDisk<R, C>
 where
     R::File: FileExt,
 {
@@ -209,6 +238,13 @@ where
     }
 
     fn open_folder(&self) -> io::Result<R::File> {
+        let found = self.note(FailedOn::Folder, self.files.metadata(self.folder.as_str()))?;
+        if !found.is_dir() {
+            return self.note(
+                FailedOn::Folder,
+                Err(io::Error::from_raw_os_error(NO_FOLDER)),
+            );
+        }
         let outcome = OpenOptions::new()
             .read(true)
             .open(&self.files, self.folder.as_str());
@@ -221,25 +257,32 @@ where
     }
 
     fn unlink(&mut self, folder: &R::File, path: &SystemPath) -> io::Result<()> {
-        self.sees_same(folder)?;
-        let outcome = match path.text() {
-            Some(path) => self.files.remove_file(path),
-            None => Err(no_room()),
+        let Some(path) = path.text() else {
+            return self.notes.note_first(FailedOn::Name, Err(no_room()));
         };
-        self.note(FailedOn::Name, outcome)
+        for _ in 0..TRIES {
+            let same = self.same_folder(folder);
+            self.notes.note_first(FailedOn::Folder, same)?;
+            let outcome = self.claims.take_away(&self.files, path);
+            if !self.waits(&outcome) {
+                return self.notes.note_first(about(&outcome), outcome);
+            }
+        }
+        Err(no_room())
     }
 
     fn create(&mut self, folder: &R::File, path: &SystemPath, mode: u32) -> io::Result<R::File> {
-        self.sees_same(folder)?;
-        let outcome = match path.text() {
-            Some(path) => OpenOptions::new()
-                .write(true)
-                .create_new(true)
-                .mode(mode)
-                .open(&self.files, path),
-            None => Err(no_room()),
+        let Some(path) = path.text() else {
+            return self.note(FailedOn::Name, Err(no_room()));
         };
-        self.note(FailedOn::Name, outcome)
+        for _ in 0..TRIES {
+            self.sees_same(folder)?;
+            let outcome = self.claims.make(&self.files, path, mode);
+            if !self.waits(&outcome) {
+                return self.note(about(&outcome), outcome);
+            }
+        }
+        Err(no_room())
     }
 
     fn write_at(&mut self, file: &R::File, place: u64, bytes: &[u8]) -> io::Result<usize> {
@@ -247,20 +290,26 @@ where
     }
 
     fn sync(&mut self, file: &R::File) -> io::Result<()> {
+        let complete = self.claims.complete(file);
+        self.note(FailedOn::Name, complete)?;
         self.note(FailedOn::Name, file.sync_all())
     }
 
-    fn close(&mut self, file: R::File) {
-        drop(file);
-    }
+    fn close(&mut self, _file: &R::File) {}
 
-    fn rename(&mut self, folder: &R::File, from: &SystemPath, to: &SystemPath) -> io::Result<()> {
+    fn rename(
+        &mut self,
+        folder: &R::File,
+        file: &R::File,
+        from: &SystemPath,
+        to: &SystemPath,
+    ) -> io::Result<()> {
         self.sees_same(folder)?;
-        let outcome = match (from.text(), to.text()) {
-            (Some(from), Some(to)) => self.files.rename(from, to),
-            _ => Err(no_room()),
+        let (Some(from), Some(to)) = (from.text(), to.text()) else {
+            return self.note(FailedOn::Onto, Err(no_room()));
         };
-        self.note(FailedOn::Onto, outcome)
+        self.sees_file(file, from)?;
+        self.note(FailedOn::Onto, self.files.rename(from, to))
     }
 
     fn is_file(&self, path: &SystemPath) -> io::Result<bool> {

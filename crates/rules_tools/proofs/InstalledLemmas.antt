@@ -1,5 +1,5 @@
 -- What a run of `tcprules` comes to, by what its parts answer.
-use Rattle.std.proofs.Common.{◌≡◌, ◌⊎◌, ⊎_elim, Bool, true, false, cond, is_some, bytes_eq, ◌||◌, IsTrue, ℕ, ◌+◌, ◌<◌, ◌≤◌, List, [], take, refl, sym, ◌∙◌, ap, subst}
+use Rattle.std.proofs.Common.{◌≡◌, ◌⊎◌, inl, ⊎_elim, Bool, true, false, cond, is_some, bytes_eq, ◌||◌, IsTrue, ℕ, ◌+◌, ◌<◌, ◌≤◌, List, [], take, refl, sym, ◌∙◌, ap, subst}
 use Rattle.std.specs.Prelude.{⊤, Option, None, Some, Result, Ok, Err, IfErr, IfSome, OnOk}
 use Rattle.dir_calls.specs.Directory.{Directory}
 use Rattle.dir_calls.specs.Images.{IsImage}
@@ -32,12 +32,12 @@ use Rattle.rules_install.specs.declared.fault.InstallFault.{InstallFault}
 use Rattle.rules_install.specs.declared.fault.InstallFault.TheVariants as install
 use Rattle.rules_install.proofs.WholeLemmas.{none_left, stands_now}
 use Rattle.rules_tools.specs.Installed.{Answers, Blames, CompilesTo, FailsInput, FailsText, FolderRun, Installs, IsRefusal, LastsAfter, LeavesNoScratch, PassesPaths, Tells, WasRead, may_stand}
+use Rattle.rules_tools.specs.Disks.{BlamesDisk, EndsOnDisk}
 use Rattle.rules_tools.specs.Paths.{IsPlaced, paths_fault}
 use Rattle.rules_tools.specs.Reviews.{profile}
 use Rattle.rules_tools.specs.Rules.{line_fault, told_fault}
-use Rattle.rules_tools.specs.Scratch.{OnceBegun, OnceBegunTold}
+use Rattle.rules_tools.specs.Scratch.{AfterFault, AfterFaultTold}
 use Rattle.rules_tools.specs.Series.{MakesSeries, TellsSeries}
-use Rattle.rules_tools.specs.Turns.{BlamesTurn, EndsOnDisk, IsFree}
 use Rattle.rules_tools.specs.declared.tcprules.TcprulesFault.{TcprulesFault}
 use Rattle.rules_tools.specs.declared.tcprules.TcprulesFault.TheVariants.{BadName, OtherFolder, SameName, ReadFault, Line, LongText, TooLarge, Device, OutOfMemory}
 use Rattle.rules_tools.proofs.ReadLemmas.{fault_read, of_input}
@@ -132,29 +132,29 @@ same_may text TooLarge file olds fails = refl
 same_may text (Device phase) file olds fails = absurd fails
 same_may text OutOfMemory file olds fails = refl
 
-blames_none : (text : List ℕ) (fault : TcprulesFault) (before now : ℕ) (refused : Bool) → FailsText text fault → Blames before now refused fault
-blames_none text BadName before now refused fails = tt
-blames_none text OtherFolder before now refused fails = tt
-blames_none text SameName before now refused fails = tt
-blames_none text ReadFault before now refused fails = tt
-blames_none text (Line fault) before now refused fails = tt
-blames_none text LongText before now refused fails = tt
-blames_none text TooLarge before now refused fails = tt
-blames_none text (Device phase) before now refused fails = absurd fails
-blames_none text OutOfMemory before now refused fails = tt
+blames_none : (text : List ℕ) (fault : TcprulesFault) (before now : ℕ) → FailsText text fault → Blames before now fault
+blames_none text BadName before now fails = tt
+blames_none text OtherFolder before now fails = tt
+blames_none text SameName before now fails = tt
+blames_none text ReadFault before now fails = tt
+blames_none text (Line fault) before now fails = tt
+blames_none text LongText before now fails = tt
+blames_none text TooLarge before now fails = tt
+blames_none text (Device phase) before now fails = absurd fails
+blames_none text OutOfMemory before now fails = tt
 
-makes_none : (lock : Option (List ℕ)) (text : List ℕ) (s : Installing) (old new : Directory) (fault : TcprulesFault) → FailsText text fault → TellsSeries lock s old new (Err fault)
-makes_none lock text s old new BadName fails = tt
-makes_none lock text s old new OtherFolder fails = tt
-makes_none lock text s old new SameName fails = tt
-makes_none lock text s old new ReadFault fails = tt
-makes_none lock text s old new (Line fault) fails = tt
-makes_none lock text s old new LongText fails = tt
-makes_none lock text s old new TooLarge fails = tt
-makes_none lock text s old new (Device phase) fails = absurd fails
-makes_none lock text s old new OutOfMemory fails = tt
+makes_none : (text : List ℕ) (s : Installing) (old new : Directory) (fault : TcprulesFault) → new ≡ old → FailsText text fault → TellsSeries s old new (Err fault)
+makes_none text s old new BadName same fails = tt
+makes_none text s old new OtherFolder same fails = tt
+makes_none text s old new SameName same fails = tt
+makes_none text s old new ReadFault same fails = tt
+makes_none text s old new (Line fault) same fails = tt
+makes_none text s old new LongText same fails = tt
+makes_none text s old new TooLarge same fails = tt
+makes_none text s old new (Device phase) same fails = absurd fails
+makes_none text s old new OutOfMemory same fails = inl same
 
-removes_none : (text : List ℕ) (fact : Type 0) (fault : TcprulesFault) → FailsText text fault → OnceBegunTold fact (Err fault)
+removes_none : (text : List ℕ) (fact : Type 0) (fault : TcprulesFault) → FailsText text fault → AfterFaultTold fact (Err fault)
 removes_none text fact BadName fails = tt
 removes_none text fact OtherFolder fails = tt
 removes_none text fact SameName fails = tt
@@ -167,14 +167,6 @@ removes_none text fact OutOfMemory fails = tt
 
 -- ---- an installation
 
--- what holds once it was begun is told of it
-once_told : (fact : Type 0) (fault : DirFault) (phase : Phase) → OnceBegun fact (Err (install.Disk fault phase)) → OnceBegunTold fact (Err (Device phase))
-once_told fact fault Fresh once = tt
-once_told fact fault Filling once = once
-once_told fact fault Synced once = once
-once_told fact fault Named once = once
-once_told fact fault Done once = once
-
 same_stands : (fault : DirFault) (phase : Phase) (file : List ℕ) (olds : List (Option (List ℕ))) → may_have (Err (install.Disk fault phase)) file olds ≡ may_stand (Err (Device phase)) file olds
 same_stands fault Fresh file olds = refl
 same_stands fault Filling file olds = refl
@@ -182,15 +174,11 @@ same_stands fault Synced file olds = refl
 same_stands fault Named file olds = refl
 same_stands fault Done file olds = refl
 
-blamed : (fault : DirFault) (phase : Phase) (before now : ℕ) (refused : Bool) → fault ≡ dir.Device → BlamesTurn before now refused (install.Disk fault phase) → Blames before now refused (Device phase)
-blamed dir.Device Fresh before now refused is blames = blames
-blamed dir.Device Filling before now refused is blames = blames
-blamed dir.Device Synced before now refused is blames = blames
-blamed dir.Device Named before now refused is blames = blames
-blamed dir.Device Done before now refused is blames = blames
-blamed dir.NoScratch phase before now refused is blames = absurd (cc)
-blamed dir.NoName phase before now refused is blames = absurd (cc)
-blamed dir.OutOfMemory phase before now refused is blames = absurd (cc)
+blamed : (fault : DirFault) (phase : Phase) (before now : ℕ) → fault ≡ dir.Device → BlamesDisk before now (install.Disk fault phase) → Blames before now (Device phase)
+blamed dir.Device phase before now is blames = blames
+blamed dir.NoScratch phase before now is blames = absurd (cc)
+blamed dir.NoName phase before now is blames = absurd (cc)
+blamed dir.OutOfMemory phase before now is blames = absurd (cc)
 
 -- what is told of an installation
 abbrev pub told : Result (Unit {0}) InstallFault → Result (Unit {0}) TcprulesFault
@@ -210,29 +198,29 @@ module _ {D F : Type 0} (run : FolderRun D F) (names : NamePair) where
     text = fails.text;
     read = fails.read;
     told = answers fails.text fault fails.fails;
-    any_moment = λ is free. subst (λ (d : D). RunKeeps run.tells (begun_of fails.text names) run.old d) same
+    any_moment = λ is. subst (λ (d : D). RunKeeps run.tells (begun_of fails.text names) run.old d) same
         (λ olds lasts. none_left run.tells run.old names.cdb (whole_file (pairs_of fails.text)) olds (only is) lasts);
-    lasts = λ is free. subst (λ (d : D). LastsAfter (begun_of fails.text names) (run.tells.state run.old) (run.tells.state d) (Err fault)) same
+    lasts = λ is. subst (λ (d : D). LastsAfter (begun_of fails.text names) (run.tells.state run.old) (run.tells.state d) (Err fault)) same
         (λ olds lasts. subst (λ contents. LastsAmong (run.tells.state run.old) names.cdb contents) (sym (same_may fails.text fault (whole_file (pairs_of fails.text)) olds fails.fails)) lasts);
     done = λ is. tt;
     compiled = tt;
     decides = λ is. tt;
-    series = λ is. makes_none run.lock fails.text (begun_of fails.text names) (run.tells.state run.old) (run.tells.state run.new) fault fails.fails;
-    blames = λ is. blames_none fails.text fault (run.tells.failed run.old) (run.tells.failed run.new) run.refused fails.fails;
+    series = λ is. makes_none fails.text (begun_of fails.text names) (run.tells.state run.old) (run.tells.state run.new) fault (ap run.tells.state (sym same)) fails.fails;
+    blames = λ is. blames_none fails.text fault (run.tells.failed run.old) (run.tells.failed run.new) fails.fails;
     removed = λ is. removes_none fails.text (LeavesNoScratch run names) fault fails.fails;
   }
 
   -- what an installation that was begun comes to
   pub record OnDisk (s : Installing) (result : Result (Unit {0}) InstallFault) : Type 0 where
     pub ends : EndsOnDisk result
-    pub series : IsTrue run.tells.honest → MakesSeries run.lock s (run.tells.state run.old) (run.tells.state run.new) result
-    pub any_moment : IsTrue run.tells.honest → IsFree run.lock s.names.cdb → RunKeeps run.tells s run.old run.new
-    pub lasts : IsTrue run.tells.honest → IsFree run.lock s.names.cdb → RunLasts s (run.tells.state run.old) (run.tells.state run.new) result
+    pub series : IsTrue run.tells.honest → MakesSeries s (run.tells.state run.old) (run.tells.state run.new) result
+    pub any_moment : IsTrue run.tells.honest → RunKeeps run.tells s run.old run.new
+    pub lasts : IsTrue run.tells.honest → RunLasts s (run.tells.state run.old) (run.tells.state run.new) result
     pub done : IsTrue run.tells.honest → OnOk result (HasForGood s (run.tells.state run.new))
     pub written : OnOk result (IsWritten s.rules)
     pub device : IsTrue run.tells.honest → IfErr result IsDeviceFault
-    pub blames : IfErr result (BlamesTurn (run.tells.failed run.old) (run.tells.failed run.new) run.refused)
-    pub removed : IsTrue run.tells.honest → OnceBegun (LeavesNoScratch run s.names) result
+    pub blames : IfErr result (BlamesDisk (run.tells.failed run.old) (run.tells.failed run.new))
+    pub removed : IsTrue run.tells.honest → AfterFault (LeavesNoScratch run s.names) result
 
   by_answer : (law : Decides) (text : List ℕ) (result : Result (Unit {0}) InstallFault) → WasRead run.input text → MayBeInstalled profile text → OnDisk (begun_of text names) result
       → Installs run names (told result)
@@ -254,13 +242,13 @@ module _ {D F : Type 0} (run : FolderRun D F) (names : NamePair) where
     read = read;
     told = may;
     any_moment = facts.any_moment;
-    lasts = λ is free olds lasts. subst (λ contents. LastsAmong (run.tells.state run.new) names.cdb contents) (same_stands fault phase (whole_file (pairs_of text)) olds) (facts.lasts is free olds lasts);
+    lasts = λ is olds lasts. subst (λ contents. LastsAmong (run.tells.state run.new) names.cdb contents) (same_stands fault phase (whole_file (pairs_of text)) olds) (facts.lasts is olds lasts);
     done = λ is. tt;
     compiled = tt;
     decides = λ is. tt;
-    series = λ is. subst (λ (f : DirFault). MakesSeries run.lock (begun_of text names) (run.tells.state run.old) (run.tells.state run.new) (Err (install.Disk f phase))) (facts.device is) (facts.series is);
-    blames = λ is. blamed fault phase (run.tells.failed run.old) (run.tells.failed run.new) run.refused (facts.device is) facts.blames;
-    removed = λ is. once_told (LeavesNoScratch run names) fault phase (facts.removed is);
+    series = λ is. subst (λ (f : DirFault). MakesSeries (begun_of text names) (run.tells.state run.old) (run.tells.state run.new) (Err (install.Disk f phase))) (facts.device is) (facts.series is);
+    blames = λ is. blamed fault phase (run.tells.failed run.old) (run.tells.failed run.new) (facts.device is) facts.blames;
+    removed = facts.removed;
   }
   by_answer law text (Err install.OutOfMemory) read may facts = record {
     text = text;
@@ -271,7 +259,7 @@ module _ {D F : Type 0} (run : FolderRun D F) (names : NamePair) where
     done = λ is. tt;
     compiled = tt;
     decides = λ is. tt;
-    series = λ is. tt;
+    series = facts.series;
     blames = λ is. tt;
     removed = λ is. tt;
   }

@@ -1,3 +1,4 @@
+pub mod BeginLemmas
 pub mod ClientLemmas
 pub mod InstalledLemmas
 pub mod ReadLemmas

@@ -1,6 +1,6 @@
--- What stands under the name of the rules file, from the turn on to the scratch file that is taken away.
-use Rattle.std.proofs.Common.{◌≡◌, ◌≢◌, ◌⊎◌, inl, inr, ⊎_elim, Bool, ℕ, ◌<◌, ◌≤◌, ◌+◌, ◌-◌, ◌^◌, List, ◌∷◌, refl, sym, subst, arith}
-use Rattle.std.specs.Prelude.{Option, None, Some, Result, Ok, Err, IfErr}
+-- What stands under the name of the rules file, from the first step on to the scratch file that is taken away.
+use Rattle.std.proofs.Common.{◌≡◌, ◌⊎◌, inl, inr, ⊎_elim, ℕ, ◌<◌, ◌≤◌, ◌-◌, ◌^◌, List, [], ◌∷◌, refl, sym, subst, arith}
+use Rattle.std.specs.Prelude.{true, false, Option, None, Some, Result, Ok, Err, IfErr, OnOk}
 use Rattle.dir_calls.specs.Directory.{Directory, content}
 use Rattle.dir_calls.specs.Lasting.{IsAmong, HasAmong, LastsAmong}
 use Rattle.dir_calls.specs.Moments.{LeavesOnly}
@@ -9,16 +9,20 @@ use Rattle.dir_calls.specs.declared.fault.DirFault.{DirFault}
 use Rattle.dir_calls.specs.declared.fault.DirFault.TheVariants as dir
 use Rattle.dir_calls.specs.declared.dir.Dir.{Ghosts}
 use Rattle.dir_calls.proofs.Replacing.{stays_then}
+use Rattle.rule_lines.specs.Pairs.{Rule}
 use Rattle.rules_install.specs.Filled.{whole_file}
-use Rattle.rules_install.specs.Installing.{Installing}
-use Rattle.rules_install.specs.Steps.{BlamesFault}
+use Rattle.rules_install.specs.Installing.{HasForGood, Installing}
+use Rattle.rules_install.specs.NamePair.{NamePair}
+use Rattle.rules_install.specs.Series.{ComesTo, IsSeries, further, none}
+use Rattle.rules_install.specs.Steps.{BlamesFault, IsSame}
+use Rattle.rules_install.proofs.StepFits.{fresh_next}
 use Rattle.rules_install.specs.Whole.{EndsRun, IsDeviceFault, RunKeeps, RunLasts, may_have}
 use Rattle.rules_install.specs.declared.Phase.TheVariants.{Fresh, Filling, Synced, Named, Done}
 use Rattle.rules_install.specs.declared.fault.InstallFault.{InstallFault}
 use Rattle.rules_install.specs.declared.fault.InstallFault.TheVariants.{Line, TooLarge, Disk, Over, OutOfMemory}
-use Rattle.rules_tools.specs.Scratch.{HasFailedTwice, IsTakenAway, OnceBegun}
-use Rattle.rules_tools.specs.Series.{MakesSeries, MakesSteps, StaysUnder}
-use Rattle.rules_tools.specs.Turns.{BlamesTurn, EndsOnDisk, HasFailed, IsAtFresh, IsFree}
+use Rattle.rules_tools.specs.Disks.{BlamesDisk, EndsOnDisk, HasFailed, IsAtFresh, fails_on_disk}
+use Rattle.rules_tools.specs.Scratch.{AfterFault, HasFailedTwice, IsTakenAway}
+use Rattle.rules_tools.specs.Series.{Begins, IsBegun, MakesSeries, MakesSteps, SparesOthers}
 
 -- what may stand there at the end may stand there at any moment
 may_among : (result : Result (Unit {0}) InstallFault) (file : List ℕ) (olds : List (Option (List ℕ))) (w : Option (List ℕ)) → IsAmong (may_have result file olds) w → IsAmong (Some file ∷ olds) w
@@ -36,16 +40,16 @@ may_among (Err OutOfMemory) file olds w among = inr among
 -- before the first phase nothing new stands there
 fresh_may : (fault : InstallFault) (file : List ℕ) (olds : List (Option (List ℕ))) → IsAtFresh fault → may_have (Err fault) file olds ≡ olds
 fresh_may (Disk fault Fresh) file olds at = refl
-fresh_may (Disk fault Filling) file olds at = let same = at.1 in absurd (cc)
-fresh_may (Disk fault Synced) file olds at = let same = at.1 in absurd (cc)
-fresh_may (Disk fault Named) file olds at = let same = at.1 in absurd (cc)
-fresh_may (Disk fault Done) file olds at = let same = at.1 in absurd (cc)
+fresh_may (Disk fault Filling) file olds at = absurd (cc)
+fresh_may (Disk fault Synced) file olds at = absurd (cc)
+fresh_may (Disk fault Named) file olds at = absurd (cc)
+fresh_may (Disk fault Done) file olds at = absurd (cc)
 fresh_may (Line fault) file olds at = refl
 fresh_may TooLarge file olds at = refl
 fresh_may Over file olds at = refl
 fresh_may OutOfMemory file olds at = refl
 
--- a run of all steps ends on the disk, and so does a folder that is not made ready
+-- a run of all steps ends on the disk, and so does one that is not begun
 pub ends_on_disk : (s : Installing) (result : Result (Unit {0}) InstallFault) → EndsRun s result → EndsOnDisk result
 ends_on_disk s (Ok done) ends = tt
 ends_on_disk s (Err (Disk fault phase)) ends = tt
@@ -61,75 +65,88 @@ fresh_ends (Line fault) at = at
 fresh_ends TooLarge at = at
 fresh_ends Over at = at
 
-pub fresh_device : (fault : InstallFault) → IsAtFresh fault → IsDeviceFault fault
-fresh_device (Disk fault phase) at = at.0
-fresh_device OutOfMemory at = tt
-fresh_device (Line fault) at = tt
-fresh_device TooLarge at = tt
-fresh_device Over at = tt
+-- an installation that has reached a phase has reached one after steps that came to theirs, and none of them is the first one
+still_begun : {s t : Installing} {d e : Directory} → ComesTo s d t e → (s.reached ≡ None → ⊥) → t.reached ≡ None → ⊥
+still_begun none some is = some is
+still_begun (further comes step) some is = let reached = step.goes.1 in absurd (cc)
 
--- a folder that is not made ready has no steps, and one that is has them
-module _ (lock : Option (List ℕ)) (s : Installing) where
-  pub unready_series : (old new : Directory) (fault : InstallFault) → IsAtFresh fault → MakesSeries lock s old new (Err fault)
-  unready_series old new (Disk fault Fresh) at = tt
-  unready_series old new (Disk fault Filling) at = let same = at.1 in absurd (cc)
-  unready_series old new (Disk fault Synced) at = let same = at.1 in absurd (cc)
-  unready_series old new (Disk fault Named) at = let same = at.1 in absurd (cc)
-  unready_series old new (Disk fault Done) at = let same = at.1 in absurd (cc)
-  unready_series old new (Line fault) at = absurd at
-  unready_series old new TooLarge at = absurd at
-  unready_series old new Over at = absurd at
-  unready_series old new OutOfMemory at = tt
+not_fresh : (s t : Installing) (d e : Directory) (fault : DirFault) → (s.reached ≡ None → ⊥) → IsSeries s t d e (Err (Disk fault Fresh)) → ⊥
+not_fresh s t d e fault some series =
+    let u = series.0 in
+    still_begun series.2 some (fresh_next u.reached u.patched (sym series.3.goes.0))
 
-  ready_steps : (old new : Directory) (result : Result (Unit {0}) InstallFault) → MakesSteps lock s old new result → MakesSeries lock s old new result
-  ready_steps old new (Ok done) makes = makes
-  ready_steps old new (Err (Disk fault Fresh)) makes = tt
-  ready_steps old new (Err (Disk fault Filling)) makes = makes
-  ready_steps old new (Err (Disk fault Synced)) makes = makes
-  ready_steps old new (Err (Disk fault Named)) makes = makes
-  ready_steps old new (Err (Disk fault Done)) makes = makes
-  ready_steps old new (Err (Line fault)) makes = makes
-  ready_steps old new (Err TooLarge) makes = makes
-  ready_steps old new (Err Over) makes = makes
-  ready_steps old new (Err OutOfMemory) makes = tt
+-- a run of steps in a directory in which the installation was begun is one in the directory before
+module _ (s t u : Installing) (old mid new : Directory) (begins : Begins s t old mid (Ok tt)) (begun : IsBegun t) where
+  begun_steps : (result : Result (Unit {0}) InstallFault) → OnOk result (new ≡ new) → IsSeries t u mid new result → MakesSteps s old new result
+  begun_steps result last series = record {
+    t = t;
+    made = begins.0;
+    first = begins.1;
+    u = u;
+    end = new;
+    series = subst (λ (d : Directory). IsSeries t u d new result) begins.2 series;
+    last = last;
+    spares = λ name differ contents lasts. lasts;
+  }
 
-  -- the steps from a folder that was made ready are those from the folder before
-  pub ready_series : (old mid new : Directory) (result : Result (Unit {0}) InstallFault)
-      → ((name : List ℕ) → IsFree lock name → s.names.tmp ≢ name → StaysUnder name old mid) → MakesSteps lock s mid new result → MakesSeries lock s old new result
-  ready_series old mid new result first makes = ready_steps old new result (record {
-    begin = makes.begin;
-    clear = makes.clear;
-    before = λ name free differ contents lasts. makes.before name free differ contents (first name free differ contents lasts);
+  pub begun_series : (result : Result (Unit {0}) InstallFault) → IsSeries t u mid new result → MakesSeries s old new result
+  begun_series (Ok done) series = begun_steps (Ok done) refl series
+  begun_series (Err (Disk fault Fresh)) series = absurd (not_fresh t u mid new fault (λ is. (let some = begun.0 in absurd (cc))) series)
+  begun_series (Err (Disk fault Filling)) series = begun_steps (Err (Disk fault Filling)) tt series
+  begun_series (Err (Disk fault Synced)) series = begun_steps (Err (Disk fault Synced)) tt series
+  begun_series (Err (Disk fault Named)) series = begun_steps (Err (Disk fault Named)) tt series
+  begun_series (Err (Disk fault Done)) series = begun_steps (Err (Disk fault Done)) tt series
+  begun_series (Err (Line fault)) series = begun_steps (Err (Line fault)) tt series
+  begun_series (Err TooLarge) series = begun_steps (Err TooLarge) tt series
+  begun_series (Err Over) series = begun_steps (Err Over) tt series
+  begun_series (Err OutOfMemory) series = inr (begun_steps (Err OutOfMemory) tt series)
+
+-- where it was not begun
+pub unbegun_series : (s t : Installing) (old new : Directory) (fault : InstallFault) → IsAtFresh fault → Begins s t old new (Err fault) → SparesOthers s old new
+    → MakesSeries s old new (Err fault)
+unbegun_series s t old new (Disk fault Fresh) at begins spares = spares
+unbegun_series s t old new (Disk fault Filling) at begins spares = absurd (cc)
+unbegun_series s t old new (Disk fault Synced) at begins spares = absurd (cc)
+unbegun_series s t old new (Disk fault Named) at begins spares = absurd (cc)
+unbegun_series s t old new (Disk fault Done) at begins spares = absurd (cc)
+unbegun_series s t old new (Line fault) at begins spares = absurd at
+unbegun_series s t old new TooLarge at begins spares = absurd at
+unbegun_series s t old new Over at begins spares = absurd at
+unbegun_series s t old new OutOfMemory at begins spares = inl begins
+
+-- and then the scratch file was taken away
+module _ (s : Installing) (old mid new : Directory) (after : SparesOthers s mid new) where
+  then_steps : (fault : InstallFault) → MakesSteps s old mid (Err fault) → MakesSteps s old new (Err fault)
+  then_steps fault makes = record {
     t = makes.t;
+    made = makes.made;
+    first = makes.first;
+    u = makes.u;
     end = makes.end;
     series = makes.series;
-    last = makes.last;
-    after = makes.after;
-  })
+    last = tt;
+    spares = λ name differ contents lasts. after name differ contents (makes.spares name differ contents lasts);
+  }
 
--- a folder that is not made ready had no installation begun, and after any other fault but want of memory the scratch file is taken away
-pub unready_once : (fact : Type 0) (fault : InstallFault) → IsAtFresh fault → OnceBegun fact (Err fault)
-unready_once fact (Disk fault Fresh) at = tt
-unready_once fact (Disk fault Filling) at = let same = at.1 in absurd (cc)
-unready_once fact (Disk fault Synced) at = let same = at.1 in absurd (cc)
-unready_once fact (Disk fault Named) at = let same = at.1 in absurd (cc)
-unready_once fact (Disk fault Done) at = let same = at.1 in absurd (cc)
-unready_once fact (Line fault) at = tt
-unready_once fact TooLarge at = tt
-unready_once fact Over at = tt
-unready_once fact OutOfMemory at = tt
+  pub then_series : (result : Result (Unit {0}) InstallFault) → fails_on_disk result ≡ true → MakesSeries s old mid result → MakesSeries s old new result
+  then_series (Ok done) failed makes = absurd (cc)
+  then_series (Err (Disk fault Fresh)) failed makes = λ name differ contents lasts. after name differ contents (makes name differ contents lasts)
+  then_series (Err (Disk fault Filling)) failed makes = then_steps (Disk fault Filling) makes
+  then_series (Err (Disk fault Synced)) failed makes = then_steps (Disk fault Synced) makes
+  then_series (Err (Disk fault Named)) failed makes = then_steps (Disk fault Named) makes
+  then_series (Err (Disk fault Done)) failed makes = then_steps (Disk fault Done) makes
+  then_series (Err (Line fault)) failed makes = absurd (cc)
+  then_series (Err TooLarge) failed makes = absurd (cc)
+  then_series (Err Over) failed makes = absurd (cc)
+  then_series (Err OutOfMemory) failed makes = absurd (cc)
 
-pub ready_once : (fact : Type 0) (result : Result (Unit {0}) InstallFault) → IfErr result (λ fault. fault ≢ OutOfMemory → fact) → OnceBegun fact result
-ready_once fact (Ok done) removed = tt
-ready_once fact (Err (Disk fault Fresh)) removed = tt
-ready_once fact (Err (Disk fault Filling)) removed = removed (λ same. (let no = same in cc))
-ready_once fact (Err (Disk fault Synced)) removed = removed (λ same. (let no = same in cc))
-ready_once fact (Err (Disk fault Named)) removed = removed (λ same. (let no = same in cc))
-ready_once fact (Err (Disk fault Done)) removed = removed (λ same. (let no = same in cc))
-ready_once fact (Err (Line fault)) removed = tt
-ready_once fact (Err TooLarge) removed = tt
-ready_once fact (Err Over) removed = tt
-ready_once fact (Err OutOfMemory) removed = tt
+pub no_fault : (fact : Type 0) (result : Result (Unit {0}) InstallFault) → fails_on_disk result ≡ false → AfterFault fact result
+no_fault fact (Ok done) fine = tt
+no_fault fact (Err (Disk fault phase)) fine = absurd (cc)
+no_fault fact (Err (Line fault)) fine = tt
+no_fault fact (Err TooLarge) fine = tt
+no_fault fact (Err Over) fine = tt
+no_fault fact (Err OutOfMemory) fine = tt
 
 -- a failure after one that was counted is a second one
 second : (before mid now : ℕ) → (before < mid) ⊎ (mid ≡ 2 ^ 64 - 1) → HasFailed mid now → HasFailedTwice before now
@@ -144,34 +161,59 @@ removed_by name d before mid now (Some dir.NoScratch) first gone = gone
 removed_by name d before mid now (Some dir.NoName) first gone = gone
 removed_by name d before mid now (Some dir.OutOfMemory) first gone = tt
 
-pub removed_after : (name : List ℕ) (d : Directory) (before mid now : ℕ) (left : Option DirFault) (fault : InstallFault) → EndsOnDisk (Err fault) → IsDeviceFault fault
-    → BlamesFault before mid fault → IsTakenAway name d (HasFailed mid now) left → fault ≢ OutOfMemory → IsTakenAway name d (HasFailedTwice before now) left
-removed_after name d before mid now left (Disk dir.Device phase) ends device blames gone other = removed_by name d before mid now left blames gone
-removed_after name d before mid now left (Disk dir.NoScratch phase) ends device blames gone other = absurd (cc)
-removed_after name d before mid now left (Disk dir.NoName phase) ends device blames gone other = absurd (cc)
-removed_after name d before mid now left (Disk dir.OutOfMemory phase) ends device blames gone other = absurd (cc)
-removed_after name d before mid now left (Line fault) ends device blames gone other = absurd ends
-removed_after name d before mid now left TooLarge ends device blames gone other = absurd ends
-removed_after name d before mid now left Over ends device blames gone other = absurd ends
-removed_after name d before mid now left OutOfMemory ends device blames gone other = absurd (other refl)
+pub removed_after : (name : List ℕ) (d : Directory) (before mid now : ℕ) (left : Option DirFault) (result : Result (Unit {0}) InstallFault)
+    → IfErr result IsDeviceFault → IfErr result (BlamesFault before mid) → IsTakenAway name d (HasFailed mid now) left → AfterFault (IsTakenAway name d (HasFailedTwice before now) left) result
+removed_after name d before mid now left (Ok done) device blames gone = tt
+removed_after name d before mid now left (Err (Disk dir.Device phase)) device blames gone = removed_by name d before mid now left blames gone
+removed_after name d before mid now left (Err (Disk dir.NoScratch phase)) device blames gone = absurd (cc)
+removed_after name d before mid now left (Err (Disk dir.NoName phase)) device blames gone = absurd (cc)
+removed_after name d before mid now left (Err (Disk dir.OutOfMemory phase)) device blames gone = absurd (cc)
+removed_after name d before mid now left (Err (Line fault)) device blames gone = tt
+removed_after name d before mid now left (Err TooLarge) device blames gone = tt
+removed_after name d before mid now left (Err Over) device blames gone = tt
+removed_after name d before mid now left (Err OutOfMemory) device blames gone = tt
 
 -- a failure that was counted is counted later
 later : (before mid now : ℕ) → mid ≤ now → (before < mid) ⊎ (mid ≡ 2 ^ 64 - 1) → HasFailed before now
 later before mid now le failed = ⊎_elim (λ less. inl (omega arith)) (λ most. inr (omega arith)) failed
 
-pub blames_turn : (before mid now : ℕ) (refused : Bool) (fault : InstallFault) → mid ≤ now → BlamesFault before mid fault → BlamesTurn before now refused fault
-blames_turn before mid now refused (Disk dir.Device Fresh) le blames = inl (later before mid now le blames)
-blames_turn before mid now refused (Disk dir.Device Filling) le blames = later before mid now le blames
-blames_turn before mid now refused (Disk dir.Device Synced) le blames = later before mid now le blames
-blames_turn before mid now refused (Disk dir.Device Named) le blames = later before mid now le blames
-blames_turn before mid now refused (Disk dir.Device Done) le blames = later before mid now le blames
-blames_turn before mid now refused (Disk dir.NoScratch phase) le blames = tt
-blames_turn before mid now refused (Disk dir.NoName phase) le blames = tt
-blames_turn before mid now refused (Disk dir.OutOfMemory phase) le blames = tt
-blames_turn before mid now refused (Line fault) le blames = tt
-blames_turn before mid now refused TooLarge le blames = tt
-blames_turn before mid now refused Over le blames = tt
-blames_turn before mid now refused OutOfMemory le blames = tt
+pub blames_disk : (before mid now : ℕ) (result : Result (Unit {0}) InstallFault) → mid ≤ now → IfErr result (BlamesFault before mid) → IfErr result (BlamesDisk before now)
+blames_disk before mid now (Ok done) le blames = tt
+blames_disk before mid now (Err (Disk dir.Device phase)) le blames = later before mid now le blames
+blames_disk before mid now (Err (Disk dir.NoScratch phase)) le blames = tt
+blames_disk before mid now (Err (Disk dir.NoName phase)) le blames = tt
+blames_disk before mid now (Err (Disk dir.OutOfMemory phase)) le blames = tt
+blames_disk before mid now (Err (Line fault)) le blames = tt
+blames_disk before mid now (Err TooLarge) le blames = tt
+blames_disk before mid now (Err Over) le blames = tt
+blames_disk before mid now (Err OutOfMemory) le blames = tt
+
+-- a run that failed on the disk is not done
+pub not_done : (P : Type 0) (result : Result (Unit {0}) InstallFault) → fails_on_disk result ≡ true → OnOk result P
+not_done P (Ok done) failed = absurd (cc)
+not_done P (Err fault) failed = tt
+
+-- a run of another installation of the same rules and names
+module _ {D F : Type 0} (tells : Ghosts D F) (s t : Installing) (same : IsSame s t) (old new : D) where
+  pub same_keeps : RunKeeps tells t old new → RunKeeps tells s old new
+  same_keeps keeps =
+      subst (λ (rules : List Rule). (olds : List (Option (List ℕ))) → LastsAmong (tells.state old) s.names.cdb olds
+      → LeavesOnly tells.moment tells.left_since old new (HasAmong s.names.cdb (Some (whole_file rules) ∷ olds))) same.rules
+      (subst (λ (names : NamePair). (olds : List (Option (List ℕ))) → LastsAmong (tells.state old) names.cdb olds
+      → LeavesOnly tells.moment tells.left_since old new (HasAmong names.cdb (Some (whole_file t.rules) ∷ olds))) same.names keeps)
+
+  pub same_lasts : (result : Result (Unit {0}) InstallFault) → RunLasts t (tells.state old) (tells.state new) result → RunLasts s (tells.state old) (tells.state new) result
+  same_lasts result lasts =
+      subst (λ (rules : List Rule). (olds : List (Option (List ℕ))) → LastsAmong (tells.state old) s.names.cdb olds
+      → LastsAmong (tells.state new) s.names.cdb (may_have result (whole_file rules) olds)) same.rules
+      (subst (λ (names : NamePair). (olds : List (Option (List ℕ))) → LastsAmong (tells.state old) names.cdb olds
+      → LastsAmong (tells.state new) names.cdb (may_have result (whole_file t.rules) olds)) same.names lasts)
+
+  pub same_done : (result : Result (Unit {0}) InstallFault) → OnOk result (HasForGood t (tells.state new)) → OnOk result (HasForGood s (tells.state new))
+  same_done (Ok done) has =
+      subst (λ (rules : List Rule). LastsAmong (tells.state new) s.names.cdb (Some (whole_file rules) ∷ [])) same.rules
+      (subst (λ (names : NamePair). LastsAmong (tells.state new) names.cdb (Some (whole_file t.rules) ∷ [])) same.names has)
+  same_done (Err fault) has = tt
 
 module _ {D F : Type 0} (tells : Ghosts D F) where
   leaves_then : (old mid new : D) (P : Directory → Type 0) → LeavesOnly tells.moment tells.left_since old mid P → LeavesOnly tells.moment tells.left_since mid new P → LeavesOnly tells.moment tells.left_since old new P
@@ -218,7 +260,7 @@ module _ {D F : Type 0} (tells : Ghosts D F) where
     pub then_lasts : (result : Result (Unit {0}) InstallFault) → RunLasts s (tells.state old) (tells.state mid) result → KeepsWhatLasts tells s.names.cdb mid new → RunLasts s (tells.state old) (tells.state new) result
     then_lasts result stands second = λ olds lasts. (second (may_have result (whole_file s.rules) olds) (stands olds lasts)).lasts
 
-  -- where the folder was not made ready
+  -- where it was not begun
   module _ (s : Installing) (old new : D) (keeps : KeepsWhatLasts tells s.names.cdb old new) where
     pub unready_keeps : RunKeeps tells s old new
     unready_keeps = λ olds lasts.

@@ -1,5 +1,5 @@
 -- What a run of `tcprules` tells, and what it leaves under the name of the rules file.
-use Rattle.std.specs.Prelude.{◌≡◌, ◌≢◌, ◌<◌, ⊤, ℕ, Bool, IsTrue, List, ◌∷◌, Option, Some, None, IfSome, IfErr, OnOk, Result, Ok, Err}
+use Rattle.std.specs.Prelude.{◌≡◌, ◌≢◌, ◌<◌, ⊤, ℕ, IsTrue, List, ◌∷◌, Option, Some, None, IfSome, IfErr, OnOk, Result, Ok, Err}
 use Rattle.dir_calls.specs.Directory.{Directory, content}
 use Rattle.dir_calls.specs.Lasting.{LastsAmong}
 use Rattle.dir_calls.specs.declared.fault.DirFault.{DirFault}
@@ -14,12 +14,12 @@ use Rattle.rules_install.specs.Filled.{whole_file}
 use Rattle.rules_install.specs.Installing.{Installing, HasForGood}
 use Rattle.rules_install.specs.NamePair.{NamePair}
 use Rattle.rules_install.specs.Whole.{DecidesAs, MayBeInstalled, RunKeeps, begun_of}
-use Rattle.rules_install.specs.declared.Phase.TheVariants.{Fresh, Named, Done}
+use Rattle.rules_install.specs.declared.Phase.TheVariants.{Named, Done}
+use Rattle.rules_tools.specs.Disks.{HasFailed}
 use Rattle.rules_tools.specs.Paths.{IsSplit, paths_fault}
 use Rattle.rules_tools.specs.Reviews.{profile}
-use Rattle.rules_tools.specs.Scratch.{HasFailedTwice, IsTakenAway, OnceBegunTold}
+use Rattle.rules_tools.specs.Scratch.{HasFailedTwice, IsTakenAway, AfterFaultTold}
 use Rattle.rules_tools.specs.Series.{TellsSeries}
-use Rattle.rules_tools.specs.Turns.{HasFailed, IsFree, LacksTurn}
 use Rattle.rules_tools.specs.declared.tcprules.TcprulesFault.{TcprulesFault}
 use Rattle.rules_tools.specs.declared.tcprules.TcprulesFault.TheVariants.{BadName, OtherFolder, SameName, ReadFault, Line, LongText, TooLarge, Device, OutOfMemory}
 
@@ -62,20 +62,16 @@ LastsAfter s old new result =
     (olds : List (Option (List ℕ))) → LastsAmong old s.names.cdb olds
     → LastsAmong new s.names.cdb (may_stand result (whole_file s.rules) olds)
 
--- the device is blamed only where it failed, or at first where no turn was had
-abbrev pub Blames : ℕ → ℕ → Bool → TcprulesFault → Type 0
-Blames before now refused (Device Fresh) = LacksTurn before now refused
-Blames before now refused (Device phase) = HasFailed before now
-Blames before now refused fault = ⊤
+-- the device is blamed only where it failed
+abbrev pub Blames : ℕ → ℕ → TcprulesFault → Type 0
+Blames before now (Device phase) = HasFailed before now
+Blames before now fault = ⊤
 
 -- A run of `tcprules` over directories of a type, and what is known of them.
 pub record FolderRun (D F : Type 0) : Type 1 where
   -- what a directory tells: whether it is known to do what it should, what stands in it, its moment, what a stop since a moment may have left,
   -- and how often its device has failed
   pub tells : Ghosts D F
-  -- the name of the lock's own file, if it has one there, and whether a turn was refused
-  pub lock : Option (List ℕ)
-  pub refused : Bool
   -- why the scratch file may stand still after a fault, if it may
   pub left : Option DirFault
   -- all that the reader had, where that is known
@@ -97,19 +93,18 @@ pub record Installs {D F : Type 0} (run : FolderRun D F) (names : NamePair) (res
   pub told : Answers text result
   -- whenever the machine stops since the run began, what stood under the name of the rules file stands there, or the file that is compiled of
   -- the text, whole; and so it is at the end, by what is told
-  pub any_moment : IsTrue run.tells.honest → IsFree run.lock names.cdb
-      → RunKeeps run.tells (begun_of text names) run.old run.new
-  pub lasts : IsTrue run.tells.honest → IsFree run.lock names.cdb
+  pub any_moment : IsTrue run.tells.honest → RunKeeps run.tells (begun_of text names) run.old run.new
+  pub lasts : IsTrue run.tells.honest
       → LastsAfter (begun_of text names) (run.tells.state run.old) (run.tells.state run.new) result
   -- once it is told that all is done, this file alone, which decides each peer as the text does
   pub done : IsTrue run.tells.honest → OnOk result (HasForGood (begun_of text names) (run.tells.state run.new))
   pub compiled : OnOk result (Compiled (whole_file (pairs_of text)) text)
   pub decides : IsTrue run.tells.honest → OnOk result (DecidesAs (content (run.tells.state run.new) names.cdb) text)
   -- and it makes the steps of this installation, so that it is a series of events in each world in which the installation may begin
-  pub series : IsTrue run.tells.honest → TellsSeries run.lock (begun_of text names) (run.tells.state run.old) (run.tells.state run.new) result
+  pub series : IsTrue run.tells.honest → TellsSeries (begun_of text names) (run.tells.state run.old) (run.tells.state run.new) result
   -- the device is blamed only where it failed, and its fault leaves no scratch file
-  pub blames : IsTrue run.tells.honest → IfErr result (Blames (run.tells.failed run.old) (run.tells.failed run.new) run.refused)
-  pub removed : IsTrue run.tells.honest → OnceBegunTold (LeavesNoScratch run names) result
+  pub blames : IsTrue run.tells.honest → IfErr result (Blames (run.tells.failed run.old) (run.tells.failed run.new))
+  pub removed : IsTrue run.tells.honest → AfterFaultTold (LeavesNoScratch run names) result
 
 -- what is told of two paths, and then of a text: nothing is wrong with the paths where the text is told of
 abbrev pub Tells : (folder other : List ℕ) → NamePair → Result (Unit {0}) TcprulesFault → Type 0

@@ -1,7 +1,8 @@
--- Paths, turns in a folder, what a run of `tcprules` does, what becomes of its scratch file after a fault, what is told of an installation that
+-- Paths, a folder of rules, what a run of `tcprules` does, what becomes of its scratch file after a fault, what is told of an installation that
 -- failed and of a text, and what `tcprulescheck` tells of a compiled file.
 pub mod Checks
 pub mod Clients
+pub mod Disks
 pub mod FolderParts
 pub mod Installed
 pub mod Paths
@@ -10,4 +11,3 @@ pub mod Rules
 pub mod Scratch
 pub mod Series
 pub mod Told
-pub mod Turns

@@ -1,9 +1,8 @@
 -- What becomes of the scratch file after a fault.
-use Rattle.std.specs.Prelude.{◌≡◌, ◌⊎◌, ◌<◌, ◌≤◌, ◌+◌, ◌^◌, ◌-◌, ⊤, ℕ, List, Option, None, Some, Result, Ok, Err}
+use Rattle.std.specs.Prelude.{◌≡◌, ◌⊎◌, ◌<◌, ◌≤◌, ◌+◌, ◌^◌, ◌-◌, ⊤, ℕ, List, Option, None, Some, Result, Err}
 use Rattle.dir_calls.specs.Directory.{Directory, number_of}
 use Rattle.dir_calls.specs.declared.fault.DirFault.{DirFault}
 use Rattle.dir_calls.specs.declared.fault.DirFault.TheVariants.{Device, OutOfMemory}
-use Rattle.rules_install.specs.declared.Phase.TheVariants.{Fresh}
 use Rattle.rules_install.specs.declared.fault.InstallFault.{InstallFault}
 use Rattle.rules_install.specs.declared.fault.InstallFault.TheVariants.{Disk}
 use Rattle.rules_tools.specs.declared.tcprules.TcprulesFault.{TcprulesFault}
@@ -20,14 +19,12 @@ IsTakenAway name d Failed (Some Device) = Failed
 IsTakenAway name d Failed (Some OutOfMemory) = ⊤
 IsTakenAway name d Failed (Some fault) = ⊥
 
--- a fact that holds after a fault of the disk once an installation was begun; a fault at `Fresh` may have come before
-abbrev pub OnceBegun : Type 0 → Result (Unit {0}) InstallFault → Type 0
-OnceBegun fact (Err (Disk fault Fresh)) = ⊤
-OnceBegun fact (Err (Disk fault phase)) = fact
-OnceBegun fact result = ⊤
+-- a fact that holds after a fault of the disk
+abbrev pub AfterFault : Type 0 → Result (Unit {0}) InstallFault → Type 0
+AfterFault fact (Err (Disk fault phase)) = fact
+AfterFault fact result = ⊤
 
 -- the same by what is told of it
-abbrev pub OnceBegunTold : Type 0 → Result (Unit {0}) TcprulesFault → Type 0
-OnceBegunTold fact (Err (DeviceAt Fresh)) = ⊤
-OnceBegunTold fact (Err (DeviceAt phase)) = fact
-OnceBegunTold fact result = ⊤
+abbrev pub AfterFaultTold : Type 0 → Result (Unit {0}) TcprulesFault → Type 0
+AfterFaultTold fact (Err (DeviceAt phase)) = fact
+AfterFaultTold fact result = ⊤

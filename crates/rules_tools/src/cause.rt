@@ -8,7 +8,7 @@ pub enum CauseOf {
     Input,
     /// That standard output takes bytes.
     Output,
-    /// The folder of the rules file, or its lock.
+    /// The folder of the rules file, or who has its scratch file.
     Folder,
     /// The scratch file.
     Scratch,

@@ -10,10 +10,10 @@ use crate::cause::{CauseOf, ErrorCause};
 use crate::folder::RulesFolder;
 use crate::installing::install_text;
 use crate::path::{folder_path, split_path};
-use crate::system_turns::SystemTurns;
+use crate::waiting::Waiting;
 use byte_text::NotingStream;
 use dir_calls::{Name, NameFault};
-use dir_disk::OsDir;
+use dir_disk::{DiskFailure, LockedDir};
 use rule_lines::{LineFault, LineKind, ParseFault};
 use rules_install::{FileNames, InstallFault, Phase};
 use std::alloc::{AllocError, Global};
@@ -108,8 +108,8 @@ impl From<TcprulesFault> for RulesFailure {
 /// # Errors
 /// As of `install_text`, with the cause of a fault of the reader or of the disk.
 ///
-/// From before its first change on it holds the lock of the folder (`OsDir::try_lock`). Where another `tcprules` has it, that is waited for:
-/// after three seconds `errors` is told so, and after a minute it is `Device` on the way to `Fresh`.
+/// Its scratch file is claimed (`dir_disk::Locked`). Where another `tcprules` has it, that is waited for: after three seconds `errors` is told
+/// so, and after a minute it is `Device` on the way to `Fresh`.
 pub fn run_tcprules<S, R, E>(
     alloc: Global,
     system: &S,
@@ -123,25 +123,57 @@ where
     R: Read,
     E: Write,
 {
-    let (folder, _names) = read_places(alloc, cdb, tmp)?;
-    let path = folder_path(folder);
-    let dir = OsDir::at(alloc, system, path).map_err(TcprulesFault::from)?;
-    let mut folder = RulesFolder::new(dir, SystemTurns::new(system, errors, path));
+    let path = folder_path(read_places(alloc, cdb, tmp)?.0);
+    let mut folder = lend_folder(alloc, system, errors, path)?;
     let mut reader = NotingStream::new(reader);
     let outcome = install_text(alloc, &mut reader, &mut folder, cdb, tmp);
-    let cause = folder.turns().cause();
-    folder.into_dir().unlock();
-    match outcome {
-        Ok(()) => Ok(()),
-        Err(fault) => Err(RulesFailure {
-            fault,
-            cause: match fault {
-                TcprulesFault::ReadFault => ErrorCause::of(CauseOf::Input, reader.error()),
-                TcprulesFault::Device(_) => cause,
-                _ => None,
-            },
-        }),
-    }
+    let failure = failure_in(&folder);
+    drop(folder);
+    tell(outcome, reader.error(), failure)
+}
+
+// A folder of the system for `tcprules`.
+type SystemFolder<'a, S, E> = RulesFolder<LockedDir<&'a S, Waiting<'a, S, &'a mut E>>>;
+
+// The folder of the system at a path.
+fn lend_folder<'a, S, E>(
+    alloc: Global,
+    system: &'a S,
+    errors: &'a mut E,
+    path: &str,
+) -> Result<SystemFolder<'a, S, E>, TcprulesFault>
+where
+    S: Files<File = File> + Clock,
+    E: Write,
+{
+    let dir = LockedDir::locked(alloc, system, Waiting::new(system, errors), path)?;
+    Ok(RulesFolder::new(dir))
+}
+
+// The call of the system that failed there.
+fn failure_in<'a, S, E>(folder: &SystemFolder<'a, S, E>) -> Option<DiskFailure>
+where
+    S: Files<File = File> + Clock,
+    E: Write,
+{
+    folder.dir().disk().failure()
+}
+
+// What is told of a run, with the cause of its fault.
+fn tell(
+    outcome: Result<(), TcprulesFault>,
+    reading: Option<i32>,
+    disk: Option<DiskFailure>,
+) -> Result<(), RulesFailure> {
+    let Err(fault) = outcome else {
+        return Ok(());
+    };
+    let cause = match fault {
+        TcprulesFault::ReadFault => ErrorCause::of(CauseOf::Input, reading),
+        TcprulesFault::Device(_) => ErrorCause::of_installation(disk),
+        _ => None,
+    };
+    Err(RulesFailure { fault, cause })
 }
 
 /// The folder of two paths, and the names in it. Names are looked at first, then folders, then whether the names are the same; want of

@@ -248,9 +248,12 @@ impl TestDisk {
     }
 
     // Moves a name, unless the other stands for the same file.
-    fn move_name(&mut self, from: &str, to: &str) -> io::Result<()> {
+    fn move_name(&mut self, made: usize, from: &str, to: &str) -> io::Result<()> {
         let met = self.met()?;
         let number = self.number_of(from)?;
+        if number != made {
+            return Err(fault(ErrorKind::Other));
+        }
         if self.number_of(to).ok() != Some(number) {
             self.forget(from);
             self.forget(to);
@@ -357,12 +360,16 @@ impl Disk for TestDisk {
         self.sync_file(file.number)
     }
 
-    fn close(&mut self, file: TestHandle) {
-        drop(file);
-    }
+    fn close(&mut self, _file: &TestHandle) {}
 
-    fn rename(&mut self, _folder: &(), from: &String, to: &String) -> io::Result<()> {
-        self.move_name(from.as_str(), to.as_str())
+    fn rename(
+        &mut self,
+        _folder: &(),
+        file: &TestHandle,
+        from: &String,
+        to: &String,
+    ) -> io::Result<()> {
+        self.move_name(file.number, from.as_str(), to.as_str())
     }
 
     fn is_file(&self, path: &String) -> io::Result<bool> {

@@ -1,5 +1,5 @@
 use Rattle.std.proofs.Common.{◌≡◌, ◌∙◌, subst, IsTrue, rules}
-use Rattle.std.specs.Prelude.{OnErr, OnOk, IfErr, IsSome, None}
+use Rattle.std.specs.Prelude.{OnErr, OnOk, IfErr, None, Some}
 use Rattle.std.specs.IoError.{error_kind}
 use Rattle.std.specs.declared.io.ErrorKind.TheVariants.{Interrupted, NotFound}
 use Rattle.dir_calls.specs.Directory.{Directory, number_of}
@@ -17,9 +17,9 @@ pub returns-then-not-was_interrupted-clause-failed : goal.returns-then-not-was_i
 returns-then-not-was_interrupted-clause-failed g c = λ honest.
     subst (λ (d : Directory). OnErr c.rename-outcome.result (AllOrNone d (after (renames (g.D.Disk.named c.args.from.now) (g.D.Disk.named c.args.to.now)) d) (g.D.Disk.state c.rename-outcome.new.self))) (c.loop.invariant.same honest) (c.rename-outcome.ensures.failed honest)
 
-pub returns-then-not-was_interrupted-clause-found : goal.returns-then-not-was_interrupted-clause-found
-returns-then-not-was_interrupted-clause-found g c = λ honest.
-    subst (λ (d : Directory). OnOk c.rename-outcome.result (IsSome (number_of d (g.D.Disk.named c.args.from.now)))) (c.loop.invariant.same honest) (c.rename-outcome.ensures.found honest)
+pub returns-then-not-was_interrupted-clause-own : goal.returns-then-not-was_interrupted-clause-own
+returns-then-not-was_interrupted-clause-own g c = λ honest.
+    subst (λ (d : Directory). OnOk c.rename-outcome.result (number_of d (g.D.Disk.named c.args.from.now) ≡ Some (g.D.Disk.number c.args.file.now))) (c.loop.invariant.same honest) (c.rename-outcome.ensures.own honest)
 
 pub returns-then-not-was_interrupted-clause-absent : goal.returns-then-not-was_interrupted-clause-absent
 returns-then-not-was_interrupted-clause-absent g c = λ honest.

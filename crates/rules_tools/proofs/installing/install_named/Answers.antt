@@ -3,7 +3,7 @@ use Rattle.std.specs.Prelude.{Ok, Err}
 use Rattle.std.proofs.lemmas.Result.{err_from_is_err_and}
 use Rattle.rules_install.specs.Installing.{Installing}
 use Rattle.rules_install.specs.Installs.{installing}
-use Rattle.rules_tools.specs.FolderParts.{folder_dir, folder_turns}
+use Rattle.rules_tools.specs.FolderParts.{folder_dir}
 use Rattle.rules_tools.proofs.InstalledLemmas.{disk_passes, disk_touches, fails_passes, installs, memory_fails, unchanged}
 use Rattle.rules_tools.proofs.installing.install_named.Goals as goal
 

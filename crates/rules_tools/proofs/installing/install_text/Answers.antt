@@ -1,8 +1,7 @@
 use Rattle.std.proofs.Common.{refl, sym, subst}
-use Rattle.std.specs.Prelude.{Err}
 use Rattle.std.proofs.lemmas.Result.{err_from_is_err_and}
 use Rattle.rules_install.specs.NamePair.{NamePair}
-use Rattle.rules_tools.specs.FolderParts.{folder_dir, folder_left, folder_turns}
+use Rattle.rules_tools.specs.FolderParts.{folder_dir, folder_left}
 use Rattle.rules_tools.specs.Installed.{FailsInput, Installs}
 use Rattle.rules_tools.specs.declared.tcprules.TcprulesFault.{TcprulesFault}
 use Rattle.rules_tools.proofs.InstalledLemmas.{memory_alone, memory_fails, tells, tells_fault, unchanged}
@@ -41,8 +40,6 @@ returns-clause-runs g c =
       installs = λ none.
           subst (λ (names : NamePair). Installs {D = g.row.D.Denot} (record {
             tells = g.D.Dir;
-            lock = g.T.Turns.lock_name;
-            refused = g.T.Turns.refused (folder_turns c.install_named.new.folder);
             left = folder_left c.install_named.new.folder;
             input = g.R.Read.remaining c.args.reader.now;
             old = folder_dir c.args.folder.now;

@@ -1,0 +1,33 @@
+-- How an installation ends on the disk.
+use Rattle.std.specs.Prelude.{◌≡◌, ◌⊎◌, ◌<◌, ◌≤◌, ◌^◌, ◌-◌, ⊤, ℕ, Bool, true, false, Result, Ok, Err}
+use Rattle.dir_calls.specs.declared.fault.DirFault.TheVariants.{Device}
+use Rattle.rules_install.specs.declared.Phase.TheVariants.{Fresh}
+use Rattle.rules_install.specs.declared.fault.InstallFault.{InstallFault}
+use Rattle.rules_install.specs.declared.fault.InstallFault.TheVariants.{Disk, OutOfMemory}
+
+-- a failure of the device was counted, or no more can be
+abbrev pub HasFailed : ℕ → ℕ → Type 0
+HasFailed before now = (before < now) ⊎ (2 ^ 64 - 1 ≤ now)
+
+-- the device is blamed only where it failed
+abbrev pub BlamesDisk : ℕ → ℕ → InstallFault → Type 0
+BlamesDisk before now (Disk Device phase) = HasFailed before now
+BlamesDisk before now fault = ⊤
+
+-- an installation is not begun: the directory failed on the way to the first phase, or there was no memory
+abbrev pub IsAtFresh : InstallFault → Type 0
+IsAtFresh (Disk fault phase) = phase ≡ Fresh
+IsAtFresh OutOfMemory = ⊤
+IsAtFresh fault = ⊥
+
+-- it failed by a fault of the disk
+abbrev pub fails_on_disk : Result (Unit {0}) InstallFault → Bool
+fails_on_disk (Err (Disk fault phase)) = true
+fails_on_disk result = false
+
+-- an installation ends on the disk: it is done, or fails by a fault of the directory or for want of memory
+abbrev pub EndsOnDisk : Result (Unit {0}) InstallFault → Type 0
+EndsOnDisk (Ok done) = ⊤
+EndsOnDisk (Err (Disk fault phase)) = ⊤
+EndsOnDisk (Err OutOfMemory) = ⊤
+EndsOnDisk (Err fault) = ⊥
