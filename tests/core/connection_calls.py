@@ -6,7 +6,7 @@ import subprocess
 import tempfile
 
 from shared import refusals
-from shared.checks import Checks
+from shared.checks import Checks, needs_proved
 
 BANNER = "9 bytes"
 RUNNING = "Running, 1 starts, 1 alive, " + BANNER
@@ -68,15 +68,20 @@ def check_refusals(checks, probe, requests, name):
     return seen
 
 
-def check(probe, failures):
-    """Runs all cases over a yard of each journal, and answers how many runs were made."""
-    checks = Checks("connection_calls", failures)
-    for name, wanted in CASES.items():
-        checks.expect(name, run(probe, name, dict(os.environ)), (0, wanted * 2))
+@needs_proved(len(CASES))
+def check_all_refusals(checks, probe):
     with tempfile.TemporaryDirectory() as folder:
         requests = refusals.Requests(folder)
         for name in CASES:
             seen = check_refusals(checks, probe, requests, name)
             if name == "allowed" and seen != {NO_MEMORY, NO_MEMORY_TO_START}:
                 checks.fail("%s: for want of memory" % name, seen)
+
+
+def check(probe, failures):
+    """Runs all cases over a yard of each journal, and answers how many runs were made."""
+    checks = Checks("connection_calls", failures)
+    for name, wanted in CASES.items():
+        checks.expect(name, run(probe, name, dict(os.environ)), (0, wanted * 2))
+    check_all_refusals(checks, probe)
     return checks.tests

@@ -4,7 +4,7 @@ import os
 import tempfile
 
 from shared import plain_words, refusals
-from shared.checks import Checks
+from shared.checks import Checks, needs_proved
 from shared.probes import Calls
 
 GROUP = "event_lists"
@@ -175,11 +175,12 @@ def check_calls(probe, failures):
     return calls.tests
 
 
-def check_memory(probe, failures):
+@needs_proved(1)
+def check_memory(checks, probe):
     """Each request for memory refused in turn: a replay that meets it tells so, where the probe itself does it ends without an answer, or else the
     answer is that with ample memory."""
     words, given, ample = ["replay", "1", "1"], lines("event " + event for event in ADMITTED), b"admitted 1 live 1 retired 0 most 1, 1 events\n"
-    checks, told = Checks(GROUP, failures), []
+    told = []
     with tempfile.TemporaryDirectory() as folder:
         requests = refusals.Requests(folder)
         for request, variables in requests.each():
@@ -189,9 +190,10 @@ def check_memory(probe, failures):
             told.append(outcome[1])
     if b"out of memory\n" not in told:
         checks.fail("no replay was out of memory")
-    return checks.tests
 
 
 def check(probe, program, failures):
     """Runs all cases, and answers how many they were."""
-    return check_lists(program, failures) + check_calls(probe, failures) + check_memory(probe, failures)
+    checks = Checks(GROUP, failures)
+    check_memory(checks, probe)
+    return check_lists(program, failures) + check_calls(probe, failures) + checks.tests

@@ -12,7 +12,7 @@ import subprocess
 import tempfile
 
 from shared import plain_texts, refusals
-from shared.checks import Checks, is_tried
+from shared.checks import Checks, is_tried, leave_out
 
 TEXTS = 10000
 # how many of them one shell looks over
@@ -215,10 +215,11 @@ def look_over(program, texts):
 
 
 def check_random(program, checks):
-    """Ten thousand texts, one in eight of them with `-N`."""
-    told, accepted = {}, 0
+    """Ten thousand texts, a tenth of them without proofs; one in eight with `-N`."""
+    count, told, accepted = TEXTS // 10 if is_tried() else TEXTS, {}, 0
+    leave_out(TEXTS - count)
     with concurrent.futures.ThreadPoolExecutor(len(os.sched_getaffinity(0))) as threads:
-        parts = [[Texts(seed).text() for seed in range(start, start + PART)] for start in range(0, TEXTS, PART)]
+        parts = [[Texts(seed).text() for seed in range(start, start + PART)] for start in range(0, count, PART)]
         for texts, answers in zip(parts, threads.map(lambda texts: look_over(program, texts), parts)):
             for place, (text, got) in enumerate(zip(texts, answers, strict=True)):
                 lines, fine = report(text)
@@ -228,9 +229,9 @@ def check_random(program, checks):
                 for line in lines.split(b"\n") if fine else []:
                     kind = re.sub(rb"^.*: |[0-9]+", b"", line)
                     told[kind] = told.get(kind, 0) + 1
-    checks.holds("most random texts are accepted", accepted > TEXTS * 3 // 4, str(accepted))
+    checks.holds("most random texts are accepted", accepted > count * 3 // 4, str(accepted))
     for kind in (NOBODY, USER, b"line  decides first", OTHERS, IGNORED):
-        checks.holds("random texts with %r" % kind, told.get(kind, 0) > 500, str(told.get(kind)))
+        checks.holds("random texts with %r" % kind, told.get(kind, 0) > count // 20, str(told.get(kind)))
 
 
 def check_forms(program, checks):
