@@ -1,5 +1,5 @@
 -- A disk in memory.
-use Rattle.std.specs.Prelude.{◌≡◌, ℕ, List, length, map, slice_get, take, Option, Some}
+use Rattle.std.specs.Prelude.{◌≡◌, ℕ, List, length, map, slice_get, take, Some}
 use Rattle.std.specs.Option.{option_map}
 use Rattle.dir_calls.specs.Directory.{Directory}
 use Rattle.dir_calls.specs.Folder.{directory_of}

@@ -69,7 +69,10 @@ impl<R: Files<File = File>, W: Waits> Claims<R> for Locked<W> {
 
     fn complete(&mut self, file: &File) -> io::Result<()> {
         match self.mode {
-            Some(mode) => file.set_permissions(Permissions::from_mode(mode)),
+            Some(mode) => match file.set_permissions(Permissions::from_mode(mode)) {
+                Err(error) if !allows(file, mode)? => Err(error),
+                _ => Ok(()),
+            },
             None => Ok(()),
         }
     }
@@ -82,6 +85,11 @@ impl<R: Files<File = File>, W: Waits> Claims<R> for Locked<W> {
     fn wait(&mut self) -> bool {
         !self.made && self.waits.wait()
     }
+}
+
+// Whether a file has these permissions, and perhaps more. Some file systems give each file the same ones, and let nobody change them.
+fn allows(file: &File, mode: u32) -> io::Result<bool> {
+    Ok(file.metadata()?.mode() & mode == mode)
 }
 
 // The error that another process has a file.
