@@ -32,7 +32,8 @@ const INVALID: i32 = 22;
 ///
 /// Before each change of a name, and before the folder is synced, the folder that was opened is compared with what stands at its path now: where
 /// that is another folder, as where a link on the way was turned, nothing is changed, and the call fails. So it is of the file that is to be
-/// renamed: where another one stands under its name, nothing is moved. Between such a look and the call itself the path may still be turned.
+/// renamed: where another one stands under its name, nothing is moved. Between such a look and the call itself the path may still be turned; so
+/// it is looked once more after a rename, and one that moved another file is a failure.
 ///
 /// Files are made and taken away as its `Claims` do that: where another process has the name, these are asked whether to wait for it.
 #[derive(Drop)]
@@ -309,7 +310,9 @@ where
             return self.note(FailedOn::Onto, Err(no_room()));
         };
         self.sees_file(file, from)?;
-        self.note(FailedOn::Onto, self.files.rename(from, to))
+        self.note(FailedOn::Onto, self.files.rename(from, to))?;
+        // (another process may have taken the file away in between, and put its own there)
+        self.sees_file(file, to)
     }
 
     fn is_file(&self, path: &SystemPath) -> io::Result<bool> {

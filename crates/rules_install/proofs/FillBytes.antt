@@ -68,7 +68,7 @@ length-pointers rules = length-header (stored rules) 256
 -- the file with zeros is as long as the whole one
 pub length-blank : (rules : List Rule) → length (blank_file rules) ≡ finished_length (stored rules)
 length-blank rules =
-    same_length (header_bytes (pointers_of (stored rules))) (replicate 2048 0) (records_of (stored rules)) (tables_of (stored rules)) (length-pointers rules)
+    same_length (header_bytes (pointers_of (stored rules))) (replicate 2048 255) (records_of (stored rules)) (tables_of (stored rules)) (length-pointers rules)
     ∙ length-file (stored rules) 256 refl
 
 below_limit : (sum size finished : ℕ) → sum ≤ size → size ≡ finished → finished < 2 ^ 32 → sum < 2 ^ 32
@@ -83,7 +83,7 @@ pub pointers_over : (rules : List Rule) (header : List ℕ) → header ≡ heade
     → take 0 (blank_file rules) ++ header ++ drop (0 + length header) (blank_file rules) ≡ whole_file rules
 pointers_over rules header is =
     subst (λ (h : List ℕ). take 0 (blank_file rules) ++ h ++ drop (0 + length h) (blank_file rules) ≡ whole_file rules) (sym is)
-    (put_over (header_bytes (pointers_of (stored rules))) (replicate 2048 0) (records_of (stored rules)) (tables_of (stored rules)) (length-pointers rules))
+    (put_over (header_bytes (pointers_of (stored rules))) (replicate 2048 255) (records_of (stored rules)) (tables_of (stored rules)) (length-pointers rules))
 
 -- ---- a piece more
 

@@ -10,9 +10,9 @@ use Rattle.rule_lines.specs.Pairs.{Rule}
 abbrev pub whole_file : List Rule → List ℕ
 whole_file rules = image_of (stored rules)
 
--- the same with zeros for its pointers, which come last
+-- the same before its pointers, which come last: until then they lead outside of the file, so that no part of it decides
 abbrev pub blank_file : List Rule → List ℕ
-blank_file rules = replicate 2048 0 ++ records_of (stored rules) ++ tables_of (stored rules)
+blank_file rules = replicate 2048 255 ++ records_of (stored rules) ++ tables_of (stored rules)
 
 -- what stands in the scratch file once so many bytes were appended, and the pointers were put in place or not
 abbrev pub filled_file : List Rule → ℕ → Bool → List ℕ

@@ -65,7 +65,7 @@ impl Install {
             rule: StoredRule::new(alloc),
             rest: Vec::new(alloc),
             taken: 0,
-            next: Piece::Zeros,
+            next: Piece::Unset,
             filled: 0,
             patched: false,
             reached: None,

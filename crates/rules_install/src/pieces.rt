@@ -16,10 +16,14 @@ use rule_lines::{RuleList, StoredRule};
 use std::alloc::{AllocError, Global};
 use std::marker::Model;
 
+/// What stands in the place of the pointers until they are put there. Pointers of such bytes lead outside of the file, so that a part of it is
+/// damaged for each lookup: one of zeros would have no rule for anybody, and let everybody in.
+const UNSET: u8 = 255;
+
 /// A piece: the place of the pointers, the record of a rule, or a table.
 #[derive(Clone, Copy, PartialEq, Eq, Debug)]
 pub enum Piece {
-    Zeros,
+    Unset,
     Record(usize),
     Table(usize),
 }
@@ -98,8 +102,8 @@ impl Pieces {
     {
         piece.clear();
         match place {
-            Piece::Zeros => {
-                *piece = vec![in alloc; 0; HEADER_LENGTH]?;
+            Piece::Unset => {
+                *piece = vec![in alloc; UNSET; HEADER_LENGTH]?;
                 Ok(Some(Piece::Record(0)))
             }
             Piece::Record(i) => {

@@ -9,7 +9,7 @@ use Rattle.cdb_write.proofs.RecordLemmas.{length-record_bytes}
 use Rattle.cdb_read.specs.Compiled.{pair_of, stored}
 use Rattle.rules_install.specs.Pieces.{from_piece}
 use Rattle.rules_install.specs.Places.{ArePlaced}
-use Rattle.rules_install.specs.declared.pieces.Piece.TheVariants.{Zeros, Record, Table}
+use Rattle.rules_install.specs.declared.pieces.Piece.TheVariants.{Unset, Record, Table}
 use Rattle.rules_install.proofs.PlaceLemmas.{ArePlaced-more, room-next}
 use Rattle.rules_install.proofs.PieceLemmas.{behind, past_from_none, place-fits, records-more, records-past, rule-fits, stored-here, stored-none}
 use Rattle.rules_install.proofs.pieces.Pieces.make.Goals as goal
@@ -52,13 +52,13 @@ overflow_add-result c =
     let here = place-fits c.self.inside.list c.in-Record.i found.0 found.1 in
     omega (arith, c.self.invariant.fits)
 
-pub returns-in_ok-piece-in-Zeros-clause-made : goal.returns-in_ok-piece-in-Zeros-clause-made
-returns-in_ok-piece-in-Zeros-clause-made c =
+pub returns-in_ok-piece-in-Unset-clause-made : goal.returns-in_ok-piece-in-Unset-clause-made
+returns-in_ok-piece-in-Unset-clause-made c =
     let rules = c.args.self.now in
-    let zeros : c.in_ok-piece-in-Zeros.field-0.items ≡ replicate 2048 0 = c.in_ok-piece-in-Zeros.ensures.items_if_clones_equal (λ y same. same) in
-    let long : length c.in_ok-piece-in-Zeros.field-0.items ≡ 2048 = ap length zeros ∙ length-replicate {A = ℕ} 2048 0 in
-    let whole : from_piece rules Zeros ≡ c.in_ok-piece-in-Zeros.field-0.items ++ from_piece rules (Record 0) = behind c.in_ok-piece-in-Zeros.field-0.items (records_of (stored rules)) (replicate 2048 0) (records_of (stored rules)) (tables_of (stored rules)) (sym zeros) refl in
-    (omega arith, ap (from_piece rules) c.in-Zeros.is ∙ whole)
+    let unset : c.in_ok-piece-in-Unset.field-0.items ≡ replicate 2048 255 = c.in_ok-piece-in-Unset.ensures.items_if_clones_equal (λ y same. same) in
+    let long : length c.in_ok-piece-in-Unset.field-0.items ≡ 2048 = ap length unset ∙ length-replicate {A = ℕ} 2048 255 in
+    let whole : from_piece rules Unset ≡ c.in_ok-piece-in-Unset.field-0.items ++ from_piece rules (Record 0) = behind c.in_ok-piece-in-Unset.field-0.items (records_of (stored rules)) (replicate 2048 255) (records_of (stored rules)) (tables_of (stored rules)) (sym unset) refl in
+    (omega arith, ap (from_piece rules) c.in-Unset.is ∙ whole)
 
 pub returns-in_ok-append_record-in-Record-clause-made : goal.returns-in_ok-append_record-in-Record-clause-made
 returns-in_ok-append_record-in-Record-clause-made c =
