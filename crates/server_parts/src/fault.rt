@@ -13,6 +13,9 @@ pub enum ServerFault {
     /// Its words are wrong.
     #[error("{0}")]
     Words(#[from] ServerWordsFault),
+    /// SIGCHLD is ignored, so that the system forgets how programs end.
+    #[error("cannot wait for programs")]
+    CannotWait,
     /// The host table could not be read.
     #[error("read fault")]
     ReadFault,

@@ -13,6 +13,7 @@ pub mod limits;
 pub mod named_rules;
 pub mod opening;
 pub mod programs;
+pub mod signals;
 pub mod sockets;
 pub mod wrappers;
 

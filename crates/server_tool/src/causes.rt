@@ -26,17 +26,29 @@ fn append_lacking(cause: &UsageCause<'_>, causes: &mut Vec<u8>) -> Result<(), Al
     }
 }
 
-/// Leaves the line of the system's error by which a server ends, where `-v` asks for it and the system has one.
+/// Leaves the line of the cause by which a server ends, where `-v` asks for it and there is one.
 pub(crate) fn tell_failure(
     alloc: Global,
     words: &ServerWords<'_>,
     failure: ServerFailure,
     causes: &mut Vec<u8>,
 ) {
-    if let Some(error) = failure.error
-        && words.level() == Level::All
-    {
-        let _ = append_failure(alloc, words, failure.fault, error, causes);
+    if words.level() != Level::All {
+        return;
+    }
+    let _ = match failure.error {
+        Some(error) => append_failure(alloc, words, failure.fault, error, causes),
+        None => append_known(failure.fault, causes),
+    };
+}
+
+// The line of a fault that has one without an error of the system.
+fn append_known(fault: ServerFault, causes: &mut Vec<u8>) -> Result<(), AllocError> {
+    match fault {
+        ServerFault::CannotWait => {
+            causes.extend_from_slice(b"tcpserver: cause: SIGCHLD is ignored\n")
+        }
+        _ => Ok(()),
     }
 }
 

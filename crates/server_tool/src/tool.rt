@@ -10,6 +10,7 @@ use event_journals::Counts;
 use rule_lookup::Missing;
 use server_parts::limits::supply_for;
 use server_parts::opening::{listen, names_of, open_rules, plan_of, print_port, stand_in};
+use server_parts::signals::forgets_programs;
 use server_parts::{
     HandedAcceptor, HandingLauncher, PumpedAcceptor, ServerFailure, ServerFault, ServiceLauncher,
     Wrapper, chain_of,
@@ -52,7 +53,7 @@ const CALLERS: u64 = 2;
 /// all of them are over.
 ///
 /// # Errors
-/// In the order of `ServerFault`. Under `-v` the line of its cause is left in `causes`, where the system has one and there is memory for it; and
+/// In the order of `ServerFault`. Under `-v` the line of its cause is left in `causes`, where it has one and there is memory for it; and
 /// behind a usage line what is lacking.
 pub fn run_tcpserver<R, E>(
     rt: &R,
@@ -134,6 +135,9 @@ where
     <R::Started as OpenProcess>::Stdout: Send,
     <R::Started as OpenProcess>::Stderr: Send,
 {
+    if forgets_programs(rt) {
+        return Err(ServerFailure::from(ServerFault::CannotWait));
+    }
     let server = parts_of(rt, errors, words)?;
     open_and_run(rt, &server, words)
 }

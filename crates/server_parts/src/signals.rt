@@ -1,0 +1,33 @@
+//! The signals that a server was started with.
+use memchr::memmem;
+use std::fs::{self, File, Files};
+
+/// Where the system tells which signals a process ignores.
+const STATUS: &str = "/proc/self/status";
+
+/// The line of these signals has sixteen hexadecimal digits, the last of which has the signals 1 to 4.
+const IGNORED: &[u8] = b"\nSigIgn:\t";
+
+/// The place of the digit that has the signals 17 to 20; its lowest bit is SIGCHLD.
+const DIGIT: usize = 11;
+
+/// Whether SIGCHLD is ignored, so that the system forgets how programs end. Where it does not tell so, it counts as not ignored.
+pub fn forgets_programs<F: Files<File = File> + AllocGlobal>(files: &F) -> bool {
+    match fs::read(files, STATUS) {
+        Ok(status) => is_told_in(status.as_slice()),
+        Err(_) => false,
+    }
+}
+
+// Whether the status of a process has SIGCHLD among the signals that are ignored.
+fn is_told_in(status: &[u8]) -> bool {
+    let Some(line) = memmem::find(status, IGNORED) else {
+        return false;
+    };
+    let place = line.saturating_add(IGNORED.len()).saturating_add(DIGIT);
+    let digit = status.get(place).copied();
+    matches!(
+        digit,
+        Some(b'1' | b'3' | b'5' | b'7' | b'9' | b'b' | b'd' | b'f')
+    )
+}
