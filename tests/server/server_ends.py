@@ -11,6 +11,7 @@ import threading
 import time
 
 from shared import failed_calls, log_forms, server_runs
+from shared.checks import needs_proved
 from shared.clients import Pool
 from shared.server_runs import free_port, listens, read_all, reset
 
@@ -133,6 +134,7 @@ def rounds(server, number):
     server.idle()
 
 
+@needs_proved(8)
 def nothing_left(suite):
     """Six thousand connections leave no descriptor, no thread, no process and no memory behind."""
     program, table = suite.child()
