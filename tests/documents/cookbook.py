@@ -1,4 +1,5 @@
-"""Runs the recipes of docs/COOKBOOK.md as they stand: the files of examples/, and each line behind a `$`, with what it prints below.
+"""Runs the recipes of docs/COOKBOOK.md and docs/COOKBOOK_RULES.md as they stand: the files of examples/, and each line
+behind a `$`, with what it prints below.
 
 A recipe whose programs are not installed, or that has to be root, is skipped, and said to be. The environment gives the run scripts a free port and an
 account; nothing else of them is changed.
@@ -16,7 +17,8 @@ from shared import log_forms
 from shared.checks import TOP, Checks
 from shared.server_runs import WAIT, Amiss, free_port, listens, wait_until
 
-COOKBOOK = os.path.join(TOP, "docs", "COOKBOOK.md")
+COOKBOOKS = ("docs/COOKBOOK.md", "docs/COOKBOOK_RULES.md")
+COOKBOOK = os.path.join(TOP, COOKBOOKS[0])
 TOOLS = ("tcpserver", "tcprules", "tcprulescheck", "addcr", "delcr", "fixcrio", "recordio", "rulesim")
 ACCOUNT = "nobody"
 # longer than a step of the times of files, in seconds
@@ -100,12 +102,17 @@ def blocks(text):
             before = line
 
 
+def sections():
+    """The sections of both documents."""
+    for name in COOKBOOKS:
+        with open(os.path.join(TOP, name), encoding="utf-8") as file:
+            yield from re.split(r"^## ", file.read(), flags=re.M)[1:]
+
+
 def recipes():
-    """The recipes of the document, by their titles."""
-    with open(COOKBOOK, encoding="utf-8") as file:
-        text = file.read()
+    """The recipes of both documents, by their titles."""
     found = {}
-    for section in re.split(r"^## ", text, flags=re.M)[1:]:
+    for section in sections():
         title, _, body = section.partition("\n")
         recipe = found[title] = Recipe(title)
         for before, block in blocks(body):
@@ -549,17 +556,17 @@ def run_lines(checks, kitchen, recipe):
 
 
 def check_files(checks, found):
-    """The files that the document shows are those of examples/, all of them and word by word."""
+    """The files that the documents show are those of examples/, all of them and word by word."""
     shown = {}
     for recipe in found.values():
         for path, text in recipe.files:
             shown[path] = text
             with open(os.path.join(TOP, path), encoding="ascii") as file:
-                checks.expect("the document's " + path, text, file.read())
+                checks.expect("the documents' " + path, text, file.read())
     there = [os.path.relpath(os.path.join(place, name), TOP) for place, _, names in os.walk(os.path.join(TOP, "examples")) for name in names]
     # (whoever follows a recipe in the tree leaves compiled rules there)
     there = [path for path in there if not path.endswith(".cdb")]
-    checks.expect("files of examples/ that the document shows", sorted(shown), sorted(there))
+    checks.expect("files of examples/ that the documents show", sorted(shown), sorted(there))
 
 
 def cook(checks, program, title, steps):
@@ -583,7 +590,7 @@ def check(program, failures):
     """Runs all recipes: how many tests there were."""
     checks, found = Checks("cookbook", failures), recipes()
     check_files(checks, found)
-    checks.expect("recipes that the document has", [title for title in SERVICES if title not in found], [])
+    checks.expect("recipes that the documents have", [title for title in SERVICES if title not in found], [])
     for title, recipe in found.items():
         needed = NEEDED.get(title, ["make"])
 

@@ -11,13 +11,12 @@ import shutil
 import subprocess
 import tempfile
 
-from documents.cookbook import blocks
+from documents.cookbook import COOKBOOKS, blocks
 from shared import log_forms
 from shared.checks import TOP, Checks
 from shared.server_runs import free_port, listens, wait_until
 
 TOOLS = ("addcr", "delcr", "fixcrio", "recordio", "rulesim", "tcprules", "tcprulescheck", "tcpserver")
-COOKBOOK = "docs/COOKBOOK.md"
 
 
 def pages_in(folder):
@@ -28,7 +27,7 @@ def pages_in(folder):
 # what maintainers read has terms of its own, which GLOSSARY.md explains; what users read has those that they search for
 INTERNALS = pages_in("docs/internals")
 FOR_USERS = ["README.md", "CHANGELOG.md"] + pages_in("docs")
-DOCUMENTS = ["README.md"] + [name for name in pages_in("docs") if name != COOKBOOK] + INTERNALS
+DOCUMENTS = ["README.md"] + [name for name in pages_in("docs") if name not in COOKBOOKS] + INTERNALS
 # how many words maintainers have to read: of some pages, and in all
 WORDS = {"ARCHITECTURE": 2500, "DECISIONS": 3000, "HEADLINE": 2000, "PROOFS": 3500}
 ALL_WORDS = 14000
@@ -241,7 +240,7 @@ def check(program, failures):
     check_comments(checks)
     check_changes(checks)
     check_internals(checks)
-    for name in DOCUMENTS + [COOKBOOK, "CHANGELOG.md"]:
+    for name in DOCUMENTS + [*COOKBOOKS, "CHANGELOG.md"]:
         with open(os.path.join(TOP, name), encoding="utf-8") as file:
             text = file.read()
         check_links(checks, name, text)

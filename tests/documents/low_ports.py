@@ -72,7 +72,7 @@ def recipe_lines():
     """The lines of root in the recipe for such ports."""
     with open(COOKBOOK, encoding="utf-8") as file:
         section = file.read().partition("\n## Ports below 1024\n")[2].partition("\n## ")[0]
-    return re.findall(r"^    # (.*)$", section, re.M)
+    return re.findall(r"^    # ((?:.*\\\n)*.*)$", section, re.M)
 
 
 def try_lines(checks, kitchen):
