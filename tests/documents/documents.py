@@ -12,7 +12,6 @@ import subprocess
 import tempfile
 
 from documents.cookbook import COOKBOOKS, blocks
-from shared import log_forms
 from shared.checks import TOP, Checks
 from shared.server_runs import free_port, listens, wait_until
 
@@ -24,13 +23,23 @@ def pages_in(folder):
     return sorted("%s/%s" % (folder, name) for name in os.listdir(os.path.join(TOP, folder)) if name.endswith(".md"))
 
 
+def read(name):
+    """The text of a file."""
+    with open(os.path.join(TOP, name), encoding="utf-8") as file:
+        return file.read()
+
+
 # what maintainers read has terms of its own, which GLOSSARY.md explains; what users read has those that they search for
 INTERNALS = pages_in("docs/internals")
-FOR_USERS = ["README.md", "CHANGELOG.md"] + pages_in("docs")
-DOCUMENTS = ["README.md"] + [name for name in pages_in("docs") if name not in COOKBOOKS] + INTERNALS
-# how many words maintainers have to read: of some pages, and in all
+PAGES = pages_in("docs")
+FOR_USERS = ["README.md", "CHANGELOG.md"] + PAGES
+DOCUMENTS = ["README.md"] + [name for name in PAGES if name not in COOKBOOKS] + INTERNALS
+# how many words a page has at most, a page for users too, and how many each folder has in all
 WORDS = {"ARCHITECTURE": 2500, "DECISIONS": 3000, "HEADLINE": 2000, "PROOFS": 3500}
-ALL_WORDS = 14000
+PAGE_WORDS = 2500
+ALL_WORDS = {"docs": 20000, "docs/internals": 14000}
+# how many words a sentence has at most that users read
+SENTENCE_WORDS = 25
 # files of which users read the comments
 COMMENTED = ("Makefile", "completions", "examples", "scripts")
 # terms that no document for users has, each with the one that stands for it
@@ -45,6 +54,8 @@ MEANT = {
 }
 # a port in the arguments of a server behind the shell's back
 BEHIND = re.compile(r"(?:ucspi )?tcpserver\b.* (\d+) \S.*&\s*$")
+# an error message of a tool
+MESSAGE = re.compile(r"`((?:%s|ucspi): [^`]*)`" % "|".join(TOOLS))
 LIMIT = 600
 MARK = "--- the end of a command"
 MAKE = """#!/bin/sh
@@ -72,20 +83,6 @@ def makes_in(text):
     return [line.split("#")[0].strip() for _, block in blocks(text) for line in block.split("\n") if re.match(r"make\b", line)]
 
 
-def log_of(number, most):
-    """The log of a server with so many connections, as many of them at once."""
-    lines, alive = [log_forms.status(0, most)], []
-    for serial in range(1, number + 1):
-        alive.append(serial)
-        address = "10.0.%d.%d" % (serial // 200, serial % 200 + 1)
-        lines += [log_forms.status(len(alive), most), log_forms.pid(serial, address)]
-        lines.append(log_forms.verdict("ok", serial, ":10.0.0.1:25", ":%s::1024" % address))
-        while len(alive) == most or alive and serial == number:
-            lines.append(log_forms.end(alive.pop(0)))
-            lines.append(log_forms.status(len(alive), most))
-    return log_forms.log(*lines)
-
-
 class Shell:
     """A shell in which one command after another runs."""
 
@@ -102,8 +99,6 @@ class Shell:
         here = os.path.join(folder, "here")
         os.mkdir(here)
         shutil.copytree(os.path.join(TOP, "examples"), os.path.join(here, "examples"))
-        with open(os.path.join(here, "log"), "wb") as file:
-            file.write(log_of(2040, 40))
         os.symlink(os.path.join(TOP, "scripts"), os.path.join(here, "scripts"))
         environment = {"PATH": self.bin + ":/usr/local/bin:/usr/bin:/bin", "LC_ALL": "C.UTF-8"}
         self.process = subprocess.Popen(
@@ -145,8 +140,7 @@ class Shell:
 
 
 def check_document(checks, program, name):
-    with open(os.path.join(TOP, name), encoding="utf-8") as file:
-        text = file.read().replace("2525", str(free_port()))
+    text = read(name).replace("2525", str(free_port()))
     commands = list(commands_in(text))
     checks.expect("%s: lines behind a prompt, and commands that are run" % name, len(re.findall(r"^    \$ ", text, re.M)), len(commands))
     makes = makes_in(text) if name == "README.md" else []
@@ -164,8 +158,7 @@ def check_document(checks, program, name):
 
 def check_readme(checks):
     """Its length, its links, and what it may not be without."""
-    with open(os.path.join(TOP, "README.md"), encoding="utf-8") as file:
-        text = file.read()
+    text = read("README.md")
     lines = text.split("\n")[:-1]
     checks.holds("README.md: at most 130 lines", len(lines) <= 130, len(lines))
     checks.expect("README.md: lines of at most 120 columns", [line for line in lines if len(line) > 120], [])
@@ -185,34 +178,70 @@ def check_links(checks, name, text, top=TOP):
         if not os.path.exists(path):
             lost.append(path)
         elif anchor:
-            with open(path, encoding="utf-8") as file:
-                lost += [] if anchor in anchors_in(file.read()) else ["%s#%s" % (path, anchor)]
+            lost += [] if anchor in anchors_in(read(path)) else ["%s#%s" % (path, anchor)]
     checks.expect("%s: links that lead nowhere" % name, lost, [])
 
 
 def check_changes(checks):
     """The files that a change touches, as the architecture lists them, are there."""
-    with open(os.path.join(TOP, "docs", "internals", "ARCHITECTURE.md"), encoding="utf-8") as file:
-        part = file.read().partition("\n## What a change touches\n")[2].partition("\n## ")[0]
+    part = read("docs/internals/ARCHITECTURE.md").partition("\n## What a change touches\n")[2].partition("\n## ")[0]
     paths = re.findall(r"`(\w+(?:/[\w.]+)+)`", part)
     lost = [path for path in paths if not any(os.path.isfile(os.path.join(TOP, top, path)) for top in ("", "crates"))]
     checks.holds("docs/internals/ARCHITECTURE.md: files that a change touches", len(paths) > 40 and not lost, lost)
 
 
-def check_internals(checks):
-    """What maintainers read is short, and each term has one meaning."""
+def check_lengths(checks, folder, pages, most):
+    """The pages of a folder are short, each and all, and so are their lines."""
     lengths = {}
-    for name in INTERNALS:
-        with open(os.path.join(TOP, name), encoding="utf-8") as file:
-            text = file.read()
+    for name in pages:
+        text = read(name)
         lengths[name] = len(text.split())
         checks.expect("%s: lines of at most 120 columns" % name, [line for line in text.split("\n") if len(line) > 120], [])
-        most = WORDS.get(os.path.basename(name)[:-3], ALL_WORDS)
-        checks.holds("%s: at most %d words" % (name, most), lengths[name] <= most, lengths[name])
-    checks.holds("docs/internals: at most %d words" % ALL_WORDS, sum(lengths.values()) <= ALL_WORDS, lengths)
-    with open(os.path.join(TOP, "docs", "internals", "GLOSSARY.md"), encoding="utf-8") as file:
-        terms = re.findall(r"^- \*\*(.*?)\*\*", file.read(), re.M)
+        words = WORDS.get(os.path.basename(name)[:-3], most)
+        checks.holds("%s: at most %d words" % (name, words), lengths[name] <= words, lengths[name])
+    checks.holds("%s: at most %d words" % (folder, ALL_WORDS[folder]), sum(lengths.values()) <= ALL_WORDS[folder], lengths)
+
+
+def check_glossary(checks):
+    """Each term has one meaning."""
+    terms = re.findall(r"^- \*\*(.*?)\*\*", read("docs/internals/GLOSSARY.md"), re.M)
     checks.expect("GLOSSARY.md: terms that it has twice", sorted({term for term in terms if terms.count(term) > 1}), [])
+
+
+def sentences_in(text):
+    """The sentences of a page, without its commands: a piece of code is one word, and each cell of a table
+    stands by itself."""
+    text = re.sub(r"`[^`]*`", "CODE", re.sub(r"^(?:    .*|#.*)$", "", text, flags=re.M))
+    text = re.sub(r"\]\([^)]*\)", "]", text)
+    for part in re.split(r"\n\s*\n|\n(?= *(?:[-|]|\d+\.) ?)|\|", text):
+        yield from re.split(r"(?<=[.?!:;]) (?=[A-Z(\[*])|\.\*\* |; ", " ".join(part.split()))
+
+
+def check_sentences(checks, name):
+    """Each sentence of a page can be read at once."""
+    long = [sentence for sentence in sentences_in(read(name)) if len(sentence.split()) > SENTENCE_WORDS]
+    checks.expect("%s: sentences of more than %d words" % (name, SENTENCE_WORDS), long, [])
+
+
+def facts_in(text):
+    """What the lists of a page say something of: the error messages in a row of a table, or else its first cell, and what
+    begins an item."""
+    facts = set()
+    for row in re.findall(r"^ *\|(.*)\|$", text, re.M):
+        facts.update(re.findall(MESSAGE, row) or [row.partition("|")[0].strip()])
+    # the heads of tables, and the lines below them, say nothing
+    facts -= {head.strip() for head in re.findall(r"^ *\|([^|]*)\|.*\n *\|---", text, re.M)} | {"---", ""}
+    return facts | set(re.findall(r"^ *- \*\*(.*?)\*\*", text, re.M))
+
+
+def check_facts(checks):
+    """No fact of a list, as of the options, the programs that are unsafe, the differences and the error messages, stands in
+    two pages; and one page alone says which programs are unsafe."""
+    pages = {name: facts_in(read(name)) for name in PAGES}
+    where = {fact: [name for name in PAGES if fact in pages[name]] for fact in set().union(*pages.values())}
+    checks.expect("facts that stand in two pages", {fact: names for fact, names in where.items() if len(names) > 1}, {})
+    unsafe = [name for name in PAGES if "| **unsafe**" in read(name)]
+    checks.expect("pages that list the programs that are unsafe", unsafe, ["docs/TCPSERVER.md"])
 
 
 def check_comments(checks):
@@ -220,8 +249,7 @@ def check_comments(checks):
     for part in COMMENTED:
         path = os.path.join(TOP, part)
         for path in [path] if os.path.isfile(path) else [os.path.join(place, name) for place, _, names in os.walk(path) for name in names]:
-            with open(path, encoding="utf-8") as file:
-                check_terms(checks, os.path.relpath(path, TOP), "\n".join(re.findall(r"^ *(#.*)$", file.read(), re.M)))
+            check_terms(checks, os.path.relpath(path, TOP), "\n".join(re.findall(r"^ *(#.*)$", read(path), re.M)))
 
 
 def check_terms(checks, name, text):
@@ -239,10 +267,14 @@ def check(program, failures):
     check_readme(checks)
     check_comments(checks)
     check_changes(checks)
-    check_internals(checks)
+    check_lengths(checks, "docs", PAGES, PAGE_WORDS)
+    check_lengths(checks, "docs/internals", INTERNALS, ALL_WORDS["docs/internals"])
+    check_glossary(checks)
+    check_facts(checks)
+    for name in PAGES + ["README.md"]:
+        check_sentences(checks, name)
     for name in DOCUMENTS + [*COOKBOOKS, "CHANGELOG.md"]:
-        with open(os.path.join(TOP, name), encoding="utf-8") as file:
-            text = file.read()
+        text = read(name)
         check_links(checks, name, text)
         if name in FOR_USERS:
             check_terms(checks, name, text)
