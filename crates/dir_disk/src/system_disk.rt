@@ -133,9 +133,9 @@ impl<R: Files + Drop, C: Drop> ClaimedDisk<R, C> {
     }
 
     // Sees that an opened file is what stands at a path.
-    fn sees_file(&self, file: &R::File, path: &str) -> io::Result<()> {
+    fn sees_file(&self, on: FailedOn, file: &R::File, path: &str) -> io::Result<()> {
         let same = is_same(file.metadata(), self.files.symlink_metadata(path));
-        self.note(FailedOn::Name, same.and_then(unless_other))
+        self.note(on, same.and_then(unless_other))
     }
 }
 
@@ -309,10 +309,13 @@ where
         let (Some(from), Some(to)) = (from.text(), to.text()) else {
             return self.note(FailedOn::Onto, Err(no_room()));
         };
-        self.sees_file(file, from)?;
+        self.sees_file(FailedOn::Name, file, from)?;
         self.note(FailedOn::Onto, self.files.rename(from, to))?;
-        // (another process may have taken the file away in between, and put its own there)
-        self.sees_file(file, to)
+        // (another process may have taken the file away in between, and put its own there; that the folder was turned its sync tells)
+        match self.same_folder(folder) {
+            Ok(()) => self.sees_file(FailedOn::Onto, file, to),
+            Err(_) => Ok(()),
+        }
     }
 
     fn is_file(&self, path: &SystemPath) -> io::Result<bool> {
