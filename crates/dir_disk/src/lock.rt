@@ -2,7 +2,7 @@
 use crate::claims::Claims;
 use crate::system_disk::is_same;
 use os::RangeLock;
-use std::fs::{File, Files, OpenOptions, Permissions, TryLockError};
+use std::fs::{File, Files, OpenOptions, Permissions};
 use std::io::{self, ErrorKind, Read};
 use std::os::fd::AsRawFd;
 use std::os::unix::fs::{MetadataExt, OpenOptionsExt, PermissionsExt};
@@ -156,19 +156,10 @@ fn hold<R: Files<File = File>>(files: &R, file: &File, path: &str) -> io::Result
 }
 
 // Whether a file is locked by readers alone, and still stands at its path. Who may read a file can have a lock together with others, which keeps
-// nobody from sharing it; whoever has made a file shares its lock with nobody. Of several processes that find it so one has its `flock`, and takes
-// it away: else one might take away the new file of the other.
+// nobody from sharing it; whoever has made a file shares its lock with nobody. (Two that find it so at one moment may both take it away, and the
+// second may take away what the first has made since: its look before the rename then fails.)
 fn is_read_alone<R: Files<File = File>>(files: &R, file: &File, path: &str) -> io::Result<bool> {
-    Ok(lock(file, RangeLock::Shared)? && is_first(file)? && is_at(files, file, path)?)
-}
-
-// Whether no other process had the `flock` of a file, which this one has now.
-fn is_first(file: &File) -> io::Result<bool> {
-    match file.try_lock() {
-        Ok(()) => Ok(true),
-        Err(TryLockError::WouldBlock) => Ok(false),
-        Err(TryLockError::Error(error)) => Err(error),
-    }
+    Ok(lock(file, RangeLock::Shared)? && is_at(files, file, path)?)
 }
 
 // Locks the first byte of a file, if no other process has a lock in the way, and answers whether it is locked.
