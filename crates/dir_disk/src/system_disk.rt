@@ -32,8 +32,7 @@ const INVALID: i32 = 22;
 ///
 /// Before each change of a name, and before the folder is synced, the folder that was opened is compared with what stands at its path now: where
 /// that is another folder, as where a link on the way was turned, nothing is changed, and the call fails. So it is of the file that is to be
-/// renamed: where another one stands under its name, nothing is moved. Between such a look and the call itself the path may still be turned; so
-/// it is looked once more after a rename, and one that moved another file is a failure.
+/// renamed: where another one stands under its name, nothing is moved. Between such a look and the call itself the path may still be turned.
 ///
 /// Files are made and taken away as its `Claims` do that: where another process has the name, these are asked whether to wait for it.
 #[derive(Drop)]
@@ -133,9 +132,9 @@ impl<R: Files + Drop, C: Drop> ClaimedDisk<R, C> {
     }
 
     // Sees that an opened file is what stands at a path.
-    fn sees_file(&self, on: FailedOn, file: &R::File, path: &str) -> io::Result<()> {
+    fn sees_file(&self, file: &R::File, path: &str) -> io::Result<()> {
         let same = is_same(file.metadata(), self.files.symlink_metadata(path));
-        self.note(on, same.and_then(unless_other))
+        self.note(FailedOn::Name, same.and_then(unless_other))
     }
 }
 
@@ -309,13 +308,8 @@ where
         let (Some(from), Some(to)) = (from.text(), to.text()) else {
             return self.note(FailedOn::Onto, Err(no_room()));
         };
-        self.sees_file(FailedOn::Name, file, from)?;
-        self.note(FailedOn::Onto, self.files.rename(from, to))?;
-        // (another process may have taken the file away in between, and put its own there; that the folder was turned its sync tells)
-        match self.same_folder(folder) {
-            Ok(()) => self.sees_file(FailedOn::Onto, file, to),
-            Err(_) => Ok(()),
-        }
+        self.sees_file(file, from)?;
+        self.note(FailedOn::Onto, self.files.rename(from, to))
     }
 
     fn is_file(&self, path: &SystemPath) -> io::Result<bool> {
