@@ -9,17 +9,19 @@
 #![tactic(auto)]
 
 pub mod accepting;
-pub mod admission_loop;
+pub mod admission;
 pub mod attending;
+mod door;
+mod handover;
 pub mod names;
 pub mod rounds;
 pub mod starting;
 pub mod supply;
 mod threads;
-mod workers;
+pub mod workers;
 
 pub use accepting::{AcceptFault, Accepted, Acceptor, Follow, Patience, Shut};
-pub use admission_loop::{Admission, AdmitOutcome, ServeEnd, Serving, serve_through};
+pub use admission::{Admission, AdmitOutcome, ServeEnd, Serving};
 pub use attending::{Attendant, Begun, Chains, Endings, Line, Talk, Upward, see_out};
 pub use names::HostNames;
 pub use rounds::wait_in_rounds;
@@ -27,3 +29,4 @@ pub use server_log::Log;
 pub use starting::{ConnectionLauncher, Starter};
 pub use stream_tools::NotStarted;
 pub use supply::{Memory, Reserve, Supply};
+pub use workers::serve_through;

@@ -19,8 +19,7 @@ use std::io::{Read, Write};
 use std::sync::Wait;
 use tcp_connections::{Attendant, Chains, Follow, Line, Serving, Shut, Starter, Talk, Upward};
 
-/// A connection that was let in, until its thread takes it.
-#[derive(Drop)]
+/// A connection that was let in, with its streams.
 pub(crate) struct NewConnection<
     'a,
     L: Assumptions,
@@ -39,7 +38,6 @@ pub(crate) struct NewConnection<
 }
 
 /// A connection whose child runs, and what that says where it is passed on; else the child holds the connection itself.
-#[derive(Drop)]
 pub(crate) struct Begun<
     'a,
     L: Assumptions,
