@@ -1,10 +1,10 @@
 //! TCP connections, whoever is told of them and whatever serves them: where they come from, the names of the two ends,
-//! the admission loop that gives each to a worker, whose threads are kept, the streams of a connection and the end of
-//! its child. A line that can't be written to the log is left out.
+//! the workers that let them in and serve each in one thread, the streams of a connection and the end of its child. A
+//! line that can't be written to the log is left out.
 //!
 //! The server uses `serve_through`: when it ends by its count, exactly as many were let in. It alone starts threads.
 //! What it serves is a value that each call gives on or answers as over (`Serving`). `wait_in_rounds` gives a place
-//! back only after a wait that succeeded. Tested only: each connection has a beginner and a keeper of its own, what a
+//! back only after a wait that succeeded. Tested only: one more worker is made if none waits for the socket, what a
 //! connection takes is there before it is taken, and a hundred faults of accepting in succession end the server.
 #![tactic(auto)]
 
