@@ -150,20 +150,21 @@ def kept_threads(suite):
     """Threads are made when more connections come at once than there are threads for, and kept: one after another takes none; they end with
     the server."""
     each = 1 if suite.handed else 2
-    # the first thread, and one that is a process in reserve
-    others = 2
+    # the first thread, one that is a process in reserve, and one that begins connections
+    others = 3
     with suite.start(["-v", "-c", "40", "-k", "231"] + server_runs.QUIET, [shutil.which("cat")]) as server:
         server_runs.wait_until("the first threads", lambda: server.threads() == others + each)
         for _ in range(200):
             suite.expect("one after another", server.ask(b"a\n"), b"a\n")
-        # the next client may come before the last connection is told
-        suite.holds("threads after 200 connections", server.threads() <= others + 4 * each, server.threads())
+        # the next client may come before the last connection is told; eight begin connections where programs start slowly
+        suite.holds("threads after 200 connections", server.threads() <= others + 7 + 4 * each, server.threads())
         clients = [server.connect() for _ in range(30)]
         for client in clients:
             client.sendall(b"x")
             suite.expect("thirty at once", client.recv(1), b"x")
-        # there is one for the next connection
-        server_runs.wait_until("threads of thirty at once", lambda: server.threads() == others + 31 * each)
+        # there is one for the next connection; more begin connections where programs start slowly
+        most = others + 29 + 31 * each
+        server_runs.wait_until("threads of thirty at once", lambda: others + 31 * each <= server.threads() <= most)
         kept = server.threads()
         for client in clients:
             client.close()

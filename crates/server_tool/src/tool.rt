@@ -282,7 +282,7 @@ where
     R::Started: OpenProcess<Stdin = ChildStdin> + Send,
     <R::Started as OpenProcess>::Stdout: Send,
     <R::Started as OpenProcess>::Stderr: Send,
-    T: OpenListener<Stream = TcpStream> + Send + Drop,
+    T: OpenListener<Stream = TcpStream> + Drop,
     E: Write + Send,
     requires places { (places.name ≡ L.name) × (places.parts ≡ L.parts) × (places.parts ≡ words.now.limits.connections) }
     requires met { L.met ≡ false }
@@ -358,7 +358,7 @@ where
     R::Started: OpenProcess<Stdin = ChildStdin> + Send,
     <R::Started as OpenProcess>::Stdout: Send,
     <R::Started as OpenProcess>::Stderr: Send,
-    T: OpenListener<Stream = TcpStream> + Send + Drop,
+    T: OpenListener<Stream = TcpStream> + Drop,
     E: Write + Send,
     requires callers { (N.all ≡ 2) × (N.parts ≡ 2) × (vec_len site.1 ≡ 2) × (total_share site.1.items ≡ 0) }
 {
@@ -399,7 +399,7 @@ where
     U::Handle: Send,
     R: AllocGlobal + Threads + Wait + Clock + Sync,
     E: Write + Send,
-    A: Acceptor + Send,
+    A: Acceptor,
     A::Writer: Follow<<S::Job as Job>::Output>,
     S: Starter<A::Shut> + Sync,
     S::Job: Send,

@@ -1,383 +1,359 @@
-//! Workers that are equal: each lets a connection in and serves it to its end, and then the next one.
-ghost use Rattle.std.specs.Prelude.{◌≡◌, ◌≢◌};
-ghost use Rattle.std.specs.Thread.{IsSend, IsSync};
-ghost use Rattle.tcp_connections.specs.Admissions.{IsServed};
-ghost use Rattle.tcp_connections.specs.declared.admission.ServeEnd.TheVariants.{Count};
+//! Who is at work, and on what.
+use crate::supply::{Semaphore, Supply};
+use std::alloc::{AllocError, Global};
+use std::sync::atomic::AtomicUsize;
+use std::sync::{Arc, Condvar, CondvarTimeouts, Mutex, Wait};
+use std::time::{Clock, Duration};
 
-use crate::accepting::AcceptFault;
-use crate::admission::{Admission, ServeEnd, Serving};
-use crate::door::{Door, Pause};
-use crate::handover::Handover;
-use crate::supply::{Means, Reserve, Supply};
-use crate::threads::{connection_thread, has_processes, start_reserve};
-use std::alloc::Global;
-use std::sync::atomic::{AtomicUsize, Ordering};
-use std::sync::{Arc, Mutex, MutexGuard, Wait};
-use std::thread;
-use std::thread::{Scope, Threads};
-use std::time::Clock;
-
-/// So often a server tries to make its first worker, over some two and a half seconds.
-const TRIES: u32 = 8;
-
-/// For so many programs at most it is looked whether there are processes, before a worker is made: where there are fewer than programs, the last
-/// ones wait for those before them.
-const PROCESSES: u64 = 4;
-
-/// By so many bytes, two pages, a look for memory asks for more than the last one.
-const MORE: usize = 8 * 1024;
-
-/// Lets connections in, at most so many at once, until `count` were let in or no more can be; then closes `admission`, waits until all that
-/// were let in are over, and gives it back. Each is let in by a worker that serves it to its end, in one thread; a second one passes on what the
-/// client sends, where that is done. One more worker is made where a connection may come that none waits for, and kept for those that follow.
-pub fn serve_through<R, V, Q, U>(
-    rt: &R,
-    alloc: Global,
-    admission: Q,
-    server: &V,
-    most: usize,
-    count: Option<u32>,
-    supply: Supply,
-    reserve: &Reserve,
-) -> (ServeEnd, Q)
-where
-    R: Threads + Wait + Clock + Sync,
-    Q: Admission + Send + Drop,
-    V: Serving<Q::Work, Upward = U> + Sync,
-    U: Send + Drop,
-    requires nobody { Q.let_in admission ≡ 0 }
-    ensures served { IsServed result.0 count 0 (Q.let_in result.1) }
-{
-    let workers = Workers {
-        rt,
-        alloc,
-        server,
-        most,
-        door: Mutex::new(Door::new(admission, count)),
-        waiting: AtomicUsize::new(0),
-        arrived: Handover::new(),
-        supply,
-        means: Means::new(supply),
-        found: AtomicUsize::new(0),
-        reserve,
-        seconds: Handover::new(),
-    };
-    if supply.descriptors < supply.to_begin || supply.at_once() == 0 {
-        workers.end(ServeEnd::AcceptFaults);
-    } else {
-        workers.run();
-    }
-    let Workers { door, .. } = workers;
-    door.into_inner().into_end(count)
-}
-
-/// What the workers share.
+/// What the admission loop and its threads share: who is free to begin a connection, who to keep one whose child runs, and what the system has for
+/// connections. A thread that begins connections needs more memory than one that keeps them, and there are few of it.
 #[derive(Drop)]
-struct Workers<'a, R, V, Q: Admission, U> {
-    rt: &'a R,
+pub(crate) struct Workers<T, U, K> {
+    pub supply: Supply,
+    /// Who begins connections, up to the start of their children.
+    pub beginners: WorkerPool<BeginnerSlot<T>>,
+    /// Who keeps connections, to their ends.
+    pub keepers: WorkerPool<KeeperSlot<U, K>>,
+    /// How many bytes of memory a look for it found last, where it is limited.
+    pub found: AtomicUsize,
     alloc: Global,
-    server: &'a V,
-    // how many there are at most
-    most: usize,
-    door: Mutex<Door<Q>>,
-    // how many wait for it
-    waiting: AtomicUsize,
-    // whether one that was made is there
-    arrived: Handover<bool>,
-    supply: Supply,
-    means: Means,
-    // how many bytes of memory a look for it found last, where it is limited
-    found: AtomicUsize,
-    reserve: &'a Reserve,
-    // where the second thread of one that comes gets where it waits for what a client sends
-    seconds: Handover<Arc<Handover<U>, Global>>,
+    descriptors: Semaphore,
+    // how many more connections may come whose child does not run yet
+    entries: Semaphore,
 }
 
-impl<R, V, Q, U> Workers<'_, R, V, Q, U>
-where
-    R: Threads + Wait + Clock + Sync,
-    Q: Admission,
-    V: Serving<Q::Work, Upward = U>,
-    U: Drop,
-{
-    // Whether memory is limited.
-    fn is_limited(&self) -> bool {
-        self.supply.memory.is_some()
-    }
+/// Where the thread of a beginner waits.
+#[derive(Drop)]
+pub(crate) struct BeginnerSlot<T> {
+    /// For its next connection, and the number of who is to keep it.
+    pub handover: Handover<(T, usize)>,
+    /// How many of its threads are there.
+    pub up: Semaphore,
+}
 
-    // Waits for the door.
-    fn come_to_door(&self) -> MutexGuard<'_, Door<Q>> {
-        self.waiting.fetch_add(1, Ordering::SeqCst);
-        let door = self.door.lock(self.rt);
-        self.waiting.fetch_sub(1, Ordering::SeqCst);
-        door
-    }
+/// Where the two threads of a keeper wait.
+#[derive(Drop)]
+pub(crate) struct KeeperSlot<U, K> {
+    /// For its next connection.
+    pub handover: Handover<K>,
+    /// For what the client of its connection sends.
+    pub upward: Handover<U>,
+    /// How many of its threads are there.
+    pub up: Semaphore,
+}
 
-    // The server ends so.
-    fn end(&self, end: ServeEnd)
-        requires other { end ≢ Count }
-    {
-        self.door.lock(self.rt).close(end);
-        self.reserve.give_back(self.rt);
-    }
-
-    // Lets the next connection in. `None` once no more come, or where this worker is one too many.
-    fn lead(&self, door: &mut Door<Q>) -> Option<Q::Work> {
-        for _ in self.rt.forever() {
-            if door.may_leave() {
-                return None;
-            }
-            if door.is_over() || !door.wait_for_room() {
-                self.reserve.give_back(self.rt);
-                return None;
-            }
-            self.means.take(self.rt);
-            match door.next() {
-                Ok(Some(work)) => return Some(work),
-                Ok(None) => self.means.give_back(self.rt),
-                Err(fault) => {
-                    self.means.give_back(self.rt);
-                    self.pause(door, fault);
-                }
-            }
-        }
-        unreachable!()
-    }
-
-    // Counts a fault of accepting. One for want of descriptors or memory waits for a pause, or until a connection is over; where there was
-    // one to wait for it is none of the hundred.
-    fn pause(&self, door: &mut Door<Q>, fault: AcceptFault) {
-        if fault == AcceptFault::NoRoom {
-            let pause = door.next_pause();
-            if self.means.wait_for_one(self.rt, pause) {
-                return;
-            }
-            thread::sleep(self.rt, pause);
-        }
-        door.count_fault();
-    }
-
-    // Serves a connection to its end; what its client sends is passed on by a second thread.
-    fn serve(&self, work: Q::Work, second: &Option<Arc<Handover<U>, Global>>) {
-        match self.server.begin(work) {
-            Ok((upward, talk)) => {
-                self.means.began(self.rt);
-                if let (Some(second), Some(upward)) = (second, upward) {
-                    second.hand(self.rt, upward);
-                }
-                let _over = self.server.pass_down(talk);
-                if let Some(second) = second {
-                    second.wait_for_finish(self.rt);
-                }
-                self.means.ended(self.rt);
-            }
-            Err(_over) => self.means.give_back(self.rt),
+impl<T: Drop, U: Drop, K: Drop> Workers<T, U, K> {
+    /// For so many connections at once. Nobody is there yet.
+    pub fn new(alloc: Global, most: usize, supply: Supply) -> Workers<T, U, K> {
+        Workers {
+            supply,
+            beginners: WorkerPool::new(alloc, most),
+            keepers: WorkerPool::new(alloc, most),
+            found: AtomicUsize::new(0),
+            alloc,
+            descriptors: Semaphore::new(supply.descriptors),
+            entries: Semaphore::new(supply.at_once()),
         }
     }
 
-    // Whether no worker waits for the door, and there may be one more.
-    fn wants_more(&self, door: &Door<Q>) -> bool {
-        self.waiting.load(Ordering::SeqCst) == 0 && door.has_fewer(self.most)
-    }
-
-    // Whether there is what the connections of all workers take beside descriptors: memory where it is limited, and processes where there were
-    // too few before.
-    fn has_supplies(&self, workers: usize, beginning: u64) -> bool {
-        self.has_memory(workers)
-            && (!self.reserve.is_gone(self.rt)
-                || has_processes(self.rt, beginning.clamp(1, PROCESSES)))
-    }
-
-    // Whether there is memory for the connections of so many workers, where it is limited. Each look asks for more than the last that found it:
-    // what is no larger the C library takes from what it keeps for this thread, and the others have nothing of that.
-    fn has_memory(&self, workers: usize) -> bool {
-        let Some(memory) = self.supply.memory else {
-            return true;
+    /// One more beginner, who is not free: his number.
+    pub fn add_beginner<R: Wait>(&self, rt: &R) -> Result<usize, AllocError> {
+        let slot = BeginnerSlot {
+            handover: Handover::new(),
+            up: Semaphore::new(0),
         };
-        let more = self.found.load(Ordering::SeqCst).saturating_add(MORE);
-        let all = memory
-            .to_go_on
-            .saturating_mul(workers)
-            .saturating_add(memory.to_begin)
-            .max(more);
-        let is_there = Vec::<u8>::with_capacity(self.alloc, all).is_ok();
-        if is_there {
-            self.found.store(all, Ordering::SeqCst);
-        }
-        is_there
+        self.beginners.add(rt, Arc::new(self.alloc, slot)?)
     }
 
-    // A thread is there. Where memory is limited it first asks for some, so that what the C library reserves for it is there too.
-    fn come_up(&self) {
-        if self.is_limited() {
-            drop(Vec::<u8>::with_capacity(self.alloc, 64));
-        }
+    /// One more keeper, who is not free: his number.
+    pub fn add_keeper<R: Wait>(&self, rt: &R) -> Result<usize, AllocError> {
+        let slot = KeeperSlot {
+            handover: Handover::new(),
+            upward: Handover::new(),
+            up: Semaphore::new(0),
+        };
+        self.keepers.add(rt, Arc::new(self.alloc, slot)?)
     }
 
-    // A worker is there, or lacks its second thread.
-    fn arrive(&self, is_whole: bool) {
-        if self.waits_for_arrivals() {
-            self.arrived.hand(self.rt, is_whole);
+    /// Takes the last beginner away: his thread ends.
+    pub fn remove_beginner<R: Wait>(&self, rt: &R) {
+        if let Some(slot) = self.beginners.remove_last(rt) {
+            slot.handover.close(rt);
         }
     }
 
-    // Whether it is waited for a worker that is made: until his threads have taken what the C library reserves for each, and have a second one.
-    fn waits_for_arrivals(&self) -> bool {
-        self.is_limited() || self.server.passes_up()
+    /// Takes the last keeper away: his threads end.
+    pub fn remove_keeper<R: Wait>(&self, rt: &R) {
+        if let Some(slot) = self.keepers.remove_last(rt) {
+            slot.handover.close(rt);
+            slot.upward.close(rt);
+        }
     }
 
-    // Waits for a worker that was started: whether he is whole.
-    fn is_whole(&self) -> bool {
-        !self.waits_for_arrivals() || self.arrived.take(self.rt) == Some(true)
+    /// Waits until there is what one more connection takes, and takes it.
+    pub fn reserve<R: Wait>(&self, rt: &R) {
+        self.entries.take(rt, 1);
+        self.descriptors.take(rt, self.supply.to_begin);
+    }
+
+    /// The connection for which it was taken does not come.
+    pub fn release<R: Wait>(&self, rt: &R) {
+        self.entries.give(rt, 1);
+        self.descriptors.give(rt, self.supply.to_begin);
+    }
+
+    /// Waits, where memory is limited, until no connection begins, and lets none begin.
+    pub fn hold_up<R: Wait>(&self, rt: &R) {
+        self.entries.take(rt, self.supply.others());
+    }
+
+    /// Lets connections begin again.
+    pub fn let_go_on<R: Wait>(&self, rt: &R) {
+        self.entries.give(rt, self.supply.others());
+    }
+
+    /// Hands a connection to a beginner, and tells who is to keep it. Where he is not there it is let go, and it is over.
+    pub fn hand<R: Wait>(&self, rt: &R, beginner: usize, work: T, keeper: usize) {
+        if let Some(slot) = self.beginners.slot(rt, beginner) {
+            slot.handover.hand(rt, (work, keeper));
+            return;
+        }
+        drop(work);
+        self.began(rt, true);
+        self.beginners.give(rt, beginner);
+        self.keepers.give(rt, keeper);
+    }
+
+    /// Hands a connection whose child runs to a keeper, with what its client sends where that is passed on. Where he is not there it is let go,
+    /// and it is over.
+    pub fn hand_on<R: Wait>(&self, rt: &R, keeper: usize, upward: Option<U>, talk: K) {
+        if let Some(slot) = self.keepers.slot(rt, keeper) {
+            if let Some(upward) = upward {
+                slot.upward.hand(rt, upward);
+            }
+            slot.handover.hand(rt, talk);
+            return;
+        }
+        drop(talk);
+        self.ended(rt);
+        self.keepers.give(rt, keeper);
+    }
+
+    /// The child of a connection runs, or the connection is over before it did.
+    pub fn began<R: Wait>(&self, rt: &R, is_over: bool) {
+        self.entries.give(rt, 1);
+        let kept = if is_over { 0 } else { self.supply.to_go_on };
+        self.descriptors
+            .give(rt, self.supply.to_begin.saturating_sub(kept));
+    }
+
+    /// A connection whose child ran is over.
+    pub fn ended<R: Wait>(&self, rt: &R) {
+        self.descriptors.give(rt, self.supply.to_go_on);
+    }
+
+    /// Asks for a little memory, and gives it back.
+    pub fn ask_for_memory(&self) {
+        drop(Vec::<u8>::with_capacity(self.alloc, 64));
+    }
+
+    /// No connection comes any more: waits until all are over, and then all threads end.
+    pub fn close<R: Wait>(&self, rt: &R) {
+        self.beginners.wait_for_all(rt);
+        self.keepers.wait_for_all(rt);
+        for member in self.beginners.members.lock(rt).iter() {
+            member.slot.handover.close(rt);
+        }
+        for member in self.keepers.members.lock(rt).iter() {
+            member.slot.handover.close(rt);
+            member.slot.upward.close(rt);
+        }
     }
 }
 
-impl<R, V, Q, U> Workers<'_, R, V, Q, U>
-where
-    R: Threads + Wait + Clock + Sync,
-    Q: Admission + Send + Drop,
-    V: Serving<Q::Work, Upward = U> + Sync,
-    U: Send + Drop,
-{
-    // Lets connections in until the server comes to an end, and waits until all that were let in are over.
-    fn run(&self) {
-        let workers = self;
-        thread::scope(
-            thread::scope_env(),
-            workers.rt,
-            move |scope|
-                requires { IsSync R.row × IsSync V.row × IsSend Q.row × IsSend U.row × IsSend V.Over.row }
-            {
-                if !start_reserve(scope, workers.rt, workers.reserve) {
-                    workers.reserve.give_back(workers.rt);
-                }
-                if !workers.make_first(scope) {
-                    workers.end(ServeEnd::OutOfMemory);
-                }
-            },
+/// Workers of one kind, numbered from 1: which of them are free, and where each of them waits.
+#[derive(Drop)]
+pub(crate) struct WorkerPool<P> {
+    most: usize,
+    members: Mutex<Vec<Member<P>>>,
+    changed: Condvar,
+}
+
+// One of them.
+#[derive(Drop)]
+struct Member<P> {
+    is_free: bool,
+    slot: Arc<P, Global>,
+}
+
+impl<P: Drop> WorkerPool<P> {
+    /// Of at most so many, none of whom is there yet.
+    fn new(alloc: Global, most: usize) -> WorkerPool<P> {
+        WorkerPool {
+            most,
+            members: Mutex::new(Vec::new(alloc)),
+            changed: Condvar::new(),
+        }
+    }
+
+    /// How many there are.
+    pub fn count<R: Wait>(&self, rt: &R) -> usize {
+        self.members.lock(rt).len()
+    }
+
+    /// Whether there are as many as there may be.
+    pub fn is_whole<R: Wait>(&self, rt: &R) -> bool {
+        self.count(rt) >= self.most
+    }
+
+    /// How many are at work.
+    pub fn count_busy<R: Wait>(&self, rt: &R) -> usize {
+        let members = self.members.lock(rt);
+        members.len().saturating_sub(count_free(&members))
+    }
+
+    // One more, who waits here and is not free: his number.
+    fn add<R: Wait>(&self, rt: &R, slot: Arc<P, Global>) -> Result<usize, AllocError> {
+        let mut members = self.members.lock(rt);
+        members.push(Member {
+            is_free: false,
+            slot,
+        })?;
+        Ok(members.len())
+    }
+
+    // Takes the last one away.
+    fn remove_last<R: Wait>(&self, rt: &R) -> Option<Arc<P, Global>> {
+        Some(self.members.lock(rt).pop()?.slot)
+    }
+
+    /// Where one of them waits.
+    pub fn slot<R: Wait>(&self, rt: &R, number: usize) -> Option<Arc<P, Global>> {
+        let members = self.members.lock(rt);
+        Arc::try_clone(&members.get(number.checked_sub(1)?)?.slot).ok()
+    }
+
+    /// Takes the first one who is free: he is free no more.
+    pub fn take<R: Wait>(&self, rt: &R) -> Option<usize> {
+        let mut members = self.members.lock(rt);
+        let found = members.iter().position(|member| member.is_free)?;
+        members[found].is_free = false;
+        found.checked_add(1)
+    }
+
+    /// Waits until one is free.
+    pub fn wait<R: Wait>(&self, rt: &R) {
+        drop(
+            self.changed
+                .wait_while(rt, self.members.lock(rt), |members| {
+                    count_free(members) == 0
+                }),
         );
     }
 
-    // Makes the first worker, without whom nobody is served. Whether he could be made, at last.
-    fn make_first<'s, E>(&'s self, scope: &'s Scope<'s, E>) -> bool {
-        let mut pause = Pause::first();
-        for _ in 0..TRIES {
-            let mut door = self.door.lock(self.rt);
-            let is_made = self.make_worker(scope, &mut door, self.most);
-            drop(door);
-            if is_made {
-                return true;
-            }
-            thread::sleep(self.rt, pause.next());
-        }
-        false
+    // Waits until all are free.
+    fn wait_for_all<R: Wait>(&self, rt: &R) {
+        drop(
+            self.changed
+                .wait_while(rt, self.members.lock(rt), |members| {
+                    count_free(members) < members.len()
+                }),
+        );
     }
 
-    // Makes one more worker, where there is a thread for him and what his connection would take. So many may be made by him and those after him.
-    #[cycle(worker)]
-    fn make_worker<'s, E>(
-        &'s self,
-        scope: &'s Scope<'s, E>,
-        door: &mut Door<Q>,
-        further: usize,
-    ) -> bool {
-        let beginning = self.means.count_beginning(self.rt);
-        if !self.start_worker(scope, further) || !self.is_whole() {
+    /// Waits until one more is free than now, but for no longer than `most`. Where all are free it waits for none, and says so.
+    pub fn wait_for_one<R: Wait + Clock>(&self, rt: &R, most: Duration) -> bool {
+        let members = self.members.lock(rt);
+        let before = count_free(&members);
+        if before >= members.len() {
             return false;
         }
-        let has_supplies = self.has_supplies(door.count_one_more(), beginning);
-        if !has_supplies {
-            door.let_one_leave();
-        }
-        has_supplies
+        let _ = self
+            .changed
+            .wait_timeout_while(rt, members, most, |members| count_free(members) <= before);
+        true
     }
 
-    // Starts the thread of a worker, where there is one to have.
-    #[cycle(worker)]
-    fn start_worker<'s, E>(&'s self, scope: &'s Scope<'s, E>, further: usize) -> bool {
-        let workers = self;
-        connection_thread()
-            .spawn_scoped(
-                scope,
-                move ||
-                    requires { IsSync R.row × IsSync V.row × IsSend Q.row × IsSend U.row × IsSend V.Over.row }
-                { workers.come_to_work(scope, further) },
-            )
-            .is_ok()
+    /// This one is free.
+    pub fn give<R: Wait>(&self, rt: &R, number: usize) {
+        if let Some(member) = self.members.lock(rt).get_mut(number.saturating_sub(1)) {
+            member.is_free = true;
+        }
+        self.changed.notify_one();
+    }
+}
+
+// How many are free.
+fn count_free<P>(members: &[Member<P>]) -> usize {
+    members.iter().filter(|member| member.is_free).count()
+}
+
+/// Where one thread hands something to another one, which is kept for it: one thing at a time.
+#[derive(Drop)]
+pub(crate) struct Handover<T> {
+    state: Mutex<HandoverState<T>>,
+    changed: Condvar,
+}
+
+// The state of a handover.
+#[derive(Drop)]
+struct HandoverState<T> {
+    // what was handed over, until it is taken
+    waiting: Option<T>,
+    // whether what was handed over last is not done with
+    is_busy: bool,
+    is_closed: bool,
+}
+
+impl<T: Drop> Handover<T> {
+    /// An empty one. It takes no memory.
+    pub fn new() -> Handover<T> {
+        Handover {
+            state: Mutex::new(HandoverState {
+                waiting: None,
+                is_busy: false,
+                is_closed: false,
+            }),
+            changed: Condvar::new(),
+        }
     }
 
-    // A worker comes, and works; where what clients send is passed on he has a second thread, or goes.
-    #[cycle(worker)]
-    fn come_to_work<'s, E>(&'s self, scope: &'s Scope<'s, E>, further: usize) {
-        self.come_up();
-        if !self.server.passes_up() {
-            self.arrive(true);
-            self.work(scope, None, further);
-            return;
-        }
-        let second = self.start_second(scope);
-        self.arrive(second.is_some());
-        if second.is_some() {
-            self.work(scope, second, further);
-        }
+    /// Hands something over. What was handed over before has to be done with.
+    pub fn hand<R: Wait>(&self, rt: &R, what: T) {
+        let mut state = self.state.lock(rt);
+        state.waiting = Some(what);
+        state.is_busy = true;
+        drop(state);
+        self.changed.notify_one();
     }
 
-    // Starts the second thread of a worker, where there is one to have.
-    fn start_second<'s, E>(&'s self, scope: &'s Scope<'s, E>) -> Option<Arc<Handover<U>, Global>> {
-        let workers = self;
-        let second = Arc::new(workers.alloc, Handover::new()).ok()?;
-        workers
-            .seconds
-            .hand(workers.rt, Arc::try_clone(&second).ok()?);
-        let started = connection_thread().spawn_scoped(
-            scope,
-            move ||
-                requires { IsSync R.row × IsSync V.row × IsSend Q.row × IsSend U.row × IsSend V.Over.row }
-            { workers.pass_up_in_turn() },
+    /// Waits for the next that is handed over, and takes it. `None` once it is closed, and what was handed over before is taken.
+    pub fn take<R: Wait>(&self, rt: &R) -> Option<T> {
+        let mut state = self.changed.wait_while(
+            rt,
+            self.state.lock(rt),
+            |state| state.waiting.is_none() && !state.is_closed,
         );
-        if started.is_err() {
-            return None;
-        }
-        second.wait_for_finish(workers.rt);
-        Some(second)
+        state.waiting.take()
     }
 
-    // Passes on what one client after another sends, until none comes any more.
-    fn pass_up_in_turn(&self) {
-        self.come_up();
-        let Some(upward) = self.seconds.take(self.rt) else {
-            return;
-        };
-        for _ in self.rt.forever() {
-            upward.finish(self.rt);
-            let Some(sent) = upward.take(self.rt) else {
-                return;
-            };
-            self.server.pass_up(sent);
-        }
+    /// What was taken last is done with.
+    pub fn finish<R: Wait>(&self, rt: &R) {
+        self.state.lock(rt).is_busy = false;
+        self.changed.notify_one();
     }
 
-    // Lets one connection after another in and serves it to its end, until no more come.
-    #[cycle(worker)]
-    fn work<'s, E>(
-        &'s self,
-        scope: &'s Scope<'s, E>,
-        second: Option<Arc<Handover<U>, Global>>,
-        further: usize,
-    ) {
-        for _ in self.rt.forever() {
-            let mut door = self.come_to_door();
-            let Some(entry) = self.lead(&mut door) else {
-                break;
-            };
-            if further > 0 && self.wants_more(&door) {
-                self.make_worker(scope, &mut door, further - 1);
-            }
-            drop(door);
-            self.serve(entry, &second);
-        }
-        if let Some(second) = second {
-            second.close(self.rt);
-        }
+    /// Waits until what was handed over last is done with.
+    pub fn wait_for_finish<R: Wait>(&self, rt: &R) {
+        drop(
+            self.changed
+                .wait_while(rt, self.state.lock(rt), |state| state.is_busy),
+        );
+    }
+
+    /// Nothing more is handed over.
+    pub fn close<R: Wait>(&self, rt: &R) {
+        self.state.lock(rt).is_closed = true;
+        self.changed.notify_all();
     }
 }

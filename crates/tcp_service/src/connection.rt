@@ -19,7 +19,8 @@ use std::io::{Read, Write};
 use std::sync::Wait;
 use tcp_connections::{Attendant, Chains, Follow, Line, Serving, Shut, Starter, Talk, Upward};
 
-/// A connection that was let in, with its streams.
+/// A connection that was let in, until its thread takes it.
+#[derive(Drop)]
 pub(crate) struct NewConnection<
     'a,
     L: Assumptions,
@@ -38,6 +39,7 @@ pub(crate) struct NewConnection<
 }
 
 /// A connection whose child runs, and what that says where it is passed on; else the child holds the connection itself.
+#[derive(Drop)]
 pub(crate) struct Begun<
     'a,
     L: Assumptions,

@@ -1,4 +1,5 @@
-//! The life of a connection at a site, from its admission to its end: each value of it is made of the one before, and none can be let go.
+//! The life of a connection at a site, from its admission to its end: each value of it is made of the one before, and one that is let go tells its
+//! end itself.
 ghost use Rattle.std.specs.Prelude.{◌≡◌, None, IfOk, IfErr};
 ghost use Rattle.child_jobs.specs.Runs.{IsSameRun, place_of};
 
@@ -37,7 +38,7 @@ pub(crate) struct Register<'a, L: Assumptions, N: Callers, D: Dir + Drop, J: Jou
 }
 
 /// A connection that was let in and whose child was not started yet: the right to what comes next. It is made of the place that its admission
-/// gave, and of the permit, which has its serial (`own`). It is served, or given up.
+/// gave, and of the permit, which has its serial (`own`). One that is let go, as where no thread takes it, is given up.
 pub(crate) struct Admitted<
     'a,
     L: Assumptions,
@@ -57,7 +58,8 @@ pub(crate) struct Admitted<
     pub(crate) ghost own: { permit.serial ≡ serial },
 }
 
-/// A connection whose child runs: the right to its end. It is made of one that was let in.
+/// A connection whose child runs: the right to its end. It is made of one that was let in. One that is let go is retired: its child is abandoned,
+/// and its place stays counted.
 pub(crate) struct Started<
     'a,
     L: Assumptions,
@@ -81,6 +83,51 @@ pub(crate) type Passed<'a, L, N, D, J, U, R, W, C, I, O, X, G> = (
     Started<'a, L, N, D, J, U, R, W, C>,
     Talk<<C as Job>::Output, O, X, G>,
 );
+
+impl<L, N, D, J, U, R, W> Drop for Admitted<'_, L, N, D, J, U, R, W>
+where
+    L: Assumptions,
+    N: Callers,
+    D: Dir + Drop,
+    J: Journal,
+    U: Rules<L, D::File>,
+    R: Wait,
+    W: Observer,
+{
+    fn drop(self) {
+        let Admitted {
+            register,
+            serial,
+            place,
+            peer,
+            local,
+            permit: _,
+        } = self;
+        let _over = register.give_up(serial, place, &peer, &local, DropCause::NoThread);
+    }
+}
+
+impl<L, N, D, J, U, R, W, C> Drop for Started<'_, L, N, D, J, U, R, W, C>
+where
+    L: Assumptions,
+    N: Callers,
+    D: Dir + Drop,
+    J: Journal,
+    U: Rules<L, D::File>,
+    R: Wait,
+    W: Observer,
+    C: Job,
+{
+    fn drop(self) {
+        let Started {
+            register,
+            serial,
+            running,
+            local,
+        } = self;
+        let _over = register.retire(serial, running, &local);
+    }
+}
 
 // What starts the program of one connection.
 fn launcher_of<'b, R, S, X>(
@@ -208,6 +255,16 @@ where
             Some(begun) => Ok(begun),
             None => Err(Over::of(&agent, serial)),
         }
+    }
+
+    // The child of a connection is not waited for any more.
+    fn retire<C: Job>(&self, serial: u64, running: Running<L, C>, local: &Local) -> Over
+        ensures own { result.serial ≡ serial }
+    {
+        let refusal = Mutex::new(None);
+        let mut agent = self.agent(serial, local, &refusal);
+        agent.retired(running, serial);
+        Over::of(&agent, serial)
     }
 }
 

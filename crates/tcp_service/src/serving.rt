@@ -59,6 +59,7 @@ pub struct Unfinished<L: Assumptions, N: Callers, D: Dir + Drop, J: Journal> {
 ///
 /// # Errors
 /// A place is lost: its connection is alive, and no thread has it. The site is closed all the same.
+#[tactic(auto, using(crate::proofs::Shares::served_from))]
 pub fn serve<A, L, N, D, J, U, S, M, R, W>(
     rt: &R,
     alloc: Global,
@@ -73,7 +74,7 @@ pub fn serve<A, L, N, D, J, U, S, M, R, W>(
     observer: &W,
 ) -> Result<Closed<L, N, D, J>, Unfinished<L, N, D, J>>
 where
-    A: Acceptor + Send,
+    A: Acceptor,
     L: Assumptions + Send + Sync,
     N: Callers + Send + Sync,
     D: Dir + Send + Drop,
@@ -138,7 +139,7 @@ fn serve_by<A, L, N, D, J, U, S, M, R, W>(
     service: &Service,
 ) -> (ServeEnd, Caller<N>)
 where
-    A: Acceptor + Send,
+    A: Acceptor,
     L: Assumptions + Send + Sync,
     N: Callers + Send + Sync,
     D: Dir + Send + Drop,
@@ -156,8 +157,7 @@ where
     R: Threads + Wait + Clock + Sync,
     W: Observer + Sync,
     W::Writer: Send,
-    requires idle { caller_share host ≡ 0 }
-    ensures count { IsServed result.0 service.now.limits.count 0 (caller_share result.1) }
+    ensures count { IsServed result.0 service.now.limits.count (caller_share host) (caller_share result.1) }
 {
     let (rt, alloc, log) = (register.rt, register.alloc, register.observer.log());
     let server = Server {
