@@ -18,8 +18,6 @@ import re
 import sys
 
 NAME = b"tcpserver: "
-# the cause of an error, in a line behind its own: no event
-CAUSE = NAME + b"cause: "
 # what a server says of its rules at the start, before it lets anybody in
 NO_NAMES = b"tcpserver: rules by name, and no names"
 # (the server's numbers have 64 bits; a longer one was written by somebody else)
@@ -42,6 +40,8 @@ FORMS = [
     ("memory", re.compile(rb"out of memory")),
     ("ending", re.compile(rb"accept fault|no places left|lost connection")),
 ]
+# lines without an event: the cause of the line before; where the server listens, and a program's process, as in later versions
+BESIDE = re.compile(rb"cause: .*|listening on %s:%s|runs %s process %s" % (ADDRESS, DIGITS, DIGITS, DIGITS), re.S)
 # what is recorded of a client or a program may look like a line of the server
 RECORDED = re.compile(rb"\d+ [<>] ")
 # the last line of these events is a status
@@ -69,7 +69,7 @@ class Connection:
 def line_of(number, text):
     """The server's own line in a line of its log, if there is one: all of it, or what stands behind the beginning of a program's line."""
     begins = text.find(NAME)
-    if begins < 0 or RECORDED.match(text) or text.startswith(CAUSE, begins) or text == NO_NAMES:
+    if begins < 0 or RECORDED.match(text) or text == NO_NAMES or BESIDE.fullmatch(text, begins + len(NAME)):
         return None
     for kind, form in FORMS:
         match = form.fullmatch(text, begins + len(NAME))

@@ -68,7 +68,7 @@ def check_refusals(checks, probe, requests, name):
     return seen
 
 
-@needs_proved(len(CASES))
+@needs_proved(1143, is_about=True)
 def check_all_refusals(checks, probe):
     with tempfile.TemporaryDirectory() as folder:
         requests = refusals.Requests(folder)

@@ -175,7 +175,7 @@ def check_calls(probe, failures):
     return calls.tests
 
 
-@needs_proved(1)
+@needs_proved(16, is_about=True)
 def check_memory(checks, probe):
     """Each request for memory refused in turn: a replay that meets it tells so, where the probe itself does it ends without an answer, or else the
     answer is that with ample memory."""

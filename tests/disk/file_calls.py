@@ -135,7 +135,8 @@ def check_found(calls):
     for name, file, key, wanted in cases[:2] + cases[3:6]:
         calls.call(name + ", a byte at a time", ["find", key, "1", "0"], file, wanted + b"\n")
     calls.call("reads that give nothing", ["find", "", "0", "0"], ONE_RULE, b"damaged\n")
-    calls.call("reads of a look-up", ["reads", ""], ONE_RULE, b"4 reads of 26 bytes\n")
+    # a pointer of 8; the second of two slots, 8; from the record, of 10 bytes, to the end of the file behind both slots, 26; the value, 2
+    calls.call("reads of a look-up", ["reads", ""], ONE_RULE, b"4 reads of 44 bytes\n")
     for read in range(1, 5):
         calls.call("read %d fails" % read, ["find", "", NO_LIMIT, str(read)], ONE_RULE, b"device fault\n")
 

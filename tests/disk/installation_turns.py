@@ -1,11 +1,13 @@
 """Installations in one folder take turns, and each keeps to one folder: who waits for whom, for how long, and what is told of it.
 
 The scratch file is the lock: an exclusive lock of its first byte, of the open file. Each case has a folder of its own, and all of them run side by side, since one takes a minute.
-Where strace is installed, calls of an installation that runs are held up by it.
+Where strace is installed, calls of an installation that runs are held up by it. As root, folders of two devices are mounted where nobody else
+sees them.
 """
 import concurrent.futures
 import contextlib
 import fcntl
+import glob
 import os
 import pwd
 import shutil
@@ -20,6 +22,8 @@ from shared.checks import Checks
 SCRATCH = "tmp"
 WAITING = "tcprules: waiting for another installation\n"
 FRESH = "tcprules: device fault at fresh\n"
+# an installation by a link to a folder, and what it tells where that is turned
+TURNED, STALE = ("-v", "cur/rules", "cur/tmp"), "tcprules: cause: cur: Stale file handle\n"
 GIVEN_UP = 60
 # seconds: how long an installation is waited for; how much longer than it has to one may take, far from being given up; and how long a call is held up
 LIMIT, SLACK, HELD_UP = 600, 45, 12
@@ -181,6 +185,32 @@ def scratch_name_taken(folder):
     folder.expect("the rules then", folder.rules() == folder.old, True)
 
 
+def is_open(path):
+    """Whether some process has a file open that stands at this path."""
+    for descriptor in glob.iglob("/proc/[0-9]*/fd/*"):
+        with contextlib.suppress(OSError):
+            if os.readlink(descriptor) == path:
+                return True
+    return False
+
+
+def taken_after_a_look(folder):
+    """A scratch file that was left is opened, and before it is locked somebody else makes a new one, which is left there. Readers change nothing."""
+    path = folder.path(SCRATCH)
+    for name, reader in (("one that nobody has", contextlib.nullcontext), ("one that a reader has", lambda: claimed(path, fcntl.F_RDLCK))):
+        folder.leave_scratch(0o600)
+        process = folder.start(words=(folder.path("rules"), path), before=slow("openat", 1, "delay_exit", path))
+        come_to("the scratch file opened", lambda: is_open(path))
+        with reader():
+            os.unlink(path)
+            with claimed(path):
+                folder.expect(name + ": it waits", process.stderr.readline().decode(), WAITING)
+                folder.expect(name + ": what stands there", sorted(os.listdir(folder.place)), ["rules", SCRATCH])
+                with contextlib.suppress(FileNotFoundError):
+                    os.unlink(path)
+        folder.expect(name + ": then it is installed", folder.end(process), (0, ""))
+
+
 def another_scratch_file(folder):
     """A scratch file that somebody takes away, and another one in its place: the rules are the old ones, and the other file stays there."""
     for name, put, why in (("none", lambda: None, "No such file or directory"), ("another", lambda: folder.leave_scratch(0o600), "Stale file handle")):
@@ -192,9 +222,10 @@ def another_scratch_file(folder):
         folder.expect(name + ": the rules then", folder.rules() == folder.old, True)
 
 
-def slow(call, when, how="delay_enter"):
-    """Starts an installation of which one call is held up for some seconds."""
-    return ["strace", "-qq", "-f", "-o", os.devnull, "-e", "trace=" + call, "-e", "inject=%s:%s=%d000000:when=%d" % (call, how, HELD_UP, when)]
+def slow(call, when, how="delay_enter", of=()):
+    """Starts an installation of which one call is held up for some seconds: of all of these, or of those that are about a path."""
+    held_up = "inject=%s:%s=%d000000:when=%d" % (call, how, HELD_UP, when)
+    return ["strace", "-qq", "-f", "-o", os.devnull, *(["-P", of] if of else []), "-e", "trace=" + call, "-e", held_up]
 
 
 def come_to(what, there):
@@ -225,49 +256,100 @@ def two_installations(folder):
     folder.expect("nothing is left", os.listdir(folder.place), ["rules"])
 
 
+def turn(folder):
+    """Turns the link to another folder."""
+    os.symlink("v2", folder.path("new"))
+    os.rename(folder.path("new"), folder.path("cur"))
+
+
 def turned(folder, name, before, made):
     """A link to the folder is turned to another one once an installation has made this file, and is held up. Answers how it ended."""
     for inner in ("v1", "v2"):
         os.mkdir(folder.path(inner))
     os.symlink("v1", folder.path("cur"))
-    process = folder.start(words=("-v", "cur/rules", "cur/tmp"), before=before)
+    process = folder.start(words=TURNED, before=before)
     come_to(made, lambda: is_written(folder.path("v1", made)))
-    os.symlink("v2", folder.path("new"))
-    os.rename(folder.path("new"), folder.path("cur"))
+    turn(folder)
     ended = folder.end(process)
     folder.expect(name + ": the other folder", os.listdir(folder.path("v2")), [])
     return ended
 
 
 def turned_before_it_is_its_turn(folder):
+    """And nothing is taken away in the other folder."""
     os.mkdir(folder.path("v1"))
     with claimed(folder.path("v1", SCRATCH)):
         os.rename(folder.path("v1"), folder.path("v0"))
         os.mkdir(folder.path("v2"))
+        os.close(os.open(folder.path("v2", SCRATCH), os.O_WRONLY | os.O_CREAT, 0o600))
         os.symlink("v0", folder.path("cur"))
-        process = folder.start(words=("-v", "cur/rules", "cur/tmp"))
+        process = folder.start(words=TURNED)
         folder.expect("it waits", process.stderr.readline().decode(), WAITING)
-        os.symlink("v2", folder.path("new"))
-        os.rename(folder.path("new"), folder.path("cur"))
+        turn(folder)
         os.unlink(folder.path("v0", SCRATCH))
-    folder.expect("a link that is turned while another one is waited for", folder.end(process), (111, FRESH + "tcprules: cause: cur: Stale file handle\n"))
+    folder.expect("a link that is turned while another one is waited for", folder.end(process), (111, FRESH + STALE))
     folder.expect("the folder before", os.listdir(folder.path("v0")), [])
+    folder.expect("the folder then", os.listdir(folder.path("v2")), [SCRATCH])
+
+
+@contextlib.contextmanager
+def mounted(folder, *names):
+    """Folders of devices of their own, whose numbers there are one: how a program is started that sees them, and their paths for everybody else."""
+    mounts = "".join("mount -t tmpfs none %s && " % name for name in names)
+    for name in names:
+        os.mkdir(folder.path(name))
+    holder = subprocess.Popen(["unshare", "-m", "sh", "-c", mounts + "echo mounted && exec sleep 600"], cwd=folder.place, stdout=subprocess.PIPE)
+    try:
+        folder.expect("folders of two devices", holder.stdout.readline(), b"mounted\n")
+        seen = ["/proc/%d/root%s" % (holder.pid, folder.path(name)) for name in names]
+        folder.expect("their numbers there", len({os.stat(path).st_ino for path in seen}), 1)
+        yield ["nsenter", "-t", str(holder.pid), "-m", "-w"], seen
+    finally:
+        holder.kill()
+        holder.communicate()
+
+
+def turned_to_another_device(folder):
+    """The other folder has the same number, on another device."""
+    with mounted(folder, "v1", "v2") as (within, (first, second)):
+        os.symlink("v1", folder.path("cur"))
+        with claimed(os.path.join(first, SCRATCH)):
+            process = folder.start(words=TURNED, before=within)
+            folder.expect("it waits", process.stderr.readline().decode(), WAITING)
+            turn(folder)
+            os.unlink(os.path.join(first, SCRATCH))
+        folder.expect("a link that is turned to a folder of the same number", folder.end(process), (111, FRESH + STALE))
+        folder.expect("what stands in both", os.listdir(first) + os.listdir(second), [])
+
+
+def turned_before_the_scratch_file(folder):
+    """What was left there is taken away, and then the link is turned before the new file is made."""
+    for inner in ("v1", "v2"):
+        os.mkdir(folder.path(inner))
+    os.close(os.open(folder.path("v1", SCRATCH), os.O_WRONLY | os.O_CREAT, 0o600))
+    os.symlink("v1", folder.path("cur"))
+    process = folder.start(words=TURNED, before=slow("unlink,unlinkat", 1, "delay_exit"))
+    come_to("the scratch file taken away", lambda: not os.path.exists(folder.path("v1", SCRATCH)))
+    turn(folder)
+    folder.expect("a link that is turned before the scratch file is made", folder.end(process), (111, FRESH + STALE))
+    folder.expect("what stands in both", os.listdir(folder.path("v1")) + os.listdir(folder.path("v2")), [])
 
 
 def turned_before_the_rename(folder):
     ended = turned(folder, "before the rename", slow("fsync", 2), "tmp")
-    folder.expect("a link that is turned before the rename", ended, (111, "tcprules: device fault at named\ntcprules: cause: cur: Stale file handle\n"))
+    folder.expect("a link that is turned before the rename", ended, (111, "tcprules: device fault at named\n" + STALE))
     folder.expect("no rules stand in the folder before", os.path.exists(folder.path("v1", "rules")), False)
 
 
 def turned_after_the_rename(folder):
     ended = turned(folder, "after the rename", slow("rename", 1, "delay_exit"), "rules")
-    folder.expect("a link that is turned after the rename", ended, (111, "tcprules: device fault at done\ntcprules: cause: cur: Stale file handle\n"))
+    folder.expect("a link that is turned after the rename", ended, (111, "tcprules: device fault at done\n" + STALE))
     folder.expect("the rules stand in the folder before", os.path.exists(folder.path("v1", "rules")), True)
 
 
 CASES = [scratch_file_held_for_good, scratch_file_waited_for, held_by_a_reader, scratch_file_left, scratch_name_taken, turned_before_it_is_its_turn]
-SLOW_CASES = [two_installations, another_scratch_file, turned_before_the_rename, turned_after_the_rename]
+SLOW_CASES = [two_installations, taken_after_a_look, another_scratch_file, turned_before_the_scratch_file, turned_before_the_rename, turned_after_the_rename]
+ROOT_CASES = [turned_to_another_device]
 
 
 def try_case(case, failures, program):
@@ -284,6 +366,7 @@ def try_case(case, failures, program):
 
 def check(program, failures):
     """How many tests there were."""
-    cases = CASES + SLOW_CASES * bool(shutil.which("strace"))
+    can_mount = os.geteuid() == 0 and shutil.which("unshare") and shutil.which("nsenter")
+    cases = CASES + SLOW_CASES * bool(shutil.which("strace")) + ROOT_CASES * bool(can_mount)
     with concurrent.futures.ThreadPoolExecutor(len(cases)) as pool:
         return sum(pool.map(lambda case: try_case(case, failures, program), cases))

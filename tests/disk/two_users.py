@@ -2,7 +2,7 @@
 all the time, clients that each text denies come to a server, and files of the folder are taken away at random moments, as by a person or `rsync --delete`.
 Nobody sees a part of a file, no client is let in, and a run that exits with 0 has put its text under the rules name. It needs root.
 
-`TWO_USERS_SECONDS=3600 tests/run two_users` takes so long in place of a minute.
+`TESTS_TIMES=7 TWO_USERS_SECONDS=3600 tests/run two_users` takes so long in place of a minute.
 """
 import contextlib
 import ctypes
@@ -21,7 +21,7 @@ import time
 from typing import NamedTuple
 
 from shared import compiled_files
-from shared.checks import LIMIT, Checks, python_words
+from shared.checks import LIMIT, Checks, is_tried, python_words
 
 # how many installations end well in each phase of a folder, at least, and how many rules a text has, if the program is as fast as a proved one
 INSTALLATIONS, RULES = 40, 60_000
@@ -99,7 +99,9 @@ class Kind:
 
 
 def rules_for(program, folder):
-    """How many rules a text has: fewer where the program is a slow one, as one that was built without proofs."""
+    """How many rules a text has: fewer if the program is slow, as one that was built without proofs."""
+    if is_tried():
+        return FEW_RULES
     began = time.monotonic()
     Kind(program, folder, 0, FEW_RULES)
     lasted = time.monotonic() - began

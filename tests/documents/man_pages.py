@@ -392,6 +392,9 @@ def check_terms(checks, page):
     prose = "\n".join(line for line in lines if not line.startswith(".") or line.startswith(".Nd "))
     found = [term.group(0) for form in TERMS for term in re.finditer(r"\b(?:%s)\b" % form, prose)]
     checks.same(page.name + ": terms for which there are better ones", found, [])
+    # mandoc and man take such a word in quotes for a macro, and leave it out
+    macros = [line for line in lines if re.match(r"\.[DS]q .*(?<!\\&)\b(No|In|It|So|An|At|Do|En|Em)\b", line)]
+    checks.same(page.name + ": words in quotes that are left out", macros, [])
 
 
 def check_form(checks, page, pages):

@@ -160,7 +160,7 @@ def libraries(program):
     return sorted(set(re.findall(r"(/\S+)", said)))
 
 
-@needs_proved(9)
+@needs_proved(8)
 def check_alone(checks, folder, room):
     """The programs run in a root that has nothing but them and the C library."""
     if os.geteuid() != 0:
@@ -170,8 +170,9 @@ def check_alone(checks, folder, room):
     root = os.path.join(room, "alone")
     shutil.copytree(folder, os.path.join(root, "u"), symlinks=True)
     known = re.compile(r"/(ld-linux-x86-64|lib(c|m|gcc_s))\.so")
-    for path in libraries(os.path.join(folder, "bin", "ucspi")):
-        checks.holds("it needs nothing but the C library and its kin: " + path, known.search(path), path)
+    needed = libraries(os.path.join(folder, "bin", "ucspi"))
+    checks.expect("what it needs but the C library and its kin", [path for path in needed if not known.search(path)], [])
+    for path in needed:
         os.makedirs(root + os.path.dirname(path), exist_ok=True)
         shutil.copy(os.path.realpath(path), root + path)
 
@@ -181,9 +182,21 @@ def check_alone(checks, folder, room):
         ended = subprocess.run([chroot, root] + words, input=given, env=variables, stdout=subprocess.PIPE, stderr=subprocess.PIPE, timeout=LIMIT)
         return ended.returncode, ended.stdout, ended.stderr
 
+    def elsewhere(words, given=b"", **variables):
+        """The same in another folder than the root."""
+        def go():
+            os.chroot(root)
+            os.chdir("/u")
+
+        ended = subprocess.run(words, input=given, env=variables, stdout=subprocess.PIPE, stderr=subprocess.PIPE, timeout=LIMIT, preexec_fn=go)
+        return ended.returncode, ended.stdout, ended.stderr
+
     checks.expect("tcprules there", there(["/u/bin/tcprules", "/rules", "/rules.tmp"], b'10.:allow,A="1"\n:deny\n'), (0, b"", b""))
     told = there(["/u/bin/tcprulescheck", "/rules"], TCPREMOTEIP="10.0.0.1")
     checks.expect("tcprulescheck there", told, (0, b"rule 10.:\nset environment variable A=1\nallow connection\n", b""))
+    # (the folder of both paths is the root)
+    checks.expect("tcprules elsewhere", elsewhere(["/u/bin/tcprules", "/rules", "/rules.tmp"], b":deny\n"), (0, b"", b""))
+    checks.expect("what stands in the root then", there(["/u/bin/tcprulescheck", "rules"], TCPREMOTEIP="10.0.0.1"), (0, b"rule :\ndeny connection\n", b""))
     checks.expect("fixcrio there", there(["/u/bin/ucspi", "fixcrio", "/u/bin/delcr"], b"a\r\n"), (0, b"a\r\n", b""))
     words = [chroot, root, "/u/bin/tcpserver", "-1", "-k", "1", "127.0.0.1", "0", "/u/bin/addcr"]
     with subprocess.Popen(words, env={}, stdin=subprocess.DEVNULL, stdout=subprocess.PIPE) as server:

@@ -30,6 +30,11 @@ def usage(tool):
     return ("%s: usage: %s\n" % (tool, (tool + " " + TOOLS[tool][0]).strip())).encode()
 
 
+def first_line(errors):
+    """The line of a fault; of what stands behind it the group `messages` tells."""
+    return errors[: errors.index(b"\n") + 1]
+
+
 class Names(Checks):
     """Runs by names, in one folder with the installed program."""
 
@@ -66,10 +71,12 @@ def check_usage(names, tools):
     for tool in tools:
         for words in TOOLS[tool][1] + [[b"\xff"]]:
             wanted = (100, b"", usage(tool))
-            names.expect("%s %r" % (tool, words), names.run([os.path.join(names.bin, tool)] + words), wanted)
+            code, output, errors = names.run([os.path.join(names.bin, tool)] + words)
+            names.expect("%s %r" % (tool, words), (code, output, first_line(errors)), wanted)
         wrong = TOOLS[tool][1][0]
         for word in (tool, "./" + tool, "/no/such/folder/" + tool, "//" + tool, "ucspi/" + tool):
-            names.expect("word 0 %r" % word, names.called(word, wrong), (100, b"", usage(tool)))
+            code, output, errors = names.called(word, wrong)
+            names.expect("word 0 %r" % word, (code, output, first_line(errors)), (100, b"", usage(tool)))
         for words in TOOLS[tool][1] + [[b"\xff"]]:
             wanted = (100, b"", usage(tool))
             names.expect("the first word %s, then %r" % (tool, words), names.called("ucspi", [tool] + words), wanted)
@@ -115,7 +122,7 @@ def check_other_names(names):
 
 
 def check_about(names, tools):
-    """The version is that of the file VERSION, and help has a line for each tool. Each stands alone, and by a tool's name they are its words."""
+    """The version is that of the file VERSION, and help has a line for each tool. Each stands alone."""
     with open(os.path.join(TOP, "VERSION"), encoding="ascii") as file:
         version = file.read().strip()
     names.expect("--version", names.run(["ucspi", "--version"]), (0, ("ucspi %s\n" % version).encode(), b""))
@@ -127,7 +134,7 @@ def check_about(names, tools):
         for words in ([word, ""], [word, word], [word.upper()], [word[:-1]], [word + "x"], [word[1:]], ["tcprules", word, word, word]):
             usage_line = usage("tcprules") if words[0] == "tcprules" else b"ucspi: usage: ucspi TOOL ...\n"
             names.expect("words %s" % words, names.run(["ucspi"] + words), (100, b"", usage_line))
-        names.expect("addcr " + word, names.called("addcr", [word]), (100, b"", usage("addcr")))
+        names.expect("addcr %s x" % word, first_line(names.called("addcr", [word, "x"])[2]), usage("addcr"))
         with open("/dev/full", "wb") as full:
             ended = subprocess.run([os.path.join(names.bin, "ucspi"), word], stdout=full, stderr=subprocess.PIPE, timeout=600)
         names.expect(word + " on a full device", (ended.returncode, ended.stderr), (111, b"ucspi: write fault\n"))

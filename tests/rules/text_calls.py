@@ -92,10 +92,9 @@ def maybe(text):
 
 
 def variables(values, asked):
-    """What is printed of variables: how many, whether there is none, each at its place, nothing behind the last, and one by its name."""
-    lines = ["%d %s" % (len(values), "false" if values else "true")]
-    lines += ['Some(("%s", "%s"))' % item for item in sorted(values.items())]
-    return lines_of(lines + ["None", maybe(values.get(asked))])
+    """What is printed of variables: each in the order of the names, and then one by its name."""
+    lines = ["%s=%s" % item for item in sorted(values.items())]
+    return lines_of(lines + [maybe(values.get(asked))])
 
 
 def check_environments(calls):

@@ -201,6 +201,7 @@ class Logs:
             return self.pick(
                 b"", *OTHERS, b"tcpserver: ok", b"tcpserver: deny", b"tcpserver: ok ", b"tcpserver: okay 1 :1.2.3.4:25 :1.2.3.4::25", b"mail: connection from \xff\xfe",
                 b"@4000000065b2c3d40a1b2c3c tcpserver: ok 1 :1.2.3.4:25 :1.2.3.4::25", b"tcpserver: cause: rules.cdb: Permission denied", b"install", b"|:deny",
+                b"tcpserver: runs 1 process 4711", b"tcpserver: listening on 1.2.3.4:25", b"tcpserver: cause: 1: signal 9",
             )
         return self.verdict()
 

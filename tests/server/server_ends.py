@@ -16,6 +16,8 @@ from shared.clients import Pool
 from shared.server_runs import free_port, listens, read_all, reset
 
 ROUND = 1000
+# so many times as fast time passes for a server that pauses
+FAST = 20
 
 
 def faults(suite, call, error, first, last):
@@ -177,12 +179,20 @@ def few_descriptors(suite):
             suite.audit("%d descriptors" % number, server)
 
 
+def is_still(look):
+    """Whether this gives the same for a while: a server may close what it needed to start a program only after that has spoken."""
+    before = look()
+    time.sleep(0.3)
+    return look() == before
+
+
 def no_descriptors(suite):
     """Where the server has no descriptor left a client waits, without any time used, until a connection ends."""
     with suite.start(["-v"], ["sh", "-c", "echo hi; read a"]) as server:
         clients = [server.connect() for _ in range(4)]
         suite.expect("four that have their descriptors", [client.recv(3) for client in clients], [b"hi\n"] * 4)
         number = server.process.pid
+        server_runs.wait_until("descriptors of connections alone", lambda: is_still(lambda: os.listdir("/proc/%d/fd" % number)))
         taken = {int(name) for name in os.listdir("/proc/%d/fd" % number)}
         free = next(place for place in range(len(taken) + 1) if place not in taken)
         before = resource.prlimit(number, resource.RLIMIT_NOFILE)
@@ -232,21 +242,22 @@ def answers(server):
         return False
 
 
-def after_faults(suite, number, how):
-    """What a client gets after so many faults of accepting, if the server goes on, and how it ends."""
-    with suite.start(["-q", "-k", "1"], ["echo", "hi"], **how) as server:
+def after_faults(suite, number):
+    """What a client gets after so many faults of accepting, if the server goes on, how it ends, and how many seconds that takes by its own time, which
+    passes twenty times as fast."""
+    variables = failed_calls.in_fast_time(suite.folder, FAST, faults(suite, "accept4", "EMFILE", 1, number)["env"])
+    began = time.monotonic()
+    with suite.start(["-q", "-k", "1"], ["echo", "hi"], env=variables) as server:
         answer = server.ask() if number < 100 else None
-        return answer, server.end(), server.lines()
+        return (answer, server.end(), server.lines()), (time.monotonic() - began) * FAST
 
 
 def failed_accepts(suite):
-    """A hundred faults of accepting in succession end the server, fewer do not; one success counts them anew. Faults are paused after, for a minute
-    and a half in all: the servers stand side by side."""
-    wanted = {1: (b"hi\n", 0, []), 99: (b"hi\n", 0, []), 100: (None, 111, ["accept fault"])}
-    with concurrent.futures.ThreadPoolExecutor(len(wanted)) as threads:
-        runs = {number: threads.submit(after_faults, suite, number, faults(suite, "accept4", "EMFILE", 1, number)) for number in wanted}
-    for number, run in runs.items():
-        suite.expect("after %d faults of accepting" % number, run.result(), wanted[number])
+    """A hundred faults of accepting in succession end the server, fewer do not. After each for want of descriptors is a pause, over a minute in all."""
+    for number, wanted in ((1, (b"hi\n", 0, [])), (99, (b"hi\n", 0, [])), (100, (None, 111, ["accept fault"]))):
+        ended, seconds = after_faults(suite, number)
+        suite.expect("after %d faults of accepting" % number, ended, wanted)
+        suite.holds("the pauses of %d faults" % number, number == 1 or seconds > 60, seconds)
 
 
 def failed_threads(suite):

@@ -98,16 +98,20 @@ def wrappers(suite):
         ["-s", "-w", "addcr"], ["-w", "addcr", "-s"], ["-w", "addcr", "-S", "-s"], ["-S", "-s", "-w", "recordio"], ["-sw", "recordio"],
         ["-w", "recordio", "-Ss"], ["-s", "-w", "x"], ["-s", "-w", ""],
     ]
+    def refused(name, words, line):
+        # (of what stands behind the line the group `messages` tells)
+        code, output, errors = suite.run(words)
+        suite.expect(name, (code, output, errors.partition(b"\n")[0]), (100, b"", b"tcpserver: " + line))
+
     for command in (suite.command, [link]):
         before, suite.command = suite.command, command
         for options in words:
-            suite.expect("words %r" % options, suite.run(options + serve), (100, b"", b"tcpserver: bad wrappers\n"))
+            refused("words %r" % options, options + serve, b"bad wrappers")
         options = ["-s", "-w", "addcr"]
-        usage = b"tcpserver: usage: tcpserver [options] host port prog [args]\n"
-        suite.expect("no program, -s and -w", suite.run(options + serve[:2]), (100, b"", usage))
-        suite.expect("a bad number, -s and -w", suite.run(options + ["-c", "0"] + serve), (100, b"", b"tcpserver: option -c has a bad number\n"))
-        suite.expect("-s, -w and no host table", suite.run(options + ["-N", "absent"] + serve), (100, b"", b"tcpserver: bad wrappers\n"))
-        suite.expect("-s and a letter that is none", suite.run(["-sz"] + serve), (100, b"", b"tcpserver: unknown option -z\n"))
+        refused("no program, -s and -w", options + serve[:2], b"usage: tcpserver [options] host port prog [args]")
+        refused("a bad number, -s and -w", options + ["-c", "0"] + serve, b"option -c has a bad number")
+        refused("-s, -w and no host table", options + ["-N", "absent"] + serve, b"bad wrappers")
+        refused("-s and a letter that is none", ["-sz"] + serve, b"unknown option -z")
         suite.command = before
 
 

@@ -270,6 +270,15 @@ def audits(suite):
         (head + ok + end + free + b"sh: 1: " + second + b"echo: fault\n", "admitted 2 live 1 retired 0 most 1", 0),
         (head + ok + b"12 > " + end + b"1 of tcpserver: all\n", "admitted 1 live 1 retired 0 most 1", 0),
     ]
+    # lines that tell no event are passed over, wherever they stand, and no others
+    beside = log_forms.log("listening on 2.2.2.2:25"), log_forms.log("runs 1 process 4711"), log_forms.log("cause: 1: signal 9")
+    killed = log_forms.log(log_forms.end(1, "signal"))
+    cases += [
+        (beside[0] + head + ok + beside[1] + killed + beside[2] + free + second, "admitted 2 live 1 retired 0 most 1", 0),
+        (head + ok + killed + beside[1] + free, "admitted 1 live 0 retired 0 most 1", 0),
+        (head + ok + log_forms.log("runs 1 process x") + killed + free, "admitted 1 live 0 retired 0 most 1", 1),
+        (head + ok + log_forms.log("listening") + killed + free, "admitted 1 live 0 retired 0 most 1", 1),
+    ]
     # any program can write a number into the log that the server has not; behind other words such a line is passed over
     long = b"9" * 5000
     for form in (b"pid %s from 1.1.1.1", b"pid 2 from %s.1.1.1", b"status: %s/1", b"status: 1/%s", b"end %s status 0", b"retired %s", b"drop %s no thread"):

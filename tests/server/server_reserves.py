@@ -3,6 +3,7 @@ before a client is taken. Where they are not, clients wait with the system, and 
 """
 import os
 import queue
+import re
 import resource
 import shutil
 import socket
@@ -11,7 +12,7 @@ import threading
 import time
 
 from shared import failed_calls, server_runs
-from shared.checks import needs_proved
+from shared.checks import TOP, needs_proved
 from shared.clients import Together
 from shared.server_runs import read_all
 
@@ -98,6 +99,37 @@ def memory(suite):
         all_served(suite, "softlimit -a %d" % space, [("as", space)], 40, 40, 0.1)
 
 
+def documented(handed):
+    """The lowest limits of docs/COOKBOOK.md, in bytes: of memory in all and of data, for one client and for forty at once."""
+    with open(os.path.join(TOP, "docs", "COOKBOOK.md"), encoding="utf-8") as file:
+        rows = re.findall(r"^\| [^|]* \| ([\d,]+) \| ([\d,]+) \|$", file.read(), re.M)
+    one, many = rows[:2] if handed else rows[2:4]
+    return [(row, number, clients) for numbers, clients in ((one, 1), (many, 40)) for row, number in zip(
+        (("as", "data", "stack"), ("data",)), (int(number.replace(",", "")) for number in numbers))]
+
+
+@needs_proved(8)
+def lowest_limits(suite):
+    """The lowest limits that the cookbook tells, and an eighth more: so many clients are served at once. With two thirds of them the server ends and says so."""
+    for kinds, number, count in documented(suite.handed):
+        name = "%d bytes of %s" % (number, " and ".join(kinds))
+        options, how = ["-v", "-c", "40"], {"env": {"PATH": os.environ["PATH"]}}
+        with suite.start(options, ["cat"], command=limited(suite, [(kind, number * 9 // 8) for kind in kinds]), **how) as server:
+            clients = [server.connect() for _ in range(count)]
+            for client in clients:
+                client.sendall(b"hi\n")
+            suite.expect("%d at once with %s" % (count, name), [client.recv(3) for client in clients], [b"hi\n"] * count)
+            for client in clients:
+                client.close()
+        if count == 1:
+            words = limited(suite, [(kind, number * 2 // 3) for kind in kinds]) + options + ["127.0.0.1", "0", "cat"]
+            ended = subprocess.run(words, stderr=subprocess.PIPE, timeout=server_runs.WAIT, **how)
+            told = ended.stderr.decode().splitlines()[-2:]
+            suite.expect("two thirds of " + name, (ended.returncode, told[:1]), (111, ["tcpserver: out of memory"]))
+            cause = re.fullmatch(r"tcpserver: cause: (data|address space): limited to (\d+) bytes, at least (\d+) needed", told[-1])
+            suite.expect("which limit two thirds of %s are, and that more is needed" % name, cause and int(cause[2]) == number * 2 // 3 < int(cause[3]) <= number, True)
+
+
 def as_user(suite, limit):
     """How a program is started as another user, with this limit of processes: its folder, and what makes it that user."""
     # of its own for each process of the tests: the system counts the processes of a user, and groups run side by side
@@ -146,30 +178,44 @@ def nobody(suite):
         suite.expect("a server without processes", (ended.returncode, told), (111, ["tcpserver: out of memory"]))
 
 
+def refused_threads(suite):
+    """A thread that the system refuses once, beside a connection that stays, keeps no other client waiting."""
+    library = failed_calls.Library(suite.folder)
+    for number in range(1, 11):
+        run = library.run("pthread_create", "EAGAIN", number, number)
+        variables = dict(run.environment, PATH=os.environ["PATH"])
+        with suite.start(["-v", "-c", "3"], ["cat"], env=variables) as server, server.connect("127.0.0.2") as held:
+            held.sendall(b"b")
+            suite.expect("one that stays, thread %d refused" % number, held.recv(1), b"b")
+            suite.expect("two beside it, thread %d refused" % number, [server.ask(b"a\n") for _ in range(2)], [b"a\n"] * 2)
+        run.end()
+
+
 def kept_threads(suite):
     """Threads are made when more connections come at once than there are threads for, and kept: one after another takes none; they end with
     the server."""
     each = 1 if suite.handed else 2
-    # the first thread, one that is a process in reserve, and one that begins connections
-    others = 3
+    # the first thread, and one that is a process in reserve
+    others = 2
     with suite.start(["-v", "-c", "40", "-k", "231"] + server_runs.QUIET, [shutil.which("cat")]) as server:
         server_runs.wait_until("the first threads", lambda: server.threads() == others + each)
         for _ in range(200):
             suite.expect("one after another", server.ask(b"a\n"), b"a\n")
-        # the next client may come before the last connection is told; eight begin connections where programs start slowly
-        suite.holds("threads after 200 connections", server.threads() <= others + 7 + 4 * each, server.threads())
+        # the next client may come before the last connection is told
+        suite.holds("threads after 200 connections", server.threads() <= others + 12 * each, server.threads())
         clients = [server.connect() for _ in range(30)]
         for client in clients:
             client.sendall(b"x")
             suite.expect("thirty at once", client.recv(1), b"x")
-        # there is one for the next connection; more begin connections where programs start slowly
-        most = others + 29 + 31 * each
-        server_runs.wait_until("threads of thirty at once", lambda: others + 31 * each <= server.threads() <= most)
+        # each has one, and some begin connections: more where the machine has other work
+        least = others + 31 * each
+        server_runs.wait_until("threads of thirty at once", lambda: server.threads() >= least)
         kept = server.threads()
+        suite.holds("threads of thirty at once", kept <= least + 20 * each, kept)
         for client in clients:
             client.close()
         server_runs.wait_until("their ends", lambda: server.live() == 0)
-        suite.expect("threads after them", server.threads(), kept)
+        suite.holds("threads after them", kept <= server.threads() <= kept + 2 * each, (server.threads(), kept))
         suite.expect("the last one", server.ask(b"a\n"), b"a\n")
         suite.expect("its end", server.end(), 0)
         suite.audit("kept threads", server)
@@ -189,6 +235,6 @@ def no_trace(suite):
             suite.expect("a client after one that was reset", server.ask(b"y\n"), b"y\r\n")
 
 
-CHECKS = [descriptors, memory, processes, nobody, kept_threads, no_trace]
-HANDED = [descriptors, memory, processes, nobody, kept_threads]
+CHECKS = [descriptors, memory, lowest_limits, processes, nobody, refused_threads, kept_threads, no_trace]
+HANDED = [descriptors, memory, lowest_limits, processes, nobody, refused_threads, kept_threads]
 COMMON = []

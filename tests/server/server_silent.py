@@ -8,11 +8,13 @@ import os
 import socket
 import time
 
-from shared import log_forms, server_runs
+from shared import failed_calls, log_forms, server_runs
 from shared.server_runs import read_all
 
-# seconds: the bound; how much more is waited for what the bound ends; and how long past it something is looked at that has no bound
+# seconds: the bound, and that of all that is left; how much more is waited for what a bound ends; and how long past it something is looked at that has
+# no bound
 BOUND = 60
+ALL = 600
 SLACK = 30
 MORE = 8
 SILENT, OTHER = "127.0.0.2", "127.0.0.3"
@@ -20,12 +22,12 @@ SILENT, OTHER = "127.0.0.2", "127.0.0.3"
 PROGRAM = ["sh", "-c", 'test "$TCPREMOTEIP" = %s || exec echo hi; timeout 1 cat /dev/zero; exit 5' % SILENT]
 
 
-def small(server, source):
+def small(server, source, window=8192, segment=1400):
     """A client with a small window, that has its system acknowledge what it takes."""
     client = socket.socket()
     client.settimeout(server_runs.WAIT * 2)
-    client.setsockopt(socket.SOL_SOCKET, socket.SO_RCVBUF, 8192)
-    client.setsockopt(socket.IPPROTO_TCP, socket.TCP_MAXSEG, 1400)
+    client.setsockopt(socket.SOL_SOCKET, socket.SO_RCVBUF, window)
+    client.setsockopt(socket.IPPROTO_TCP, socket.TCP_MAXSEG, segment)
     client.bind((source, 0))
     client.connect((server.host, server.port))
     return client
@@ -135,7 +137,31 @@ def holder_that_waits(suite):
         return [(name + ": it has its place", alive, 1), (name + ": all comes", last, b"late\n")], server
 
 
-SIDE_BY_SIDE = [two_silent_clients, two_behind_wrappers, a_little_now_and_then, late_but_in_time, program_that_waits, holder_that_waits]
+def too_slow_in_all(suite):
+    """Who takes a little every twenty seconds loses what is left after 600 in all: in a server whose time passes ten times as fast."""
+    fast = 10
+    path = suite.path("too-slow")
+    variables = failed_calls.in_fast_time(suite.folder, fast)
+    fill = [suite.compiled("server/server_given.c"), "fill", path]
+    with suite.start(["-v", "-c", "1"], fill, env=variables) as server, small(server, SILENT, 2048, 500) as client:
+        server_runs.wait_until("the end of a program", lambda: os.path.exists(path) and os.path.getsize(path) > 0)
+        began, got = time.monotonic(), 0
+        while server.live() and time.monotonic() < began + ALL / fast + SLACK:
+            got += len(client.recv(1500))
+            time.sleep(20 / fast)
+        took = (time.monotonic() - began) * fast
+        got += len(read_all(client))
+        with open(path) as file:
+            written = int(file.read())
+        server.idle()
+        name = "a little every twenty seconds"
+        return [
+            (name + ": the bound in all", ALL - 120 <= took <= ALL + SLACK * fast or took, True), (name + ": the rest is lost", got < written or got, True),
+            (name + ": the end", [line for line in server.lines() if line.startswith("end ")], [log_forms.end(1)]),
+        ], server
+
+
+SIDE_BY_SIDE = [two_silent_clients, two_behind_wrappers, a_little_now_and_then, late_but_in_time, program_that_waits, holder_that_waits, too_slow_in_all]
 
 
 def side_by_side(suite):

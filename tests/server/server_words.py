@@ -42,7 +42,7 @@ def usage(suite):
 
 
 def unknown_options(suite):
-    for word in ("-z", "-vz", "-zv", "-V", "-2", "-é", "-a", "-i", "-n", "-:", "-!", "-v:", "-=", "- "):
+    for word in ("-z", "-vz", "-zv", "-V", "-2", "-é", "-a", "-j", "-n", "-:", "-!", "-v:", "-=", "- "):
         letter = next(letter for letter in word[1:] if letter not in "v")
         refused(suite, "word %r" % word, [word] + SERVE, "unknown option -" + letter)
     refused(suite, "word '--x'", ["--x"] + SERVE, "unknown option --")

@@ -33,17 +33,25 @@ def is_tried():
     return TRIED in os.environ
 
 
-def needs_proved(tests):
-    """Marks a check of so many tests that is too slow for a program without proofs, or that looks at its memory: there it is left out."""
+def needs_proved(tests, is_about=False):
+    """Marks a check of so many tests that is too slow for a program without proofs, or that looks at its memory: there it is left out. Elsewhere it has
+    to have so many, or none where it can't be made. `is_about` is for numbers that hang on how often a program asks for memory: from half to twice."""
+    fewest, most = (tests // 2, tests * 2) if is_about else (tests, tests)
+
     def marked(check):
         @functools.wraps(check)
         def made(*given):
-            if not is_tried():
-                return check(*given)
-            group = next(one.group for one in given if isinstance(one, Checks))
-            print("%s: %s: skipped: needs the proved program" % (group, check.__name__.replace("_", " ")))
-            leave_out(tests)
-            return None
+            checks = next(one for one in given if isinstance(one, Checks))
+            if is_tried():
+                print("%s: %s: skipped: needs the proved program" % (checks.group, check.__name__.replace("_", " ")))
+                leave_out(tests)
+                return None
+            before, faults = checks.tests, len(checks.failures)
+            result = check(*given)
+            had = checks.tests - before
+            if had and not fewest <= had <= most and len(checks.failures) == faults:
+                checks.fail("%s: its number of tests" % check.__name__, "it had %d, and is marked with %d" % (had, tests))
+            return result
         return made
     return marked
 

@@ -1,8 +1,8 @@
 /* A library to load before the C library: it fails calls of a program, those of one name that have certain numbers.
 
    FAILED_CALL is the name of a call below, or `memory`: malloc, calloc, realloc and posix_memalign together. FAILED_FIRST and FAILED_LAST are the
-   first and the last number that fail, counted from 1 over all threads, and FAILED_STEP how far they stand apart; FAILED_ERROR is the error, and 0
-   has a read or a write take one byte. While FAILED_WHILE names a file that is there, each of these calls fails instead. Where a call fails, its
+   first and the last number that fail, counted from 1 over all threads, and FAILED_STEP how far they stand apart; each of the number FAILED_SPARED, twice
+   it and so on does not. FAILED_ERROR is the error, and 0 has a read or a write take one byte. While FAILED_WHILE names a file that is there, each of these calls fails instead. Where a call fails, its
    number and its first descriptor (-1 where it has none) are added to the file FAILED_MARK. Programs that are started meet none of this. */
 #define _GNU_SOURCE
 #include <dlfcn.h>
@@ -23,7 +23,7 @@
 #include <unistd.h>
 
 static char call[64], mark[512], while_there[512];
-static unsigned long first, last, step, calls;
+static unsigned long first, last, step, spared, calls;
 static int error, ready;
 static __thread int inside;
 
@@ -50,6 +50,7 @@ __attribute__((constructor)) static void begin(void)
     first = number_of("FAILED_FIRST");
     last = number_of("FAILED_LAST");
     step = number_of("FAILED_STEP");
+    spared = number_of("FAILED_SPARED");
     error = (int)number_of("FAILED_ERROR");
     unsetenv("LD_PRELOAD");
     ready = 1;
@@ -72,7 +73,7 @@ static int fails(const char *name, int descriptor)
     if (!ready || inside || strcmp(name, call) != 0)
         return 0;
     unsigned long number = __sync_add_and_fetch(&calls, 1);
-    int chosen = number >= first && number <= last && (step < 2 || (number - first) % step == 0);
+    int chosen = number >= first && number <= last && (step < 2 || (number - first) % step == 0) && (spared == 0 || number % spared != 0);
     inside = 1;
     if (while_there[0])
         chosen = syscall(SYS_faccessat, AT_FDCWD, while_there, F_OK) == 0;
@@ -120,6 +121,7 @@ CALL(int, accept4, (int a, struct sockaddr *b, socklen_t *c, int d), (a, b, c, d
 CALL(int, shutdown, (int a, int b), (a, b), a)
 CALL(int, pipe2, (int a[2], int b), (a, b), -1)
 CALL(pid_t, waitpid, (pid_t a, int *b, int c), (a, b, c), -1)
+CALL(int, waitid, (idtype_t a, id_t b, siginfo_t *c, int d), (a, b, c, d), -1)
 CALL(int, kill, (pid_t a, int b), (a, b), -1)
 CALL(int, fstat, (int a, struct stat *b), (a, b), a)
 CALL(int, stat, (const char *a, struct stat *b), (a, b), -1)

@@ -27,11 +27,22 @@ class Library:
         Without an error a read or a write takes one byte."""
         return Run(self, call, error, {"FAILED_FIRST": str(first), "FAILED_LAST": str(first if last is None else last), "FAILED_STEP": str(step)})
 
+    def run_sparing(self, call, error, last, spared):
+        """A run in which the calls of this name up to a number fail, but for each of the number `spared`."""
+        return Run(self, call, error, {"FAILED_FIRST": "1", "FAILED_LAST": str(last), "FAILED_SPARED": str(spared)})
+
     def run_while(self, call, error):
         """A run in which all calls of this name fail while its switch is on."""
         run = Run(self, call, error, {})
         run.environment["FAILED_WHILE"] = run.switch = run.mark + ".on"
         return run
+
+
+def in_fast_time(folder, times, environment=os.environ):
+    """The environment in which time passes so many times as fast for a program (`fast_time.c`); libraries that it loads already are loaded too."""
+    libraries = [environment["LD_PRELOAD"]] if "LD_PRELOAD" in environment else []
+    libraries.append(small_programs.library("shared/fast_time.c", folder))
+    return dict(environment, LD_PRELOAD=" ".join(libraries), FAST_TIMES=str(times))
 
 
 class Run:

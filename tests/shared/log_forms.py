@@ -10,6 +10,8 @@ import log_events
 
 # a pattern of a number
 ANY = r"\d+"
+# what tells no event, in this version or in later ones
+BESIDE = re.compile(r"cause: .*|listening on [\d.]+:\d+|runs \d+ process \d+")
 
 
 def status(live, limit):

@@ -4,6 +4,7 @@ Each group is a module with a list CHECKS of functions that take a Suite, a list
 may have a list HANDED of those that are made again of a server that hands connections over (`-s`); all others pass the bytes on.
 """
 import os
+import random
 import re
 import select
 import signal
@@ -168,8 +169,8 @@ class Server:
         return [line[len("tcpserver: "):] if line.startswith("tcpserver: ") else line for line in (lines if lines[-1] else lines[:-1])]
 
     def lines(self):
-        """The same, without those of causes (of a fault, under -v)."""
-        return [line for line in self.all_lines() if not line.startswith("cause: ")]
+        """The same, without those that tell no event: of causes, of where it listens, and of processes, under -v."""
+        return [line for line in self.all_lines() if not log_forms.BESIDE.fullmatch(line)]
 
     def wait_line(self, form, times=1, seconds=WAIT):
         """Waits until so many lines of the log have this form."""
@@ -251,10 +252,17 @@ def only_child(number):
 
 
 def free_port():
-    """A port of this machine at which nobody listens."""
-    with socket.socket() as taken:
-        taken.bind(("127.0.0.1", 0))
-        return taken.getsockname()[1]
+    """A port of this machine that nobody has. It is below those that the system gives to clients, so that no client of another group gets it meanwhile."""
+    with open("/proc/sys/net/ipv4/ip_local_port_range", encoding="ascii") as file:
+        clients = int(file.read().split()[0])
+    while True:
+        port = random.randrange(min(10000, clients - 1), clients)
+        with socket.socket() as taken:
+            try:
+                taken.bind(("0.0.0.0", port))
+                return port
+            except OSError:
+                continue
 
 
 def listens(port):

@@ -1,4 +1,4 @@
-"""Calls of stages, chains, pumps and records, by the program test_calls: texts in every cutting, readers and writers that stop at each call,
+"""Calls of wrappers, chains, pumps and records, by the program test_calls: texts in every cutting, readers and writers that stop at each call,
 and what taps are shown."""
 import collections
 import json
@@ -9,15 +9,15 @@ from shared.checks import Checks
 
 DONE = "done"
 FAILED = "the chain has failed or is finished"
-# stage, text, what it makes of the text however that is cut
-STAGES = [
+# wrapper, text, what it makes of the text however that is cut
+WRAPPERS = [
     ("delcr", b"a\r\r\nb\r", b"a\r\nb"),
     ("addcr", b"a\nb", b"a\r\nb"),
     ("fixcrio", b"\n", b"\r\n"),
     ("fixcrio", b"\r\n", b"\r\n"),
     ("fixcrio", b"a\r\r\nb\r", b"a\r\r\nb\r"),
 ]
-# stages of a chain, text, what they make of the text however that is cut; one chain does all cuttings
+# wrappers of a chain, text, what they make of the text however that is cut; one chain does all cuttings
 CHAINS = [
     ("addcr addcr", b"a\nb\r\n\r", b"a\r\r\nb\r\r\r\n\r"),
     # after delcr: a CR LF LF b CR; after fixcrio: a CR LF CR LF b CR; and after addcr one more before each LF
@@ -69,8 +69,8 @@ def stops(most, stop="fails", call=0):
     return "%d %s %d" % (most, stop, call)
 
 
-def pump(turns, reader, writer, tap="none"):
-    return "pump %d %s %s %s" % (turns, reader, writer, tap)
+def pump(reads, reader, writer, tap="none"):
+    return "pump %d %s %s %s" % (reads, reader, writer, tap)
 
 
 def end_of(line):
@@ -92,13 +92,13 @@ class Streams(Checks):
         code, output = probes.run([self.program, "stream"] + words, given)
         return output.decode().split("\n")[:-1] if code == 0 else ["exit %d" % code]
 
-    def chain_answers(self, stages, text, groups):
+    def chain_answers(self, wrappers, text, groups):
         """The answers to groups of calls of one chain, group by group. Each call has one answer; where one is missing there are none."""
-        names = stages.split()
+        names = wrappers.split()
         words = " ".join(call for group in groups for call in group).split()
         answers = self.answers(["chain", str(len(names))] + names + words, text)
         count = sum(len(group) for group in groups)
-        self.expect("%s on %r: answers" % (stages, text), len(answers), count)
+        self.expect("%s on %r: answers" % (wrappers, text), len(answers), count)
         if len(answers) != count:
             return
         for group in groups:
@@ -113,23 +113,23 @@ class Streams(Checks):
         self.holds(name + ": a front", PLAIN.startswith(written), repr(written))
         self.expect(name + ": taken", end.taken, len(TEXT) - end.left)
         self.expect(name + ": what is left", answers[2] == FAILED, end.why == "End")
-        if end.why in ("ReadFault", "TurnsOver"):
+        if end.why in ("ReadFault", "ReadsOver"):
             self.expect(name + ": all", answers[3:5], [DONE, numbers(PLAIN)])
 
 
-def check_stages(streams):
-    for stage, text, wanted in STAGES:
+def check_wrappers(streams):
+    for wrapper, text, wanted in WRAPPERS:
         for pieces in cuttings(text):
-            name = "%s on %r in pieces of %s" % (stage, text, " ".join(pieces))
-            streams.expect(name, streams.answers(["stage", stage] + pieces, text), [numbers(wanted)])
+            name = "%s on %r in pieces of %s" % (wrapper, text, " ".join(pieces))
+            streams.expect(name, streams.answers(["wrapper", wrapper] + pieces, text), [numbers(wanted)])
 
 
 def check_chains(streams):
-    for stages, text, wanted in CHAINS:
+    for wrappers, text, wanted in CHAINS:
         all_pieces = cuttings(text)
         groups = [pieces + ["finish", "show"] + AGAIN for pieces in all_pieces]
-        for pieces, answers in zip(all_pieces, streams.chain_answers(stages, text, groups)):
-            name = "%s on %r in pieces of %s" % (stages, text, " ".join(pieces))
+        for pieces, answers in zip(all_pieces, streams.chain_answers(wrappers, text, groups)):
+            name = "%s on %r in pieces of %s" % (wrappers, text, " ".join(pieces))
             streams.expect(name, answers, [DONE] * len(pieces) + [DONE, numbers(wanted), DONE, DONE])
 
 
@@ -137,11 +137,11 @@ def check_single_chains(streams):
     begins_again = ["2", "renew", "2", "finish", "show", "1", "finish", "show"]
     cases = [
         ("a chain that begins again", "delcr", b"a\rb\nc", begins_again, [DONE] * 4 + [numbers(b"ab\n"), FAILED, FAILED, numbers(b"ab\n")]),
-        ("a chain of no stages", "", b"a\r\n", ["is_empty", "2", "1", "finish", "show"], ["true", DONE, DONE, DONE, numbers(b"a\r\n")]),
-        ("a chain of two stages", "delcr addcr", b"", ["is_empty"], ["false"]),
+        ("a chain of no wrappers", "", b"a\r\n", ["is_empty", "2", "1", "finish", "show"], ["true", DONE, DONE, DONE, numbers(b"a\r\n")]),
+        ("a chain of two wrappers", "delcr addcr", b"", ["is_empty"], ["false"]),
     ]
-    for name, stages, text, calls, wanted in cases:
-        for answers in streams.chain_answers(stages, text, [calls]):
+    for name, wrappers, text, calls, wanted in cases:
+        for answers in streams.chain_answers(wrappers, text, [calls]):
             streams.expect(name, answers, wanted)
 
 
@@ -151,14 +151,14 @@ def check_records(streams):
 
 
 def check_pump(streams):
-    """One chain of addcr: turns, the most that the writer takes and where it fails; what it has then, how many bytes were read, and why."""
+    """One chain of addcr: reads, the most that the writer takes and where it fails; what it has then, how many bytes were read, and why."""
     cases = [
         (9, 9, 0, b"a\r\nb\r\n", 4, "End"),
         (9, 3, 2, b"a\r\n", 4, "WriteFault"),
         (9, 0, 0, b"", 4, "ZeroWrite"),
-        (0, 9, 0, b"", 0, "TurnsOver"),
+        (0, 9, 0, b"", 0, "ReadsOver"),
     ]
-    groups = [[pump(turns, WHOLE, stops(most, "fails", call)), "show"] + AGAIN for turns, most, call, _, _, _ in cases]
+    groups = [[pump(reads, WHOLE, stops(most, "fails", call)), "show"] + AGAIN for reads, most, call, _, _, _ in cases]
     for (_, _, _, written, taken, why), answers in zip(cases, streams.chain_answers("addcr", b"a\nb\n", groups)):
         end = end_of(answers[0])
         wanted = (taken, len(written), why, numbers(written))
@@ -168,9 +168,9 @@ def check_pump(streams):
 def stopping_pumps(streams, cases):
     """Pumps of the text by one chain of delcr, each of a reader and a writer, and then what is left: the names, ends, what was written, and
     the answers."""
-    groups = [[pump(turns, reader, writer), "show", ALL, "finish", "show"] + AGAIN for turns, reader, writer in cases]
-    for (turns, reader, writer), answers in zip(cases, streams.chain_answers("delcr", TEXT, groups)):
-        name = "a pump of %d turns, reader %s, writer %s" % (turns, reader, writer)
+    groups = [[pump(reads, reader, writer), "show", ALL, "finish", "show"] + AGAIN for reads, reader, writer in cases]
+    for (reads, reader, writer), answers in zip(cases, streams.chain_answers("delcr", TEXT, groups)):
+        name = "a pump of %d reads, reader %s, writer %s" % (reads, reader, writer)
         streams.expect_word_kept(name, answers)
         yield name, end_of(answers[0]), answers[1]
 
@@ -210,23 +210,23 @@ def check_small_pieces(streams):
                 streams.expect(name, end.why == "End", end.writes < call)
 
 
-def check_turns(streams):
-    """As many reads as turns, a second one that is interrupted among them."""
+def check_reads(streams):
+    """As many reads as reads, a second one that is interrupted among them."""
     for stop_at in (0, 2):
-        cases = [(turns, stops(1, "interrupted", stop_at), stops(3)) for turns in range(12)]
-        for turns, (name, end, _) in enumerate(stopping_pumps(streams, cases)):
-            taken = turns - 1 if stop_at == 2 and turns >= 2 else turns
-            streams.expect(name, (end.why, end.reads, end.taken), ("TurnsOver", turns, taken))
+        cases = [(reads, stops(1, "interrupted", stop_at), stops(3)) for reads in range(12)]
+        for reads, (name, end, _) in enumerate(stopping_pumps(streams, cases)):
+            taken = reads - 1 if stop_at == 2 and reads >= 2 else reads
+            streams.expect(name, (end.why, end.reads, end.taken), ("ReadsOver", reads, taken))
 
 
 def check_ended_chains(streams):
-    """A chain of no stages, which a second pump finds finished; and a chain of delcr that was finished before."""
+    """A chain of no wrappers, which a second pump finds finished; and a chain of delcr that was finished before."""
     once = [pump(4, stops(4), stops(3)), "show", "back"]
     wanted = [(11, 11, "End", numbers(TEXT)), (0, 0, "Failed", numbers(b""))]
     for answers, ended in zip(streams.chain_answers("", TEXT, [once, once]), wanted):
         end = end_of(answers[0])
-        streams.expect("a pump of no stages to its %s" % ended[2], (end.taken, end.given, end.why, answers[1]), ended)
-    groups = [[pump(turns, stops(4), stops(3)), "back"] for turns in (1, 2)]
+        streams.expect("a pump of no wrappers to its %s" % ended[2], (end.taken, end.given, end.why, answers[1]), ended)
+    groups = [[pump(reads, stops(4), stops(3)), "back"] for reads in (1, 2)]
     for answers in list(streams.chain_answers("delcr", TEXT, [["finish", "back"]] + groups))[1:]:
         end = end_of(answers[0])
         streams.expect("a chain that has failed", (end.given, end.why, end.writes), (0, "Failed", 0))
@@ -248,15 +248,15 @@ def check_taps(streams):
 
 def check_recorders(streams):
     """Two writes each: one for a piece and one for the end, or a second one that fails, after which there is none."""
-    # turns, way, text, reader, the recorder's writer, what it has
+    # reads, way, text, reader, the recorder's writer, what it has
     cases = [
         (2, "input", b"ab\ncd", WHOLE, WHOLE, b"7 < ab \n7 < cd+\n7 < [EOF]\n"),
         (2, "output", b"ab\ncd", WHOLE, WHOLE, b"7 > ab \n7 > cd+\n7 > [EOF]\n"),
         (9, "input", b"ab\ncd\nef\n", stops(3), stops(100, "fails", 2), b"7 < ab \n"),
     ]
-    for turns, way, text, reader, writer, lines in cases:
+    for reads, way, text, reader, writer, lines in cases:
         tap = "recorder %s 7 %s" % (way, writer)
-        for answers in streams.chain_answers("", text, [[pump(turns, reader, stops(9), tap)]]):
+        for answers in streams.chain_answers("", text, [[pump(reads, reader, stops(9), tap)]]):
             end = end_of(answers[0])
             wanted = (len(text), len(text), "End", "recorded %s in 2 writes" % numbers(lines))
             streams.expect("a recorder of way %s on %r" % (way, text), (end.taken, end.given, end.why, end.tap), wanted)
@@ -265,7 +265,7 @@ def check_recorders(streams):
 def check(program, failures):
     """Counts the checks, and adds a line to the failures for each that went wrong."""
     streams = Streams(program, failures)
-    check_stages(streams)
+    check_wrappers(streams)
     check_chains(streams)
     check_single_chains(streams)
     check_records(streams)
@@ -273,7 +273,7 @@ def check(program, failures):
     check_stopping_readers(streams)
     check_stopping_writers(streams)
     check_small_pieces(streams)
-    check_turns(streams)
+    check_reads(streams)
     check_ended_chains(streams)
     check_taps(streams)
     check_recorders(streams)

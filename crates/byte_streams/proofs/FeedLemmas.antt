@@ -3,7 +3,7 @@ use Rattle.std.proofs.Common.{◌≡◌, ℕ, ◌≤◌, List, [], ◌∷◌, �
 use Rattle.std.specs.Prelude.{Err, Ok, OnOk, Result}
 use Rattle.std.specs.declared.alloc.AllocError.{AllocError}
 use Rattle.std.proofs.lemmas.List.{append-nil}
-use Rattle.byte_streams.specs.Stages.{Extends, Feeds}
+use Rattle.byte_streams.specs.Wrappers.{Extends, Feeds}
 
 -- a part of a piece went in, and the rest of it did not yet
 pub record Goes (old new : List ℕ → List ℕ) (piece rest before after : List ℕ) : Type 0 where

@@ -1,11 +1,11 @@
 pub mod PassLemmas
 pub mod RecordLemmas
-pub mod TurnLemmas
+pub mod PieceLemmas
 pub mod WriteLemmas
 pub mod KeptLemmas
 pub mod FeedLemmas
 pub mod FitLemmas
 pub mod PartLemmas
 pub mod LineRecordLemmas
-pub mod StageLemmas
+pub mod WrapperLemmas
 pub mod ThroughLemmas

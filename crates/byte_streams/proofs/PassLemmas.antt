@@ -1,4 +1,4 @@
--- What goes through a chain in one turn.
+-- What goes through a chain in one read.
 use Rattle.std.proofs.Common.{◌≡◌, ℕ, ◌<◌, ◌≤◌, Bool, false, List, [], ◌∷◌, ◌++◌, length, take, Result, Ok, Err, refl, sym, ap, subst, ◌∙◌, inl, inr, append_assoc, arith}
 use Rattle.std.specs.Prelude.{IfErr}
 use Rattle.std.specs.List.{concat}
@@ -7,20 +7,20 @@ use Rattle.std.proofs.lemmas.Result.{MatchResult-at_ok}
 use Rattle.std.specs.declared.option.Option.{Option}
 use Rattle.std.specs.Io.KnownBytes.{Appends, Consumes, IsAtEnd, Keeps, ReadConsumes}
 use Rattle.std.proofs.KnownBytes.{Appends-nil, Consumes-kept, Consumes-nil}
-use Rattle.byte_streams.specs.Stages.{Feeds, Gives, through}
+use Rattle.byte_streams.specs.Wrappers.{Feeds, Gives, through}
 use Rattle.byte_streams.specs.declared.recording.Way.{Way}
 use Rattle.byte_streams.specs.declared.recording.Way.TheVariants.{Input, Output}
 use Rattle.byte_streams.specs.Pumps.{Gave, IsWritten, is_end, pieces_by}
 use Rattle.byte_streams.specs.Taps.{IsTold, SeesAll, Shown, shown_to}
-use Rattle.byte_streams.specs.Turns.{CountsMore, IsOfWriter, Moment, Passes, Turned, Wrote, pieces_of, why_of}
+use Rattle.byte_streams.specs.Pieces.{CountsMore, IsOfWriter, Moment, Passes, ReadAndPassed, Wrote, pieces_of, why_of}
 use Rattle.byte_streams.specs.declared.pumping.Why.{Why}
-use Rattle.byte_streams.specs.declared.pumping.Why.TheVariants.{End, ReadFault, WriteFault, ZeroWrite, TurnsOver, Failed, OutOfMemory}
+use Rattle.byte_streams.specs.declared.pumping.Why.TheVariants.{End, ReadFault, WriteFault, ZeroWrite, ReadsOver, Failed, OutOfMemory}
 
 -- ---- what a chain gives
 
--- a chain of no stages gives what it takes
-pub gives_same : {S : Type 0} (rest : S → List ℕ → List ℕ) {stages : List S} → stages ≡ [] → (piece : List ℕ) → Gives (through rest stages) (through rest stages) piece piece
-gives_same rest none piece = subst (λ stages. Gives (through rest stages) (through rest stages) piece piece) (sym none) (λ later. refl)
+-- a chain of no wrappers gives what it takes
+pub gives_same : {S : Type 0} (rest : S → List ℕ → List ℕ) {wrappers : List S} → wrappers ≡ [] → (piece : List ℕ) → Gives (through rest wrappers) (through rest wrappers) piece piece
+gives_same rest none piece = subst (λ wrappers. Gives (through rest wrappers) (through rest wrappers) piece piece) (sym none) (λ later. refl)
 
 -- what was added to nothing, and is lent, is what the chain gave
 pub added_to_none : {before after lent given : List ℕ} → before ≡ [] → after ≡ before ++ given → lent ≡ after → lent ≡ given
@@ -36,7 +36,7 @@ gave_now (Err End) left chain chain' text given reason gives = absurd reason
 gave_now (Err ReadFault) left chain chain' text given reason gives = absurd reason
 gave_now (Err WriteFault) left chain chain' text given reason gives = inl gives
 gave_now (Err ZeroWrite) left chain chain' text given reason gives = inl gives
-gave_now (Err TurnsOver) left chain chain' text given reason gives = absurd reason
+gave_now (Err ReadsOver) left chain chain' text given reason gives = absurd reason
 gave_now (Err Failed) left chain chain' text given reason gives = absurd reason
 gave_now (Err OutOfMemory) left chain chain' text given reason gives = absurd reason
 
@@ -45,7 +45,7 @@ gave_rest End left chain chain' given reason at_end is = absurd reason
 gave_rest ReadFault left chain chain' given reason at_end is = absurd reason
 gave_rest WriteFault left chain chain' given reason at_end is = inr (at_end, is)
 gave_rest ZeroWrite left chain chain' given reason at_end is = inr (at_end, is)
-gave_rest TurnsOver left chain chain' given reason at_end is = absurd reason
+gave_rest ReadsOver left chain chain' given reason at_end is = absurd reason
 gave_rest Failed left chain chain' given reason at_end is = absurd reason
 gave_rest OutOfMemory left chain chain' given reason at_end is = absurd reason
 
@@ -61,7 +61,7 @@ SeesAll-append {T} sees tap mid tap' [] back first then = subst (λ (t : T). See
 SeesAll-append sees tap mid tap' (piece ∷ front) back first then =
     (first.0, first.1, SeesAll-append sees first.0 mid tap' front back first.2 then)
 
--- the pieces of one turn: the one that was read, and the one that the chain gave
+-- the pieces of one read: the one that was read, and the one that the chain gave
 joined_both : (way : Way) (text given : List ℕ) → concat (pieces_of way Input text ++ pieces_of way Output given) ≡ pieces_by way text given
 joined_both Input text given = append-nil text
 joined_both Output text given = append-nil given
@@ -94,14 +94,14 @@ no_end (Err End) reason = absurd reason
 no_end (Err ReadFault) reason = refl
 no_end (Err WriteFault) reason = refl
 no_end (Err ZeroWrite) reason = refl
-no_end (Err TurnsOver) reason = refl
+no_end (Err ReadsOver) reason = refl
 no_end (Err Failed) reason = refl
 no_end (Err OutOfMemory) reason = refl
 
 not_told : {T : Type 0} (ends : T → T → Type 0) {at_end : Bool} (tap : T) → at_end ≡ false → IsTold ends at_end tap tap
 not_told ends tap goes_on = subst (λ at_end. IsTold ends at_end tap tap) (sym goes_on) refl
 
--- ---- a turn
+-- ---- a read
 
 -- what was written and counted, where nothing was
 wrote_nothing : (old new : Moment) → new.ends.writer ≡ old.ends.writer → Appends old.ends.writer new.ends.writer []
@@ -202,15 +202,15 @@ module _ {T : Type 0} (watches : T → Way) (sees : T → List ℕ → T → Typ
   }
 
   -- a read that failed took nothing
-  pub turned_nothing : (tap : T) {old new : Moment} (steps : ℕ) (why : Why)
+  pub read_and_passed_nothing : (tap : T) {old new : Moment} (times : ℕ) (why : Why)
       → Keeps old.ends.reader new.ends.reader → new.ends.writer ≡ old.ends.writer → new.taken ≡ old.taken → new.given ≡ old.given
       → Gave why new.ends.reader old.ends.chain new.ends.chain [] [] → IsWritten why [] [] → is_end why ≡ false
-      → Turned old new (shown_to watches sees ends tap tap) steps why
-  turned_nothing tap {old} {new} steps why keeps writer taken put gave all goes_on = record {
+      → ReadAndPassed old new (shown_to watches sees ends tap tap) times why
+  read_and_passed_nothing tap {old} {new} times why keeps writer taken put gave all goes_on = record {
     text = [];
     reads = Consumes-kept old.ends.reader old.ends.reader new.ends.reader [] (Consumes-nil old.ends.reader) keeps;
     counts_text = counted_nothing old.taken new.taken taken;
-    passes = passes_nothing tap steps why writer put gave all goes_on;
+    passes = passes_nothing tap times why writer put gave all goes_on;
   }
 
 -- whatever the reader had left before
@@ -231,10 +231,10 @@ passes_after reader passes = record {
 }
 
 -- a read that gave no byte found the end, and then the stream was ended
-pub turned_end : {E : Type 0} {old new : Moment} {tap : Shown} {why : Why} {n : ℕ} (result : Result ℕ E) (buffer : List ℕ)
+pub read_and_passed_end : {E : Type 0} {old new : Moment} {tap : Shown} {why : Why} {n : ℕ} (result : Result ℕ E) (buffer : List ℕ)
     → result ≡ Ok n → n ≡ 0 → ReadConsumes old.ends.reader new.ends.reader result buffer → 0 < length buffer → new.taken ≡ old.taken
-    → (IsAtEnd new.ends.reader → Passes [] old new tap 1 why) → Turned old new tap 1 why
-turned_end {old = old} {new} result buffer took none read room same passes =
+    → (IsAtEnd new.ends.reader → Passes [] old new tap 1 why) → ReadAndPassed old new tap 1 why
+read_and_passed_end {old = old} {new} result buffer took none read room same passes =
     let reader = old.ends.reader in
     let reader' = new.ends.reader in
     let consumed = MatchResult-at_ok (λ k. Consumes reader reader' (take k buffer) × (k ≡ 0 → 0 < length buffer → IsAtEnd reader')) (λ _. Keeps reader reader') 0 (took ∙ ap Ok none) read in

@@ -1,54 +1,54 @@
--- Texts that go through stages one behind the other.
+-- Texts that go through wrappers one behind the other.
 use Rattle.std.proofs.Common.{◌≡◌, ℕ, zero, suc, ◌+◌, ◌<◌, ◌≤◌, List, [], ◌∷◌, ◌++◌, length, take, drop, map, set, get_or, refl, sym, ap, subst, ◌∙◌, append_assoc, arith, add-one, drop-cons, take-suc-set, length-set}
 use Rattle.std.proofs.lemmas.List.{append-nil, drop-set-lt, drop_all, map-append, take_all}
 use Rattle.std.specs.Prelude.{Err, Ok, OnOk, Result}
 use Rattle.std.specs.declared.alloc.AllocError.{AllocError}
 use Rattle.std.proofs.Math.Seq.{take-append_seam}
-use Rattle.byte_streams.specs.Stages.{Feeds, through}
+use Rattle.byte_streams.specs.Wrappers.{Feeds, through}
 
--- what is written through some stages hangs on what each of them writes
-through-map : {S : Type 0} (rest : S → List ℕ → List ℕ) (stages : List S) → through rest stages ≡ through (λ f. f) (map rest stages)
+-- what is written through some wrappers hangs on what each of them writes
+through-map : {S : Type 0} (rest : S → List ℕ → List ℕ) (wrappers : List S) → through rest wrappers ≡ through (λ f. f) (map rest wrappers)
 through-map rest [] = refl
-through-map rest (stage ∷ stages) = ap (λ f. λ text. f (rest stage text)) (through-map rest stages)
+through-map rest (wrapper ∷ wrappers) = ap (λ f. λ text. f (rest wrapper text)) (through-map rest wrappers)
 
-pub through_same : {S : Type 0} (one two : S → List ℕ → List ℕ) (stages others : List S) → map one stages ≡ map two others → through one stages ≡ through two others
-through_same one two stages others same = through-map one stages ∙ ap (through (λ f. f)) same ∙ sym (through-map two others)
+pub through_same : {S : Type 0} (one two : S → List ℕ → List ℕ) (wrappers others : List S) → map one wrappers ≡ map two others → through one wrappers ≡ through two others
+through_same one two wrappers others same = through-map one wrappers ∙ ap (through (λ f. f)) same ∙ sym (through-map two others)
 
 module _ {S : Type 0} (rest : S → List ℕ → List ℕ) where
   pub through-append : (one two : List S) (text : List ℕ) → through rest (one ++ two) text ≡ through rest two (through rest one text)
   through-append [] two text = refl
-  through-append (stage ∷ one) two text = through-append one two (rest stage text)
+  through-append (wrapper ∷ one) two text = through-append one two (rest wrapper text)
 
-  -- a piece went through the stages before a place, and what they wrote of it did not go further yet
+  -- a piece went through the wrappers before a place, and what they wrote of it did not go further yet
   abbrev pub Flows : (olds news : List S) → ℕ → (piece from : List ℕ) → Type 0
   Flows olds news place piece from = (later : List ℕ) → through rest olds (piece ++ later) ≡ through rest (drop place news) (from ++ through rest (take place news) later)
 
-  -- a stage at a place, and those behind it
-  stage_at : (stages : List S) (place : ℕ) (d : S) → place < length stages → (text : List ℕ) → through rest (drop place stages) text ≡ through rest (drop (place + 1) stages) (rest (get_or stages place d) text)
-  stage_at stages place d inside text =
-      ap (λ tail. through rest tail text) (drop-cons stages place d inside)
-      ∙ ap (λ n. through rest (drop n stages) (rest (get_or stages place d) text)) (sym (add-one place))
+  -- a wrapper at a place, and those behind it
+  wrapper_at : (wrappers : List S) (place : ℕ) (d : S) → place < length wrappers → (text : List ℕ) → through rest (drop place wrappers) text ≡ through rest (drop (place + 1) wrappers) (rest (get_or wrappers place d) text)
+  wrapper_at wrappers place d inside text =
+      ap (λ tail. through rest tail text) (drop-cons wrappers place d inside)
+      ∙ ap (λ n. through rest (drop n wrappers) (rest (get_or wrappers place d) text)) (sym (add-one place))
 
-  drop_behind : (stages : List S) (place : ℕ) (s : S) → drop (place + 1) (set stages place s) ≡ drop (place + 1) stages
-  drop_behind stages place s = drop-set-lt (place + 1) stages place s (omega arith)
+  drop_behind : (wrappers : List S) (place : ℕ) (s : S) → drop (place + 1) (set wrappers place s) ≡ drop (place + 1) wrappers
+  drop_behind wrappers place s = drop-set-lt (place + 1) wrappers place s (omega arith)
 
-  front_with : (stages : List S) (place : ℕ) (s : S) → place < length stages → (text : List ℕ) → through rest (take (place + 1) (set stages place s)) text ≡ rest s (through rest (take place stages) text)
-  front_with stages place s inside text =
-      ap (λ front. through rest front text) (ap (λ n. take n (set stages place s)) (add-one place) ∙ take-suc-set stages place s inside)
-      ∙ through-append (take place stages) (s ∷ []) text
+  front_with : (wrappers : List S) (place : ℕ) (s : S) → place < length wrappers → (text : List ℕ) → through rest (take (place + 1) (set wrappers place s)) text ≡ rest s (through rest (take place wrappers) text)
+  front_with wrappers place s inside text =
+      ap (λ front. through rest front text) (ap (λ n. take n (set wrappers place s)) (add-one place) ∙ take-suc-set wrappers place s inside)
+      ∙ through-append (take place wrappers) (s ∷ []) text
 
-  -- the stage at the place took what came so far
+  -- the wrapper at the place took what came so far
   pub flows_more : (olds news : List S) (place : ℕ) (d s : S) (piece from into : List ℕ) → place < length news → Flows olds news place piece from → Feeds (rest (get_or news place d)) (rest s) from [] into → Flows olds (set news place s) (place + 1) piece into
   flows_more olds news place d s piece from into inside flows feeds = λ later.
       let front = through rest (take place news) later in
       let given_is : feeds.given ≡ into = sym feeds.added in
       flows later
-      ∙ stage_at news place d inside (from ++ front)
+      ∙ wrapper_at news place d inside (from ++ front)
       ∙ ap (through rest (drop (place + 1) news)) (feeds.gives front ∙ ap (λ x. x ++ rest s front) given_is)
       ∙ ap (λ tail. through rest tail (into ++ rest s front)) (sym (drop_behind news place s))
       ∙ ap (λ x. through rest (drop (place + 1) (set news place s)) (into ++ x)) (sym (front_with news place s inside later))
 
-  -- the last stage took it
+  -- the last wrapper took it
   pub flows_last : (olds news : List S) (place : ℕ) (d s : S) (piece from before after : List ℕ) → place + 1 ≡ length news → Flows olds news place piece from → Feeds (rest (get_or news place d)) (rest s) from before after → Feeds (through rest olds) (through rest (set news place s)) piece before after
   flows_last olds news place d s piece from before after last flows feeds = record {
     given = feeds.given;
@@ -57,28 +57,28 @@ module _ {S : Type 0} (rest : S → List ℕ → List ℕ) where
         let inside : place < length news = omega arith in
         let front = through rest (take place news) later in
         flows later
-        ∙ stage_at news place d inside (from ++ front)
+        ∙ wrapper_at news place d inside (from ++ front)
         ∙ ap (λ tail. through rest tail (rest (get_or news place d) (from ++ front))) (drop_all (place + 1) news (omega arith))
         ∙ feeds.gives front
-        ∙ ap (λ x. feeds.given ++ x) (sym (front_with news place s inside later) ∙ ap (λ stages. through rest stages later) (take_all (place + 1) (set news place s) (omega (arith, length-set {A = S}))));
+        ∙ ap (λ x. feeds.given ++ x) (sym (front_with news place s inside later) ∙ ap (λ wrappers. through rest wrappers later) (take_all (place + 1) (set news place s) (omega (arith, length-set {A = S}))));
   }
 
   -- at the end of the text
   pub ends_more : (olds news : List S) (place : ℕ) (d s : S) (from into before : List ℕ) → place < length news → through rest olds before ≡ through rest (drop place news) from → into ≡ rest (get_or news place d) from → through rest olds before ≡ through rest (drop (place + 1) (set news place s)) into
   ends_more olds news place d s from into before inside so_far is =
-      so_far ∙ stage_at news place d inside from
+      so_far ∙ wrapper_at news place d inside from
       ∙ ap (through rest (drop (place + 1) news)) (sym is)
       ∙ ap (λ tail. through rest tail into) (sym (drop_behind news place s))
 
--- ---- one stage for another
+-- ---- one wrapper for another
 
 module _ {S : Type 0} {V : Type 0} (f : S → V) where
-  pub map-set : (stages : List S) (place : ℕ) (d s : S) → f s ≡ f (get_or stages place d) → map f (set stages place s) ≡ map f stages
+  pub map-set : (wrappers : List S) (place : ℕ) (d s : S) → f s ≡ f (get_or wrappers place d) → map f (set wrappers place s) ≡ map f wrappers
   map-set [] place d s same = refl
-  map-set (stage ∷ stages) zero d s same = ap (λ v. v ∷ map f stages) same
-  map-set (stage ∷ stages) (suc place) d s same = ap (λ vs. f stage ∷ vs) (map-set stages place d s same)
+  map-set (wrapper ∷ wrappers) zero d s same = ap (λ v. v ∷ map f wrappers) same
+  map-set (wrapper ∷ wrappers) (suc place) d s same = ap (λ vs. f wrapper ∷ vs) (map-set wrappers place d s same)
 
--- ---- the same, of a stage as a loop finds it
+-- ---- the same, of a wrapper as a loop finds it
 
 module _ {S : Type 0} where
   pub wholes_more : {V : Type 0} (olds news : List S) (place : ℕ) (d s : S) (f : S → V) → f s ≡ f (get_or news place d) → map f news ≡ map f olds → map f (set news place s) ≡ map f olds
@@ -110,7 +110,7 @@ module _ {S : Type 0} where
       ends_more rest olds news place d s from final before inside so_far
       (final_is ∙ into_is ∙ ap (λ x. x ++ rest (get_or news place d) lent) empty_is ∙ ap (rest (get_or news place d)) lent_is)
 
-  -- the stages before the place are as at the beginning of a text
+  -- the wrappers before the place are as at the beginning of a text
   pub renewed_more : {V : Type 0} (olds news : List S) (place : ℕ) (d s : S) (rest whole : S → V) → place < length news → rest s ≡ whole (get_or news place d) → map rest (take place news) ++ map whole (drop place news) ≡ map whole olds → map rest (take (place + 1) (set news place s)) ++ map whole (drop (place + 1) (set news place s)) ≡ map whole olds
   renewed_more olds news place d s rest whole inside same so_far =
       let before = map rest (take place news) in

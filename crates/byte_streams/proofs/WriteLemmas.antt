@@ -5,7 +5,7 @@ use Rattle.std.proofs.lemmas.Result.{MatchResult-at_ok}
 use Rattle.std.specs.declared.option.Option.{Option}
 use Rattle.std.specs.Io.KnownBytes.{Appends, Keeps, WriteAppends}
 use Rattle.std.proofs.KnownBytes.{Appends-kept, Appends-nil, Appends-trans}
-use Rattle.byte_streams.specs.Turns.{Wrote, CountsMore}
+use Rattle.byte_streams.specs.Pieces.{Wrote, CountsMore}
 use Rattle.byte_streams.specs.declared.pumping.Why.TheVariants.{WriteFault, ZeroWrite}
 
 -- the writer has taken bytes, and the rest stands behind them

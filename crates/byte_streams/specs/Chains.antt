@@ -1,10 +1,10 @@
--- A chain of stages: the stages, and whether it takes no more pieces.
+-- A chain of line wrappers, and whether it refuses all pieces.
 use Rattle.std.specs.Prelude.{Bool, List}
 use Rattle.byte_streams.specs.declared.chain.Chain.{Chain}
 
-abbrev pub stages_of : {S : Type 0} → Chain S → List S
-stages_of chain = chain.stages.items
+abbrev pub wrappers_of : {S : Type 0} → Chain S → List S
+wrappers_of chain = chain.wrappers.items
 
--- since it was last renewed a call met want of memory, or was the last one
+-- a call since its last renewal met want of memory, or ended the text
 abbrev pub has_failed : {S : Type 0} → Chain S → Bool
 has_failed chain = chain.failed

@@ -2,9 +2,9 @@
 pub mod Pumps
 pub mod Recorders
 pub mod Taps
-pub mod Turns
+pub mod Pieces
 pub mod Watches
 pub mod Chains
 pub mod Records
-pub mod Stages
+pub mod Wrappers
 pub mod Wrapped

@@ -3,15 +3,15 @@ use Rattle.std.specs.Prelude.{◌≡◌, ◌⊎◌, ◌-◌, ◌^◌, ◌≤◌,
 use Rattle.std.specs.List.{concat}
 use Rattle.std.specs.declared.option.Option.{Option}
 use Rattle.std.specs.Io.KnownBytes.{Appends, Consumes, IsAtEnd}
-use Rattle.byte_streams.specs.Chains.{stages_of}
-use Rattle.byte_streams.specs.Stages.{Gives, Writing, through}
+use Rattle.byte_streams.specs.Chains.{wrappers_of}
+use Rattle.byte_streams.specs.Wrappers.{Gives, Writing, through}
 use Rattle.byte_streams.specs.declared.chain.Chain.{Chain}
 use Rattle.byte_streams.specs.declared.recording.Way.{Way}
 use Rattle.byte_streams.specs.declared.recording.Way.TheVariants.{Input, Output}
 use Rattle.byte_streams.specs.Taps.{Shown}
 use Rattle.byte_streams.specs.declared.pumping.PumpEnd.{PumpEnd}
 use Rattle.byte_streams.specs.declared.pumping.Why.{Why}
-use Rattle.byte_streams.specs.declared.pumping.Why.TheVariants.{End, ReadFault, WriteFault, ZeroWrite, TurnsOver, Failed, OutOfMemory}
+use Rattle.byte_streams.specs.declared.pumping.Why.TheVariants.{End, ReadFault, WriteFault, ZeroWrite, ReadsOver, Failed, OutOfMemory}
 
 -- the number of these bytes, or the greatest number that fits
 abbrev pub count_of : List ℕ → ℕ
@@ -22,7 +22,7 @@ is_end End = true
 is_end ReadFault = false
 is_end WriteFault = false
 is_end ZeroWrite = false
-is_end TurnsOver = false
+is_end ReadsOver = false
 is_end Failed = false
 is_end OutOfMemory = false
 
@@ -30,22 +30,23 @@ is_end OutOfMemory = false
 abbrev pub GivesFirst : (List ℕ → List ℕ) → List ℕ → List ℕ → Type 0
 GivesFirst writes text given = (rest : List ℕ → List ℕ) × Gives writes rest text given
 
--- what the chain gave of what was read: at the end all that it writes of the whole text; between two pieces just what it has
--- written of them; where a write failed either of these, the first only with nothing left to read; else what it gave before it failed
+-- What the chain gave of what was read. At the end it is all that the chain writes of the whole text, and between two
+-- pieces just what it has written of them. If a write failed it is one of these, the first only with nothing left to
+-- read. Otherwise it is what the chain gave before it failed.
 abbrev pub Gave : Why → (left : Option (List ℕ)) → (old new : List ℕ → List ℕ) → (text given : List ℕ) → Type 0
 Gave End left old new text given = IsAtEnd left × (given ≡ old text)
 Gave ReadFault left old new text given = Gives old new text given
-Gave TurnsOver left old new text given = Gives old new text given
+Gave ReadsOver left old new text given = Gives old new text given
 Gave WriteFault left old new text given = Gives old new text given ⊎ (IsAtEnd left × (given ≡ old text))
 Gave ZeroWrite left old new text given = Gives old new text given ⊎ (IsAtEnd left × (given ≡ old text))
 Gave Failed left old new text given = GivesFirst old text given
 Gave OutOfMemory left old new text given = GivesFirst old text given
 
--- all that the chain gave was written; where a write failed, not all of it
+-- all that the chain gave was written; if a write failed, not all of it
 abbrev pub IsWritten : Why → (given written : List ℕ) → Type 0
 IsWritten End given written = given ≡ written
 IsWritten ReadFault given written = given ≡ written
-IsWritten TurnsOver given written = given ≡ written
+IsWritten ReadsOver given written = given ≡ written
 IsWritten Failed given written = given ≡ written
 IsWritten OutOfMemory given written = given ≡ written
 IsWritten WriteFault given written = (left : ℕ) × (more : List ℕ) × (given ≡ written ++ left ∷ more)
@@ -56,24 +57,25 @@ abbrev pub pieces_by : Way → (text given : List ℕ) → List ℕ
 pieces_by Input text given = text
 pieces_by Output text given = given
 
--- what a pump works on at a moment: what its reader has left and what its writer holds, where these are known, and what its chain will
--- write of the rest of a text
+-- what a pump works on at a moment: what its reader has left and what its writer holds, if these are known, and what
+-- its chain will write of the rest of a text
 pub record Ends : Type 0 where
   pub reader : Option (List ℕ)
   pub writer : Option (List ℕ)
   pub chain : List ℕ → List ℕ
 
--- the bytes that each of these has, where they are known
+-- the bytes that each of these has, if they are known
 abbrev pub KnownBytes : Type 0 → Type 0
 KnownBytes R = R → Option (List ℕ)
 
--- those of these three; the functions say what a reader has left, what a writer holds, and what a stage will write
+-- what a pump works on, of these three; the functions say what a reader has left, what a writer holds, and what a line
+-- wrapper will write
 abbrev pub ends_of : {R W S : Type 0} → KnownBytes R → KnownBytes W → Writing S → R → W → Chain S → Ends
 ends_of remaining contents rest reader writer chain =
-    record { reader = remaining reader; writer = contents writer; chain = through rest (stages_of chain) }
+    record { reader = remaining reader; writer = contents writer; chain = through rest (wrappers_of chain) }
 
--- A pump read a text, the chain gave bytes of it, and a front of these was written. `steps` is how often the pump read at most.
-pub record Pumped (old new : Ends) (tap : Shown) (steps : ℕ) (end : PumpEnd) : Type 0 where
+-- A pump read a text, the chain gave bytes of it, and a front of these was written. `times` is how often the pump read at most.
+pub record Pumped (old new : Ends) (tap : Shown) (times : ℕ) (end : PumpEnd) : Type 0 where
   pub text : List ℕ
   pub given : List ℕ
   pub written : List ℕ
@@ -86,4 +88,4 @@ pub record Pumped (old new : Ends) (tap : Shown) (steps : ℕ) (end : PumpEnd) :
   pub all : IsWritten end.why given written
   pub shown : tap.shows (is_end end.why) pieces
   pub joined : concat pieces ≡ pieces_by tap.way text given
-  pub one_each : length pieces ≤ steps
+  pub one_each : length pieces ≤ times

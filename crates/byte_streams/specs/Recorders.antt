@@ -7,7 +7,7 @@ use Rattle.byte_streams.specs.Records.{longest_piece, record_text}
 use Rattle.byte_streams.specs.declared.recording.Way.{Way}
 use Rattle.byte_streams.specs.declared.tap.Recorder.{Recorder}
 
--- its number, its way and its writer, and whether a growth or a write of it has failed
+-- its number, its way and its writer, and whether memory was lacking or a write failed
 abbrev pub number_of : {W : Type 0} → Recorder W → ℕ
 number_of recorder = recorder.number
 
@@ -27,7 +27,7 @@ pub record Writes {W : Type 0} (contents : W → Option (List ℕ)) (old : Recor
   pub stays : has_failed old ≡ true → (has_failed new ≡ true) × (writer_of new ≡ writer_of old)
   pub wrote : has_failed new ≡ false → Appends (contents (writer_of old)) (contents (writer_of new)) text
 
--- the front of a text, cut into so many pieces of the given length, of which the last may be shorter
+-- the front of a text, cut into this many pieces of a length; the last may be shorter
 abbrev pub first_pieces : (count longest : ℕ) → List ℕ → List (List ℕ)
 first_pieces zero longest text = []
 first_pieces (suc count) longest [] = []

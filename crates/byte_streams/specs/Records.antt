@@ -15,7 +15,7 @@ before_part number way = decimal number ++ way_text way
 abbrev pub line_text : ℕ → Way → List ℕ → List ℕ
 line_text number way part = before_part number way ++ part ++ codes " \n"
 
--- what stands behind the last line feed has a line only where it is something
+-- what stands behind the last line feed has a line only if it is not empty
 abbrev pub rest_text : ℕ → Way → List ℕ → List ℕ
 rest_text number way [] = []
 rest_text number way (b ∷ bs) = before_part number way ++ (b ∷ bs) ++ codes "+\n"
@@ -26,7 +26,7 @@ record_text number way piece = written (line_text number way) (rest_text number 
 abbrev pub end_text : ℕ → Way → List ℕ
 end_text number way = before_part number way ++ codes "[EOF]\n"
 
--- how long the pieces of a record with this number are at most: their lines, of which a piece of line feeds alone has the most, fit into what a
--- pipe takes whole. A number of more than ten digits stands in shorter pieces.
+-- The length of the longest piece of a record with this number. Its lines fit into what a pipe takes whole; a piece of
+-- line feeds alone has the most. A number of more than ten digits stands in shorter pieces.
 abbrev pub longest_piece : ℕ → ℕ
 longest_piece number = if nat_lt number (10 ^ 10) then 256 else 160

@@ -7,7 +7,7 @@ abbrev pub SeesAll : {T : Type 0} → (T → List ℕ → T → Type 0) → T �
 SeesAll sees old [] new = new ≡ old
 SeesAll {T} sees old (piece ∷ pieces) new = (mid : T) × sees old piece mid × SeesAll sees mid pieces new
 
--- it was told that the stream has ended, where it has
+-- it was told that the stream has ended, if it has
 abbrev pub IsTold : {T : Type 0} → (T → T → Type 0) → Bool → T → T → Type 0
 IsTold ends true old new = ends old new
 IsTold ends false old new = new ≡ old
@@ -16,12 +16,13 @@ IsTold ends false old new = new ≡ old
 abbrev pub Watches : {T : Type 0} → (T → List ℕ → T → Type 0) → (T → T → Type 0) → Bool → T → List (List ℕ) → T → Type 0
 Watches {T} sees ends at_end old pieces new = (mid : T) × SeesAll sees old pieces mid × IsTold ends at_end mid new
 
--- a tap from one moment to another: the way that it watches, and what being shown pieces made of it, where the stream has ended or has not
+-- a tap from one moment to another: the way that it watches, and how being shown pieces changed it, if the stream has
+-- ended and if it has not
 pub record Shown : Type 1 where
   pub way : Way
   pub shows : Bool → List (List ℕ) → Type 0
 
--- that of this tap, old and new; the functions say which way it watches, what it sees, and what it is told of the end
+-- a tap, old and new; the functions say which way it watches, what it sees, and what it is told of the end
 abbrev pub shown_to : {T : Type 0} → (T → Way) → (T → List ℕ → T → Type 0) → (T → T → Type 0) → T → T → Shown
 shown_to watches sees ends old new =
     record { way = watches old; shows = λ at_end pieces. Watches sees ends at_end old pieces new }

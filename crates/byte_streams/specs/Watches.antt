@@ -9,7 +9,7 @@ reader_of watched = watched.reader
 abbrev pub watch_of : {R : Type 0} → Watched R → Option Watch
 watch_of watched = watched.watch
 
--- what is left to read, where that is known: what its reader has left, unless a watch may end it
+-- what is left to read, if that is known: what its reader has left, unless a watch may end it
 abbrev pub left_under : Option Watch → Option (List ℕ) → Option (List ℕ)
 left_under None left = left
 left_under (Some watch) left = None

@@ -1,28 +1,28 @@
 //! A pump: it reads a stream, passes it through a chain of line wrappers and writes it out, while a tap looks on.
 //!
 //! The crates above use `pump` and `pump_counted`: what was written is what the chain makes of what was read, as far as
-//! the end says. By the contract of `LineStage` what a wrapper writes doesn't depend on how the input is cut. A chain
-//! is generic over its kind of wrapper. A `Recorder` is the tap of `recordio`. No clause says that a fault which is
-//! answered was one of the reader or the writer: tests do. That a `Patient` stream waits as long as it should is tested
-//! only.
+//! the end says. By the contract of `LineWrapper` what a wrapper writes doesn't depend on how the input is cut. A chain
+//! is generic over its kind of wrapper. A `Recorder` is the tap of `recordio`. It is tested only that a fault is one of
+//! the reader or the writer, and that a `Patient` stream waits as long as it should. Only tests ask a `Recorder` for
+//! its writer.
 #![tactic(auto)]
 
 pub mod chain;
 pub mod patient;
+mod pieces;
 pub mod pumping;
+pub mod read_count;
 pub mod recording;
-pub mod stages;
-pub mod steps;
 pub mod tap;
-mod turns;
 pub mod watched;
+pub mod wrappers;
 
-pub use chain::{BoxedStage, Chain, ChainFault};
+pub use chain::{BoxedWrapper, Chain, ChainFault};
 pub use patient::Patient;
+pub use pieces::write_out;
 pub use pumping::{PumpEnd, Why, pump, pump_counted};
+pub use read_count::ReadCount;
 pub use recording::{PIPE_BUF, Way, longest_piece, record, record_end};
-pub use stages::{AddCr, DelCr, FixCr, LineStage};
-pub use steps::Steps;
 pub use tap::{NoTap, Recorder, Tap};
-pub use turns::write_out;
 pub use watched::{Watch, Watched};
+pub use wrappers::{AddCr, DelCr, FixCr, LineWrapper};

@@ -1,13 +1,15 @@
-//! Streams that wait where the system says that they would.
+//! Streams that wait when the system says that a call would block.
 use std::io::{Error, ErrorKind, Read, Result, Write};
 use std::thread;
 use std::time::{Clock, Duration};
 
-/// How long one waits before it is tried again, in milliseconds.
+/// How many milliseconds pass before a call is tried again.
 const PAUSE: u64 = 5;
 
-/// A stream whose descriptor may have been left non-blocking by whoever opened it: a read or a write that would block is tried again
-/// after five milliseconds, so that nothing is lost, as if the descriptor blocked.
+/// A stream that waits, though its descriptor may have been left non-blocking by whoever opened it.
+///
+/// A read or a write that would block is tried again after five milliseconds. So nothing is lost, as if the descriptor
+/// blocked.
 #[derive(Drop)]
 pub struct Patient<'a, C, S> {
     clock: &'a C,
@@ -21,7 +23,7 @@ impl<'a, C: Clock, S> Patient<'a, C, S> {
     }
 }
 
-// Whether a fault says that the call would have waited.
+// Whether a fault says that the call would have blocked.
 fn would_wait(error: &Error) -> bool {
     error.kind() == ErrorKind::WouldBlock
 }

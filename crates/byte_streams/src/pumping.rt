@@ -1,24 +1,24 @@
-//! The pump.
+//! The pump: it reads a stream, passes each piece through a chain, and writes what that gives.
 ghost use Rattle.std.specs.Prelude.{◌≡◌, ◌≢◌, ◌⊎◌, ◌+◌, ◌-◌, ◌<◌, ◌≤◌, length, true, false};
-ghost use Rattle.byte_streams.specs.Chains.{has_failed, stages_of};
-ghost use Rattle.byte_streams.specs.Stages.{through};
+ghost use Rattle.byte_streams.specs.Chains.{has_failed, wrappers_of};
+ghost use Rattle.byte_streams.specs.Wrappers.{through};
 ghost use Rattle.byte_streams.specs.Pumps.{Pumped, ends_of};
 ghost use Rattle.byte_streams.specs.Taps.{shown_to};
-ghost use Rattle.byte_streams.specs.Turns.{StaysOpen, Turned, moment_of};
+ghost use Rattle.byte_streams.specs.Pieces.{StaysOpen, ReadAndPassed, moment_of};
 
-use crate::steps::Steps;
+use crate::pieces::{PumpState, pump_piece};
+use crate::read_count::ReadCount;
 use crate::tap::Tap;
-use crate::turns::{PumpState, turn};
-use crate::{Chain, LineStage};
+use crate::{Chain, LineWrapper};
 use std::alloc::Global;
 use std::io::{Read, Write};
 use std::marker::Brand;
 use std::sync::ledger::{Blank, Ledger};
 
-/// How many bytes the first reads ask for at most: a stream on which little goes by takes little memory.
+/// The length of the first reads. A stream that carries little takes little memory.
 const FIRST: usize = 4 * 1024;
 
-/// How many bytes a read asks for at most, once one got as many as it asked for.
+/// The length of the reads behind one that filled its buffer.
 const MOST: usize = 64 * 1024;
 
 /// Why a pump ended.
@@ -32,9 +32,9 @@ pub enum Why {
     WriteFault,
     /// The writer took nothing.
     ZeroWrite,
-    /// As many reads as were allowed were made.
-    TurnsOver,
-    /// The chain had failed, or was finished, before.
+    /// As many reads were made as are allowed.
+    ReadsOver,
+    /// The chain had failed or was finished before.
     Failed,
     /// There was no memory.
     OutOfMemory,
@@ -43,61 +43,63 @@ pub enum Why {
 /// How a pump ended.
 #[derive(Clone, Copy, Debug)]
 pub struct PumpEnd {
-    /// How many bytes were read, where that fits into 64 bits.
+    /// How many bytes were read, up to 2^64 - 1.
     pub taken: u64,
-    /// How many bytes were written, where that fits into 64 bits.
+    /// How many bytes were written, up to 2^64 - 1.
     pub given: u64,
     /// Why it ended.
     pub why: Why,
 }
 
-/// Reads, at most `turns` times, passes each piece through the chain, and writes out what the chain gives before it reads again. When the
-/// reader has nothing left the chain is finished and its rest written. The tap sees each piece, before it is written, and the
-/// end. An interrupted read is one of the `turns`, with nothing read; an interrupted write is tried again. The chain has to be
-/// renewed by the caller before another stream.
+/// Reads a stream, passes each piece through the chain, and writes what the chain gives before it reads again.
 ///
-/// What is written of what was read is told by the end: at `ReadFault` and `TurnsOver` the chain is not finished, and all that it
-/// gave was written; at `WriteFault` and `ZeroWrite` a front of what it gave; at `Failed` and `OutOfMemory` what it gave before.
-pub fn pump<R: Read, W: Write, S: LineStage, T: Tap>(
+/// It reads at most `most_reads` times. An interrupted read counts, with nothing read; an interrupted write is tried again.
+/// At the end of the reader the chain is finished and its rest is written. The tap sees each piece before it is
+/// written, and the end. The caller renews the chain before another stream.
+///
+/// The end says what was written. At `ReadFault` and `ReadsOver` the chain is not finished, and all that it gave was
+/// written. At `WriteFault` and `ZeroWrite` a front of that was written. At `Failed` and `OutOfMemory` all that it gave
+/// before was written.
+pub fn pump<R: Read, W: Write, S: LineWrapper, T: Tap>(
     alloc: Global,
     reader: &mut R,
     writer: &mut W,
     chain: &mut Chain<S>,
     tap: &mut T,
-    turns: u64,
+    most_reads: u64,
 ) -> PumpEnd
     ensures pumped { Pumped (ends_of R.remaining W.contents S.rest reader.old writer.old chain.old)
         (ends_of R.remaining W.contents S.rest reader.new writer.new chain.new)
-        (shown_to T.watches T.sees T.ends tap.old tap.new) turns result }
+        (shown_to T.watches T.sees T.ends tap.old tap.new) most_reads result }
     ensures failed { result.why ≡ Why.Failed → has_failed chain.old ≡ true }
     ensures gives_none { has_failed chain.old ≡ true → (result.why ≢ Why.End) × (result.given ≡ 0) }
-    ensures unfinished { (result.why ≡ Why.ReadFault) ⊎ (result.why ≡ Why.TurnsOver)
+    ensures unfinished { (result.why ≡ Why.ReadFault) ⊎ (result.why ≡ Why.ReadsOver)
         → has_failed chain.new ≡ has_failed chain.old }
-    ensures wholes { through S.whole (stages_of chain.new) ≡ through S.whole (stages_of chain.old) }
+    ensures wholes { through S.whole (wrappers_of chain.new) ≡ through S.whole (wrappers_of chain.old) }
 {
-    pump_from::<R, W, S, T, Brand>(alloc, reader, writer, chain, tap, turns, Blank::new(1))
+    pump_from::<R, W, S, T, Brand>(alloc, reader, writer, chain, tap, most_reads, Blank::new(1))
 }
 
-/// `pump`, with a count of its reads.
-pub fn pump_counted<R: Read, W: Write, S: LineStage, T: Tap, L: Ledger>(
+/// Pumps a stream as `pump` does, and counts its reads.
+pub fn pump_counted<R: Read, W: Write, S: LineWrapper, T: Tap, L: Ledger>(
     alloc: Global,
     reader: &mut R,
     writer: &mut W,
     chain: &mut Chain<S>,
     tap: &mut T,
-    turns: u64,
-    steps: &mut Steps<L>,
+    most_reads: u64,
+    times: &mut ReadCount<L>,
 ) -> PumpEnd
     ensures pumped { Pumped (ends_of R.remaining W.contents S.rest reader.old writer.old chain.old)
         (ends_of R.remaining W.contents S.rest reader.new writer.new chain.new)
-        (shown_to T.watches T.sees T.ends tap.old tap.new) (steps.new - steps.old) result }
-    ensures over { result.why ≡ Why.TurnsOver → steps.new ≡ steps.old + turns }
-    ensures within { (steps.old ≤ steps.new) × (steps.new ≤ steps.old + turns) }
+        (shown_to T.watches T.sees T.ends tap.old tap.new) (times.new - times.old) result }
+    ensures over { result.why ≡ Why.ReadsOver → times.new ≡ times.old + most_reads }
+    ensures within { (times.old ≤ times.new) × (times.new ≤ times.old + most_reads) }
     ensures failed { result.why ≡ Why.Failed → has_failed chain.old ≡ true }
     ensures gives_none { has_failed chain.old ≡ true → (result.why ≢ Why.End) × (result.given ≡ 0) }
-    ensures unfinished { (result.why ≡ Why.ReadFault) ⊎ (result.why ≡ Why.TurnsOver)
+    ensures unfinished { (result.why ≡ Why.ReadFault) ⊎ (result.why ≡ Why.ReadsOver)
         → has_failed chain.new ≡ has_failed chain.old }
-    ensures wholes { through S.whole (stages_of chain.new) ≡ through S.whole (stages_of chain.old) }
+    ensures wholes { through S.whole (wrappers_of chain.new) ≡ through S.whole (wrappers_of chain.old) }
 {
     if chain.has_failed() {
         return PumpEnd {
@@ -123,10 +125,10 @@ pub fn pump_counted<R: Read, W: Write, S: LineStage, T: Tap, L: Ledger>(
         writer,
         chain,
         tap,
-        turns,
+        most_reads,
         &mut buffer,
         &mut work,
-        steps,
+        times,
     );
     PumpEnd {
         taken: work.taken,
@@ -135,39 +137,39 @@ pub fn pump_counted<R: Read, W: Write, S: LineStage, T: Tap, L: Ledger>(
     }
 }
 
-/// Makes turns until one ends the pump, or there are no more.
-fn run<R: Read, W: Write, S: LineStage, T: Tap, L: Ledger>(
+/// Reads and passes on until that ends the pump, or no reads are left.
+fn run<R: Read, W: Write, S: LineWrapper, T: Tap, L: Ledger>(
     reader: &mut R,
     writer: &mut W,
     chain: &mut Chain<S>,
     tap: &mut T,
-    turns: u64,
+    most_reads: u64,
     buffer: &mut Vec<u8>,
     work: &mut PumpState,
-    steps: &mut Steps<L>,
+    times: &mut ReadCount<L>,
 ) -> Why
     requires room { 0 < length buffer.old.items }
     requires goes_on { has_failed chain.old ≡ false }
-    ensures turned { Turned (moment_of R.remaining W.contents S.rest reader.old writer.old chain.old work.old)
+    ensures read_and_passed { ReadAndPassed (moment_of R.remaining W.contents S.rest reader.old writer.old chain.old work.old)
         (moment_of R.remaining W.contents S.rest reader.new writer.new chain.new work.new)
-        (shown_to T.watches T.sees T.ends tap.old tap.new) (steps.new - steps.old) result }
-    ensures over { result ≡ Why.TurnsOver → steps.new ≡ steps.old + turns }
-    ensures within { (steps.old ≤ steps.new) × (steps.new ≤ steps.old + turns) }
+        (shown_to T.watches T.sees T.ends tap.old tap.new) (times.new - times.old) result }
+    ensures over { result ≡ Why.ReadsOver → times.new ≡ times.old + most_reads }
+    ensures within { (times.old ≤ times.new) × (times.new ≤ times.old + most_reads) }
     ensures not_failed { result ≢ Why.Failed }
     ensures stays_open { StaysOpen result (has_failed chain.old) (has_failed chain.new) }
-    ensures wholes { through S.whole (stages_of chain.new) ≡ through S.whole (stages_of chain.old) }
+    ensures wholes { through S.whole (wrappers_of chain.new) ≡ through S.whole (wrappers_of chain.old) }
 {
-    for _turn in 0..turns {
+    for _read in 0..most_reads {
         let before = work.taken;
-        if let Err(why) = turn(reader, writer, chain, tap, buffer, work, steps) {
+        if let Err(why) = pump_piece(reader, writer, chain, tap, buffer, work, times) {
             return why;
         }
         widen(buffer, work.taken.saturating_sub(before));
     }
-    Why::TurnsOver
+    Why::ReadsOver
 }
 
-/// Makes room for longer reads where one got so many bytes that the buffer was full. Where there is no memory it stays as it is.
+/// Makes room for longer reads if a read filled the buffer. Without memory the buffer stays as it is.
 fn widen(buffer: &mut Vec<u8>, got: u64)
     ensures { 0 < length buffer.old.items → 0 < length buffer.new.items }
 {
@@ -176,27 +178,27 @@ fn widen(buffer: &mut Vec<u8>, got: u64)
     }
 }
 
-/// `pump` with a ledger that counts its reads.
-fn pump_from<R: Read, W: Write, S: LineStage, T: Tap, L: Ledger>(
+/// Pumps a stream, with a count of its reads that is made for it.
+fn pump_from<R: Read, W: Write, S: LineWrapper, T: Tap, L: Ledger>(
     alloc: Global,
     reader: &mut R,
     writer: &mut W,
     chain: &mut Chain<S>,
     tap: &mut T,
-    turns: u64,
+    most_reads: u64,
     blank: Blank,
 ) -> PumpEnd
     requires name { blank.name ≡ L.name }
     requires parts { (blank.parts ≡ L.parts) × (0 < blank.parts) }
     ensures pumped { Pumped (ends_of R.remaining W.contents S.rest reader.old writer.old chain.old)
         (ends_of R.remaining W.contents S.rest reader.new writer.new chain.new)
-        (shown_to T.watches T.sees T.ends tap.old tap.new) turns result }
+        (shown_to T.watches T.sees T.ends tap.old tap.new) most_reads result }
     ensures failed { result.why ≡ Why.Failed → has_failed chain.old ≡ true }
     ensures gives_none { has_failed chain.old ≡ true → (result.why ≢ Why.End) × (result.given ≡ 0) }
-    ensures unfinished { (result.why ≡ Why.ReadFault) ⊎ (result.why ≡ Why.TurnsOver)
+    ensures unfinished { (result.why ≡ Why.ReadFault) ⊎ (result.why ≡ Why.ReadsOver)
         → has_failed chain.new ≡ has_failed chain.old }
-    ensures wholes { through S.whole (stages_of chain.new) ≡ through S.whole (stages_of chain.old) }
+    ensures wholes { through S.whole (wrappers_of chain.new) ≡ through S.whole (wrappers_of chain.old) }
 {
-    let mut steps = Steps::<L>::new(blank);
-    pump_counted(alloc, reader, writer, chain, tap, turns, &mut steps)
+    let mut times = ReadCount::<L>::new(blank);
+    pump_counted(alloc, reader, writer, chain, tap, most_reads, &mut times)
 }

@@ -1,7 +1,7 @@
 //! The lines that record pieces of a stream, as `recordio` prints them.
 ghost use Rattle.std.specs.Prelude.{◌≡◌, ◌++◌, ◌<◌, ◌≤◌, ◌+◌, length, OnOk, OnErr};
 ghost use Rattle.byte_streams.specs.Records.{before_part, end_text, longest_piece, record_text};
-ghost use Rattle.byte_streams.specs.Stages.{Extends};
+ghost use Rattle.byte_streams.specs.Wrappers.{Extends};
 
 use byte_text::take_back;
 use itoa::Buffer;
@@ -17,11 +17,13 @@ pub enum Way {
     Output,
 }
 
-/// How many bytes a pipe takes whole: what another process writes into it lands before them or behind them.
+/// How many bytes a pipe takes as a whole: no bytes of another process land among them.
 pub const PIPE_BUF: usize = 4096;
 
-/// How many bytes a piece of a record with this number has at most, so that its lines fit into `PIPE_BUF` even where each byte is a
-/// line feed: 256, and 160 where the number has more than ten digits. It takes no memory.
+/// The length of the longest piece of a record with this number, so that its lines fit into `PIPE_BUF` even if each
+/// byte is a line feed.
+///
+/// It is 256, and 160 if the number has more than ten digits. It takes no memory.
 pub fn longest_piece(number: u64) -> usize
     ensures longest { result ≡ longest_piece number }
     ensures some { 0 < result }
@@ -30,8 +32,8 @@ pub fn longest_piece(number: u64) -> usize
     if number < 10_000_000_000 { 256 } else { 160 }
 }
 
-/// Adds the lines that record a piece: one for each line that a line feed ended, with a blank behind it, and one for the
-/// rest, with a plus.
+/// Appends the lines that record a piece: one that ends with a blank for each line with a line feed, and one that ends
+/// with a plus for the rest.
 ///
 /// # Errors
 /// There was no memory: nothing was added.
@@ -45,7 +47,7 @@ pub fn record(number: u64, way: Way, piece: &[u8], out: &mut Vec<u8>) -> Result<
     take_back(out, before, done)
 }
 
-/// Adds the line that records the end of a stream.
+/// Appends the line that records the end of a stream.
 ///
 /// # Errors
 /// There was no memory: nothing was added.
@@ -59,7 +61,7 @@ pub fn record_end(number: u64, way: Way, out: &mut Vec<u8>) -> Result<(), AllocE
     take_back(out, before, done)
 }
 
-/// Adds the lines that record a piece. After an `Err` some of them may have been added.
+/// Appends the lines that record a piece. After an `Err` some of them may have been appended.
 fn record_parts(number: u64, way: Way, piece: &[u8], out: &mut Vec<u8>) -> Result<(), AllocError>
     ensures ok { OnOk result (out.new.items ≡ out.old.items ++ record_text number way piece.now) }
     ensures extends { Extends out.old.items out.new.items }
@@ -75,7 +77,8 @@ fn record_parts(number: u64, way: Way, piece: &[u8], out: &mut Vec<u8>) -> Resul
     add_line(number, way, rest, b"+\n", out)
 }
 
-/// Adds a line: who speaks, a part and what stands behind it. After an `Err` some of it may have been added.
+/// Appends a line: its number and way, a part of the piece, and what ends the line. After an `Err` some of it may have
+/// been appended.
 fn add_line(
     number: u64,
     way: Way,

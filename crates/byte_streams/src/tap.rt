@@ -11,16 +11,18 @@ use crate::{Way, longest_piece, record, record_end};
 use std::alloc::Global;
 use std::io::Write;
 
-/// Watches one way of a stream. A pump shows it each piece once, in order: with way in the pieces that it reads, with way out
-/// those that its chain gives.
+/// A tap: it watches one way of a stream.
+///
+/// A pump shows it each piece once, in order: the pieces that the pump reads if it watches the way in, and those that
+/// the chain gives if it watches the way out.
 pub trait Tap {
     /// The way that it watches.
     ghost watches: { Self → Way };
 
-    /// What being shown a piece makes of it: before, the piece, after.
+    /// How being shown a piece changes it: before, the piece, after.
     ghost sees: { Self → List ℕ → Self → Type 0 };
 
-    /// What being told of the end makes of it.
+    /// How being told of the end changes it: before, after.
     ghost ends: { Self → Self → Type 0 };
 
     /// The way that it watches.
@@ -58,9 +60,10 @@ impl Tap for NoTap {
     fn ended(&mut self) {}
 }
 
-/// A tap that writes the lines of `record` for each piece and that of `record_end` at the end. It cuts what it is shown into pieces of
-/// `longest_piece` bytes and writes the lines of each by one write, which a pipe takes whole: no line of another process lands among them.
-/// Once a growth or a write failed it writes no more.
+/// The tap of `recordio`: it writes the lines of `record` for each piece, and that of `record_end` at the end.
+///
+/// It cuts a piece into parts of `longest_piece` bytes. The lines of a part go by one write, which a pipe takes whole:
+/// no line of another process lands among them. Once memory was lacking or a write failed it writes no more.
 #[derive(Drop)]
 pub struct Recorder<W> {
     number: u64,
@@ -72,7 +75,7 @@ pub struct Recorder<W> {
 }
 
 impl<W: Write> Recorder<W> {
-    /// A recorder of this number and way that writes to `writer`. It takes no memory.
+    /// A recorder of this number and way over a writer. It takes no memory.
     pub fn new(alloc: Global, number: u64, way: Way, writer: W) -> Recorder<W>
         ensures number { number_of result ≡ number }
         ensures way { way_of result ≡ way }
@@ -88,7 +91,7 @@ impl<W: Write> Recorder<W> {
         }
     }
 
-    /// Its writer.
+    /// Gives its writer back.
     pub fn into_writer(self) -> W
         ensures { result ≡ writer_of self }
     {
@@ -128,7 +131,6 @@ impl<W: Write> Tap for Recorder<W> {
 }
 
 impl<W: Write> Recorder<W> {
-    /// Writes the lines that record a piece.
     fn record_piece(&mut self, piece: &[u8])
         requires goes_on { has_failed self.old ≡ false }
         requires short { length piece.now ≤ longest_piece (number_of self.old) }
@@ -139,7 +141,7 @@ impl<W: Write> Recorder<W> {
         self.write_lines(done.is_ok());
     }
 
-    /// Writes the lines that were made, if they could be made, by one write.
+    /// Writes the lines by one write, unless they could not be made.
     fn write_lines(&mut self, made: bool)
         requires fits { length self.old.lines.items ≤ PIPE_BUF }
         ensures number { number_of self.new ≡ number_of self.old }

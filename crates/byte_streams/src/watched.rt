@@ -1,4 +1,4 @@
-//! An input that ends with the program that is to be given it.
+//! An input that ends once the program that gets it reads no more.
 ghost use Rattle.std.specs.Prelude.{◌≡◌};
 ghost use Rattle.byte_streams.specs.Watches.{left_under, reader_of, watch_of};
 
@@ -9,16 +9,16 @@ use std::io::{Read, Result};
 use std::net::Net;
 use std::os::fd::RawFd;
 
-/// The input, among the events.
+/// The token of the input's events.
 const INPUT: Token = Token(0);
 
-/// The pipe, among the events.
+/// The token of the pipe's events.
 const PIPE: Token = Token(1);
 
-/// How many events are looked at together: there are two descriptors.
+/// How many events are taken at once: there are two descriptors.
 const EVENTS: usize = 2;
 
-/// Watches two descriptors at once: an input, and the pipe over which a program is given it.
+/// Watches two descriptors at once: an input, and the pipe over which a program gets it.
 #[derive(Drop)]
 pub struct Watch {
     poll: Poll,
@@ -27,8 +27,10 @@ pub struct Watch {
 }
 
 impl Watch {
-    /// A watch of these two. `None` where one of them can't be watched: there was no memory, or the system has no watch of it, as of a
-    /// regular file, whose reads do not wait.
+    /// A watch of these two.
+    ///
+    /// `None` if one of them can't be watched: there was no memory, or the system has no watch of it. It has none of a
+    /// regular file, whose reads don't wait.
     pub fn new(alloc: Global, net: &impl Net, input: RawFd, pipe: RawFd) -> Option<Watch> {
         let events = Events::with_capacity(alloc, EVENTS).ok()?;
         let poll = Poll::new(net).ok()?;
@@ -36,7 +38,7 @@ impl Watch {
         registry
             .register(&mut SourceFd(&input), INPUT, Interest::READABLE)
             .ok()?;
-        // that nobody reads it any more is told whatever the interest
+        // (whatever the interest, an event tells that nobody reads the pipe any more)
         registry
             .register(&mut SourceFd(&pipe), PIPE, Interest::PRIORITY)
             .ok()?;
@@ -47,11 +49,12 @@ impl Watch {
         })
     }
 
-    // Waits until the input can be read or nobody reads the pipe any more. Tells whether the pipe still has a reader.
+    // Waits until the input can be read, or nobody reads the pipe any more. It answers whether the pipe still has a
+    // reader.
     fn wait(&mut self) -> bool {
         for _ in 0..u64::MAX {
             let registry = self.poll.registry();
-            // what is ready is told once more after this
+            // (so that an input which is ready is told once more)
             let again = registry.reregister(&mut SourceFd(&self.input), INPUT, Interest::READABLE);
             if again.is_err() || self.poll.poll(&mut self.events, None).is_err() {
                 return true;
@@ -67,7 +70,7 @@ impl Watch {
     }
 }
 
-/// A reader that ends where its own input ends, and where the program that is to be given it reads no more. Without a watch it is its
+/// A reader that ends with its own input, or once the program that gets it reads no more. Without a watch it is its
 /// reader.
 #[derive(Drop)]
 pub struct Watched<R> {
@@ -76,7 +79,7 @@ pub struct Watched<R> {
 }
 
 impl<R> Watched<R> {
-    /// This reader under a watch, if there is one.
+    /// Puts a reader under a watch, if there is one.
     pub fn new(reader: R, watch: Option<Watch>) -> Watched<R>
         ensures reader { reader_of result ≡ reader }
         ensures watch { watch_of result ≡ watch }

@@ -8,6 +8,6 @@ is_marked b = nat_lt b 33 || nat_lt 126 b || b == 37 || b == 58
 abbrev pub mark : ℕ → ℕ
 mark b = if is_marked b then 63 else b
 
--- the first hundred bytes of a field, marked, and three dots where it has as many or more
+-- the first hundred bytes of a field, marked, and three dots if it has a hundred or more
 abbrev pub field_text : List ℕ → List ℕ
 field_text bytes = map mark (take 100 bytes) ++ (if nat_lt (length bytes) 100 then [] else codes "...")

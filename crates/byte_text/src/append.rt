@@ -1,11 +1,11 @@
-//! Calls that append. After an `Err` some of a part may stand at the end.
+//! Calls that append to bytes. After an `Err` a part of what was to be appended may stand at the end.
 ghost use Rattle.std.specs.Prelude.{◌≡◌, List, ℕ, OnErr, OnOk, decimal, length, take};
 ghost use Rattle.byte_text.specs.Outcomes.{AppendsLine, AppendsPart};
 
 use itoa::Buffer;
 use std::alloc::AllocError;
 
-/// Adds a text.
+/// Appends a text.
 ///
 /// # Errors
 /// There was no memory; some of the text may have been added.
@@ -15,7 +15,7 @@ pub fn push_text(out: &mut Vec<u8>, text: &str) -> Result<(), AllocError>
     out.extend_from_slice(text.as_bytes())
 }
 
-/// Adds a number, in decimal digits.
+/// Appends a number, in decimal digits.
 ///
 /// # Errors
 /// There was no memory; some of the digits may have been added.
@@ -25,7 +25,7 @@ pub fn push_number(out: &mut Vec<u8>, number: u64) -> Result<(), AllocError>
     push_text(out, Buffer::new().format(number))
 }
 
-/// Takes back what was appended after a length, where that was not all. `done` is what appending gave, and is given back.
+/// Takes back what was appended behind a length, if appending failed. `done` is what appending gave, and is given back.
 pub fn take_back<T>(
     out: &mut Vec<u8>,
     whole: usize,
@@ -41,8 +41,8 @@ pub fn take_back<T>(
     done
 }
 
-/// Takes back what was appended after a length, where that was not all: so a whole that was appended in parts is appended or
-/// not at all. `done` is what the parts gave, and is given back.
+/// Takes back what was appended in parts behind a length, if a part failed: the whole is appended or not at all. `done`
+/// is what the parts gave, and is given back.
 pub fn whole_or_none(
     out: &mut Vec<u8>,
     whole: usize,

@@ -1,4 +1,4 @@
-//! Fields of a line: addresses, and texts that anybody may choose, cut and marked.
+//! Fields of a line: addresses, and texts that anybody may choose, which are cut and marked.
 ghost use Rattle.std.specs.Prelude.{◌≡◌};
 ghost use Rattle.std.specs.Net.Text.{ipv4_text};
 ghost use Rattle.byte_text.specs.Fields.{field_text, mark};
@@ -7,10 +7,10 @@ ghost use Rattle.byte_text.specs.Outcomes.{AppendsPart};
 use crate::append::{push_number, push_text};
 use std::alloc::AllocError;
 
-/// How many bytes of a field are printed.
+/// The greatest number of bytes that a field prints.
 const FIELD: usize = 100;
 
-// A byte as it is printed in a field: `?` for one that would be misread there.
+// A byte as a field prints it: `?` stands for one that would be misread there.
 fn mark(byte: u8) -> u8
     ensures { result ≡ mark byte }
 {
@@ -21,7 +21,7 @@ fn mark(byte: u8) -> u8
     }
 }
 
-/// Adds an IPv4 address, as `127.0.0.1`.
+/// Appends an IPv4 address, as `127.0.0.1`.
 ///
 /// # Errors
 /// There was no memory; some of it may have been added.
@@ -38,8 +38,8 @@ pub fn push_address(out: &mut Vec<u8>, ip: [u8; 4]) -> Result<(), AllocError>
     push_number(out, u64::from(d))
 }
 
-/// Adds the bytes of a field, marked, and the sign that there are as many as are printed or more: so a text that anybody may choose can't be
-/// misread in a line.
+/// Appends a field: its first hundred bytes, marked, and `...` if it has a hundred or more. So a text that anybody may
+/// choose can't be misread in a line.
 ///
 /// # Errors
 /// There was no memory; some of the field may have been added.

@@ -6,11 +6,12 @@ use crate::{push_marked, push_text, whole_or_none};
 use std::alloc::{AllocError, Global};
 use std::io::Error;
 
-/// What stands before the number in the display of an error of the system.
+/// What stands in front of the number when an error of the system is displayed.
 const NUMBER: &str = " (os error ";
 
-/// Appends the line that tells the cause of a fault: the tool; what the system was asked for, as a path, an address with its port or a
-/// program, as a field of the log, so cut and marked; and why that failed.
+/// Appends the line that tells the cause of a fault: the tool, what the system was asked for, and why that failed.
+///
+/// What was asked for is a path, an address with its port, or a program. As a field of the log it is cut and marked.
 ///
 /// # Errors
 /// There was no memory, and nothing was appended.
@@ -33,8 +34,9 @@ fn push_cause(out: &mut Vec<u8>, tool: &str, what: &[u8], why: &str) -> Result<(
     push_text(out, "\n")
 }
 
-/// Appends the line that tells the cause of a fault by the system's number of its error (`errno`), whose words it has: `No such file or
-/// directory`. Which words those are is the system's affair.
+/// Appends the line that tells the cause of a fault, by the system's number for the error (`errno`).
+///
+/// The words are the system's own, such as `No such file or directory`. No clause says which.
 ///
 /// # Errors
 /// There was no memory, and nothing was appended.
@@ -51,7 +53,7 @@ pub fn append_os_cause(
     append_cause(out, tool, what, why.as_str())
 }
 
-/// The system's words for an error, by its number (`errno`): `No such file or directory`.
+/// Gives the system's words for an error by its number (`errno`), such as `No such file or directory`.
 ///
 /// # Errors
 /// There was no memory.
@@ -60,7 +62,7 @@ pub fn words_of_error(alloc: Global, error: i32) -> Result<String, AllocError> {
     String::from_str(alloc, without_number(shown.as_str()))
 }
 
-// The words of an error of the system, without its number.
+// Takes the number off the system's words for an error.
 fn without_number(shown: &str) -> &str {
     shown
         .rsplit_once(NUMBER)

@@ -6,8 +6,9 @@ ghost use Rattle.byte_text.specs.Numbers.{number_of};
 
 use std::io::{Read, Result, Write};
 
-/// A stream that notes the system's number of the error of its last call, so that whoever was told no more than a fault can tell its
-/// cause. It gives and takes what its stream does.
+/// A stream that notes the system's number for the error of its last call.
+///
+/// So the cause can be told where a call answers no more than a fault. It reads and writes what its stream does.
 #[derive(Drop)]
 pub struct NotingStream<S> {
     stream: S,
@@ -17,7 +18,7 @@ pub struct NotingStream<S> {
 impl<S> NotingStream<S> {
     ghost use Rattle.byte_text.specs.NotingStream.{noted_error, noted_stream};
 
-    /// A stream of which no call has failed.
+    /// Wraps a stream of which no call has failed.
     pub fn new(stream: S) -> NotingStream<S>
         ensures error { noted_error result ≡ None }
         ensures stream { noted_stream result ≡ stream }
@@ -28,7 +29,8 @@ impl<S> NotingStream<S> {
         }
     }
 
-    /// The number of the error of the last call: `None` where it did not fail, or where the system has no number for its error.
+    /// The system's number for the error of the last call. `None` if the call did not fail, or if the system has no
+    /// number for its error.
     pub fn error(&self) -> Option<i32>
         ensures { result ≡ noted_error self.now }
     {
@@ -36,7 +38,7 @@ impl<S> NotingStream<S> {
     }
 }
 
-// The number of the error of a call, if it failed by one of the system's.
+// The system's number for the error of a call, if the call failed and the error has one.
 fn error_of<T>(outcome: &Result<T>) -> Option<i32>
     ensures { result ≡ number_of outcome.now }
 {

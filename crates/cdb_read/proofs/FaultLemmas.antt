@@ -1,21 +1,38 @@
 -- The words of the parts of a lookup, as those of the whole.
-use Rattle.std.proofs.Common.{◌≡◌, ℕ, Bool, List, None, Result, Ok, Err, IsTrue, sym, ◌∙◌, subst}
-use Rattle.rule_lines.specs.Codes.{decoded, RefusesCode}
+use Rattle.std.proofs.Common.{◌≡◌, ℕ, Bool, List, None, Result, Ok, Err, IsTrue, refl, sym, ◌∙◌, subst}
+use Rattle.rule_lines.specs.Codes.{decoded, settings_in, RefusesCode}
+use Rattle.rule_lines.specs.Lines.{pieces_of}
 use Rattle.rule_lines.specs.Lookups.{Finding}
 use Rattle.rule_lines.specs.Lookups.Finding.{Broken}
+use Rattle.rule_lines.specs.declared.code.CodeFault.{CodeFault}
 use Rattle.rule_lines.specs.declared.code.CodeFault.TheVariants.{NotCode}
 use Rattle.rule_lines.specs.declared.code.DecodeFault.{DecodeFault}
 use Rattle.rule_lines.specs.declared.code.DecodeFault.TheVariants.{Code as NoCode, OutOfMemory as NoMemoryToDecode}
 use Rattle.rule_lines.specs.declared.source.FindFault.{FindFault}
 use Rattle.rule_lines.specs.declared.source.FindFault.TheVariants.{Short, Device, OutOfMemory}
+use Rattle.rule_lookup.specs.declared.decision.DecideFault.{DecideFault}
+use Rattle.rule_lookup.specs.declared.decision.DecideFault.TheVariants.{Find, Code, OutOfMemory as NoMemory}
 use Rattle.rule_lookup.specs.Decisions.{of_code}
 use Rattle.rule_lookup.proofs.CodeFaults.{decoded-none}
-use Rattle.cdb_read.specs.Parts.{CodeFails, FailsOf, IsFault}
+use Rattle.cdb_read.specs.Parts.{CodeFails, FailsOf, IsFault, SettingsFail}
 
 -- a value that was read is no code
 pub CodeFails-code : (honest sound : Bool) (value code : List ℕ) (e : DecodeFault) → (IsTrue honest → code ≡ value) → RefusesCode code e → CodeFails honest sound value (of_code e)
 CodeFails-code honest sound value code (NoCode NotCode) same refuses = λ h. subst (λ bytes. decoded bytes ≡ None) (same h) (decoded-none code refuses)
 CodeFails-code honest sound value code NoMemoryToDecode same refuses = tt
+
+-- a piece was not decoded
+pub SettingsFail-code : (honest sound : Bool) (codes : List ℕ) (e : DecodeFault) → ((fault : CodeFault) → e ≡ NoCode fault → IsTrue honest → settings_in (pieces_of 0 codes) ≡ None) → SettingsFail honest sound codes (of_code e)
+SettingsFail-code honest sound codes (NoCode fault) refused = refused fault refl
+SettingsFail-code honest sound codes NoMemoryToDecode refused = tt
+
+-- the settings of a value were not decoded
+pub CodeFails-settings : (honest sound : Bool) (value codes : List ℕ) (e : DecideFault) → (IsTrue honest → settings_in (pieces_of 0 codes) ≡ None → decoded value ≡ None) → SettingsFail honest sound codes e → CodeFails honest sound value e
+CodeFails-settings honest sound value codes (Find Short) none fails = fails
+CodeFails-settings honest sound value codes (Find Device) none fails = fails
+CodeFails-settings honest sound value codes (Find OutOfMemory) none fails = fails
+CodeFails-settings honest sound value codes (Code fault) none fails = λ h. none h (fails h)
+CodeFails-settings honest sound value codes NoMemory none fails = tt
 
 -- a fault at one place is one of what is found there
 pub IsFault-at : (honest sound : Bool) (found whole : Finding) (e : FindFault) → IsFault honest sound found e → (IsTrue honest → found ≡ Broken → whole ≡ Broken) → IsFault honest sound whole e

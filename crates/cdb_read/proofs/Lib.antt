@@ -1,4 +1,5 @@
 pub mod AnyKey
+pub mod CodePieces
 pub mod FaultLemmas
 pub mod FirstFound
 pub mod Passing

@@ -3,7 +3,7 @@ use Rattle.std.proofs.Common.{◌≡◌, ℕ, ◌+◌, ◌-◌, ◌≤◌, ◌<�
 use Rattle.std.specs.Str.{IsUtf8, IsValidUpTo, encode_utf8_all}
 use Rattle.std.specs.Char.{len_utf8}
 use Rattle.std.proofs.Math.Seq.{take-add}
-use Rattle.std.proofs.lemmas.List.{drop-drop, drop-take, get_or-drop, get_or-take, length-append, length-drop, length-take-le, nil_from_length, take-append-drop, take-append-le, take_all, take_at}
+use Rattle.std.proofs.lemmas.List.{drop-drop, drop-take, get_or-drop, get_or-take, length-append, length-drop, length-take, length-take-le, nil_from_length, take-append-drop, take-append-le, take_all, take_at}
 use Rattle.std.proofs.lemmas.Str.{IsCharBoundary-from_take, IsCharBoundary-past_char, IsUtf8-drop, IsUtf8-take, len_utf8_bounds}
 use Rattle.cdb_write.specs.Format.{number_at, two_numbers_at}
 use Rattle.rule_lines.specs.Codes.{decoded}
@@ -33,7 +33,7 @@ module _ (piece rest : List ℕ) (n : ℕ) (valid : IsValidUpTo piece n) (room :
       no_character text after after.0 after.1.1
 
 -- the first bytes of the first bytes
-take-take : (n m : ℕ) (xs : List ℕ) → n + m ≤ length xs → take n (take (n + m) xs) ≡ take n xs
+pub take-take : (n m : ℕ) (xs : List ℕ) → n + m ≤ length xs → take n (take (n + m) xs) ≡ take n xs
 take-take n m xs inside =
     ap (take n) (take-add n m xs) ∙ take_at (take n xs) (take m (drop n xs)) n (length-take-le n xs (omega arith))
 
@@ -142,6 +142,21 @@ two_numbers_windowed file window place pair of begins ends is =
     is
     ∙ ap (λ bytes. two_numbers_at bytes (place - window.place)) of
     ∙ two_numbers_there file window.place (length window.bytes.items) (place - window.place) place (omega arith) (omega arith)
+
+pub part_windowed : (file : List ℕ) (window : Window) (place len : ℕ) → IsWindowOf file window → window.place ≤ place → place + len ≤ window.place + length window.bytes.items → bytes_at window.bytes.items (place - window.place) len ≡ bytes_at file place len
+part_windowed file window place len of begins ends =
+    let n = length window.bytes.items in
+    let k = place - window.place in
+    let more = n - k - len in
+    let parts : n ≡ k + (len + more) = omega arith in
+    let sum : window.place + k ≡ place = omega arith in
+    let long : n ≡ length (take n (drop window.place file)) = ap length of in
+    ap (λ bs. take len (drop k bs)) of
+    ∙ ap (λ m. take len (drop k (take m (drop window.place file)))) parts
+    ∙ ap (take len) (drop-take k (len + more) (drop window.place file))
+    ∙ take-take len more (drop k (drop window.place file)) (omega (arith, long, length-take n (drop window.place file), length-drop window.place file, length-drop k (drop window.place file)))
+    ∙ ap (take len) (drop-drop k window.place file)
+    ∙ ap (λ at. take len (drop at file)) sum
 
 -- a value inside a file is as long as its record says
 pub length-bytes_at : (file : List ℕ) (place len : ℕ) → place + len ≤ length file → length (bytes_at file place len) ≡ len

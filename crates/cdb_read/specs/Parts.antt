@@ -8,7 +8,8 @@ use Rattle.rule_lines.specs.Lookups.{Finding}
 use Rattle.rule_lines.specs.Lookups.Finding.{Has, Absent, Broken}
 use Rattle.rule_lines.specs.declared.source.FindFault.{FindFault}
 use Rattle.rule_lines.specs.declared.source.FindFault.TheVariants.{Short, Device, OutOfMemory}
-use Rattle.rule_lines.specs.Codes.{decoded}
+use Rattle.rule_lines.specs.Codes.{decoded, settings_in}
+use Rattle.rule_lines.specs.Lines.{pieces_of}
 use Rattle.rule_lookup.specs.declared.decision.DecideFault.{DecideFault}
 use Rattle.rule_lookup.specs.declared.decision.DecideFault.TheVariants.{Find, Code, OutOfMemory as NoMemory}
 use Rattle.cdb_read.specs.declared.cdb_file.Stored.{Stored}
@@ -57,6 +58,10 @@ Tells file found result = IfOk result (IsRecord file found)
 abbrev pub IsWindowOf : List ℕ → Window → Type 0
 IsWindowOf file window = window.bytes.items ≡ bytes_at file window.place (length window.bytes.items)
 
+-- that have so many bytes from a place on
+abbrev pub Covers : Window → ℕ → ℕ → Type 0
+Covers window place len = (window.place ≤ place) × (place + len ≤ window.place + length window.bytes.items)
+
 -- a fault where something is to be found in a file of which it is known, or not, that it is honest and that it is sound
 abbrev pub IsFault : Bool → Bool → Finding → FindFault → Type 0
 IsFault honest sound found Short = IsTrue honest → found ≡ Broken
@@ -72,6 +77,14 @@ ReadFails honest sound OutOfMemory = Unit {0}
 -- an answer that is a fault is one where this is to be found
 abbrev pub FailsOf : {X : Type 0} → Bool → Bool → Finding → Result X FindFault → Type 0
 FailsOf honest sound found result = IfErr result (IsFault honest sound found)
+
+-- a fault where bytes inside such a file are read as the codes of settings
+abbrev pub SettingsFail : Bool → Bool → List ℕ → DecideFault → Type 0
+SettingsFail honest sound codes (Find Short) = IsTrue honest → ⊥
+SettingsFail honest sound codes (Find Device) = IsTrue sound → ⊥
+SettingsFail honest sound codes (Find OutOfMemory) = ⊥
+SettingsFail honest sound codes (Code fault) = IsTrue honest → settings_in (pieces_of 0 codes) ≡ None
+SettingsFail honest sound codes NoMemory = Unit {0}
 
 -- a fault where a value inside such a file is decoded
 abbrev pub CodeFails : Bool → Bool → List ℕ → DecideFault → Type 0

@@ -1,19 +1,21 @@
 //! Lookups in a compiled file.
-ghost use Rattle.std.specs.Prelude.{◌≡◌, ◌≢◌, ◌≤◌, ◌<◌, ◌+◌, ◌*◌, ◌^◌, ◌%◌, length, Some, IsTrue, IfOk, IfErr, OnOk};
+ghost use Rattle.std.specs.Prelude.{◌≡◌, ◌≢◌, ◌≤◌, ◌<◌, ◌+◌, ◌*◌, ◌^◌, ◌%◌, bytes_eq, length, Some, IsTrue, IfOk, IfErr, OnOk};
 ghost use Rattle.cdb_write.specs.Format.{two_numbers_at};
-ghost use Rattle.cdb_read.specs.Parts.{CodeFails, FailsOf, IsFault, IsInside, IsWindowOf, ReadFails, Tells, bytes_at, found_in_slots, record_at, value_of, value_place};
+ghost use Rattle.cdb_read.specs.Parts.{CodeFails, Covers, FailsOf, IsFault, IsInside, IsWindowOf, ReadFails, SettingsFail, Tells, bytes_at, found_in_slots, record_at, value_of, value_place};
 ghost use Rattle.cdb_read.specs.Reading.{lies_in, reading};
 ghost use Rattle.cdb_read.specs.Sources.{trust_of};
-ghost use Rattle.rule_lines.specs.Codes.{decoded};
+ghost use Rattle.rule_lines.specs.Codes.{decoded, settings_in};
+ghost use Rattle.rule_lines.specs.Lines.{pieces_of};
 ghost use Rattle.rule_lines.specs.Lookups.Trust.{Sound};
 
+use crate::pieces::take_piece;
 use crate::stage::{Stage, text_front};
-use crate::window::{FIRST_PIECE, PIECE, Window};
+use crate::window::{FIRST_RECORD, FIRST_SLOTS, VALUE_PIECE, Window};
 use byteorder::{ByteOrder, LittleEndian};
 use cdb_write::hash;
 use cdb_write::layout::HEADER_LENGTH;
 use dir_calls::RulesFile;
-use rule_lines::{CodeFault, FindFault, Instr, PairSource, decode_instr};
+use rule_lines::{CodeFault, FindFault, Instr, PairSource, Settings, decode_instr, split_verdict};
 use rule_lookup::{DecideFault, RuleSource};
 use std::alloc::Global;
 use std::marker::Model;
@@ -119,37 +121,32 @@ impl<F: RulesFile> CdbFile<F> {
         Ok((first, second))
     }
 
-    /// The record at a place, or `None` where it is seen to have another key.
-    fn record_at(&self, alloc: Global, place: u32, key: &[u8]) -> Result<Option<Stored>, FindFault>
-        ensures found { IsTrue F.honest → Tells (F.bytes self.now) (record_at (F.bytes self.now) key.now place) result }
-        ensures fault { IfErr result (IsFault F.honest F.sound (record_at (F.bytes self.now) key.now place)) }
+    /// Lets a window have so many bytes from a place on, read in its place where it has not, and no further than an end.
+    fn cover(
+        &self,
+        alloc: Global,
+        window: &mut Window,
+        place: u64,
+        len: usize,
+        end: u64,
+    ) -> Result<(), FindFault>
+        requires fits { place + len ≤ end }
+        requires inside { IsTrue F.honest → end ≤ length (F.bytes self.now) }
+        requires read { IsTrue F.honest → IsWindowOf (F.bytes self.now) window.old }
+        ensures covers { OnOk result (Covers window.new place len) }
+        ensures read { IsTrue F.honest → OnOk result (IsWindowOf (F.bytes self.now) window.new) }
+        ensures fault { IfErr result (ReadFails F.honest F.sound) }
     {
-        let record = u64::from(place);
-        if !self.holds(record, 8) {
-            return Err(FindFault::Short);
+        if window.has(place, len) {
+            window.answered();
+            return Ok(());
         }
-        let (key_len, value_len) = self.two_numbers(record)?;
-        if key_len as usize != key.len() {
-            return Ok(None);
-        }
-        if !self.holds(record + 8, u64::from(key_len)) {
-            return Err(FindFault::Short);
-        }
-        let record_key = self.bytes_at(alloc, record + 8, key.len())?;
-        if record_key.as_slice() != key {
-            return Ok(None);
-        }
-        if !self.holds(record + 8 + u64::from(key_len), u64::from(value_len)) {
-            return Err(FindFault::Short);
-        }
-        Ok(Some(Stored {
-            place,
-            key_len,
-            value_len,
-        }))
+        let bytes = self.bytes_at(alloc, place, window.next_len(len, end - place))?;
+        window.fill(place, bytes);
+        Ok(())
     }
 
-    /// The two numbers at a place, by the bytes of a window or, where it has not these, of one that is read in its place.
+    /// The two numbers at a place, by a window.
     fn windowed_numbers(
         &self,
         alloc: Global,
@@ -164,12 +161,67 @@ impl<F: RulesFile> CdbFile<F> {
         ensures read { IsTrue F.honest → IfOk result (λ pair. IsWindowOf (F.bytes self.now) window.new) }
         ensures fault { IfErr result (ReadFails F.honest F.sound) }
     {
-        if window.has_numbers(place) {
-            return Ok(window.numbers(place));
-        }
-        window.bytes = self.bytes_at(alloc, place, window.next_len(end - place))?;
-        window.place = place;
+        self.cover(alloc, window, place, 8, end)?;
         Ok(window.numbers(place))
+    }
+
+    /// Whether a key stands at a place, by a window.
+    fn has_key_at(
+        &self,
+        alloc: Global,
+        window: &mut Window,
+        place: u64,
+        key: &[u8],
+        end: u64,
+    ) -> Result<bool, FindFault>
+        requires fits { place + length key.now ≤ end }
+        requires inside { IsTrue F.honest → end ≤ length (F.bytes self.now) }
+        requires read { IsTrue F.honest → IsWindowOf (F.bytes self.now) window.old }
+        ensures same { IsTrue F.honest
+            → IfOk result (λ same. same ≡ bytes_eq (bytes_at (F.bytes self.now) place (length key.now)) key.now) }
+        ensures read { IsTrue F.honest → IfOk result (λ same. IsWindowOf (F.bytes self.now) window.new) }
+        ensures fault { IfErr result (ReadFails F.honest F.sound) }
+    {
+        self.cover(alloc, window, place, key.len(), end)?;
+        Ok(window.part(place, key.len()) == key)
+    }
+
+    /// The record at a place, or `None` where it is seen to have another key.
+    fn record_at(
+        &self,
+        alloc: Global,
+        window: &mut Window,
+        place: u32,
+        key: &[u8],
+    ) -> Result<Option<Stored>, FindFault>
+        requires read { IsTrue F.honest → IsWindowOf (F.bytes self.now) window.old }
+        ensures found { IsTrue F.honest → Tells (F.bytes self.now) (record_at (F.bytes self.now) key.now place) result }
+        ensures read { IsTrue F.honest → IfOk result (λ found. IsWindowOf (F.bytes self.now) window.new) }
+        ensures fault { IfErr result (IsFault F.honest F.sound (record_at (F.bytes self.now) key.now place)) }
+    {
+        let end = self.file.len();
+        let record = u64::from(place);
+        if record + 8 > end {
+            return Err(FindFault::Short);
+        }
+        let (key_len, value_len) = self.windowed_numbers(alloc, window, record, end)?;
+        if key_len as usize != key.len() {
+            return Ok(None);
+        }
+        if record + 8 + u64::from(key_len) > end {
+            return Err(FindFault::Short);
+        }
+        if !self.has_key_at(alloc, window, record + 8, key, end)? {
+            return Ok(None);
+        }
+        if record + 8 + u64::from(key_len) + u64::from(value_len) > end {
+            return Err(FindFault::Short);
+        }
+        Ok(Some(Stored {
+            place,
+            key_len,
+            value_len,
+        }))
     }
 
     /// What the slots of a table have for a key: the first of the probe that is not passed decides.
@@ -189,12 +241,13 @@ impl<F: RulesFile> CdbFile<F> {
         let first = u64::from(key_hash / 256 % slots);
         let count = u64::from(slots);
         let begin = u64::from(table);
-        let mut window = Window::empty(alloc);
+        let mut slot_window = Window::empty(alloc, FIRST_SLOTS);
+        let mut record_window = Window::empty(alloc, FIRST_RECORD);
         for passed in 0..count {
             let slot = begin + 8 * turned(first, passed, count);
             let (slot_hash, place) = self.windowed_numbers(
                 alloc,
-                &mut window,
+                &mut slot_window,
                 slot,
                 begin + 8 * count,
             )?;
@@ -204,7 +257,7 @@ impl<F: RulesFile> CdbFile<F> {
             if slot_hash != key_hash {
                 continue;
             }
-            if let Some(stored) = self.record_at(alloc, place, key)? {
+            if let Some(stored) = self.record_at(alloc, &mut record_window, place, key)? {
                 return Ok(Some(stored));
             }
         }
@@ -247,7 +300,7 @@ impl<F: RulesFile> CdbFile<F> {
         let mut stage = Stage::Nothing;
         let mut done = 0;
         while done < len {
-            let count = (len - done).min(PIECE);
+            let count = (len - done).min(VALUE_PIECE);
             let piece = match self.bytes_at(alloc, stored.value_place() + done as u64, count) {
                 Ok(piece) => piece,
                 Err(fault) => return Err(DecideFault::of_look_up(fault)),
@@ -268,6 +321,58 @@ impl<F: RulesFile> CdbFile<F> {
         }
     }
 
+    /// The settings whose codes so many bytes from a place on are, decoded as they are read: of these bytes no more is held than a piece and
+    /// the setting that it goes on with.
+    fn settings_at(&self, alloc: Global, place: u64, len: usize) -> Result<Settings, DecideFault>
+        requires fits { place + len < 2 ^ 64 }
+        requires inside { IsTrue F.honest → place + len ≤ length (F.bytes self.now) }
+        ensures found { IsTrue F.honest → IfOk result (λ settings.
+            settings_in (pieces_of 0 (bytes_at (F.bytes self.now) place len)) ≡ Some settings) }
+        ensures refused { IfErr result (SettingsFail F.honest F.sound (bytes_at (F.bytes self.now) place len)) }
+    {
+        let mut settings = Settings::new(alloc);
+        let mut held = Vec::new(alloc);
+        let mut done = 0;
+        while done < len {
+            let count = (len - done).min(VALUE_PIECE);
+            let piece = match self.bytes_at(alloc, place + done as u64, count) {
+                Ok(piece) => piece,
+                Err(fault) => return Err(DecideFault::of_look_up(fault)),
+            };
+            if let Err(fault) = take_piece(alloc, &piece, &mut held, &mut settings) {
+                return Err(DecideFault::of_code(fault));
+            }
+            done += count;
+        }
+        if held.is_empty() {
+            Ok(settings)
+        } else {
+            Err(DecideFault::Code(CodeFault::NotCode))
+        }
+    }
+
+    /// The instruction whose code a long value is.
+    fn decode_long(&self, alloc: Global, stored: Stored) -> Result<Instr, DecideFault>
+        requires inside { IsTrue F.honest → IsInside (F.bytes self.now) stored }
+        requires long { 2 ≤ stored.value_len }
+        ensures decoded { IsTrue F.honest
+            → IfOk result (λ instr. decoded (value_of (F.bytes self.now) stored) ≡ Some instr) }
+        ensures refused { IfErr result (CodeFails F.honest F.sound (value_of (F.bytes self.now) stored)) }
+    {
+        let head = match self.bytes_at(alloc, stored.value_place(), 2) {
+            Ok(head) => head,
+            Err(fault) => return Err(DecideFault::of_look_up(fault)),
+        };
+        let (verdict, codes) = split_verdict(&head);
+        let begin = 2 - codes.len();
+        let settings = self.settings_at(
+            alloc,
+            stored.value_place() + begin as u64,
+            stored.value_len as usize - begin,
+        )?;
+        Ok(Instr { verdict, settings })
+    }
+
     /// The instruction whose code the value of a record is.
     fn decode(&self, alloc: Global, stored: Stored) -> Result<Instr, DecideFault>
         requires inside { IsTrue F.honest → IsInside (F.bytes self.now) stored }
@@ -275,8 +380,9 @@ impl<F: RulesFile> CdbFile<F> {
             → IfOk result (λ instr. decoded (value_of (F.bytes self.now) stored) ≡ Some instr) }
         ensures refused { IfErr result (CodeFails F.honest F.sound (value_of (F.bytes self.now) stored)) }
     {
-        if stored.value_len as usize > FIRST_PIECE {
+        if stored.value_len as usize > VALUE_PIECE {
             self.check_code(alloc, stored)?;
+            return self.decode_long(alloc, stored);
         }
         let code = match self.value_of(alloc, stored) {
             Ok(code) => code,

@@ -8,6 +8,7 @@
 
 pub mod cdb_file;
 pub mod laws;
+mod pieces;
 mod stage;
 mod window;
 

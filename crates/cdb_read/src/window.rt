@@ -1,47 +1,70 @@
 //! Bytes of a file that were read together.
 ghost use Rattle.std.specs.Prelude.{◌≡◌, ◌≤◌, ◌+◌, ◌-◌, [], length, IsTrue};
 ghost use Rattle.cdb_write.specs.Format.{two_numbers_at};
+ghost use Rattle.cdb_read.specs.Parts.{Covers, bytes_at};
 
 use byteorder::{ByteOrder, LittleEndian};
 use std::alloc::Global;
 
-/// How many bytes are read at once, at most: the first time, and later.
-pub(crate) const FIRST_PIECE: usize = 4096;
+/// How many bytes are read at once, at most.
+const PIECE: usize = 65536;
 
-pub(crate) const PIECE: usize = 65536;
+/// How much of a table is read at first: most lookups end in it.
+pub(crate) const FIRST_SLOTS: usize = 4096;
+
+/// How much of a record is read at first: most are no longer.
+pub(crate) const FIRST_RECORD: usize = 128;
+
+/// How much of a value is read at once.
+pub(crate) const VALUE_PIECE: usize = 4096;
+
+/// How much longer the next read is for each answer of the last: less than it costs to read again.
+const MORE: usize = 1024;
 
 /// The bytes from a place on.
 #[derive(Drop)]
 pub(crate) struct Window {
     pub(crate) place: u64,
     pub(crate) bytes: Vec<u8>,
+    first: usize,
+    next: usize,
 }
 
 impl Window {
-    /// No bytes.
-    pub(crate) fn empty(alloc: Global) -> Window
+    /// No bytes, where so many are read at first.
+    pub(crate) fn empty(alloc: Global, first: usize) -> Window
         ensures { result.bytes.items ≡ [] }
     {
         Window {
             place: 0,
             bytes: Vec::new(alloc),
+            first,
+            next: first,
         }
     }
 
-    /// Whether it has the two numbers at a place.
-    pub(crate) fn has_numbers(&self, place: u64) -> bool
-        ensures { IsTrue result → (self.now.place ≤ place) × (place + 8 ≤ self.now.place + length self.now.bytes.items) }
+    /// Whether it has so many bytes from a place on.
+    pub(crate) fn has(&self, place: u64, len: usize) -> bool
+        ensures { IsTrue result → Covers self.now place len }
     {
         match place.checked_sub(self.place) {
-            Some(at) => 8 <= self.bytes.len() && at <= self.bytes.len() as u64 - 8,
+            Some(at) => len <= self.bytes.len() && at <= (self.bytes.len() - len) as u64,
             None => false,
         }
     }
 
+    /// So many bytes from a place on that it has.
+    pub(crate) fn part(&self, place: u64, len: usize) -> &[u8]
+        requires { Covers self.now place len }
+        ensures { result.now ≡ bytes_at self.now.bytes.items (place - self.now.place) len }
+    {
+        let at = (place - self.place) as usize;
+        &self.bytes[at..at + len]
+    }
+
     /// The two numbers at a place that it has.
     pub(crate) fn numbers(&self, place: u64) -> (u32, u32)
-        requires begins { self.now.place ≤ place }
-        requires ends { place + 8 ≤ self.now.place + length self.now.bytes.items }
+        requires { Covers self.now place 8 }
         ensures { result ≡ two_numbers_at self.now.bytes.items (place - self.now.place) }
     {
         let at = (place - self.place) as usize;
@@ -50,17 +73,32 @@ impl Window {
         (first, second)
     }
 
-    /// How many bytes are read next, where so many are left: few the first time, since most lookups end in them.
-    pub(crate) fn next_len(&self, left: u64) -> usize
-        requires { 8 ≤ left }
-        ensures least { 8 ≤ result }
+    /// Lets the next read be longer, after an answer.
+    pub(crate) fn answered(&mut self)
+        ensures place { self.new.place ≡ self.old.place }
+        ensures bytes { self.new.bytes ≡ self.old.bytes }
+    {
+        if self.next < PIECE {
+            self.next += MORE;
+        }
+    }
+
+    /// How many bytes are read next, where so many are needed and so many are left.
+    pub(crate) fn next_len(&self, needed: usize, left: u64) -> usize
+        requires { needed ≤ left }
+        ensures least { needed ≤ result }
         ensures most { result ≤ left }
     {
-        let most = if self.bytes.is_empty() {
-            FIRST_PIECE
-        } else {
-            PIECE
-        };
-        left.min(most as u64) as usize
+        left.min(self.next as u64).max(needed as u64) as usize
+    }
+
+    /// Takes bytes from a place on.
+    pub(crate) fn fill(&mut self, place: u64, bytes: Vec<u8>)
+        ensures place { self.new.place ≡ place }
+        ensures bytes { self.new.bytes ≡ bytes }
+    {
+        self.place = place;
+        self.bytes = bytes;
+        self.next = self.first;
     }
 }

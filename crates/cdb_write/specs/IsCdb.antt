@@ -4,7 +4,7 @@ use Rattle.std.specs.List.{IsAmong, before_first, count_by, position_or_len}
 use Rattle.cdb_write.specs.Format.{Pair, entries_of, records_of}
 use Rattle.cdb_write.specs.Slots.{is_same, pointer_at, probe_at, slots_at, table_entries, table_of}
 
--- the entry at a place, or another where there is none
+-- the entry at a place, or another if there is none
 abbrev pub entry_or : List Pair → ℕ → ℕ × ℕ → ℕ × ℕ
 entry_or pairs i other = get_or (entries_of pairs) i other
 

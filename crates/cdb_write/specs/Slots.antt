@@ -3,7 +3,7 @@ use Rattle.std.specs.Prelude.{ℕ, ◌+◌, ◌*◌, ◌/◌, ◌%◌, ◌==◌,
 use Rattle.std.specs.List.{filter, range_with_len}
 use Rattle.cdb_write.specs.Format.{Pair, entries_of, two_numbers_at}
 
--- a slot is empty where its position is 0
+-- a slot is empty if its position is 0
 abbrev pub is_empty : ℕ × ℕ → Bool
 is_empty slot = slot.1 == 0
 

@@ -30,7 +30,7 @@ pub(crate) fn append_pairs(out: &mut Vec<u8>, pairs: &[(u32, u32)]) -> Result<()
 /// Appends a record: the lengths of its key and of its value, the key, and the value.
 ///
 /// # Errors
-/// There was no memory. Nothing changed then.
+/// There was no memory. Nothing changed.
 pub fn append_record(out: &mut Vec<u8>, key: &[u8], value: &[u8]) -> Result<(), AllocError>
     requires key_fits { length key.now < 2 ^ 32 }
     requires value_fits { length value.now < 2 ^ 32 }

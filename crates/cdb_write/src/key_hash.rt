@@ -2,7 +2,9 @@
 ghost use Rattle.std.specs.Prelude.{◌≡◌};
 ghost use Rattle.cdb_write.specs.Format.{hash_of};
 
-/// The hash of a key, as the cdb page has it: from 5381 on, for each byte `h = ((h << 5) + h) ^ c` in 32 bits. It takes no memory.
+/// The hash of a key, as the cdb page has it. It takes no memory.
+///
+/// It is 5381 at first, and `h = ((h << 5) + h) ^ c` in 32 bits for each byte.
 pub fn hash(key: &[u8]) -> u32
     ensures { result ≡ hash_of key.now }
 {

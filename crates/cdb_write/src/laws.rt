@@ -4,7 +4,7 @@ ghost use Rattle.cdb_write.specs.Format.{Pair};
 ghost use Rattle.cdb_write.specs.Image.{finished_length, image_of};
 ghost use Rattle.cdb_write.specs.Written.{AreBytes, Written};
 
-/// The header, the record pieces in order and the table pieces in order, joined, are the file that is written.
+/// The header, the pieces of the records and those of the tables, joined in order, are a compiled file of the pairs.
 pub fn pieces()
     ensures { (pairs : List Pair) → finished_length pairs < 2 ^ 32 → Written (image_of pairs) pairs }
 {}

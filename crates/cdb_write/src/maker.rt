@@ -1,4 +1,4 @@
-//! Making a file in memory.
+//! A compiled file that is made in memory.
 ghost use Rattle.std.specs.Prelude.{◌≡◌, ◌↔◌, ◌<◌, ◌≤◌, ◌^◌, OnOk, OnErr, IfOk};
 ghost use Rattle.cdb_write.specs.Format.{entries_of};
 ghost use Rattle.cdb_write.specs.Image.{finished_length, image_of};
@@ -18,7 +18,7 @@ use std::marker::Model;
 use thiserror::Error;
 
 /// Why a pair was not added.
-#[derive(Clone, Copy, PartialEq, Eq, Debug, Error)]
+#[derive(Clone, Copy, Debug, Error)]
 pub enum AddFault {
     /// The finished file would pass the limit.
     #[error("compiled file too large")]
@@ -44,7 +44,7 @@ impl<T: Drop> From<AllocFailed<T>> for AddFault {
     }
 }
 
-/// Pairs that are to be written as a file, in the order in which they were added.
+/// The pairs of a file that is to be made, in the order in which they were added.
 #[derive(Drop)]
 pub struct Maker {
     limit: u64,
@@ -66,8 +66,10 @@ impl Model for Maker {
 }
 
 impl Maker {
-    /// No pairs. The finished file may have `limit` bytes; a limit under 2,048 counts as that, and one over 4,294,967,295 as
-    /// that. It takes no memory.
+    /// A maker without pairs. It takes no memory.
+    ///
+    /// The finished file may have `limit` bytes. A limit under 2,048 counts as 2,048, and one over 4,294,967,295 as
+    /// that.
     pub fn new(alloc: Global, limit: u64) -> Maker
         ensures { result ≡ no_pairs limit }
     {
@@ -81,7 +83,7 @@ impl Maker {
     /// Adds a pair at the end.
     ///
     /// # Errors
-    /// `TooLarge` where the finished file would pass the limit, `OutOfMemory` where there was no memory. Nothing changed then.
+    /// `TooLarge` if the finished file would pass the limit; `OutOfMemory`. Nothing changed.
     pub fn add(&mut self, key: &[u8], value: &[u8]) -> Result<(), AddFault>
         ensures added { OnOk result (self.new ≡ with_pair self.old key.now value.now) }
         ensures fits { OnOk result (finished_length self.new.pairs ≤ self.new.limit) }
@@ -101,7 +103,6 @@ impl Maker {
         Ok(())
     }
 
-    /// The length of the finished file.
     fn finished_length(&self) -> usize
         ensures length { result ≡ finished_length self.now.pairs }
         ensures fits { result ≤ self.now.limit }
@@ -110,7 +111,7 @@ impl Maker {
         HEADER_LENGTH + self.records.len() + SLOTS_LENGTH * self.entries.len()
     }
 
-    /// The entries by their tables.
+    /// The entries in the lists of their tables.
     fn tables(&self, alloc: Global) -> Result<Tables, AllocError>
         ensures { IfOk result (λ tables. HoldsByTable tables (entries_of self.now.pairs)) }
     {
@@ -121,7 +122,7 @@ impl Maker {
         Ok(tables)
     }
 
-    /// The file of the pairs: the header, the records in order, and the tables in order.
+    /// Makes the file of the pairs: the header, the records in order, and the tables in order.
     ///
     /// # Errors
     /// There was no memory.
@@ -141,7 +142,6 @@ impl Maker {
     }
 }
 
-/// Appends the slots of each table.
 fn append_tables(alloc: Global, out: &mut Vec<u8>, tables: &Tables) -> Result<(), AllocError>
     ensures { OnOk result (AppendsTables tables.now out.old.items out.new.items) }
 {

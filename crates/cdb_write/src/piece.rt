@@ -7,7 +7,7 @@ use crate::append::{append_pairs, append_record};
 use crate::slot::filled_slots;
 use std::alloc::{AllocError, Global};
 
-/// The bytes of a record: the lengths of its key and of its value, the key, and the value.
+/// The bytes of a record: the lengths of its key and its value, the key, and the value.
 ///
 /// # Errors
 /// There was no memory.
@@ -21,7 +21,7 @@ pub fn record_piece(alloc: Global, key: &[u8], value: &[u8]) -> Result<Vec<u8>, 
     Ok(piece)
 }
 
-/// The slots of one table, of the hashes and positions of its records in order. No records give no slots.
+/// The slots of one table, by the hashes and positions of its records in order. Without records there are none.
 ///
 /// # Errors
 /// There was no memory.
@@ -34,7 +34,7 @@ pub fn table_piece(alloc: Global, entries: &[(u32, u32)]) -> Result<Vec<u8>, All
     Ok(piece)
 }
 
-/// The 2,048 bytes of 256 pointers, each a position and a number of slots.
+/// The 2,048 bytes of 256 pointers: for each a position and a number of slots.
 ///
 /// # Errors
 /// There was no memory.

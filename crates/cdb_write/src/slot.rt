@@ -6,7 +6,7 @@ ghost use Rattle.cdb_write.specs.Slots.{is_empty};
 
 use std::alloc::{AllocError, Global};
 
-/// The place of the first empty slot, or the number of slots where none is empty.
+/// The place of the first empty slot, or the number of slots if none is empty.
 fn empty_slot(slots: &[(u32, u32)]) -> usize
     ensures { result ≡ position_or_len is_empty slots.now }
 {
@@ -18,7 +18,8 @@ fn empty_slot(slots: &[(u32, u32)]) -> usize
     slots.len()
 }
 
-/// Puts an entry into the first empty slot of its probe: from the slot that its hash names upward, and then from the first.
+/// Puts an entry into the first empty slot of its probe: upward from the slot that its hash names, and then from the
+/// first slot.
 fn place(slots: &mut [(u32, u32)], entry: (u32, u32))
     requires { 0 < count_by is_empty slots.old }
     ensures { slots.new ≡ with_entry slots.old entry }

@@ -8,7 +8,7 @@ use crate::layout::TABLE_COUNT;
 use std::alloc::{AllocError, Global};
 use std::marker::Model;
 
-/// The hashes and positions of records, in 256 lists by the table that each hash names.
+/// The hashes and positions of records, in 256 lists: a list for each table, which the hash names.
 #[derive(Drop)]
 pub struct Tables {
     lists: Vec<Vec<(u32, u32)>>,
@@ -25,7 +25,7 @@ impl Model for Tables {
 }
 
 impl Tables {
-    /// 256 lists with nothing in them.
+    /// 256 empty lists.
     ///
     /// # Errors
     /// There was no memory.
@@ -39,10 +39,10 @@ impl Tables {
         Ok(Tables { lists })
     }
 
-    /// Adds an entry at the end of its table's list.
+    /// Appends an entry to the list of its table.
     ///
     /// # Errors
-    /// There was no memory. Nothing changed then.
+    /// There was no memory. Nothing changed.
     pub fn push(&mut self, entry: (u32, u32)) -> Result<(), AllocError>
         ensures added { OnOk result (AddsEntry entry self.old self.new) }
         ensures unchanged { OnErr result (self.new ≡ self.old) }
@@ -60,8 +60,8 @@ impl Tables {
         &self.lists[table]
     }
 
-    /// The pointers of all tables, the first of which stands at this place, behind the records: where each stands, and how many slots
-    /// it has.
+    /// The pointers of all tables: where each stands, and how many slots it has. The first table stands at `first`,
+    /// behind the records.
     ///
     /// # Errors
     /// There was no memory.

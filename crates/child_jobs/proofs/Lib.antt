@@ -1,2 +1,2 @@
 pub mod PlaceLemmas
-pub mod SeatLemmas
+pub mod PlacesOutLemmas

@@ -2,6 +2,6 @@
 pub mod Plans
 pub mod Programs
 pub mod Runs
-pub mod Seats
+pub mod PlacesOut
 pub use Rattle.ucspi_env.specs.Variables
 pub use Rattle.connection_facts.specs.Peers

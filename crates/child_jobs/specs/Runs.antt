@@ -21,7 +21,8 @@ job_of running = running.job
 abbrev pub IsSameRun : {L : _} {J : Type 0} {I O : _} → (J → ProgramText) → (J → Variables) → (old new : Running L J I O) → Type 0
 IsSameRun program_of environment_of old new = IsSameChild program_of environment_of (job_of old) (job_of new) × (place_of new ≡ place_of old)
 
--- the program of a job ended so, as a job of the same program with the same variables tells: the same one, since it was killed or waited for
+-- the program of a job ended so, by what a job tells of the same program with the same variables: the job itself, once
+-- it was killed or waited for
 pub record EndsAs {J : Type 0} (program_of : J → ProgramText) (environment_of : J → Variables) (ended : J → Status → Type 0)
     (first : J) (status : Status) : Type 0 where
   pub last : J

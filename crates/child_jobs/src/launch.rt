@@ -13,8 +13,10 @@ use std::marker::Model;
 use thiserror::Error;
 use ucspi_env::Environment;
 
-/// A program and its arguments. Where its path has no slash the launcher looks for it along the search path of the process that starts it, and
-/// not along a `PATH` among the variables that the program is given.
+/// A program and its arguments.
+///
+/// If its path has no slash, the launcher looks for it along the search path of the process that starts it. A `PATH`
+/// among the variables of the program doesn't count.
 #[derive(Drop)]
 pub struct Program {
     path: String,
@@ -38,14 +40,14 @@ impl Program {
         Program { path, args }
     }
 
-    /// Its path.
+    /// The path of the program.
     pub fn path(&self) -> &str
         ensures { result.now ≡ self.now.path }
     {
         self.path.as_str()
     }
 
-    /// Its arguments, in order.
+    /// The arguments of the program, in order.
     pub fn args(&self) -> &[String]
         ensures { map string_bytes result.now ≡ self.now.args }
     {
@@ -54,7 +56,7 @@ impl Program {
 }
 
 /// Why a job can't be waited for or killed.
-#[derive(Clone, Copy, PartialEq, Eq, Debug, Error)]
+#[derive(Clone, Copy, Debug, Error)]
 pub enum WaitFault {
     /// The system refused it.
     #[error("the system refused it")]
@@ -65,14 +67,14 @@ pub enum WaitFault {
 }
 
 /// A job has no pipe ends to give: it was started without them, or gave them before.
-#[derive(Clone, Copy, PartialEq, Eq, Debug, Error)]
+#[derive(Clone, Copy, Debug, Error)]
 #[error("no pipe ends")]
 pub struct NoEnds;
 
-/// A running program. It tells its program and its environment, which stay.
+/// A running program. It tells its program and its environment, which stay the same.
 ///
-/// A job is let go in two ways: by a wait that succeeded, or by `abandon`. One that runs a program of the system should not be `Drop`, so that
-/// no other way lets it go.
+/// A job is let go by a wait that succeeded, or by `abandon`. A job that runs a program of the system should not be
+/// `Drop`, so that nothing else lets it go.
 pub trait Job {
     /// The end of the pipe that the program reads.
     type Input: Write;
@@ -83,44 +85,47 @@ pub trait Job {
     /// The program that it runs.
     ghost program: { Self → ProgramText };
 
-    /// The variables that this was given.
+    /// The variables that the program was given.
     ghost environment: { Self → Variables };
 
-    /// Whether its pipe ends were not given yet.
+    /// Whether its pipe ends can still be given.
     ghost has_ends: { Self → Bool };
 
-    /// What a kill may answer, with the job before it and after it. A job of which nothing is known may answer anything.
+    /// What a kill may answer, with the job before it and after it. For a job of which nothing is known that is
+    /// anything.
     ghost killed: { Self → Self → Result (Unit {0}) WaitFault → Type 0 };
 
-    /// How its program may have ended, where a wait for it succeeds. That of a job of which nothing is known may have ended anyhow.
+    /// How its program may have ended, if a wait for it succeeds. For a job of which nothing is known that is anyhow.
     ghost ended: { Self → StatusOf → Type 0 };
 
-    /// The two ends of its pipes: what is written into the first the program reads on descriptor 0, and what it writes on descriptor 1
-    /// is read from the second. They are given once. It takes no memory.
+    /// Gives the two ends of its pipes, once. It takes no memory.
+    ///
+    /// The program reads on descriptor 0 what is written into the first end. What it writes on descriptor 1 is read
+    /// from the second.
     ///
     /// # Errors
-    /// `NoEnds` where there are none.
+    /// `NoEnds` if there are none.
     fn ends(&mut self) -> Result<(Self::Input, Self::Output), NoEnds>
         ensures had { OnOk result (has_ends self.old ≡ true) }
         ensures given { has_ends self.new ≡ false }
         ensures program { program self.new ≡ program self.old }
         ensures environment { environment self.new ≡ environment self.old };
 
-    /// Ends the program by force. It is to be waited for all the same.
+    /// Ends the program by force. It still has to be waited for.
     ///
     /// # Errors
-    /// `Failed` where the system refused it; `OutOfMemory`. The job is as before.
+    /// `Failed` if the system refused it; `OutOfMemory`. The job is as before.
     fn kill(&mut self) -> Result<(), WaitFault>
         ensures told { killed self.old self.new result }
         ensures ends { has_ends self.new ≡ has_ends self.old }
         ensures program { program self.new ≡ program self.old }
         ensures environment { environment self.new ≡ environment self.old };
 
-    /// Waits until the program has ended, and tells how it ended.
+    /// Waits until the program has ended, and answers how it ended.
     ///
     /// # Errors
-    /// `Failed` where the system refused it; `OutOfMemory`. The job is handed back and may be waited for again; pipe ends that were not
-    /// given are closed, so that a program that reads its input to the end can end.
+    /// `Failed` if the system refused it; `OutOfMemory`. The job is handed back and may be waited for again. Pipe ends
+    /// that were not given are closed, so that a program can end which reads its input to the end.
     fn wait(self) -> Result<Status, (Self, WaitFault)>
     where
         Self: Sized,
@@ -129,27 +134,32 @@ pub trait Job {
         ensures environment { IfErr result (λ refused. environment refused.0 ≡ environment self) }
         ensures no_ends { IfErr result (λ refused. has_ends refused.0 ≡ false) };
 
-    /// Lets the program go without its end: it may run on, and nobody waits for it any more. Pipe ends that were not given are closed. It is
-    /// for a program that could not be waited for, and for one whose end nobody can be told; whoever counts programs counts it for good.
+    /// Lets the program go before its end: it may run on, and nobody waits for it any more. Pipe ends that were not
+    /// given are closed.
+    ///
+    /// It is for a program that could not be waited for, and for one whose end nobody can be told. Whoever counts
+    /// programs counts such a one for good.
     fn abandon(self)
     where
         Self: Sized;
 }
 
-/// What starts one program.
+/// A launcher: it starts one program.
 pub trait Launcher {
-    /// What it starts.
+    /// The job that it starts.
     type Job: Job;
 
-    /// Why it may have started no program with these variables. A launcher of which nothing is known may answer any fault.
+    /// Why it may refuse a program with these variables. A launcher of which nothing is known may answer any fault.
     ghost refuses: { Self → ProgramText → Variables → Fault → Type 0 };
 
-    /// Starts a program with these variables and no others, its standard input and output on pipes. It is tried once: the launcher is spent.
+    /// Starts a program with these variables and no others, its standard input and output on pipes. The launcher is
+    /// spent by one try.
     ///
     /// # Errors
-    /// `NotFound` where there is no such program, `Refused` where the system refuses it, as where it may not be executed, `Other`
-    /// where anything else is amiss; `OutOfMemory`. Nothing runs then: a job that was made can't be let go of here but by `Job::abandon`, so
-    /// what a job takes is there before the program is started.
+    /// `NotFound` if there is no such program; `Refused` if the system refuses it, as one that may not be executed;
+    /// `Other` for any other reason; `OutOfMemory`. Nothing runs then.
+    ///
+    /// Only `Job::abandon` could let a job go here. So what a job takes is there before the program is started.
     fn start(
         self,
         alloc: Global,

@@ -1,11 +1,13 @@
-//! Places.
+//! The right to one child.
 ghost use Rattle.std.specs.Prelude.{◌≡◌};
 
 use std::marker::Model;
 use std::sync::ledger::{Ledger, Share};
 
-/// The right to one running child: a share of one in its table's count. Contracts see its index. It has to be given back to its
-/// table by `leave` or `retire`, or given up by `strand`: the language lets nobody drop it.
+/// The right to one running child: a share of one in its table's count.
+///
+/// Contracts see its index. The language lets nobody drop it: `leave` or `retire` gives it back to its table, or
+/// `strand` gives it up.
 pub struct Place<L: Ledger> {
     pub(crate) index: usize,
     pub(crate) share: Share<L>,
@@ -25,14 +27,14 @@ impl<L: Ledger> Model for Place<L> {
 }
 
 impl<L: Ledger> Place<L> {
-    /// Its row in the table.
+    /// The index of the place in its table.
     pub fn index(&self) -> usize
         ensures { result ≡ self.now }
     {
         self.index
     }
 
-    /// Gives the place up out of turn: its share stays in the table's count for good, and nothing else changes.
+    /// Gives the place up without its table: its share stays in the table's count for good, and nothing else changes.
     pub fn strand(self) {
         let Place { index: _, share: _ } = self;
     }

@@ -1,12 +1,14 @@
-//! What a server does with its connections.
+//! What a server does with each connection.
 ghost use Rattle.std.specs.Prelude.{◌≡◌};
 
 use crate::launch::Program;
 use std::marker::Model;
 use ucspi_env::Environment;
 
-/// What a server does with each connection that it lets in: the program that is run, the variables that it inherits, and the banner that is
-/// written to it first. All connections share it: what is a connection's own, as its two ends, stands beside it.
+/// What a server does with each connection that it lets in: the program, the variables that it inherits, and the banner
+/// that is written first.
+///
+/// All connections share it. What is a connection's own, as its two ends, stands beside it.
 #[derive(Drop)]
 pub struct Plan {
     program: Program,
@@ -27,7 +29,7 @@ impl Model for Plan {
 }
 
 impl Plan {
-    /// A plan of these. It takes no memory.
+    /// A plan of these three. It takes no memory.
     pub fn new(program: Program, inherited: Environment, banner: Vec<u8>) -> Plan
         ensures { result ≡ record {
           program = program;
@@ -42,21 +44,21 @@ impl Plan {
         }
     }
 
-    /// The program that is run.
+    /// The program that runs for each connection.
     pub fn program(&self) -> &Program
         ensures { result.now ≡ self.now.program }
     {
         &self.program
     }
 
-    /// The variables that it inherits.
+    /// The variables that the program inherits.
     pub fn inherited(&self) -> &Environment
         ensures { result.now ≡ self.now.inherited }
     {
         &self.inherited
     }
 
-    /// What is written to the connection first.
+    /// The banner, which is written to the connection first.
     pub fn banner(&self) -> &[u8]
         ensures { result.now ≡ self.now.banner }
     {

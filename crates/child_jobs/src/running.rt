@@ -1,34 +1,36 @@
 //! A child and its place, from start to end.
 ghost use Rattle.std.specs.Prelude.{◌≡◌, ◌+◌, IfOk, IfErr, OnOk, true, false};
-ghost use Rattle.child_jobs.specs.Seats.{is_used};
+ghost use Rattle.child_jobs.specs.PlacesOut.{is_used};
 ghost use Rattle.child_jobs.specs.Runs.{IsSameRun, job_of, place_of};
 
 use crate::launch::{Job, Launcher, NoEnds, Program, WaitFault};
-use crate::{Place, Table};
+use crate::{Place, PlaceTable};
 use connection_facts::{StartFault, Status};
 use std::alloc::Global;
 use std::sync::ledger::Ledger;
 use ucspi_env::Environment;
 
-/// A child that runs, and the place that it holds: as long as it may be alive its place is counted. The language lets nobody drop or copy
-/// it, since a place can't be: it is spent by `finish`, `strand` or `retire`.
+/// A child that runs, and the place that it holds.
+///
+/// As long as the child may be alive, its place is counted. The language lets nobody drop or copy it, since it lets
+/// nobody drop or copy a place. `finish`, `strand` or `retire` spends it.
 pub struct Running<L: Ledger, J: Job> {
     job: J,
     place: Place<L>,
 }
 
 impl<L: Ledger, J: Job> Running<L, J> {
-    /// The place that it holds.
+    /// The place that the child holds.
     pub fn place(&self) -> &Place<L>
         ensures { result.now ≡ place_of self.now }
     {
         &self.place
     }
 
-    /// The two ends of its pipes, once, as `Job::ends` gives them. It takes no memory.
+    /// Gives the two ends of its pipes, once, as `Job::ends` does. It takes no memory.
     ///
     /// # Errors
-    /// `NoEnds` where there are none.
+    /// `NoEnds` if there are none.
     pub fn ends(&mut self) -> Result<(J::Input, J::Output), NoEnds>
         ensures had { OnOk result (J.has_ends (job_of self.old) ≡ true) }
         ensures given { J.has_ends (job_of self.new) ≡ false }
@@ -37,7 +39,7 @@ impl<L: Ledger, J: Job> Running<L, J> {
         self.job.ends()
     }
 
-    /// Ends the child by force, as `Job::kill` does, and tells what that answered. It is to be waited for all the same.
+    /// Ends the child by force, and answers what `Job::kill` does. The child still has to be waited for.
     ///
     /// # Errors
     /// Those of `Job::kill`. The child is as before.
@@ -51,13 +53,13 @@ impl<L: Ledger, J: Job> Running<L, J> {
 }
 
 impl<L: Ledger, J: Job> Running<L, J> {
-    /// Abandons the child, as `Job::abandon` does, and strands its place: it stays counted for good.
+    /// Abandons the child and strands its place, which stays counted for good.
     pub fn strand(self) {
         self.give_up().strand();
     }
 
-    /// Abandons the child, as `Job::abandon` does, and retires its place: it stays counted in its table for good. It takes no memory.
-    pub fn retire(self, table: &mut Table<L>)
+    /// Abandons the child and retires its place, which stays counted in its table for good. It takes no memory.
+    pub fn retire(self, table: &mut PlaceTable<L>)
         requires { is_used table.old (place_of self) ≡ true }
         ensures { table.new ≡ record table.old { retired = table.old.retired + 1 } }
     {
@@ -74,7 +76,7 @@ impl<L: Ledger, J: Job> Running<L, J> {
     }
 }
 
-/// Starts a program with these variables at a place. It is tried once.
+/// Starts a program with these variables at a place. The launcher is spent by one try.
 ///
 /// # Errors
 /// The launcher's own, with the place handed back. Nothing runs then.

@@ -1,9 +1,9 @@
-//! The table.
+//! The table of the places that are out.
 ghost use Rattle.std.specs.Prelude.{◌≡◌, ℕ, List, ◌+◌, ◌<◌, ◌≤◌, ◌^◌, ◌↔◌, IsTrue, true, false, Err, Some, IfOk, IfErr, OnOk, OnErr, bytes_eq, count_by};
 ghost use Rattle.slab.specs.Slab.{slab_len, values};
 ghost use Rattle.std.specs.FinMap as map;
 ghost use Rattle.child_jobs.specs.declared.table.TableFault.TheVariants.{OutOfMemory};
-ghost use Rattle.child_jobs.specs.Seats.{IsFullFor, IsWithin, OneMoreAt, RefusesLimits, empty_seats, is_used, live_at, live_of, with_place, without_place};
+ghost use Rattle.child_jobs.specs.PlacesOut.{IsFullFor, IsWithin, OneMoreAt, RefusesLimits, none_out, is_used, live_at, live_of, with_place, without_place};
 
 use crate::place::Place;
 use connection_facts::Peer;
@@ -14,7 +14,7 @@ use std::sync::ledger::{Blank, Book, Ledger, Share};
 use thiserror::Error;
 
 /// Why no table was made.
-#[derive(Clone, Copy, PartialEq, Eq, Debug, Error)]
+#[derive(Clone, Copy, Debug, Error)]
 pub enum TableFault {
     /// The limit is 0.
     #[error("the limit is 0")]
@@ -36,7 +36,7 @@ impl From<AllocError> for TableFault {
 }
 
 /// Why a peer gets no place.
-#[derive(Clone, Copy, PartialEq, Eq, Debug, Error)]
+#[derive(Clone, Copy, Debug, Error)]
 pub enum PlaceFault {
     /// As many places are out as may be.
     #[error("all places are taken")]
@@ -46,76 +46,76 @@ pub enum PlaceFault {
     FullForAddress,
 }
 
-/// Counts the places that are out, in all and for each address. All its room is taken when it is made.
+/// The places that are out, counted in all and for each address. All its room is taken when it is made.
 #[derive(Drop)]
-pub struct Table<L: Ledger> {
+pub struct PlaceTable<L: Ledger> {
     limit: u64,
     per_address: u64,
     retired: u64,
     // the address of each place that is out
-    seats: Slab<[u8; 4]>,
+    addresses: Slab<[u8; 4]>,
     count: Book<L>,
     rest: Share<L>,
     kept: Share<L>,
 }
 
-impl<L: Ledger> Model for Table<L> {
-    ghost use Rattle.child_jobs.specs.Seats.{Seats, seats_code};
+impl<L: Ledger> Model for PlaceTable<L> {
+    ghost use Rattle.child_jobs.specs.PlacesOut.{PlacesOut, places_out_code};
     ghost use Rattle.std.specs.Prelude.{◌≡◌, ◌+◌, ◌≤◌, ◌<◌, ◌^◌, ℕ, List, bytes_eq};
     ghost use Rattle.std.specs.List.{count_by};
     ghost use Rattle.std.specs.FinMap as map;
     ghost use Rattle.slab.specs.Slab.{entries, slab_len, values};
 
-    ghost Value = { Seats };
+    ghost Value = { PlacesOut };
 
-    ghost coded = { seats_code };
+    ghost coded = { places_out_code };
 
     ghost view = { λ t. record {
       limit = t.limit;
       per_address = t.per_address;
       retired = t.retired;
-      places = map.from_sorted (entries t.seats);
+      places = map.from_sorted (entries t.addresses);
     } };
 
     ghost invariant = { λ t. record {
-      counted : t.count.total ≡ slab_len t.seats;
-      parts : t.rest.parts + slab_len t.seats ≡ t.limit;
+      counted : t.count.total ≡ slab_len t.addresses;
+      parts : t.rest.parts + slab_len t.addresses ≡ t.limit;
       idle : t.rest.amount ≡ 0;
       kept : t.kept.amount ≡ t.retired;
-      room : t.limit ≤ t.seats.capacity;
+      room : t.limit ≤ t.addresses.capacity;
       fits : t.limit < 2 ^ 64;
-      within : (ip : List ℕ) → count_by (λ other. bytes_eq other ip) (values t.seats) ≤ t.per_address;
+      within : (ip : List ℕ) → count_by (λ other. bytes_eq other ip) (values t.addresses) ≤ t.per_address;
     } };
 }
 
-impl<L: Ledger> Table<L> {
-    /// An empty table of places: at most `limit` of them. `blank` has as many parts as the limit says.
+impl<L: Ledger> PlaceTable<L> {
+    /// An empty table, which gives out at most `limit` places. `blank` has as many parts as the limit says.
     ///
     /// # Errors
-    /// `ZeroLimit` where the limit is 0.
-    pub fn new(alloc: Global, blank: Blank, limit: u64) -> Result<Table<L>, TableFault>
+    /// `ZeroLimit` if the limit is 0.
+    pub fn new(alloc: Global, blank: Blank, limit: u64) -> Result<PlaceTable<L>, TableFault>
         requires name { blank.name ≡ L.name }
         requires parts { (blank.parts ≡ L.parts) × (blank.parts ≡ limit) }
-        ensures made { IfOk result (λ table. table ≡ empty_seats limit limit) }
+        ensures made { IfOk result (λ table. table ≡ none_out limit limit) }
         ensures limited { IfOk result (λ _. 0 < limit) }
         ensures refused { IfErr result (RefusesLimits limit limit) }
     {
-        Table::with_address_limit(alloc, blank, limit, limit)
+        PlaceTable::with_address_limit(alloc, blank, limit, limit)
     }
 
-    /// The same with at most `per_address` places for one address.
+    /// An empty table, which gives out at most `limit` places, and at most `per_address` for one address.
     ///
     /// # Errors
-    /// `ZeroLimit` where the limit is 0, else `ZeroAddressLimit` where the limit per address is 0.
+    /// `ZeroLimit` if the limit is 0; otherwise `ZeroAddressLimit` if the limit per address is 0.
     pub fn with_address_limit(
         alloc: Global,
         blank: Blank,
         limit: u64,
         per_address: u64,
-    ) -> Result<Table<L>, TableFault>
+    ) -> Result<PlaceTable<L>, TableFault>
         requires name { blank.name ≡ L.name }
         requires parts { (blank.parts ≡ L.parts) × (blank.parts ≡ limit) }
-        ensures made { IfOk result (λ table. table ≡ empty_seats limit per_address) }
+        ensures made { IfOk result (λ table. table ≡ none_out limit per_address) }
         ensures limited { IfOk result (λ _. (0 < limit) × (0 < per_address)) }
         ensures refused { IfErr result (RefusesLimits limit per_address) }
     {
@@ -125,25 +125,25 @@ impl<L: Ledger> Table<L> {
         if per_address == 0 {
             return Err(TableFault::ZeroAddressLimit);
         }
-        let seats = Slab::with_capacity(alloc, limit as usize)?;
+        let addresses = Slab::with_capacity(alloc, limit as usize)?;
         let (count, mut rest) = blank.open::<L>();
         let kept = rest.empty();
-        Ok(Table {
+        Ok(PlaceTable {
             limit,
             per_address,
             retired: 0,
-            seats,
+            addresses,
             count,
             rest,
             kept,
         })
     }
 
-    /// A place for this peer, with an index that is not in use. It takes no memory.
+    /// Gives out a place for a peer, with an index that is not in use. It takes no memory.
     ///
     /// # Errors
-    /// `Full` where as many places are out as the limit says, else `FullForAddress` where its address has as many as its own
-    /// limit says, retired ones counted in both. Nothing changed.
+    /// `Full` if as many places are out as the limit says; otherwise `FullForAddress` if as many are out for its
+    /// address as the limit per address says. Retired places count in both. Nothing changed.
     pub fn admit(&mut self, peer: &Peer) -> Result<Place<L>, PlaceFault>
         ensures full { (result ≡ Err PlaceFault.Full) ↔ (live_of self.old ≡ self.old.limit) }
         ensures full_for_address { (result ≡ Err PlaceFault.FullForAddress) ↔ IsFullFor peer.now.ip self.old }
@@ -160,13 +160,13 @@ impl<L: Ledger> Table<L> {
         if self.is_full_at(ip) {
             return Err(PlaceFault::FullForAddress);
         }
-        let index = self.seats.insert_reserved(ip);
+        let index = self.addresses.insert_reserved(ip);
         let mut share = self.rest.split_off(1, 0);
         self.count.add(&mut share, 1);
         Ok(Place { index, share })
     }
 
-    /// Takes a place back: its index is free again. It takes no memory.
+    /// Takes a place back, and its index is free again. It takes no memory.
     pub fn leave(&mut self, place: Place<L>)
         requires { is_used self.old place ≡ true }
         ensures left { self.new ≡ without_place place self.old }
@@ -176,7 +176,7 @@ impl<L: Ledger> Table<L> {
         let Place { index, mut share } = place;
         self.count.sub(&mut share, 1);
         self.rest.merge(share);
-        self.seats.remove(index);
+        self.addresses.remove(index);
     }
 
     /// Takes a place back that stays counted for good, in all and for its address. It takes no memory.
@@ -196,19 +196,19 @@ impl<L: Ledger> Table<L> {
         ensures value { result ≡ live_of self.now }
         ensures within { result ≤ self.now.limit }
     {
-        self.seats.len() as u64
+        self.addresses.len() as u64
     }
 
-    /// How many of them are at an address.
+    /// How many places are out for an address, retired ones too.
     pub fn live_at(&self, ip: [u8; 4]) -> u64
         ensures value { result ≡ live_at ip self.now }
         ensures within { result ≤ self.now.per_address }
     {
-        count_at(&self.seats, ip)
+        count_at(&self.addresses, ip)
     }
 
-    // Whether as many places of an address are out as may be. Where fewer are out than the limit says, as large a limit per
-    // address is not reached either.
+    // Whether as many places are out for an address as may be. Nothing is counted if the limit per address is as large
+    // as that of all: fewer places than that are out.
     fn is_full_at(&self, ip: [u8; 4]) -> bool
         requires { live_of self.now < self.now.limit }
         ensures { IsTrue result ↔ (live_at ip self.now ≡ self.now.per_address) }
@@ -230,7 +230,7 @@ impl<L: Ledger> Table<L> {
         self.limit
     }
 
-    /// How many of them may be out at one address.
+    /// How many places may be out at once for one address.
     pub fn address_limit(&self) -> u64
         ensures { result ≡ self.now.per_address }
     {
@@ -238,13 +238,13 @@ impl<L: Ledger> Table<L> {
     }
 }
 
-// How many of the seats are an address's.
-fn count_at(seats: &Slab<[u8; 4]>, ip: [u8; 4]) -> u64
-    requires { slab_len seats.now < 2 ^ 64 }
-    ensures { result ≡ count_by (λ other. bytes_eq other ip) (values seats.now) }
+// How many places are out for an address.
+fn count_at(addresses: &Slab<[u8; 4]>, ip: [u8; 4]) -> u64
+    requires { slab_len addresses.now < 2 ^ 64 }
+    ensures { result ≡ count_by (λ other. bytes_eq other ip) (values addresses.now) }
 {
     let mut count = 0;
-    for (_, other) in seats.iter() {
+    for (_, other) in addresses.iter() {
         if *other == ip {
             count += 1;
         }
@@ -252,12 +252,12 @@ fn count_at(seats: &Slab<[u8; 4]>, ip: [u8; 4]) -> u64
     count
 }
 
-impl<L: Ledger> Table<L> {
-    /// Whether an index is in use: the test for what `leave` and `retire` ask of a place.
-    #[tactic(auto, using(crate::proofs::SeatLemmas::used_places))]
+impl<L: Ledger> PlaceTable<L> {
+    /// Whether an index is in use. By this a caller tests what `leave` and `retire` require of a place.
+    #[tactic(auto, using(crate::proofs::PlacesOutLemmas::used_places))]
     pub fn is_used(&self, index: usize) -> bool
         ensures { IsTrue result ↔ (is_used self.now index ≡ true) }
     {
-        self.seats.contains(index)
+        self.addresses.contains(index)
     }
 }

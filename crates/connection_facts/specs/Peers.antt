@@ -41,7 +41,7 @@ pub record HasNames (host info : Option (List ℕ)) : Type 0 where
   pub info_fits : fits info ≡ true
   pub lower : option_map (map to_ascii_lowercase) host ≡ host
 
--- why a peer is refused: for its host, or else for its user; want of memory comes only to names that may be
+-- why a peer is refused: for its host, or else for its user; want of memory only if both names may be
 abbrev pub RefusesNames : Option (Bor (List ℕ)) → Option (Bor (List ℕ)) → PeerFault → Type 0
 RefusesNames host info BadHost = may_be_name host ≡ false
 RefusesNames host info BadInfo = (may_be_name host ≡ true) × (may_be_name info ≡ false)

@@ -1,7 +1,7 @@
 //! What is known of a connection and its child, whoever decides: the other end, and how both end.
 //!
-//! A `Peer` has names that may be names: `Peer::new` refuses exactly the others, the host's name first. The host is
-//! kept in lower case. Who knows these facts needs nothing of rules, so this crate stands below all lookups.
+//! `Peer::new` refuses exactly the names that a peer can't have, the host's name first. The host is kept in lower case.
+//! These facts need no rules, so this crate stands below all lookups.
 #![tactic(auto)]
 
 pub mod outcome;

@@ -14,9 +14,9 @@ pub enum Status {
 pub enum StartFault {
     /// There is no such program.
     NotFound,
-    /// The system refused it, as where it may not be executed.
+    /// The system refused it, as a program that may not be executed.
     Refused,
-    /// Anything else.
+    /// There was another reason.
     Other,
     /// There was no memory for it.
     OutOfMemory,
@@ -33,10 +33,10 @@ pub enum DropCause {
     Directory,
     /// The rules file could not be read.
     ReadFault,
-    /// The rules file is damaged: it points outside of itself, or holds what is no code.
+    /// The rules file is damaged: it points outside of itself, or a value in it is no code.
     Damaged,
     /// There was no memory for it.
     Memory,
-    /// Its thread could not be had.
+    /// There was no thread to serve it.
     NoThread,
 }

@@ -7,8 +7,8 @@ use std::alloc::{AllocError, AllocFailed, Global};
 use std::marker::Model;
 use thiserror::Error;
 
-/// Why there is no such peer.
-#[derive(Clone, Copy, PartialEq, Eq, Debug, Error)]
+/// Why a peer can't be made.
+#[derive(Clone, Copy, Debug, Error)]
 pub enum PeerFault {
     /// The host's name is empty, longer than 255 bytes, or has a zero byte.
     #[error("bad host")]
@@ -37,8 +37,9 @@ impl<T: Drop> From<AllocFailed<T>> for PeerFault {
     }
 }
 
-/// The other end of a connection: its address and port, and the names of its host and user where they are known. Each name
-/// has 1 to 255 bytes without a zero byte; the host's is in lower case.
+/// The other end of a connection: its address and port, and the names of its host and user if they are known.
+///
+/// Each name has 1 to 255 bytes without a zero byte. The host's is in lower case.
 #[derive(Drop)]
 pub struct Peer {
     ip: [u8; 4],
@@ -67,7 +68,7 @@ impl Model for Peer {
 }
 
 impl Peer {
-    /// A peer with these names, the host's made lower case. `BadHost` comes before `BadInfo`.
+    /// A peer with these names, the host's in lower case. A bad host is answered before a bad user.
     pub fn new(
         alloc: Global,
         ip: [u8; 4],
@@ -95,21 +96,21 @@ impl Peer {
         })
     }
 
-    /// Its IPv4 address, in the order in which it is written.
+    /// The IPv4 address, in the order in which it is written.
     pub fn ip(&self) -> [u8; 4]
         ensures { result ≡ self.now.ip }
     {
         self.ip
     }
 
-    /// Its port.
+    /// The port.
     pub fn port(&self) -> u16
         ensures { result ≡ self.now.port }
     {
         self.port
     }
 
-    /// Its host's name in lower case, if it is known.
+    /// The host's name in lower case, if it is known.
     pub fn host(&self) -> Option<&str>
         ensures value { given result ≡ self.now.host }
         ensures names { HasNames self.now.host self.now.info }
@@ -117,7 +118,7 @@ impl Peer {
         name_in(&self.host)
     }
 
-    /// Its user's name, if it is known.
+    /// The user's name, if it is known.
     pub fn info(&self) -> Option<&str>
         ensures value { given result ≡ self.now.info }
         ensures names { HasNames self.now.host self.now.info }
@@ -125,7 +126,7 @@ impl Peer {
         name_in(&self.info)
     }
 
-    /// An equal peer.
+    /// A copy of the peer.
     pub fn copy(&self) -> Result<Peer, AllocError>
         ensures { IfOk result (λ peer. peer ≡ self.now) }
     {

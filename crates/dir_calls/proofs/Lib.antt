@@ -1,4 +1,5 @@
 pub mod ChangedFiles
+pub mod Clearing
 pub mod Counting
 pub mod EntryLists
 pub mod FuseLemmas

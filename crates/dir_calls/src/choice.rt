@@ -1,7 +1,7 @@
 //! What a stop leaves.
 
 /// What a stop leaves of files that are not synced, and how many of the pending changes of names it takes.
-#[derive(Clone, Copy, PartialEq, Eq, Debug)]
+#[derive(Clone, Copy)]
 pub enum Choice {
     /// Files keep their bytes, and all changes are taken.
     Kept,

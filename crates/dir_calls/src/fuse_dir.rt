@@ -1,6 +1,7 @@
 //! Directories of which one call fails.
 ghost use Rattle.std.specs.Prelude.{◌≡◌, ◌≢◌, ◌≤◌, ◌<◌, ◌-◌, [], ◌∷◌, List, ℕ, IsTrue, None, IsSome, Contains, length, true, false, IfOk, IfErr, OnOk};
 ghost use Rattle.std.specs.Option.{option_map};
+ghost use Rattle.dir_calls.specs.Clearing.{SparesOthers};
 ghost use Rattle.dir_calls.specs.Directory.{number_of, scratch_of, content};
 ghost use Rattle.dir_calls.specs.Calls.{makes, appends, patches, syncs, renames, settles};
 ghost use Rattle.dir_calls.specs.Methods.{AppendsSome, DoesCall, IsInside};
@@ -236,6 +237,7 @@ impl<D: ClearableDir> ClearableDir for FuseDir<D> {
 
     fn take_away(&mut self, alloc: Global, name: &Name) -> Result<(), DirFault>
         ensures gone { IsTrue D.honest → OnOk result (number_of (fuse_state self.new) name.now ≡ None) }
+        ensures others { IsTrue D.honest → SparesOthers name.now (fuse_state self.old) (fuse_state self.new) }
         ensures stays { IsTrue D.honest → (other : List ℕ) → name.now ≢ other → KeepsWhatLasts
             ⟦<FuseDir<D> as Dir>⟧ other self.old self.new }
         ensures faults { IfErr result (Contains (DirFault.Device ∷ DirFault.OutOfMemory ∷ [])) }

@@ -1,6 +1,7 @@
 //! Directories in memory.
 ghost use Rattle.std.specs.Prelude.{◌≡◌, ◌≢◌, ◌≤◌, ◌<◌, [], ◌∷◌, List, ℕ, map, length, true, None, IsSome, Contains, IfOk, IfErr, OnOk, OnErr};
 ghost use Rattle.dir_calls.specs.Calls.{appends, closed, without};
+ghost use Rattle.dir_calls.specs.Clearing.{SparesOthers};
 ghost use Rattle.dir_calls.specs.Directory.{number_of};
 ghost use Rattle.dir_calls.specs.Methods.{AppendsSome, CallElapses, CallIncludes};
 ghost use Rattle.dir_calls.specs.Moments.{CountsFault};
@@ -177,6 +178,7 @@ impl ClearableDir for MemDir {
         ensures does { OnOk result (mem_state self.new ≡ closed (without (mem_state self.old) name.now)) }
         ensures untouched { OnErr result (mem_state self.new ≡ mem_state self.old) }
         ensures gone { OnOk result (number_of (mem_state self.new) name.now ≡ None) }
+        ensures others { SparesOthers name.now (mem_state self.old) (mem_state self.new) }
         ensures stays { (other : List ℕ) → name.now ≢ other
             → KeepsWhatLasts ⟦<MemDir as Dir>⟧ other self.old self.new }
         ensures faults { IfErr result (Contains (DirFault.Device ∷ DirFault.OutOfMemory ∷ [])) }

@@ -7,7 +7,7 @@ use std::marker::Model;
 use thiserror::Error;
 
 /// Why bytes are no name.
-#[derive(Clone, Copy, PartialEq, Eq, Debug, Error)]
+#[derive(Clone, Copy, Debug, Error)]
 pub enum NameFault {
     /// There are no bytes.
     #[error("the name is empty")]

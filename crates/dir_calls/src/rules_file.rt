@@ -9,7 +9,7 @@ use std::sync::Arc;
 use thiserror::Error;
 
 /// A device failed.
-#[derive(Clone, Copy, PartialEq, Eq, Debug, Error)]
+#[derive(Clone, Copy, PartialEq, Debug, Error)]
 #[error("device fault")]
 pub struct DeviceFault;
 

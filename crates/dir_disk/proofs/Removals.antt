@@ -3,12 +3,11 @@ use Rattle.std.proofs.Common.{◌≡◌, inl, inr, ⊎_elim, ℕ, List, refl, sy
 use Rattle.std.specs.Prelude.{Option, None, Result, Ok, Err, OnOk, OnErr}
 use Rattle.std.specs.FinMap.{get}
 use Rattle.dir_calls.specs.NameTable.{NameTable, current}
-use Rattle.dir_calls.specs.Directory.{Directory, FileState, KeepsSynced, number_of}
+use Rattle.dir_calls.specs.Directory.{Directory, FileState, KeepsSynced}
 use Rattle.dir_calls.specs.Calls.{makes, closed, longer, taken_from, without}
 use Rattle.dir_calls.specs.Outcomes.{Fails, LeavesNames}
-use Rattle.dir_disk.specs.OsDir.{Holds, SparesOthers, kept_back}
+use Rattle.dir_disk.specs.OsDir.{Holds, kept_back}
 use Rattle.dir_disk.specs.DiskSteps.{AllOrNone}
-use Rattle.dir_calls.proofs.Removals.{apart}
 use Rattle.dir_calls.proofs.WithFiles.{names_kept}
 use Rattle.dir_disk.proofs.OsCalls.{kept_spares}
 
@@ -23,15 +22,6 @@ module _ {H : Type 0} (number : H → ℕ) (d f : Directory) (scratch : Option H
   files = subst (λ (l : List FileState). KeepsSynced (kept_back pending d).files l)
       (sym (⊎_elim (λ same. ap (λ (x : Directory). x.files) same) (λ done. ap (λ (x : Directory). x.files) done) how))
       (kept_spares number d scratch written pending holds)
-
-  pub removal_spares : SparesOthers name (kept_back pending d) f
-  removal_spares = record {
-    numbers = λ other differ.
-        ⊎_elim (λ same. ap (λ (x : Directory). number_of x other) same) (λ done. ap (λ (x : Directory). number_of x other) done ∙ apart d.names name other differ (number_of d name)) how
-        ∙ sym (ap (λ (t : NameTable). get (current t) other) named);
-    files = files;
-    scratch = removal_closed;
-  }
 
   -- as a file that is not made
   pub removal_fails : Fails (makes name) (kept_back pending d) f

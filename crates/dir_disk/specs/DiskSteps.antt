@@ -1,6 +1,6 @@
 -- What the calls of a disk do. Its state is a directory: the names, the files with all that was written to them and whether that was synced
 -- since, and the file that may be written: the last one that was made.
-use Rattle.std.specs.Prelude.{◌≡◌, ◌⊎◌, ◌≤◌, ◌+◌, ℕ, false, List, [], ◌∷◌, ◌++◌, length, take, drop, None, Some}
+use Rattle.std.specs.Prelude.{◌≡◌, ◌⊎◌, ◌≤◌, ◌+◌, ℕ, false, List, [], ◌∷◌, ◌++◌, length, take, drop, Option, None, Some}
 use Rattle.std.specs.Option.{ForSome}
 use Rattle.dir_calls.specs.NameTable.{SettlesSome, puts, push}
 use Rattle.dir_calls.specs.Directory.{Directory, FileState, KeepsSynced, number_of, scratch_of}
@@ -51,6 +51,10 @@ RemovesOrNot name old new = AllOrNone old (without old name) new
 -- the name is moved onto the other, or nothing has changed
 abbrev pub MovesOrNot : List ℕ → List ℕ → Directory → Directory → Type 0
 MovesOrNot from to old new = AllOrNone old (after (renames from to) old) new
+
+-- nothing has changed, or the name stood for this file
+abbrev pub MovesNoOther : Option ℕ → List ℕ → Directory → Directory → Type 0
+MovesNoOther number from old new = (new ≡ old) ⊎ (number_of old from ≡ number)
 
 -- no file stands under the name, and nothing has changed
 abbrev pub FindsNone : List ℕ → Directory → Directory → Type 0

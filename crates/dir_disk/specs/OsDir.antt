@@ -1,8 +1,8 @@
 -- A directory over a disk, which keeps bytes back.
-use Rattle.std.specs.Prelude.{◌≡◌, ◌≢◌, ℕ, Bool, IsTrue, false, List, length, slice_get, Option, None, Some}
+use Rattle.std.specs.Prelude.{◌≡◌, ℕ, Bool, IsTrue, false, List, length, slice_get, Option, None, Some}
 use Rattle.std.specs.Option.{option_map, ForSome}
 use Rattle.std.proofs.Props.{props}
-use Rattle.dir_calls.specs.Directory.{Directory, FileState, KeepsSynced, number_of}
+use Rattle.dir_calls.specs.Directory.{Directory, FileState, KeepsSynced}
 use Rattle.dir_calls.specs.Calls.{Call, longer, with_scratch}
 use Rattle.dir_calls.specs.Outcomes.{LeftBy}
 use Rattle.dir_calls.specs.Moments.{Elapses, ImagesSince, Includes}
@@ -46,11 +46,5 @@ KeptIncludes state moment left_since call pending old new =
 -- a file that was to be written is given up: the names and the synced files are as before, and no file may be written
 pub record GivesUp (old new : Directory) : Type 0 where
   pub names : new.names ≡ old.names
-  pub files : KeepsSynced old.files new.files
-  pub scratch : new.scratch ≡ None
-
--- a name may be taken away: each other one stands for the file that it stood for, the synced files are as before, and no file may be written
-pub record SparesOthers (name : List ℕ) (old new : Directory) : Type 0 where
-  pub numbers : (other : List ℕ) → name ≢ other → number_of new other ≡ number_of old other
   pub files : KeepsSynced old.files new.files
   pub scratch : new.scratch ≡ None

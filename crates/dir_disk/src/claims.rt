@@ -31,7 +31,7 @@ pub trait Claims<R: Files> {
 }
 
 /// Files are made and taken away at once: no other process is known to do so.
-#[derive(Clone, Copy, PartialEq, Eq, Debug)]
+#[derive(Clone, Copy)]
 pub struct Alone;
 
 impl<R: Files> Claims<R> for Alone

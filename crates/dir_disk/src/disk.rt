@@ -6,7 +6,7 @@ ghost use Rattle.dir_calls.specs.Images.{IsImage};
 ghost use Rattle.dir_calls.specs.Files.{Gives};
 ghost use Rattle.dir_calls.specs.Calls.{renames, settles, after, closed, without};
 ghost use Rattle.dir_disk.specs.DiskFaults.{OnInterrupted, OnNotFound};
-ghost use Rattle.dir_disk.specs.DiskSteps.{AllOrNone, FindsNone, MayWrite, MovesOrNot, RemovesOrNot, SettlesPart, Spoils, StepElapses, after_sync, after_write, created};
+ghost use Rattle.dir_disk.specs.DiskSteps.{AllOrNone, FindsNone, MayWrite, MovesNoOther, MovesOrNot, RemovesOrNot, SettlesPart, Spoils, StepElapses, after_sync, after_write, created};
 
 use dir_calls::Name;
 use std::alloc::{AllocError, Global};
@@ -187,6 +187,8 @@ pub trait Disk {
     ) -> io::Result<()>
         ensures own { IsTrue honest → OnOk result
             (number_of (state self.old) (named from.now) ≡ Some (number file.now)) }
+        ensures own_if_moved { IsTrue honest → OnErr result
+            (MovesNoOther (Some (number file.now)) (named from.now) (state self.old) (state self.new)) }
         ensures done { IsTrue honest → OnOk result
             (state self.new ≡ after (renames (named from.now) (named to.now)) (state self.old)) }
         ensures absent { IsTrue honest → OnNotFound result

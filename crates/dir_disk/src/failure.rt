@@ -8,7 +8,7 @@ use std::sync::Arc;
 use std::sync::atomic::{AtomicU32, Ordering};
 
 /// What a call was about that failed.
-#[derive(Clone, Copy, PartialEq, Eq, Debug)]
+#[derive(Clone, Copy)]
 pub enum FailedOn {
     /// The folder itself, or who has its scratch file.
     Folder,
@@ -19,7 +19,7 @@ pub enum FailedOn {
 }
 
 /// A call of the system that failed.
-#[derive(Clone, Copy, PartialEq, Eq, Debug)]
+#[derive(Clone, Copy)]
 pub struct DiskFailure {
     /// What it was about.
     pub on: FailedOn,

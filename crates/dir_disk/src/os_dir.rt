@@ -3,10 +3,12 @@ ghost use Rattle.std.specs.Prelude.{◌≡◌, ◌≢◌, ◌⊎◌, ◌∷◌, 
 ghost use Rattle.std.specs.Option.{option_map};
 ghost use Rattle.std.specs.IoError.{error_kind};
 ghost use Rattle.dir_calls.specs.Calls.{renames};
+ghost use Rattle.dir_calls.specs.Clearing.{SparesOthers};
 ghost use Rattle.dir_calls.specs.Directory.{number_of};
 ghost use Rattle.dir_calls.specs.Methods.{CallElapses, CallIncludes, DoesCall};
 ghost use Rattle.dir_calls.specs.Replacing.{KeepsWhatLasts};
-ghost use Rattle.dir_disk.specs.OsDir.{Holds, Holds_honest-prop, SparesOthers, kept_back};
+ghost use Rattle.dir_disk.specs.DiskSteps.{MovesNoOther};
+ghost use Rattle.dir_disk.specs.OsDir.{Holds, Holds_honest-prop, kept_back};
 ghost use Rattle.dir_calls.specs.Moments.{CountsFault};
 ghost use Rattle.dir_disk.specs.OsFile.{IsFoundAt};
 ghost use Rattle.dir_disk.specs.KeptImages.{kept_image, disk_image};
@@ -27,7 +29,7 @@ use std::os::unix::fs::FileExt;
 use thiserror::Error;
 
 /// Why a folder can't be used.
-#[derive(Clone, Copy, PartialEq, Eq, Debug, Error)]
+#[derive(Clone, Copy, Debug, Error)]
 pub enum FolderFault {
     /// Nothing stands at the path, or no folder.
     #[error("no such folder")]
@@ -47,7 +49,7 @@ impl From<AllocError> for FolderFault {
 }
 
 /// Why a folder can't be used, with the system's number of its error (`errno`), where it has told one.
-#[derive(Clone, Copy, PartialEq, Eq, Debug)]
+#[derive(Clone, Copy)]
 pub struct FolderError {
     /// Why.
     pub fault: FolderFault,
@@ -147,6 +149,7 @@ impl<D: Disk + Drop> DiskDir<D> {
         ensures removed { IsTrue D.honest → OnOk result (number_of (os_state D.state self.new) name.now ≡ None) }
         ensures others { IsTrue D.honest
             → SparesOthers name.now (os_state D.state self.old) (os_state D.state self.new) }
+        ensures closed { IsTrue D.honest → (os_state D.state self.new).scratch ≡ None }
         // what lasts under another name lasts there, and stands there whenever the machine stops since the call began
         ensures stays { IsTrue D.honest → (other : List ℕ) → name.now ≢ other
             → KeepsWhatLasts ⟦<DiskDir<D> as Dir>⟧ other self.old self.new }
@@ -427,9 +430,11 @@ impl<D: Disk + Drop> Dir for DiskDir<D> {
     }
 
     fn rename(&mut self, alloc: Global, from: &Name, to: &Name) -> Result<(), DirFault>
-        // nothing is moved but the file that was made last, whatever was done to names beside it
+        // nothing is moved but the file that was made last, whatever was done to names beside it, and whatever is answered
         ensures own { IsTrue D.honest → OnOk result
             (number_of (os_state D.state self.old) from.now ≡ os_made D.number self.old) }
+        ensures own_if_moved { IsTrue D.honest → OnErr result (MovesNoOther (os_made D.number self.old) from.now
+            (os_state D.state self.old) (os_state D.state self.new)) }
         ensures does { IsTrue D.honest
             → DoesCall (os_state D.state) (renames from.now to.now) self.old self.new result }
         ensures found { IsTrue D.honest → OnOk result (IsSome (number_of (os_state D.state self.old) from.now)) }

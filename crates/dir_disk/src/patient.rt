@@ -5,7 +5,7 @@ ghost use Rattle.std.specs.IoError.{error_kind};
 ghost use Rattle.dir_calls.specs.Directory.{number_of, scratch_of};
 ghost use Rattle.dir_calls.specs.Calls.{renames, settles, after, without};
 ghost use Rattle.dir_disk.specs.DiskFaults.{OnNotFound};
-ghost use Rattle.dir_disk.specs.DiskSteps.{FindsNone, MayWrite, MovesOrNot, RemovesOrNot, SettlesPart, Spoils, StepElapses, after_sync, after_write};
+ghost use Rattle.dir_disk.specs.DiskSteps.{FindsNone, MayWrite, MovesNoOther, MovesOrNot, RemovesOrNot, SettlesPart, Spoils, StepElapses, after_sync, after_write};
 
 use crate::disk::Disk;
 use std::io::{self, ErrorKind};
@@ -85,6 +85,8 @@ fn rename<D: Disk>(
 ) -> io::Result<()>
     ensures own { IsTrue D.honest → OnOk result
         (number_of (D.state disk.old) (D.named from.now) ≡ Some (D.number file.now)) }
+    ensures own_if_moved { IsTrue D.honest → OnErr result
+        (MovesNoOther (Some (D.number file.now)) (D.named from.now) (D.state disk.old) (D.state disk.new)) }
     ensures done { IsTrue D.honest → OnOk result
         (D.state disk.new ≡ after (renames (D.named from.now) (D.named to.now)) (D.state disk.old)) }
     ensures absent { IsTrue D.honest → OnNotFound result
@@ -156,6 +158,8 @@ pub(crate) fn move_name<D: Disk>(
 ) -> io::Result<()>
     ensures own { IsTrue D.honest → OnOk result
         (number_of (D.state disk.old) (D.named from.now) ≡ option_map D.number made.now) }
+    ensures own_if_moved { IsTrue D.honest → OnErr result
+        (MovesNoOther (option_map D.number made.now) (D.named from.now) (D.state disk.old) (D.state disk.new)) }
     ensures found { IsTrue D.honest → OnOk result (IsSome (number_of (D.state disk.old) (D.named from.now))) }
     ensures done { IsTrue D.honest → OnOk result
         (D.state disk.new ≡ after (renames (D.named from.now) (D.named to.now)) (D.state disk.old)) }

@@ -7,8 +7,8 @@ use Rattle.server_events.specs.Reports.{report_of}
 use Rattle.server_events.specs.ServerState.{Effect, lets_in, brings, lets_go, ends_all, effect, is_legal, is_retired, start}
 use Rattle.event_journals.specs.declared.journal.Noted.{Noted}
 
--- What a journal tells: the report of the events that were noted, and their number, as far as a u64 counts; and where it stores them, the
--- events with their callers and the rules of the installations, both in order.
+-- What a journal tells: the report of the noted events, and their number, as far as a u64 counts. If it stores them:
+-- the events with their callers, and the rules of the installations, both in order.
 pub record Books : Type 0 where
   pub report : Report
   pub count : ℕ
@@ -52,8 +52,8 @@ FitsBy _ = ⊤
 abbrev pub FitsSerial : Event → Type 0
 FitsSerial event = FitsBy (effect event)
 
--- where the first tell of a list of events that the table allows, with a limit that fits into 64 bits, and this event is allowed after it,
--- the second tell of the list with the event
+-- if the first tell of a list of events that the table allows, with a limit that fits into 64 bits, and this event is
+-- allowed after it, the second tell of the list with the event
 abbrev pub GoesOn : Books → Event → Books → Type 0
 GoesOn books event books' =
     (limit per_address : ℕ) (history : List Event) → limit < 2 ^ 64 → FitsSerial event → TellsOf books history

@@ -7,8 +7,8 @@ use rule_lines::RuleList;
 use server_events::{Event, Report};
 use std::alloc::AllocError;
 
-/// Keeps the report of the events and their number, and no event. It takes no memory.
-#[derive(Clone, Copy, PartialEq, Eq, Debug)]
+/// A journal that keeps the report of the events and their number, and no event. It takes no memory.
+#[derive(Clone, Copy)]
 pub struct Counts {
     report: Report,
     events: u64,
@@ -17,7 +17,7 @@ pub struct Counts {
 impl Counts {
     ghost use Rattle.event_journals.specs.Counts.{counts_books};
 
-    /// No event yet.
+    /// A journal without events.
     pub fn new() -> Counts
         ensures { TellsOf (counts_books result) [] }
     {

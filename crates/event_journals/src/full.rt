@@ -8,7 +8,8 @@ use rule_lines::RuleList;
 use server_events::{Event, Report};
 use std::alloc::{AllocError, Global};
 
-/// Stores each event with its caller, and the rules of each installation, and keeps the report beside them.
+/// A journal that stores each event with its caller, and the rules of each installation. It keeps the report beside
+/// them.
 #[derive(Drop)]
 pub struct Full {
     counts: Counts,
@@ -22,7 +23,7 @@ pub struct Full {
 impl Full {
     ghost use Rattle.event_journals.specs.Full.{full_books, full_lists, full_notes};
 
-    /// No event yet. It takes no memory.
+    /// A journal without events. It takes no memory.
     pub fn new(alloc: Global) -> Full
         ensures told { TellsOf (full_books result) [] }
         ensures notes { full_notes result ≡ [] }
@@ -46,21 +47,11 @@ impl Full {
         self.notes.get((at - 1) as usize)
     }
 
-    /// How many events it stores.
+    /// How many events are stored.
     pub fn stored(&self) -> u64
         ensures { result ≡ length (full_notes self.now) }
     {
         self.notes.len() as u64
-    }
-
-    /// The rules of an installation that is stored, counted from 1.
-    pub fn list(&self, number: u64) -> Option<&RuleList>
-        ensures { option_copied result ≡ (if number == 0 then None else slice_get (full_lists self.now) (number - 1)) }
-    {
-        if number == 0 {
-            return None;
-        }
-        self.lists.get((number - 1) as usize)
     }
 }
 

@@ -6,33 +6,34 @@ use rule_lines::RuleList;
 use server_events::{Event, Report};
 use std::alloc::AllocError;
 
-/// An event, and the number of who called it.
+/// An event, and the number of its caller.
 #[derive(Drop)]
 pub struct Noted {
     /// What happened.
     pub event: Event,
-    /// Who called it, from 1, or 0 where nobody said.
+    /// The number of its caller, from 1; 0 if nobody said who calls.
     pub caller: u64,
 }
 
-/// What is kept of the events of a server. Noting an event takes no memory: its room is taken before, by `reserve`. No call takes or gives
-/// other room than it says.
+/// Where the events of a server are kept, or only counted.
+///
+/// Noting an event takes no memory: `reserve` takes its room before. No call takes or gives other room than it says.
 pub trait Journal: Drop {
-    /// What it tells of the events that were noted: their report and their number, and what it stores of them.
+    /// What it tells of the noted events: their report, their number, and what it stores of them.
     ghost books: { Self → Books };
 
-    /// Whether there is room for so many events.
+    /// Whether there is room for this many events.
     ghost has_room: { Self → ℕ → Bool };
 
     /// The report of the events: how many connections were let in, are alive, are retired, and the most ever alive.
     fn report(&self) -> Report
         ensures { result ≡ (books self.now).report };
 
-    /// How many events were noted. At 2^64 - 1 the number stays.
+    /// How many events were noted. The number stays at 2^64 - 1.
     fn events(&self) -> u64
         ensures { result ≡ (books self.now).count };
 
-    /// Takes the room for more events, as for the five that a connection may have.
+    /// Takes room for more events, as for the five that a connection may have.
     ///
     /// # Errors
     /// There was no memory. All is as before.
@@ -47,7 +48,7 @@ pub trait Journal: Drop {
         ensures room { (n : ℕ) → has_room self.new n ≡ has_room self.old (n + events) }
         ensures same { books self.new ≡ books self.old };
 
-    /// Notes an event and who called it, into room that was taken.
+    /// Notes an event and its caller, into room that was taken.
     fn note(&mut self, event: Event, caller: u64)
         requires { has_room self.old 1 ≡ true }
         ensures report { (books self.new).report ≡ next_report (books self.old).report event }
@@ -71,15 +72,15 @@ pub trait Journal: Drop {
         ensures err { OnErr result (books self.new ≡ books self.old) }
         ensures room { HasSameRoom (has_room self.old) (has_room self.new) };
 
-    /// Takes the last list of rules back, where an installation's first step was not made. It takes no memory.
+    /// Takes the last list of rules back, if the first step of its installation was not made. It takes no memory.
     fn forget_list(&mut self)
         ensures forgotten { books self.new ≡ record (books self.old) { lists = option_map without_last (books self.old).lists } }
         ensures room { HasSameRoom (has_room self.old) (has_room self.new) };
 
-    /// There is room for no event.
+    /// There is always room for no event.
     ghost none_needed: { (journal : Self) → has_room journal 0 ≡ true };
 
-    /// Where there is room for some events there is room for fewer.
+    /// If there is room for some events, there is room for fewer.
     ghost less_room: { (journal : Self) (fewer events : ℕ) → fewer ≤ events
         → has_room journal events ≡ true → has_room journal fewer ≡ true };
 }

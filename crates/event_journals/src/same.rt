@@ -1,4 +1,4 @@
-//! Whether two events are the same in all. None of this takes memory.
+//! Whether two events are the same in all. No call here takes memory.
 ghost use Rattle.std.specs.Prelude.{◌≡◌, ◌↔◌, IsTrue};
 ghost use Rattle.server_events.specs.declared.event.Event.TheVariants.{Admitted, Opened, Decided, Started, StartFailed, Ended, Retired, Dropped, Stepped, StepFailed, Stop};
 

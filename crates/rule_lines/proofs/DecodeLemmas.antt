@@ -1,5 +1,5 @@
 -- The pieces of a code, read one after another.
-use Rattle.std.proofs.Common.{◌≡◌, ℕ, ◌<◌, true, false, ◌&&◌, not, eqb, List, [], ◌∷◌, ◌++◌, length, drop, Option, Some, None, refl, sym, ap, ◌∙◌, arith, append_assoc, nat_lt}
+use Rattle.std.proofs.Common.{◌≡◌, ℕ, ◌<◌, true, false, ◌&&◌, not, eqb, List, [], ◌∷◌, ◌++◌, length, drop, Option, Some, None, refl, sym, ap, ◌∙◌, arith, append_assoc, append-nil, nat_lt}
 use Rattle.std.specs.Prelude.{◌==◌, option_map, option_and_then, if◌then◌else◌}
 use Rattle.std.specs.Str.{is_utf8}
 use Rattle.std.proofs.lemmas.Bool.{and_from, or_parts, or_right, cond-true, cond-false, lt-ltb, and_left, and_right, not_from_false}
@@ -10,7 +10,7 @@ use Rattle.rule_lines.specs.declared.code.DecodeFault.{DecodeFault}
 use Rattle.rule_lines.specs.declared.code.DecodeFault.TheVariants.{Code, OutOfMemory}
 use Rattle.rule_lines.specs.declared.instr.Instr.{Instr}
 use Rattle.rule_lines.specs.declared.instr.Verdict.{Verdict}
-use Rattle.rule_lines.specs.Codes.{setting_in, settings_in, verdict_code, decoded, RefusesCode, verdict_in}
+use Rattle.rule_lines.specs.Codes.{setting_in, settings_in, settings_with, verdict_code, decoded, BeginsNone, ReadsOn, RefusesCode, verdict_in}
 use Rattle.rule_lines.specs.Lines.{pieces_of, has_byte}
 use Rattle.rule_lines.specs.Settings.{Assignment, is_setting, is_name, is_value}
 use Rattle.rule_lines.proofs.CodeLemmas.{pieces_of-stop, before_first-stop, after_first-stop, setting_around, decoded-code_of}
@@ -34,10 +34,6 @@ setting_in-split assignment name value without is =
     ∙ ap (λ b. if b && is_setting (setting_around (name ++ 61 ∷ value)) then Some (setting_around (name ++ 61 ∷ value)) else None) has
     ∙ ap (λ (s : Assignment). if is_setting s then Some s else None) around
 
--- the settings so far, and those of the rest, where that is pieces of settings
-abbrev pub with_rest : List Assignment → List ℕ → Option (List Assignment)
-with_rest settings rest = option_map (λ later. settings ++ later) (settings_in (pieces_of 0 rest))
-
 -- the rest begins with a piece
 pub settings_in-stop : (rest piece later : List ℕ) → has_byte 0 piece ≡ false → rest ≡ piece ++ 0 ∷ later → settings_in (pieces_of 0 rest) ≡ option_and_then (λ (setting : Assignment). option_map (λ (settings : List Assignment). setting ∷ settings) (settings_in (pieces_of 0 later))) (setting_in piece)
 settings_in-stop rest piece later without is =
@@ -49,8 +45,8 @@ onto_settings settings setting None = refl
 onto_settings settings setting (Some later) = ap Some (append_assoc settings (setting ∷ []) later)
 
 -- that piece is a setting
-pub with_rest-next : (settings : List Assignment) (setting : Assignment) (rest piece later : List ℕ) → has_byte 0 piece ≡ false → rest ≡ piece ++ 0 ∷ later → setting_in piece ≡ Some setting → with_rest (settings ++ setting ∷ []) later ≡ with_rest settings rest
-with_rest-next settings setting rest piece later without is found =
+settings_with-next : (settings : List Assignment) (setting : Assignment) (rest piece later : List ℕ) → has_byte 0 piece ≡ false → rest ≡ piece ++ 0 ∷ later → setting_in piece ≡ Some setting → settings_with (settings ++ setting ∷ []) later ≡ settings_with settings rest
+settings_with-next settings setting rest piece later without is found =
     let first = settings_in-stop rest piece later without is
     ∙ ap (option_and_then (λ (s : Assignment). option_map (λ (more : List Assignment). s ∷ more) (settings_in (pieces_of 0 later)))) found in
     onto_settings settings setting (settings_in (pieces_of 0 later)) ∙ sym (ap (option_map (λ more. settings ++ more)) first)
@@ -64,6 +60,52 @@ settings_in-refused rest piece later without is none =
 -- no piece of the rest ends
 pub settings_in-unended : (rest : List ℕ) → has_byte 0 rest ≡ false → 0 < length rest → settings_in (pieces_of 0 rest) ≡ None
 settings_in-unended rest without some = ap settings_in (pieces_of-unended 0 rest without some)
+
+-- nothing is found where nothing was made of it
+option_map-none : {A B : Type 0} (f : A → B) (o : Option A) → option_map f o ≡ None → o ≡ None
+option_map-none f None is = refl
+option_map-none f (Some x) is = absurd (none-some (f x) (sym is))
+
+-- behind no settings
+settings_with-nothing : (codes : List ℕ) → settings_with [] codes ≡ settings_in (pieces_of 0 codes)
+settings_with-nothing codes = same (settings_in (pieces_of 0 codes)) where
+  same : (o : Option (List Assignment)) → option_map (λ (later : List Assignment). [] ++ later) o ≡ o
+  same None = refl
+  same (Some settings) = refl
+
+-- codes of which settings were read, and a rest
+module _ (old settings : List Assignment) (codes rest : List ℕ) (on : ReadsOn old codes settings rest) where
+  -- the rest begins with a setting
+  pub ReadsOn-next : (setting : Assignment) (piece behind : List ℕ) → has_byte 0 piece ≡ false → rest ≡ piece ++ 0 ∷ behind → setting_in piece ≡ Some setting → ReadsOn old codes (settings ++ setting ∷ []) behind
+  ReadsOn-next setting piece behind without is found = λ later.
+      settings_with-next settings setting (rest ++ later) piece (behind ++ later) without (ap (λ bs. bs ++ later) is ∙ append_assoc piece (0 ∷ behind) later) found ∙ on later
+
+  -- the rest begins with a piece that is none
+  pub BeginsNone-next : (piece behind : List ℕ) → has_byte 0 piece ≡ false → rest ≡ piece ++ 0 ∷ behind → setting_in piece ≡ None → BeginsNone codes
+  BeginsNone-next piece behind without is none = λ later.
+      let refused = settings_in-refused (rest ++ later) piece (behind ++ later) without (ap (λ bs. bs ++ later) is ∙ append_assoc piece (0 ∷ behind) later) none in
+      option_map-none (λ more. old ++ more) (settings_in (pieces_of 0 (codes ++ later)))
+      (sym (on later) ∙ ap (option_map (λ (more : List Assignment). settings ++ more)) refused)
+
+-- where nothing was read before, the settings and the rest are all
+pub ReadsOn-all : (settings : List Assignment) (codes rest : List ℕ) → ReadsOn [] codes settings rest → settings_with settings rest ≡ settings_in (pieces_of 0 codes)
+ReadsOn-all settings codes rest on =
+    ap (settings_with settings) (sym (append-nil rest)) ∙ on [] ∙ ap (settings_with []) (append-nil codes) ∙ settings_with-nothing codes
+
+-- bytes that settings and a rest are
+module _ (settings : List Assignment) (rest codes : List ℕ) (all : settings_with settings rest ≡ settings_in (pieces_of 0 codes)) where
+  -- with nothing left
+  pub settings_in-read : rest ≡ [] → settings_in (pieces_of 0 codes) ≡ Some settings
+  settings_in-read none = sym all ∙ ap (settings_with settings) none ∙ ap Some (append-nil settings)
+
+  -- with a part left that does not end
+  pub settings_in-part : has_byte 0 rest ≡ false → 0 < length rest → settings_in (pieces_of 0 codes) ≡ None
+  settings_in-part without some =
+      sym all ∙ ap (option_map (λ (later : List Assignment). settings ++ later)) (settings_in-unended rest without some)
+
+-- bytes with which no codes of settings begin are none
+pub settings_in-none : (codes : List ℕ) → BeginsNone codes → settings_in (pieces_of 0 codes) ≡ None
+settings_in-none codes none = ap (λ bs. settings_in (pieces_of 0 bs)) (sym (append-nil codes)) ∙ none []
 
 -- an assignment with no zero byte, cut at its first `=`
 module _ (assignment name value : List ℕ) (clean : has_byte 0 assignment ≡ false) (without : has_byte 61 name ≡ false) (is : assignment ≡ name ++ 61 ∷ value) where

@@ -45,6 +45,18 @@ settings_in (piece ∷ pieces) =
     if piece.ended then option_and_then (λ setting. option_map (λ settings. setting ∷ settings) (settings_in pieces)) (setting_in piece.bytes)
     else None
 
+-- settings, and behind them those whose codes the bytes are
+abbrev pub settings_with : List Assignment → List ℕ → Option (List Assignment)
+settings_with settings codes = option_map (λ later. settings ++ later) (settings_in (pieces_of 0 codes))
+
+-- settings with codes behind them are other settings with the rest of these codes, whatever follows
+abbrev pub ReadsOn : List Assignment → List ℕ → List Assignment → List ℕ → Type 0
+ReadsOn old codes new rest = (later : List ℕ) → settings_with new (rest ++ later) ≡ settings_with old (codes ++ later)
+
+-- whatever follows, the bytes are not the codes of settings
+abbrev pub BeginsNone : List ℕ → Type 0
+BeginsNone codes = (later : List ℕ) → settings_in (pieces_of 0 (codes ++ later)) ≡ None
+
 -- the verdict of a code
 abbrev pub verdict_in : List ℕ → Verdict
 verdict_in bytes = if starts_with nat_eq bytes (verdict_code Deny) then Deny else Allow

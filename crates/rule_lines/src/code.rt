@@ -1,7 +1,7 @@
 //! The code of an instruction: the bytes under which a rule is stored in a compiled file.
 ghost use Rattle.std.specs.Prelude.{◌≡◌, ◌∷◌, ◌++◌, length, drop, true, false, IfOk, IfErr, OnOk, MatchOption};
 ghost use Rattle.std.specs.Str.{is_utf8};
-ghost use Rattle.rule_lines.specs.Codes.{code_of, verdict_code, verdict_in, setting_code, setting_in, settings_in, decoded, IsInstr, RefusesCode};
+ghost use Rattle.rule_lines.specs.Codes.{code_of, verdict_code, verdict_in, setting_code, setting_in, settings_in, decoded, BeginsNone, IsInstr, ReadsOn, RefusesCode};
 ghost use Rattle.rule_lines.specs.Lines.{pieces_of, has_byte};
 ghost use Rattle.rule_lines.specs.declared.code.CodeFault.{CodeFault};
 ghost use Rattle.rule_lines.specs.declared.code.DecodeFault.TheVariants.{OutOfMemory};
@@ -15,7 +15,7 @@ use thiserror::Error;
 const DENY_CODE: &[u8] = b"D\0";
 
 /// Why bytes have no instruction.
-#[derive(Clone, Copy, PartialEq, Eq, Debug, Error)]
+#[derive(Clone, Copy, Debug, Error)]
 pub enum CodeFault {
     /// They are the code of no instruction.
     #[error("no code")]
@@ -23,7 +23,7 @@ pub enum CodeFault {
 }
 
 /// Why `decode_instr` gives no instruction.
-#[derive(Clone, Copy, PartialEq, Eq, Debug, Error)]
+#[derive(Clone, Copy, Debug, Error)]
 pub enum DecodeFault {
     /// The bytes are no code.
     #[error("{0}")]
@@ -106,7 +106,7 @@ pub fn encode_instr(alloc: Global, instr: &Instr) -> Result<Vec<u8>, AllocError>
 }
 
 /// The verdict of a code, and the codes of its settings.
-fn split_verdict(bytes: &[u8]) -> (Verdict, &[u8])
+pub fn split_verdict(bytes: &[u8]) -> (Verdict, &[u8])
     ensures verdict { result.0 ≡ verdict_in bytes.now }
     ensures codes { result.1.now ≡ drop (length (verdict_code result.0)) bytes.now }
 {
@@ -154,6 +154,28 @@ fn read_setting(piece: &[u8]) -> Option<(&str, &str)>
     read_assignment(assignment)
 }
 
+/// Adds the settings that stand whole at the front of the codes, and gives what is left: a part of the next one, or nothing.
+/// After an `Err` some may have been added.
+pub fn push_settings<'a>(
+    alloc: Global,
+    codes: &'a [u8],
+    settings: &mut Settings,
+) -> Result<&'a [u8], DecodeFault>
+    ensures part { IfOk result (λ rest. has_byte 0 rest.now ≡ false) }
+    ensures added { IfOk result (λ rest. ReadsOn settings.old codes.now settings.new rest.now) }
+    ensures refused { (fault : CodeFault) → result ≡ Err (DecodeFault.Code fault) → BeginsNone codes.now }
+{
+    let mut rest = codes;
+    while let Some((piece, later)) = split_at_byte(0, rest) {
+        let Some((name, value)) = read_setting(piece) else {
+            return Err(DecodeFault::Code(CodeFault::NotCode));
+        };
+        settings.push(alloc, name, value)?;
+        rest = later;
+    }
+    Ok(rest)
+}
+
 /// The settings whose codes the bytes are.
 fn decode_settings(alloc: Global, codes: &[u8]) -> Result<Settings, DecodeFault>
     ensures found { IfOk result (λ settings. settings_in (pieces_of 0 codes.now) ≡ Some settings) }
@@ -161,16 +183,9 @@ fn decode_settings(alloc: Global, codes: &[u8]) -> Result<Settings, DecodeFault>
         → settings_in (pieces_of 0 codes.now) ≡ None }
 {
     let mut settings = Settings::new(alloc);
-    let mut rest = codes;
-    while !rest.is_empty() {
-        let Some((piece, later)) = split_at_byte(0, rest) else {
-            return Err(DecodeFault::Code(CodeFault::NotCode));
-        };
-        let Some((name, value)) = read_setting(piece) else {
-            return Err(DecodeFault::Code(CodeFault::NotCode));
-        };
-        settings.push(alloc, name, value)?;
-        rest = later;
+    let rest = push_settings(alloc, codes, &mut settings)?;
+    if !rest.is_empty() {
+        return Err(DecodeFault::Code(CodeFault::NotCode));
     }
     Ok(settings)
 }

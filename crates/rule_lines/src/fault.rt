@@ -90,7 +90,7 @@ impl From<AllocError> for RuleFault {
 }
 
 /// Why `parse` gives no list.
-#[derive(Clone, Copy, PartialEq, Eq, Debug, thiserror::Error)]
+#[derive(Clone, Copy, Debug, thiserror::Error)]
 pub enum ParseFault {
     /// The text is not accepted.
     #[error("{0}")]

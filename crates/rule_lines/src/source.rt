@@ -10,7 +10,7 @@ use std::marker::Model;
 use thiserror::Error;
 
 /// Why a look-up has no answer.
-#[derive(Clone, Copy, PartialEq, Eq, Debug, Error)]
+#[derive(Clone, Copy, Debug, Error)]
 pub enum FindFault {
     /// The source is damaged: it points to a place outside of itself.
     #[error("damaged")]

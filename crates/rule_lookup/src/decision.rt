@@ -13,7 +13,7 @@ use std::marker::Model;
 use thiserror::Error;
 
 /// What a missing rules file means.
-#[derive(Clone, Copy, PartialEq, Eq, Debug)]
+#[derive(Clone, Copy)]
 pub enum Missing {
     /// A connection is denied.
     Drop,
@@ -134,7 +134,7 @@ impl Decision {
 }
 
 /// Why there is no decision.
-#[derive(Clone, Copy, PartialEq, Eq, Debug, Error)]
+#[derive(Clone, Copy, Debug, Error)]
 pub enum DecideFault {
     /// A look-up failed.
     #[error("{0}")]

@@ -28,7 +28,7 @@ use Rattle.rules_install.proofs.FillBytes.{blank_filled, filled_more, length-bla
 
 -- ---- the phase
 
-is_filling : (reached : Option Phase) (patched : Bool) → next_of reached patched ≡ Filling
+pub is_filling : (reached : Option Phase) (patched : Bool) → next_of reached patched ≡ Filling
     → ((reached ≡ Some Fresh) ⊎ (reached ≡ Some Filling)) × (patched ≡ false)
 is_filling None patched is = absurd (cc)
 is_filling (Some Fresh) true is = absurd (cc)

@@ -1,3 +1,4 @@
+pub mod BesideLemmas
 pub mod FillBytes
 pub mod FillSteps
 pub mod PieceLemmas

@@ -54,7 +54,7 @@ slice_get-last : (files : List FileState) (new : FileState) → slice_get (files
 slice_get-last [] new = refl
 slice_get-last (file ∷ files) new = slice_get-last files new
 
-with_file_at : (change : FileState → FileState) (files : List FileState) (number : ℕ) (file : FileState)
+pub with_file_at : (change : FileState → FileState) (files : List FileState) (number : ℕ) (file : FileState)
     → slice_get files number ≡ Some file → slice_get (with_file change number files) number ≡ Some (change file)
 with_file_at change [] number file is = absurd (cc)
 with_file_at change (x ∷ files) zero file is = let same : x ≡ file = cc in ap (λ (f : FileState). Some (change f)) same

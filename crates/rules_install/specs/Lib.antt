@@ -1,4 +1,5 @@
 -- Installations of rule texts: the file that each makes, its steps, and what stands under the name of the rules file.
+pub mod Beside
 pub mod Filled
 pub mod Installing
 pub mod Installs

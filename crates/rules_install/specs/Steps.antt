@@ -1,5 +1,5 @@
 -- What a step of an installation does, by its answer.
-use Rattle.std.specs.Prelude.{◌≡◌, ◌≢◌, ◌⊎◌, ◌<◌, ◌≤◌, ◌^◌, ◌-◌, ⊤, ℕ, Bool, IsTrue, true, false, List, ◌∷◌, Option, Some, Result, Ok, Err, IfErr}
+use Rattle.std.specs.Prelude.{◌≡◌, ◌≢◌, ◌⊎◌, ◌<◌, ◌≤◌, ◌^◌, ◌-◌, ⊤, ℕ, IsTrue, true, false, List, ◌∷◌, Option, Some, Result, Ok, Err, IfErr}
 use Rattle.dir_calls.specs.Directory.{Directory}
 use Rattle.dir_calls.specs.Calls.{Call, makes, appends, patches, syncs, renames, settles, after}
 use Rattle.dir_calls.specs.Outcomes.{Fails, LeftBy}

@@ -10,7 +10,7 @@ use std::alloc::{AllocError, AllocFailed};
 use thiserror::Error;
 
 /// Why an installation, or a step of one, fails.
-#[derive(Clone, Copy, PartialEq, Eq, Debug, Error)]
+#[derive(Clone, Copy, Debug, Error)]
 pub enum InstallFault {
     /// The text is not accepted. The directory is as before.
     #[error("{0}")]

@@ -6,7 +6,7 @@ use std::marker::Model;
 use thiserror::Error;
 
 /// The rules file and the scratch file have one name.
-#[derive(Clone, Copy, PartialEq, Eq, Debug, Error)]
+#[derive(Clone, Copy, Debug, Error)]
 #[error("the rules file and the scratch file have one name")]
 pub struct SameName;
 

@@ -21,7 +21,7 @@ use std::marker::Model;
 const UNSET: u8 = 255;
 
 /// A piece: the place of the pointers, the record of a rule, or a table.
-#[derive(Clone, Copy, PartialEq, Eq, Debug)]
+#[derive(Clone, Copy)]
 pub enum Piece {
     Unset,
     Record(usize),

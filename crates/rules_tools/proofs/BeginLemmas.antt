@@ -2,6 +2,7 @@
 use Rattle.std.proofs.Common.{◌≡◌, ◌≢◌, inl, inr, ⊎_elim, ℕ, ◌≤◌, List, false, sym, ◌∙◌, subst, ap, arith}
 use Rattle.std.specs.Prelude.{⊤, None, Some, Result, Ok, Err, IfErr}
 use Rattle.dir_calls.specs.Calls.{Call, makes, settles, after}
+use Rattle.dir_calls.specs.Clearing.{SparesOthers, StaysUnder}
 use Rattle.dir_calls.specs.Directory.{Directory}
 use Rattle.dir_calls.specs.Images.{IsImage}
 use Rattle.dir_calls.specs.Moments.{CountsFault, Elapses}
@@ -10,6 +11,7 @@ use Rattle.dir_calls.specs.Replacing.{KeepsWhatLasts}
 use Rattle.dir_calls.specs.declared.fault.DirFault.{DirFault}
 use Rattle.dir_calls.specs.declared.fault.DirFault.TheVariants as dir
 use Rattle.dir_calls.specs.declared.dir.Dir.{Ghosts}
+use Rattle.dir_calls.proofs.Clearing.{fails_spares, makes_spares, same_stays, settles_stays, unsettled_stays}
 use Rattle.dir_calls.proofs.Lasting.{makes_keeps}
 use Rattle.dir_calls.proofs.Replacing.{stays_call}
 use Rattle.rules_install.specs.Installing.{Fits, FitsPhase, Installing, IsConsistent, next_of, next_phase}
@@ -66,6 +68,27 @@ pub first_stays : {D F : Type 0} (tells : Ghosts D F) (s : Installing) (old new 
     → (name : List ℕ) → s.names.tmp ≢ name → KeepsWhatLasts tells name old new
 first_stays tells s old new result unbegun only device changes stops =
     first_stays_at tells s (next_phase s) old new result (first_next s unbegun) only device changes stops
+
+-- each other name stands for the file that it stood for
+made_spares : (name : List ℕ) (d e : Directory) (outcome : Result ⊤ DirFault) → Does (λ _. makes name) (makes name) d e outcome → SparesOthers name d e
+made_spares name d e (Ok x) does = makes_spares name d e does
+made_spares name d e (Err dir.Device) does = fails_spares name d e does
+made_spares name d e (Err dir.NoScratch) does = λ other differ. same_stays other d e does
+made_spares name d e (Err dir.NoName) does = λ other differ. same_stays other d e does
+made_spares name d e (Err dir.OutOfMemory) does = λ other differ. same_stays other d e does
+
+pub first_spares : (s : Installing) (d e : Directory) (result : Result Phase InstallFault) → s.reached ≡ None → IsOfDevice result
+    → Changes s (next_phase s) d e result → SparesOthers s.names.tmp d e
+first_spares s d e result unbegun device changes =
+    made_spares s.names.tmp d e (call_answer result)
+    (call_does s d e result device (subst (λ (p : Phase). Changes s p d e result) (first_next s unbegun) changes))
+
+pub settled_stays : (name : List ℕ) (d e : Directory) (outcome : Result (Unit {0}) DirFault) → Does (λ _. settles) settles d e outcome → StaysUnder name d e
+settled_stays name d e (Ok x) does = settles_stays name d e does
+settled_stays name d e (Err dir.Device) does = unsettled_stays name d e does
+settled_stays name d e (Err dir.NoScratch) does = same_stays name d e does
+settled_stays name d e (Err dir.NoName) does = same_stays name d e does
+settled_stays name d e (Err dir.OutOfMemory) does = same_stays name d e does
 
 -- what it comes to where it fails
 pub first_fails : (s t : Installing) (d e : Directory) (fault : InstallFault) → Changes s (next_phase s) d e (Err fault) → Begins s t d e (Err fault)

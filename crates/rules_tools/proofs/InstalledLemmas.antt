@@ -31,7 +31,7 @@ use Rattle.rules_install.specs.declared.Phase.TheVariants.{Fresh, Filling, Synce
 use Rattle.rules_install.specs.declared.fault.InstallFault.{InstallFault}
 use Rattle.rules_install.specs.declared.fault.InstallFault.TheVariants as install
 use Rattle.rules_install.proofs.WholeLemmas.{none_left, stands_now}
-use Rattle.rules_tools.specs.Installed.{Answers, Blames, CompilesTo, FailsInput, FailsText, FolderRun, Installs, IsRefusal, LastsAfter, LeavesNoScratch, PassesPaths, Tells, WasRead, may_stand}
+use Rattle.rules_tools.specs.Installed.{Answers, Blames, CompilesTo, FailsInput, FailsText, FolderRun, Installs, IsRefusal, LastsAfter, LeavesNoScratch, PassesPaths, Tells, WasRead, ended}
 use Rattle.rules_tools.specs.Disks.{BlamesDisk, EndsOnDisk}
 use Rattle.rules_tools.specs.Paths.{IsPlaced, paths_fault}
 use Rattle.rules_tools.specs.Reviews.{profile}
@@ -121,7 +121,7 @@ answers text TooLarge fails = fails
 answers text (Device phase) fails = absurd fails
 answers text OutOfMemory fails = fails
 
-same_may : (text : List ℕ) (fault : TcprulesFault) (file : List ℕ) (olds : List (Option (List ℕ))) → FailsText text fault → may_stand (Err fault) file olds ≡ olds
+same_may : (text : List ℕ) (fault : TcprulesFault) (file : List ℕ) (olds : List (Option (List ℕ))) → FailsText text fault → may_have (ended (Err fault)) file olds ≡ olds
 same_may text BadName file olds fails = refl
 same_may text OtherFolder file olds fails = refl
 same_may text SameName file olds fails = refl
@@ -167,7 +167,7 @@ removes_none text fact OutOfMemory fails = tt
 
 -- ---- an installation
 
-same_stands : (fault : DirFault) (phase : Phase) (file : List ℕ) (olds : List (Option (List ℕ))) → may_have (Err (install.Disk fault phase)) file olds ≡ may_stand (Err (Device phase)) file olds
+same_stands : (fault : DirFault) (phase : Phase) (file : List ℕ) (olds : List (Option (List ℕ))) → may_have (Err (install.Disk fault phase)) file olds ≡ may_have (ended (Err (Device phase))) file olds
 same_stands fault Fresh file olds = refl
 same_stands fault Filling file olds = refl
 same_stands fault Synced file olds = refl

@@ -1,6 +1,7 @@
 -- What stands under the name of the rules file, from the first step on to the scratch file that is taken away.
 use Rattle.std.proofs.Common.{◌≡◌, ◌⊎◌, inl, inr, ⊎_elim, ℕ, ◌<◌, ◌≤◌, ◌-◌, ◌^◌, List, [], ◌∷◌, refl, sym, subst, arith}
 use Rattle.std.specs.Prelude.{true, false, Option, None, Some, Result, Ok, Err, IfErr, OnOk}
+use Rattle.dir_calls.specs.Clearing.{SparesOthers}
 use Rattle.dir_calls.specs.Directory.{Directory, content}
 use Rattle.dir_calls.specs.Lasting.{IsAmong, HasAmong, LastsAmong}
 use Rattle.dir_calls.specs.Moments.{LeavesOnly}
@@ -8,6 +9,7 @@ use Rattle.dir_calls.specs.Replacing.{KeepsWhatLasts}
 use Rattle.dir_calls.specs.declared.fault.DirFault.{DirFault}
 use Rattle.dir_calls.specs.declared.fault.DirFault.TheVariants as dir
 use Rattle.dir_calls.specs.declared.dir.Dir.{Ghosts}
+use Rattle.dir_calls.proofs.Clearing.{same_stays, stays_on}
 use Rattle.dir_calls.proofs.Replacing.{stays_then}
 use Rattle.rule_lines.specs.Pairs.{Rule}
 use Rattle.rules_install.specs.Filled.{whole_file}
@@ -22,7 +24,7 @@ use Rattle.rules_install.specs.declared.fault.InstallFault.{InstallFault}
 use Rattle.rules_install.specs.declared.fault.InstallFault.TheVariants.{Line, TooLarge, Disk, Over, OutOfMemory}
 use Rattle.rules_tools.specs.Disks.{BlamesDisk, EndsOnDisk, HasFailed, IsAtFresh, fails_on_disk}
 use Rattle.rules_tools.specs.Scratch.{AfterFault, HasFailedTwice, IsTakenAway}
-use Rattle.rules_tools.specs.Series.{Begins, IsBegun, MakesSeries, MakesSteps, SparesOthers}
+use Rattle.rules_tools.specs.Series.{Begins, IsBegun, MakesSeries, MakesSteps}
 
 -- what may stand there at the end may stand there at any moment
 may_among : (result : Result (Unit {0}) InstallFault) (file : List ℕ) (olds : List (Option (List ℕ))) (w : Option (List ℕ)) → IsAmong (may_have result file olds) w → IsAmong (Some file ∷ olds) w
@@ -86,7 +88,7 @@ module _ (s t u : Installing) (old mid new : Directory) (begins : Begins s t old
     end = new;
     series = subst (λ (d : Directory). IsSeries t u d new result) begins.2 series;
     last = last;
-    spares = λ name differ contents lasts. lasts;
+    spares = λ other differ. same_stays other new new refl;
   }
 
   pub begun_series : (result : Result (Unit {0}) InstallFault) → IsSeries t u mid new result → MakesSeries s old new result
@@ -102,7 +104,7 @@ module _ (s t u : Installing) (old mid new : Directory) (begins : Begins s t old
   begun_series (Err OutOfMemory) series = inr (begun_steps (Err OutOfMemory) tt series)
 
 -- where it was not begun
-pub unbegun_series : (s t : Installing) (old new : Directory) (fault : InstallFault) → IsAtFresh fault → Begins s t old new (Err fault) → SparesOthers s old new
+pub unbegun_series : (s t : Installing) (old new : Directory) (fault : InstallFault) → IsAtFresh fault → Begins s t old new (Err fault) → SparesOthers s.names.tmp old new
     → MakesSeries s old new (Err fault)
 unbegun_series s t old new (Disk fault Fresh) at begins spares = spares
 unbegun_series s t old new (Disk fault Filling) at begins spares = absurd (cc)
@@ -115,7 +117,7 @@ unbegun_series s t old new Over at begins spares = absurd at
 unbegun_series s t old new OutOfMemory at begins spares = inl begins
 
 -- and then the scratch file was taken away
-module _ (s : Installing) (old mid new : Directory) (after : SparesOthers s mid new) where
+module _ (s : Installing) (old mid new : Directory) (after : SparesOthers s.names.tmp mid new) where
   then_steps : (fault : InstallFault) → MakesSteps s old mid (Err fault) → MakesSteps s old new (Err fault)
   then_steps fault makes = record {
     t = makes.t;
@@ -125,12 +127,12 @@ module _ (s : Installing) (old mid new : Directory) (after : SparesOthers s mid 
     end = makes.end;
     series = makes.series;
     last = tt;
-    spares = λ name differ contents lasts. after name differ contents (makes.spares name differ contents lasts);
+    spares = λ other differ. stays_on other makes.end mid new (makes.spares other differ) (after other differ);
   }
 
   pub then_series : (result : Result (Unit {0}) InstallFault) → fails_on_disk result ≡ true → MakesSeries s old mid result → MakesSeries s old new result
   then_series (Ok done) failed makes = absurd (cc)
-  then_series (Err (Disk fault Fresh)) failed makes = λ name differ contents lasts. after name differ contents (makes name differ contents lasts)
+  then_series (Err (Disk fault Fresh)) failed makes = λ other differ. stays_on other old mid new (makes other differ) (after other differ)
   then_series (Err (Disk fault Filling)) failed makes = then_steps (Disk fault Filling) makes
   then_series (Err (Disk fault Synced)) failed makes = then_steps (Disk fault Synced) makes
   then_series (Err (Disk fault Named)) failed makes = then_steps (Disk fault Named) makes

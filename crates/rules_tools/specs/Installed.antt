@@ -1,8 +1,8 @@
 -- What a run of `tcprules` tells, and what it leaves under the name of the rules file.
-use Rattle.std.specs.Prelude.{◌≡◌, ◌≢◌, ◌<◌, ⊤, ℕ, IsTrue, List, ◌∷◌, Option, Some, None, IfSome, IfErr, OnOk, Result, Ok, Err}
+use Rattle.std.specs.Prelude.{◌≡◌, ◌≢◌, ◌<◌, ⊤, ℕ, IsTrue, List, Option, Some, None, IfSome, IfErr, OnOk, Result, Ok, Err}
 use Rattle.dir_calls.specs.Directory.{Directory, content}
-use Rattle.dir_calls.specs.Lasting.{LastsAmong}
 use Rattle.dir_calls.specs.declared.fault.DirFault.{DirFault}
+use Rattle.dir_calls.specs.declared.fault.DirFault.TheVariants.{Device as DeviceFault}
 use Rattle.dir_calls.specs.declared.dir.Dir.{Ghosts}
 use Rattle.cdb_write.specs.Image.{finished_length}
 use Rattle.cdb_write.specs.Making.{limit_of}
@@ -13,8 +13,9 @@ use Rattle.rule_lines.specs.declared.fault.LineKind.TheVariants.{LongText as Tex
 use Rattle.rules_install.specs.Filled.{whole_file}
 use Rattle.rules_install.specs.Installing.{Installing, HasForGood}
 use Rattle.rules_install.specs.NamePair.{NamePair}
-use Rattle.rules_install.specs.Whole.{DecidesAs, MayBeInstalled, RunKeeps, begun_of}
-use Rattle.rules_install.specs.declared.Phase.TheVariants.{Named, Done}
+use Rattle.rules_install.specs.Whole.{DecidesAs, MayBeInstalled, RunKeeps, RunLasts, begun_of}
+use Rattle.rules_install.specs.declared.fault.InstallFault.{InstallFault}
+use Rattle.rules_install.specs.declared.fault.InstallFault.TheVariants.{Disk, OutOfMemory as NoMemory}
 use Rattle.rules_tools.specs.Disks.{HasFailed}
 use Rattle.rules_tools.specs.Paths.{IsSplit, paths_fault}
 use Rattle.rules_tools.specs.Reviews.{profile}
@@ -49,18 +50,15 @@ IsRefusal (Err (Device phase)) = ⊥
 IsRefusal (Err OutOfMemory) = ⊥
 IsRefusal (Err fault) = ⊤
 
--- what may stand under the name of the rules file afterwards, where one of these stood before: the new file too, but not after a fault on
--- the way to a phase before `Named`
-abbrev pub may_stand : Result (Unit {0}) TcprulesFault → List ℕ → List (Option (List ℕ)) → List (Option (List ℕ))
-may_stand (Ok done) file olds = Some file ∷ olds
-may_stand (Err (Device Named)) file olds = Some file ∷ olds
-may_stand (Err (Device Done)) file olds = Some file ∷ olds
-may_stand (Err fault) file olds = olds
+-- how the installation ended of which this is told
+abbrev pub ended : Result (Unit {0}) TcprulesFault → Result (Unit {0}) InstallFault
+ended (Ok done) = Ok done
+ended (Err (Device phase)) = Err (Disk DeviceFault phase)
+ended (Err fault) = Err NoMemory
 
+-- what lasts under the name of the rules file afterwards
 abbrev pub LastsAfter : Installing → Directory → Directory → Result (Unit {0}) TcprulesFault → Type 0
-LastsAfter s old new result =
-    (olds : List (Option (List ℕ))) → LastsAmong old s.names.cdb olds
-    → LastsAmong new s.names.cdb (may_stand result (whole_file s.rules) olds)
+LastsAfter s old new result = RunLasts s old new (ended result)
 
 -- the device is blamed only where it failed
 abbrev pub Blames : ℕ → ℕ → TcprulesFault → Type 0

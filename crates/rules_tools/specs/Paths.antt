@@ -37,3 +37,13 @@ pub record PlacesOf (cdb tmp : List ℕ) (result : Result (Bor (List ℕ) × Nam
   pub first : IsSplit cdb folder names.cdb
   pub second : IsSplit tmp other names.tmp
   pub placed : IsPlaced folder other names result
+
+-- a path of the folder of `cdb`, as that spells it, and of the last part of `tmp`
+pub record IsRespelled (cdb tmp path : List ℕ) : Type 0 where
+  pub folder : List ℕ
+  pub first : List ℕ
+  pub other : List ℕ
+  pub name : List ℕ
+  pub of_cdb : IsSplit cdb folder first
+  pub of_tmp : IsSplit tmp other name
+  pub parts : IsSplit path folder name

@@ -1,8 +1,8 @@
 -- The steps that a run of `tcprules` makes of its installation.
-use Rattle.std.specs.Prelude.{◌≡◌, ◌≢◌, ◌⊎◌, ⊤, ℕ, false, List, Option, Some, OnOk, Result, Ok, Err}
+use Rattle.std.specs.Prelude.{◌≡◌, ◌⊎◌, ⊤, false, Some, OnOk, Result, Ok, Err}
 use Rattle.dir_calls.specs.Calls.{after, settles}
+use Rattle.dir_calls.specs.Clearing.{SparesOthers}
 use Rattle.dir_calls.specs.Directory.{Directory}
-use Rattle.dir_calls.specs.Lasting.{LastsAmong}
 use Rattle.dir_calls.specs.declared.fault.DirFault.TheVariants.{Device as DeviceFault}
 use Rattle.rules_install.specs.Installing.{Installing}
 use Rattle.rules_install.specs.Series.{IsSeries, MakesStep}
@@ -11,14 +11,6 @@ use Rattle.rules_install.specs.declared.fault.InstallFault.{InstallFault}
 use Rattle.rules_install.specs.declared.fault.InstallFault.TheVariants.{Disk, OutOfMemory as NoMemory}
 use Rattle.rules_tools.specs.declared.tcprules.TcprulesFault.{TcprulesFault}
 use Rattle.rules_tools.specs.declared.tcprules.TcprulesFault.TheVariants.{Device, OutOfMemory}
-
--- what lasts under a name lasts there
-abbrev pub StaysUnder : List ℕ → Directory → Directory → Type 0
-StaysUnder name old new = (contents : List (Option (List ℕ))) → LastsAmong old name contents → LastsAmong new name contents
-
--- and so it is under each other name than the scratch name
-abbrev pub SparesOthers : Installing → Directory → Directory → Type 0
-SparesOthers s old new = (name : List ℕ) → s.names.tmp ≢ name → StaysUnder name old new
 
 -- its first step was made
 abbrev pub IsBegun : Installing → Type 0
@@ -32,8 +24,8 @@ Begins s t old new (Err NoMemory) = new ≡ old
 Begins s t old new (Err fault) = ⊤
 
 -- The steps of this installation are made one after another: the first one in the directory that is met; then all changes of names are made
--- lasting; then the others, and where all are made their end is the new directory. After the last of them what lasts under another name than the
--- scratch name lasts there.
+-- lasting; then the others, and where all are made their end is the new directory. After the last of them each name but the scratch name stands for
+-- the file that it stood for.
 pub record MakesSteps (s : Installing) (old new : Directory) (result : Result (Unit {0}) InstallFault) : Type 0 where
   pub t : Installing
   pub made : Directory
@@ -42,12 +34,12 @@ pub record MakesSteps (s : Installing) (old new : Directory) (result : Result (U
   pub end : Directory
   pub series : IsSeries t u (after settles made) end result
   pub last : OnOk result (new ≡ end)
-  pub spares : SparesOthers s end new
+  pub spares : SparesOthers s.names.tmp end new
 
--- the same, by how it ends: where the first one failed, or the names could not be made lasting behind it, what lasts under another name lasts
--- there; and without memory perhaps nothing was done
+-- the same, by how it ends: where the first one failed, or the names could not be made lasting behind it, each other name stands for the file
+-- that it stood for; and without memory perhaps nothing was done
 abbrev pub MakesSeries : Installing → Directory → Directory → Result (Unit {0}) InstallFault → Type 0
-MakesSeries s old new (Err (Disk fault Fresh)) = SparesOthers s old new
+MakesSeries s old new (Err (Disk fault Fresh)) = SparesOthers s.names.tmp old new
 MakesSeries s old new (Err NoMemory) = (new ≡ old) ⊎ MakesSteps s old new (Err NoMemory)
 MakesSeries s old new result = MakesSteps s old new result
 

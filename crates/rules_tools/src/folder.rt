@@ -1,5 +1,6 @@
 //! A folder of rules.
 ghost use Rattle.std.specs.Prelude.{◌≡◌, ◌≢◌, ◌≤◌, List, ℕ, None, false, IsTrue, IfErr, OnOk};
+ghost use Rattle.dir_calls.specs.Clearing.{SparesOthers};
 ghost use Rattle.dir_calls.specs.Replacing.{KeepsWhatLasts};
 ghost use Rattle.rules_install.specs.Filled.{IsWritten};
 ghost use Rattle.rules_install.specs.Installing.{HasForGood};
@@ -75,9 +76,11 @@ impl<D: ClearableDir> RulesFolder<D> {
         make_steps(alloc, &mut self.dir, install)
     }
 
-    /// Takes what stands under the scratch name away, as well as that can be done: a fault of that is noted (`left`). What lasts under another
-    /// name lasts there, and stands there whenever the machine stops meanwhile.
+    /// Takes what stands under the scratch name away, as well as that can be done: a fault of that is noted (`left`). Each other name stands for
+    /// the file that it stood for, and what lasts there stands there whenever the machine stops meanwhile.
     pub fn remove_scratch(&mut self, alloc: Global, scratch: &Name)
+        ensures others { IsTrue D.honest → SparesOthers
+            scratch.now (D.state (folder_dir self.old)) (D.state (folder_dir self.new)) }
         ensures stays { IsTrue D.honest → (name : List ℕ) → scratch.now ≢ name
             → KeepsWhatLasts D.Dir name (folder_dir self.old) (folder_dir self.new) }
         ensures gone { IsTrue D.honest → IsTakenAway scratch.now (D.state (folder_dir self.new))

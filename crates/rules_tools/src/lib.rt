@@ -14,6 +14,7 @@ pub mod folders;
 pub mod installing;
 pub mod path;
 pub mod review;
+mod spelling;
 mod steps;
 pub mod tcprules;
 pub mod tcprulescheck;

@@ -1,5 +1,6 @@
 //! All steps of an installation, with the names of the folder made lasting behind the first one.
 ghost use Rattle.std.specs.Prelude.{◌≡◌, ◌≢◌, ◌≤◌, List, ℕ, None, false, IsTrue, IfErr, OnOk};
+ghost use Rattle.dir_calls.specs.Clearing.{SparesOthers};
 ghost use Rattle.dir_calls.specs.Replacing.{KeepsWhatLasts};
 ghost use Rattle.rules_install.specs.Filled.{IsWritten};
 ghost use Rattle.rules_install.specs.Installing.{Fits, HasForGood};
@@ -52,6 +53,8 @@ fn begin<D: Dir>(alloc: Global, dir: &mut D, install: &mut Install) -> Result<()
     ensures begun { OnOk result (IsBegun (installing install.new)) }
     ensures faults { IfErr result IsAtFresh }
     ensures fits { IsTrue D.honest → OnOk result (Fits (installing install.new) (D.state dir.new)) }
+    ensures others { IsTrue D.honest
+        → SparesOthers (installing install.old).names.tmp (D.state dir.old) (D.state dir.new) }
     ensures stays { IsTrue D.honest → (name : List ℕ) → (installing install.old).names.tmp ≢ name
         → KeepsWhatLasts D.Dir name dir.old dir.new }
     ensures count { D.failed dir.old ≤ D.failed dir.new }

@@ -10,6 +10,7 @@ use crate::cause::{CauseOf, ErrorCause};
 use crate::folder::RulesFolder;
 use crate::installing::install_text;
 use crate::path::{folder_path, split_path};
+use crate::spelling::respelled;
 use crate::waiting::Waiting;
 use byte_text::NotingStream;
 use dir_calls::{Name, NameFault};
@@ -96,6 +97,12 @@ pub struct RulesFailure {
     pub cause: Option<ErrorCause>,
 }
 
+impl From<AllocError> for RulesFailure {
+    fn from(error: AllocError) -> Self {
+        RulesFailure::from(TcprulesFault::from(error))
+    }
+}
+
 impl From<TcprulesFault> for RulesFailure {
     fn from(fault: TcprulesFault) -> Self {
         RulesFailure { fault, cause: None }
@@ -103,7 +110,7 @@ impl From<TcprulesFault> for RulesFailure {
 }
 
 /// Reads a rule text, compiles it, and installs the compiled file under the path `cdb`, with `tmp` as its scratch file: `install_text` over the
-/// folder of the paths.
+/// folder of the paths. Where they spell one folder in two ways it is as `cdb` spells it.
 ///
 /// # Errors
 /// As of `install_text`, with the cause of a fault of the reader or of the disk.
@@ -123,6 +130,11 @@ where
     R: Read,
     E: Write,
 {
+    let spelled = respelled(alloc, system, cdb, tmp)?;
+    let tmp = match &spelled {
+        Some(path) => path.as_str(),
+        None => tmp,
+    };
     let path = folder_path(read_places(alloc, cdb, tmp)?.0);
     let mut folder = lend_folder(alloc, system, errors, path)?;
     let mut reader = NotingStream::new(reader);

@@ -10,7 +10,7 @@ pub record HasRoom (sums : Sums) : Type 0 where
   pub changed : sums.changed + 1 < 2 ^ 64
   pub unread : sums.unread + 1 < 2 ^ 64
 
--- the sums with a verdict more, which another would take the place of or not
+-- the sums with one verdict more, which would be another now or not
 abbrev pub with_verdict : Bool → Sums → Sums
 with_verdict true sums = record sums { told = sums.told + 1; changed = sums.changed + 1 }
 with_verdict false sums = record sums { told = sums.told + 1 }
@@ -21,7 +21,7 @@ with_line text Other sums = sums
 with_line text Unread sums = record sums { unread = sums.unread + 1 }
 with_line text (Tells told) sums = with_verdict (is_changed text told) sums
 
--- a line was judged under a text: it prints what it is to, and the sums have it too
+-- a line was judged under a text: it prints what it should, and the sums count it
 pub record Judges (text : Option (List ℕ)) (read : Reading) (before now : Sums) (out : List ℕ) : Type 0 where
   pub sums : now ≡ with_line text read before
   pub prints : out ≡ line_printed text read

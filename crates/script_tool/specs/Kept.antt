@@ -29,8 +29,8 @@ pub record IsFileOf (text file : List ℕ) : Type 0 where
   pub compiled : Compiled file text
   pub accepted : IsAccepted profile text
 
--- where these are the names, a synced file of this text stands under the name of the rules file, which is not the one under the scratch
--- file's name, or nothing does
+-- if these are the names, a synced file of this text stands under the rules name, and not under the scratch name; or
+-- nothing stands there
 abbrev pub Shows : Names → List FileState → Option (List ℕ) → Type 0
 Shows names files None = get names (sim_names.cdb) ≡ None
 Shows names files (Some text) =
@@ -54,17 +54,17 @@ pub record IsInstalling (d : Directory) (p : Progress) (b : Begun) : Type 0 wher
   pub fits : Fits (installing p.install) d
   pub accepted : IsAccepted profile b.text
 
--- how many steps are left at most: for each byte of the scratch file, its pointers and each phase
+-- how many steps are left at most: one for each byte of the scratch file, for its pointers and for each phase
 abbrev pub steps_left : Installing → ℕ
 steps_left s = fillings_left s.rules s.filled s.patched + (5 - place_reached s.reached)
 
--- an installation that was begun went on to a phase, or is at a later one: to the phase that is told, which the texts follow
+-- an installation that was begun goes on to a phase, or is at a later one; it tells the phase, which the texts follow
 abbrev pub GoesOn : Phase → Begun → Texts → Directory → Progress → Phase → Type 0
 GoesOn target b t d now phase =
     (phase ≡ later_of b.reached target) × IsInstalling d now (begun_to target b)
     × HasTexts d (at_phases b.text b.reached target t)
 
--- an installation that was begun reached its next phase, which is told
+-- an installation that was begun reaches its next phase and tells it
 abbrev pub Steps : Installing → Begun → Directory → Progress → Phase → Type 0
 Steps before b d now phase =
     (phase ≡ next_phase before) × IsInstalling d now (record b { reached = Some phase })

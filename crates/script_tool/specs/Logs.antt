@@ -14,11 +14,11 @@ use Rattle.script_tool.specs.declared.verdicts.Sums.{Sums}
 use Rattle.script_words.specs.Scripts.{peer_at}
 use Rattle.script_words.specs.LogLines.{Told, Reading, Other, Unread, Tells, reading}
 
--- the peer that is asked about: as `ask` has it of an address and a host, without a user
+-- the peer that is asked for: as `ask` has it of an address and a host, without a user
 abbrev pub asked : Client → Client
 asked peer = peer_at None peer.host peer.ip
 
--- what is decided now: by the text that stands, or, where none does, as of a rules file that is missing
+-- what is decided now: by the text that stands, or as without a rules file if none stands
 abbrev pub decided_now : Option (List ℕ) → Client → Decision
 decided_now None peer = without_file Drop
 decided_now (Some text) peer = decision_of text peer
@@ -41,13 +41,13 @@ abbrev pub host_text : Option (List ℕ) → List ℕ
 host_text None = []
 host_text (Some name) = name
 
--- by what it is decided, as the first line of an answer tells it
+-- what decides it, as the first line of an answer tells it
 abbrev pub found_text : Found → List ℕ
 found_text (Address address) = codes "rule " ++ address ++ codes ":"
 found_text Default = codes "default:"
 found_text NoFile = codes "no file"
 
--- the line of a verdict that another takes the place of: whose it was, and what it is now
+-- the line of a verdict that would be another now: whose it was, and what it is now
 abbrev pub was_text : Told → List ℕ
 was_text told =
     decimal told.serial ++ codes " " ++ ipv4_text told.peer.ip ++ codes " " ++ host_text told.peer.host ++ codes " was " ++ verdict_name told.verdict
@@ -58,7 +58,7 @@ now_text now = codes ", now " ++ verdict_name now.verdict ++ codes " " ++ found_
 abbrev pub change_line : Told → Decision → List ℕ
 change_line told now = was_text told ++ now_text now
 
--- what a line of the log prints: nothing, but where it tells a verdict that would be another now
+-- what a line of the log prints: only a verdict that would be another now prints a line
 abbrev pub line_printed : Option (List ℕ) → Reading → List ℕ
 line_printed text Other = []
 line_printed text Unread = []
@@ -81,7 +81,7 @@ is_unread Other = false
 is_unread Unread = true
 is_unread (Tells told) = false
 
--- how many lines of a log tell a verdict, how many of these verdicts would be another now, and how many can't be read
+-- how many lines of a log tell a verdict, how many of these would be another now, and how many can't be read
 abbrev pub count_lines : (Reading → Bool) → List Line → ℕ
 count_lines test lines = count_by (λ (line : Line). test (reading line.bytes)) lines
 

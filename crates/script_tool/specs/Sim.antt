@@ -41,7 +41,7 @@ refusal_by None text =
 abbrev pub refusal_of : List ℕ → Option Refusal
 refusal_of text = refusal_by (fault_of profile text) text
 
--- a text whose installation was begun, and the phase reached, if a step was made
+-- a text whose installation was begun, and the phase that it reached, if a step was made
 pub record Begun : Type 0 where
   pub text : List ℕ
   pub reached : Option Phase
@@ -62,13 +62,13 @@ no_readers name = None
 abbrev pub start : State
 start = record { pending = []; texts = no_texts; begun = None; readers = no_readers; history = None }
 
--- an event, or what the list comes to, needs a list that was begun
+-- an event, and a question for the report, need a list that was begun
 abbrev pub is_in_place : State → Command → Bool
 is_in_place state (AddEvent event) = is_some state.history
 is_in_place state Replay = is_some state.history
 is_in_place state command = true
 
--- the command of a line that stands here: none where the line is bad
+-- the command of a line that stands here; none if the line is bad
 abbrev pub command_at : State → List ℕ → Option Command
 command_at state line =
     option_and_then (λ command. if is_in_place state command then Some command else None) (command_of line)
@@ -117,13 +117,13 @@ after state (AddEvent event) = record state { history = option_map (with_event e
 after state Replay = state
 after state Verdicts = state
 
--- what becomes of a text that was to be installed, in the words for one that is not refused
+-- what becomes of a text that is to be installed, with the words for one that is not refused
 abbrev pub told : List ℕ → Option Refusal → List ℕ
 told words None = words
 told words (Some (faulty fault)) = fault_text fault.line fault.kind ++ codes "\n"
 told words (Some too_large) = codes "compiled file too large\n"
 
--- what a question prints, of the text that stands or of a reader's, in the words for none
+-- what a question prints, by the text that stands or a reader's, with the words for none
 abbrev pub answered : List ℕ → Option (List ℕ) → Client → List ℕ
 answered words None peer = words
 answered words (Some text) peer = answer_lines (decision_of text peer)
@@ -132,7 +132,7 @@ abbrev pub opened : Option (List ℕ) → List ℕ
 opened None = codes "no file\n"
 opened (Some text) = codes "opened\n"
 
--- what a list of events comes to: the first that may not happen where it stands, or the sums of all
+-- what a list of events comes to: the first that may not happen there, or the report of all
 abbrev pub outcome : Option ℕ → List Event → List ℕ
 outcome None events = report_line (report_of events)
 outcome (Some place) events = illegal_line place
@@ -163,7 +163,7 @@ pub record Run : Type 0 where
   pub output : List ℕ
   pub bad : Option ℕ
 
--- a run with this printed before it
+-- a run with this printed in front of it
 abbrev pub printing : List ℕ → Run → Run
 printing text run = record run { output = text ++ run.output }
 
@@ -176,7 +176,7 @@ takes_log command = false
 abbrev pub run_log : State → List Line → Run
 run_log state lines = record { output = log_printed state.texts.standing lines; bad = None }
 
--- the run of a line and of those after it: it ends at a bad line, and a command may take those after it as a log
+-- the run of a line and of those after it; it ends at a bad line, and a command may take those after it as a log
 abbrev pub run_line : ℕ → Option Command → State → List Line → (State → Run) → Run
 run_line n None state lines later = record { output = []; bad = Some n }
 run_line n (Some command) state lines later =
@@ -198,8 +198,8 @@ pub record PrintsFront (before now : Option (List ℕ)) (run : Run) : Type 0 whe
   pub written : Appends before now front
   pub all : run.output ≡ front ++ rest
 
--- what was written from one moment to another is what a run prints, and it ended as the run does; at a fault of the reader,
--- or for want of memory, a front of it was written, and a fault of the writer says nothing of what was
+-- What was written from one moment to another is what a run prints, and it ended as the run does. At a fault of the
+-- reader, or for want of memory, a front of it was written. A fault of the writer says nothing of what was written.
 abbrev pub Prints : Option (List ℕ) → Option (List ℕ) → Run → Result (Unit {0}) SimFault → Type 0
 Prints before now run (Ok done) = Appends before now run.output × (run.bad ≡ None)
 Prints before now run (Err (BadCommand n)) = Appends before now run.output × (run.bad ≡ Some n)

@@ -6,7 +6,7 @@ use Rattle.dir_calls.specs.declared.choice.Choice.TheVariants.{Kept, Empty, Junk
 use Rattle.rules_install.specs.declared.Phase.{Phase}
 use Rattle.rules_install.specs.declared.Phase.TheVariants.{Fresh, Filling, Synced, Named, Done}
 
--- a change of names: the text that it puts in place, or none where it changes no text
+-- a change of names: the text that it puts in place; none if it changes no text
 abbrev pub Change : Type 0
 Change = Option (List ℕ)
 
@@ -56,7 +56,7 @@ phases_to reached target =
 abbrev pub at_phases : List ℕ → Option Phase → Phase → Texts → Texts
 at_phases text reached target t = fold (at_phase text) t (phases_to reached target)
 
--- the phase reached then: one that is passed already stays
+-- the phase reached then; one that is passed already stays
 abbrev pub later_of : Option Phase → Phase → Phase
 later_of None target = target
 later_of (Some reached) target = if nat_lt (place_of reached) (place_of target) then target else reached

@@ -1,5 +1,5 @@
 //! The script tool `rulesim`: questions about rule texts, logs and lists of events, and stops during installations. It
-//! passes on what the lines of a script ask for.
+//! carries out the lines of a script.
 //!
 //! The tool uses `run_buffered`, which is `run_rulesim` over a buffered writer. What a script prints is defined by
 //! texts alone; the code installs compiled files in a directory in memory and stops it. After a fault a front of that

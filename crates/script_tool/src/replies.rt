@@ -8,7 +8,7 @@ use rules_install::Phase;
 use server_events::Report;
 use std::alloc::AllocError;
 
-/// Adds what is wrong with a rule text: the line and its kind, but for a text that is too long. After an `Err` a part may
+/// Adds what is wrong with a rule text: the line and the kind, or that the text is too long. After an `Err` a part may
 /// stand at the end of `out`.
 pub fn append_fault(out: &mut Vec<u8>, fault: &LineFault) -> Result<(), AllocError>
     ensures { OnOk result
@@ -34,7 +34,8 @@ fn append_numbered(out: &mut Vec<u8>, line: u64, kind: LineKind) -> Result<(), A
     out.extend_from_slice(kind.as_str().as_bytes())
 }
 
-/// Adds the line with the phase that an installation reached, or `none`. After an `Err` a part of it may stand at the end of `out`.
+/// Adds the line with the phase that an installation reached, or with `none`. After an `Err` a part may stand at the
+/// end of `out`.
 pub fn append_reached(out: &mut Vec<u8>, reached: Option<Phase>) -> Result<(), AllocError>
     ensures { OnOk result (out.new.items ≡ out.old.items ++ reached_line reached) }
 {
@@ -47,7 +48,7 @@ pub fn append_reached(out: &mut Vec<u8>, reached: Option<Phase>) -> Result<(), A
     }
 }
 
-/// Adds the line with the sums of a list of events. After an `Err` a part of it may stand at the end of `out`.
+/// Adds the line with the report of a list of events. After an `Err` a part may stand at the end of `out`.
 pub fn append_report(out: &mut Vec<u8>, report: &Report) -> Result<(), AllocError>
     ensures { OnOk result (out.new.items ≡ out.old.items ++ report_line report.now) }
 {
@@ -58,7 +59,7 @@ pub fn append_report(out: &mut Vec<u8>, report: &Report) -> Result<(), AllocErro
     out.extend_from_slice(b"\n")
 }
 
-/// Adds the line with the place of the first event that may not happen. After an `Err` a part of it may stand at the end of
+/// Adds the line with the place of the first event that may not happen. After an `Err` a part may stand at the end of
 /// `out`.
 pub fn append_illegal(out: &mut Vec<u8>, place: u64) -> Result<(), AllocError>
     ensures { OnOk result (out.new.items ≡ out.old.items ++ illegal_line place) }

@@ -16,12 +16,12 @@ use std::io;
 use std::io::{BufRead, ErrorKind, Write};
 use thiserror::Error;
 
-/// How many lines are read at most.
+/// The greatest number of lines that are read.
 pub const MOST_LINES: u64 = 1 << 40;
 
 const _: () = prove!(MOST_LINES == 1_099_511_627_776);
 
-/// Why a run of `rulesim` does not come to the end of its script.
+/// Why a run of `rulesim` doesn't come to the end of its script.
 #[derive(Clone, Copy, Debug, Error)]
 pub enum SimFault {
     /// This line, from 1, is no command.
@@ -38,11 +38,11 @@ pub enum SimFault {
     OutOfMemory,
 }
 
-/// Runs a script, and writes what it prints: a line or more for each command that answers, as soon as it is read. The writer is flushed
-/// before the return.
+/// Runs a script, and writes what each command prints as soon as the command is read. The writer is flushed before the
+/// return.
 ///
 /// # Errors
-/// As of `SimFault`. What was printed before a bad line stays written.
+/// Those of `SimFault`. What was printed before a bad line stays written.
 pub fn run_rulesim<R: BufRead, W: Write>(
     alloc: Global,
     reader: &mut R,
@@ -81,7 +81,7 @@ pub enum LineOutcome {
     LogFollows,
 }
 
-/// Carries a script out from the start.
+/// Carries out a script from its start.
 fn run_with<R: BufRead, W: Write>(
     alloc: Global,
     reader: &mut R,
@@ -113,7 +113,7 @@ fn run_with<R: BufRead, W: Write>(
     Err(SimFault::ReadFault)
 }
 
-/// Takes what is left to be read, after so many lines, as a log.
+/// Takes what is left to read as a log. `before` lines were read before it.
 fn read_log<R: BufRead, W: Write>(
     alloc: Global,
     kept: &mut Simulation,
@@ -131,7 +131,7 @@ fn read_log<R: BufRead, W: Write>(
     }
 }
 
-/// What a fault of the reader is.
+/// The fault of a run whose reader failed.
 pub fn read_fault(error: &io::Error) -> SimFault
     ensures { (result ≡ SimFault.ReadFault) ⊎ (result ≡ SimFault.OutOfMemory) }
 {

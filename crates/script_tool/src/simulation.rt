@@ -1,4 +1,4 @@
-//! What a script of `rulesim` leads to, command by command.
+//! The state that a script of `rulesim` leads to, command by command.
 ghost use Rattle.std.specs.Prelude.{◌≡◌, ◌≢◌, ◌++◌, ◌<◌, None, Some, OnOk, IfOk, List, [], ℕ, Option};
 ghost use Rattle.rule_lookup.specs.Answers.{answer_lines};
 ghost use Rattle.dir_calls.specs.MemDir.{mem_state};
@@ -60,8 +60,10 @@ pub struct Progress {
     reached: Option<Phase>,
 }
 
-/// What a script leads to: the pending text, the directory where texts are installed, the installation that was begun, the files that
-/// readers opened, by their names, and the list of events that was begun.
+/// The state that a script leads to.
+///
+/// It has the pending text, the directory where texts are installed, and the installation that was begun. It also has
+/// the files that readers opened, by their names, and the list of events that was begun.
 #[derive(Drop)]
 pub struct Simulation {
     pending: Vec<u8>,
@@ -72,7 +74,7 @@ pub struct Simulation {
     history: Option<History>,
 }
 
-/// The rules file that stands, if one does.
+/// The rules file that stands, or that none does.
 #[derive(Drop)]
 pub struct Standing {
     file: Option<CdbFile<MemFile>>,
@@ -87,7 +89,8 @@ impl Model for Standing {
 }
 
 impl Simulation {
-    /// Nothing is pending, nothing stands or is begun, and there is no reader and no list of events.
+    /// The state at the start of a script: nothing is pending, stands or is begun, and there is no reader and no list
+    /// of events.
     pub fn new(alloc: Global) -> Result<Simulation, AllocError>
         ensures { IfOk result (λ sim. IsAt sim start) }
     {
@@ -101,7 +104,7 @@ impl Simulation {
         })
     }
 
-    /// Whether a command may stand here: an event, or what the list comes to, needs a list that was begun.
+    /// Whether a command may stand here. An event, and a question for the report, need a list that was begun.
     pub fn may_take(&self, command: &Command<'_>) -> bool
         ensures { (state : State) → IsAt self.now state
             → result ≡ is_in_place state (meaning command.now) }
@@ -112,7 +115,7 @@ impl Simulation {
         }
     }
 
-    /// Carries out a command, and adds what it prints. After an `Err`, for want of memory, the simulation is not to be used.
+    /// Carries out a command, and adds what it prints. After want of memory the simulation is not to be used.
     pub fn execute(
         &mut self,
         alloc: Global,
@@ -152,7 +155,7 @@ impl Simulation {
         Ok(())
     }
 
-    /// Begins to install the pending text, which is empty then. The installation that was begun before is dropped.
+    /// Begins to install the pending text, and leaves that empty. The installation before is dropped.
     fn prepare(&mut self, alloc: Global) -> Result<Install, InstallFault>
         ensures emptied { (state : State) → IsAt self.old state
             → IsAt self.new (record state { pending = []; begun = None }) }
@@ -221,7 +224,7 @@ impl Simulation {
         out.extend_from_slice(b"stopped\n")
     }
 
-    /// The file that stands under the name of the rules file.
+    /// Opens the rules file.
     fn open(&mut self, alloc: Global) -> Result<Option<CdbFile<MemFile>>, AllocError>
         ensures same { (state : State) → IsAt self.old state → IsAt self.new state }
         ensures file { (state : State) → IsAt self.old state
@@ -234,7 +237,7 @@ impl Simulation {
         }
     }
 
-    /// The rules that stand.
+    /// The rules file that stands, which is opened.
     pub fn standing(&mut self, alloc: Global) -> Result<Standing, AllocError>
         ensures { (state : State) → IsAt self.old state
             → IfOk result (λ standing. Reads standing state.texts.standing) }
@@ -324,7 +327,7 @@ impl Simulation {
 }
 
 impl Standing {
-    /// The decision for a peer: by the rules that stand, or that of a missing rules file where none do.
+    /// The decision for a peer: by the rules that stand, or that of a missing rules file if none do.
     pub fn decide(&self, alloc: Global, peer: &Peer) -> Result<Decision, AllocError>
         requires { (text : Option (List ℕ)) × Reads self.now text }
         ensures { (text : Option (List ℕ)) → Reads self.now text
@@ -342,7 +345,7 @@ impl Standing {
 }
 
 impl Progress {
-    /// Makes steps until a phase or a later one is reached, and tells the phase.
+    /// Makes steps until a phase or a later one is reached, and answers the phase that it reached.
     fn advance(
         &mut self,
         alloc: Global,
@@ -364,7 +367,7 @@ impl Progress {
         }
     }
 
-    /// Makes a step, and tells the phase that it reached.
+    /// Makes a step, and answers the phase that it reached.
     fn step(&mut self, alloc: Global, dir: &mut MemDir) -> Result<Phase, AllocError>
         requires { (b : Begun) × IsInstalling (mem_state dir.old) self.old b
             × (b.reached ≢ Some Phase.Done) }
@@ -405,7 +408,7 @@ fn place_of(phase: Phase) -> u8
     }
 }
 
-/// A name that keeps to the rules.
+/// Makes a name of a text that may be one.
 fn name(alloc: Global, text: &[u8]) -> Result<Name, AllocError>
     requires { name_fault text.now ≡ None }
     ensures { IfOk result (λ name. name ≡ text.now) }
@@ -444,7 +447,7 @@ fn append_refusal(out: &mut Vec<u8>, fault: InstallFault) -> Result<(), AllocErr
     }
 }
 
-/// The decision by a file that is compiled of a text.
+/// Decides a peer by a file that is compiled of a text.
 fn decide_by(alloc: Global, file: &CdbFile<MemFile>, peer: &Peer) -> Result<Decision, AllocError>
     requires { (text : List ℕ) × IsFileOf text file.now }
     ensures { (text : List ℕ) → IsFileOf text file.now
@@ -474,7 +477,7 @@ fn append_decision(
     append_answer(out, &decision)
 }
 
-/// Adds what a list of events comes to.
+/// Adds the report of a list of events, or its first event that may not happen.
 fn append_outcome(alloc: Global, history: &History, out: &mut Vec<u8>) -> Result<(), AllocError>
     ensures { OnOk result (out.new.items ≡ out.old.items ++ replayed (Some history.now)) }
 {

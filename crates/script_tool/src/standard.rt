@@ -14,22 +14,24 @@ const BUFFER: usize = 64 * 1024;
 
 const _: () = prove!(BUFFER == 65_536);
 
-/// Runs the script on standard input, and writes what it prints on standard output. Where one of them was left non-blocking it is waited
-/// for.
+/// Runs the script on standard input, and writes what it prints on standard output. A stream that was left non-blocking
+/// is waited for.
 ///
 /// # Errors
-/// As of `run_buffered`.
+/// Those of `run_buffered`.
 pub fn run_script<R: Input + Print + AllocGlobal + Clock>(rt: &R) -> Result<(), SimFault> {
     let input = Patient::new(rt, rt.reader());
     let output = Patient::new(rt, io::writer(rt));
     run_buffered(rt.alloc(), input, output).0
 }
 
-/// Runs the script that a reader gives, and gives back the writer once all that it prints has arrived there: no buffer keeps any of it.
+/// Runs the script that a reader gives, over buffers.
+///
+/// It gives the writer back once all that was printed has arrived there: no buffer keeps any of it.
 ///
 /// # Errors
-/// As of `run_rulesim`; `OutOfMemory` also where there is none for the buffers. The writer is lost where it failed, or where there was
-/// no memory for a buffer.
+/// Those of `run_rulesim`; `OutOfMemory` also if there is none for the buffers. The writer is lost if it failed, or if
+/// there was no memory for a buffer.
 pub fn run_buffered<R: Read + Drop, W: Write + Drop>(
     alloc: Global,
     input: R,

@@ -1,4 +1,4 @@
-//! What `rulesim` prints for the log of a server: which verdicts would be others under the rules that stand.
+//! What `rulesim` prints for the log of a server: the verdicts that would be others under the rules that stand.
 ghost use Rattle.std.specs.Prelude.{◌≡◌, ◌++◌, ℕ, List, Option, Some, None, true, OnOk, IfOk, IfSome};
 ghost use Rattle.rule_lines.specs.Lines.{lines_of};
 ghost use Rattle.connection_facts.specs.Peers.{fits, given};
@@ -19,7 +19,8 @@ use script_words::{End, LogLine, VerdictLine, read_line};
 use std::alloc::{AllocError, Global};
 use std::io::{BufRead, Write};
 
-/// How many lines tell a verdict, how many of these verdicts would be another now, and how many lines of a verdict can't be read.
+/// The sums of a log: lines that tell a verdict, verdicts that would be others now, and lines of a verdict that can't
+/// be read.
 #[derive(Clone, Copy)]
 pub struct Sums {
     told: u64,
@@ -27,11 +28,12 @@ pub struct Sums {
     unread: u64,
 }
 
-/// Takes what is left to be read as the log of a server, and writes a line for each verdict of it that would be another under the rules
-/// that stand, and the sums. So many lines were read before.
+/// Takes what is left to read as the log of a server, and compares its verdicts with the rules that stand.
+///
+/// It writes a line for each verdict that would be another, and then the sums. `before` lines were read before the log.
 ///
 /// # Errors
-/// As of `SimFault`, but never `BadCommand`.
+/// Those of `SimFault`, but never `BadCommand`.
 pub fn compare_log<R: BufRead, W: Write>(
     alloc: Global,
     standing: &Standing,
@@ -84,7 +86,7 @@ fn write_sums<W: Write>(alloc: Global, writer: &mut W, sums: Sums) -> Result<(),
     }
 }
 
-/// What a line of the log prints; the sums have it then.
+/// Adds a line of the log to the sums, and answers what is printed for it.
 fn judge(
     alloc: Global,
     standing: &Standing,
@@ -130,7 +132,7 @@ fn judge_verdict(
     Ok(out)
 }
 
-/// The peer that is asked about.
+/// The peer whose decision is asked for.
 fn asked(alloc: Global, end: &End<'_>) -> Result<Peer, AllocError>
     requires { fits (given (end.now).host) ≡ true }
     ensures { IfOk result (λ peer. peer ≡ asked (client_of end.now None)) }
@@ -152,7 +154,7 @@ fn differ(was: Verdict, now: Verdict) -> bool
     }
 }
 
-/// Adds the line of a verdict that another takes the place of. After an `Err` a part of it may stand at the end of `out`.
+/// Adds the line of a verdict that would be another now. After an `Err` a part may stand at the end of `out`.
 fn push_change(out: &mut Vec<u8>, told: &VerdictLine<'_>, now: &Decision) -> Result<(), AllocError>
     ensures { OnOk result
         (out.new.items ≡ out.old.items ++ change_line (told_of told.now) now.now) }
@@ -215,7 +217,7 @@ fn host_text(host: Option<&str>) -> &str
     }
 }
 
-/// Adds the lines of the sums. After an `Err` a part of them may stand at the end of `out`.
+/// Adds the lines of the sums. After an `Err` a part may stand at the end of `out`.
 fn push_sums(out: &mut Vec<u8>, sums: Sums) -> Result<(), AllocError>
     ensures { OnOk result (out.new.items ≡ out.old.items ++ sums_text sums) }
 {

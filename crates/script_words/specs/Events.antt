@@ -89,7 +89,7 @@ start_failed_otherwise n = StartFailed n fault.Other
 abbrev pub dropped_by_directory : ℕ → Event
 dropped_by_directory n = Dropped n cause.Directory
 
--- the events other than an admission. A fault is that the start failed otherwise, a cause that the directory did
+-- the events other than an admission; the fault of a failed start is `Other`, and the cause of a drop the directory
 abbrev pub other_event : List ℕ → List (List ℕ) → Option Event
 other_event name words =
     if bytes_eq name (codes "opened") then serial_and there_in Opened words
@@ -118,7 +118,7 @@ event_in (name ∷ words) = event_named name words
 abbrev pub limit_in : List ℕ → Option ℕ
 limit_in word = number_in word 1 10000
 
--- the limit, and the limit per address, which is the same where it is left out
+-- the limit, and the limit per address, which is the same if it is left out
 abbrev pub limits_in : List (List ℕ) → Option (ℕ × ℕ)
 limits_in (limit ∷ []) = option_map (λ n. (n, n)) (limit_in limit)
 limits_in (limit ∷ per_address ∷ []) =

@@ -19,13 +19,13 @@ pub record Told : Type 0 where
   pub local : LocalEnd
   pub peer : Client
 
--- what a line of a log is: no verdict's, one that can't be read, or one that tells this
+-- a line of a log: it tells no verdict, tells one that can't be read, or tells this one
 pub data Reading : Type 0 where
   Other : Reading
   Unread : Reading
   Tells : Told → Reading
 
--- a byte of a field that stands for itself: neither one that would have been marked, nor the mark
+-- a byte of a field that stands for itself: it would not have been marked, and is not the mark
 abbrev pub is_plain : ℕ → Bool
 is_plain b = not (is_marked b || b == 63)
 
@@ -33,7 +33,7 @@ is_plain b = not (is_marked b || b == 63)
 abbrev pub is_whole : List ℕ → Bool
 is_whole field = nat_lt (length field) 100 && list_all is_plain field
 
--- the name in a field, which is empty where it was absent
+-- the name in a field, which is empty if there is none
 abbrev pub name_in : List ℕ → Option (List ℕ)
 name_in [] = None
 name_in (b ∷ bs) = Some (b ∷ bs)
@@ -41,7 +41,7 @@ name_in (b ∷ bs) = Some (b ∷ bs)
 abbrev pub if_written : ℕ → List ℕ → Option ℕ
 if_written n word = if bytes_eq (decimal n) word then Some n else None
 
--- the number up to a greatest that is written so
+-- the number up to a greatest that a server writes so
 abbrev pub number_written : ℕ → List ℕ → Option ℕ
 number_written greatest word = option_and_then (λ n. if_written n word) (number_in word 0 greatest)
 

@@ -26,12 +26,12 @@ meaning read.Verdicts = Verdicts
 abbrev pub texts : List (Bor (List ℕ)) → List (List ℕ)
 texts words = map (λ (word : Bor (List ℕ)). word.now) words
 
--- a refusal says that words are no such thing, and want of memory that they are one
+-- a refusal says that the words don't say such a thing; want of memory says that they do
 abbrev pub RefusesAs : {X : Type 0} → Option X → LineEnd → Type 0
 RefusesAs wanted Bad = wanted ≡ None
 RefusesAs wanted OutOfMemory = IsSome wanted
 
--- why a line gives no command: it is bad, or it has words, and there was no memory for them or for what they name
+-- why a line gives no command: it is bad; or it has words, and there was no memory for them or for what they name
 abbrev pub RefusesLine : List ℕ → LineEnd → Type 0
 RefusesLine line Bad = command_of line ≡ None
 RefusesLine line OutOfMemory = has_words line ≡ true

@@ -135,7 +135,7 @@ abbrev pub has_words : List ℕ → Bool
 has_words [] = false
 has_words (b ∷ bs) = not (b == 35) && not (b == 124) && is_utf8 (b ∷ bs)
 
--- the command of a line: none where the line is bad
+-- the command of a line: none if the line is bad
 abbrev pub command_of : List ℕ → Option Command
 command_of [] = Some Skip
 command_of (b ∷ bs) =

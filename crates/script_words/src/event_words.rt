@@ -17,7 +17,7 @@ use std::alloc::Global;
 /// The greatest limit of a list of events.
 const MOST_LIMIT: u64 = 10_000;
 
-/// The event that words are: its name, and what belongs to it.
+/// Reads an event from its words: its name, and what belongs to it.
 pub(crate) fn read_event(alloc: Global, words: &[&str]) -> Result<Event, LineEnd>
     ensures read { IfOk result (λ event. event_in (texts words.now) ≡ Some event) }
     ensures refused { IfErr result (RefusesAs (event_in (texts words.now))) }
@@ -28,14 +28,14 @@ pub(crate) fn read_event(alloc: Global, words: &[&str]) -> Result<Event, LineEnd
     event_named(alloc, name, words)
 }
 
-/// A limit of a list of events.
+/// Reads a limit of a list of events.
 pub(crate) fn limit_in(word: &str) -> Option<u64>
     ensures { result ≡ limit_in word.now }
 {
     number_in(word, 1, MOST_LIMIT)
 }
 
-/// The event with a name, and the words after that.
+/// Reads what belongs to the event with a name.
 fn event_named(alloc: Global, name: &str, words: &[&str]) -> Result<Event, LineEnd>
     ensures read { IfOk result (λ event. event_named name.now (texts words.now) ≡ Some event) }
     ensures refused { IfErr result (RefusesAs (event_named name.now (texts words.now))) }
@@ -46,7 +46,7 @@ fn event_named(alloc: Global, name: &str, words: &[&str]) -> Result<Event, LineE
     other_event(alloc, name, words).ok_or(LineEnd::Bad)
 }
 
-/// The event of a connection that is let in from an address, without names and with port 0.
+/// Reads a connection that is let in from an address, without names and with port 0.
 fn admission(alloc: Global, words: &[&str]) -> Result<Event, LineEnd>
     ensures read { IfOk result (λ event.
         event_named (codes "admitted") (texts words.now) ≡ Some event) }
@@ -60,7 +60,7 @@ fn admission(alloc: Global, words: &[&str]) -> Result<Event, LineEnd>
     }
 }
 
-/// The event with a name other than that of an admission.
+/// Reads what belongs to an event other than an admission.
 fn other_event(alloc: Global, name: &str, words: &[&str]) -> Option<Event>
     ensures { result ≡ other_event name.now (texts words.now) }
 {
@@ -79,7 +79,7 @@ fn other_event(alloc: Global, name: &str, words: &[&str]) -> Option<Event>
     }
 }
 
-/// That a connection's rules were opened, or were not there.
+/// Reads that a connection's rules were opened, or were not there.
 fn opened(words: &[&str]) -> Option<Event>
     ensures { result ≡ serial_and there_in Opened (texts words.now) }
 {
@@ -88,7 +88,7 @@ fn opened(words: &[&str]) -> Option<Event>
     Some(Event::Opened { serial, there })
 }
 
-/// That a connection was decided.
+/// Reads that a connection was decided.
 fn decided(alloc: Global, words: &[&str]) -> Option<Event>
     ensures { result ≡ serial_and verdict_in decided_as (texts words.now) }
 {
@@ -100,7 +100,7 @@ fn decided(alloc: Global, words: &[&str]) -> Option<Event>
     })
 }
 
-/// That a connection's child ended.
+/// Reads that a connection's child ended.
 fn ended(words: &[&str]) -> Option<Event>
     ensures { result ≡ serial_and status_in Ended (texts words.now) }
 {
@@ -109,7 +109,7 @@ fn ended(words: &[&str]) -> Option<Event>
     Some(Event::Ended { serial, status })
 }
 
-/// That an installation reached a phase.
+/// Reads that an installation reached a phase.
 fn stepped(words: &[&str]) -> Option<Event>
     ensures { result ≡ option_map Stepped (only_phase (texts words.now)) }
 {
@@ -117,7 +117,7 @@ fn stepped(words: &[&str]) -> Option<Event>
     Some(Event::Stepped { phase })
 }
 
-/// That an installation failed on the way to a phase.
+/// Reads that an installation failed on the way to a phase.
 fn step_failed(words: &[&str]) -> Option<Event>
     ensures { result ≡ option_map StepFailed (only_phase (texts words.now)) }
 {
@@ -125,7 +125,7 @@ fn step_failed(words: &[&str]) -> Option<Event>
     Some(Event::StepFailed { phase })
 }
 
-/// The stop of the server, which has no more words.
+/// Reads a stop of the server, which has no more words.
 fn stop(words: &[&str]) -> Option<Event>
     ensures { result ≡ alone Stop (texts words.now) }
 {
@@ -136,7 +136,7 @@ fn stop(words: &[&str]) -> Option<Event>
     }
 }
 
-/// That a connection's child was started.
+/// Reads that a connection's child was started.
 fn started(words: &[&str]) -> Option<Event>
     ensures { result ≡ option_map Started (only_serial (texts words.now)) }
 {
@@ -144,7 +144,7 @@ fn started(words: &[&str]) -> Option<Event>
     Some(Event::Started { serial })
 }
 
-/// That the start of a connection's child failed, otherwise than in a way that has a name.
+/// Reads that a connection's child could not be started. The fault has no words, and is `Other`.
 fn start_failed(words: &[&str]) -> Option<Event>
     ensures { result ≡ option_map start_failed_otherwise (only_serial (texts words.now)) }
 {
@@ -155,7 +155,7 @@ fn start_failed(words: &[&str]) -> Option<Event>
     })
 }
 
-/// That a connection's place was given up.
+/// Reads that a connection's place was given up.
 fn retired(words: &[&str]) -> Option<Event>
     ensures { result ≡ option_map Retired (only_serial (texts words.now)) }
 {
@@ -163,7 +163,7 @@ fn retired(words: &[&str]) -> Option<Event>
     Some(Event::Retired { serial })
 }
 
-/// That a connection was dropped, since the directory failed.
+/// Reads that a connection was dropped. The cause has no words, and is that the directory failed.
 fn dropped(words: &[&str]) -> Option<Event>
     ensures { result ≡ option_map dropped_by_directory (only_serial (texts words.now)) }
 {
@@ -185,7 +185,7 @@ fn decision_with(alloc: Global, verdict: Verdict) -> Decision
     }
 }
 
-/// The serial that the only word is.
+/// Reads a serial, if it is the only word.
 fn only_serial(words: &[&str]) -> Option<u64>
     ensures { result ≡ only_serial (texts words.now) }
 {
@@ -195,7 +195,7 @@ fn only_serial(words: &[&str]) -> Option<u64>
     }
 }
 
-/// The phase that the only word is.
+/// Reads a phase, if it is the only word.
 pub fn only_phase(words: &[&str]) -> Option<Phase>
     ensures { result ≡ only_phase (texts words.now) }
 {
@@ -205,7 +205,7 @@ pub fn only_phase(words: &[&str]) -> Option<Phase>
     }
 }
 
-/// The serial that the first of two words is, and the second.
+/// Reads a serial, if there is one word behind it.
 fn serial_and_word<'a>(words: &[&'a str]) -> Option<(u64, &'a str)>
     ensures { option_map (λ (p : ℕ × Bor (List ℕ)). (p.0, p.1.now)) result
         ≡ serial_and_word (texts words.now) }

@@ -11,7 +11,7 @@ use rule_lookup::parse_address;
 use server_words::number_in;
 use std::str;
 
-/// How many bytes of a field are printed.
+/// The greatest number of bytes that a field prints.
 const FIELD: usize = 100;
 
 /// An end of a connection: the name of its host, if it is known, its address and its port.
@@ -25,7 +25,7 @@ pub struct End<'a> {
     pub port: u16,
 }
 
-/// What the line of a verdict tells.
+/// What the line of a verdict tells: the connection, its ends, and whether it may be made.
 #[derive(Clone, Copy)]
 pub struct VerdictLine<'a> {
     /// Whether the connection may be made.
@@ -40,18 +40,18 @@ pub struct VerdictLine<'a> {
     pub info: Option<&'a str>,
 }
 
-/// What a line of a log is.
+/// A line of a log, as it is read.
 #[derive(Clone, Copy)]
 pub enum LogLine<'a> {
-    /// It is no verdict's.
+    /// It tells no verdict.
     Other,
-    /// It is a verdict's that can't be read: a field was cut or has a mark, or it is not one that a server writes.
+    /// It tells a verdict, and can't be read: a field was cut or has a mark, or no server writes such a line.
     Unread,
     /// It tells this verdict.
     Verdict(VerdictLine<'a>),
 }
 
-/// What a line is, which has no line feed.
+/// Reads a line of a log, which has no line feed.
 pub fn read_line(line: &[u8]) -> LogLine<'_>
     ensures line { meaning result ≡ reading line.now }
     ensures names { TellsPeer (meaning result) }
@@ -75,7 +75,7 @@ fn behind(verdict: Verdict, line: &[u8]) -> Option<&[u8]>
     }
 }
 
-/// What the bytes behind the front of a verdict's line tell, if they can be read.
+/// Reads what stands behind the front of a verdict's line, if it can be read.
 fn tells_or_not(verdict: Verdict, words: &[u8]) -> LogLine<'_>
     ensures { meaning result ≡ tells_or_not (told_in verdict (words_of words.now)) }
 {
@@ -88,7 +88,7 @@ fn tells_or_not(verdict: Verdict, words: &[u8]) -> LogLine<'_>
     }
 }
 
-/// What the words behind `ok` or `deny` tell.
+/// Reads the words behind `ok` or `deny`.
 fn told_in(verdict: Verdict, text: &str) -> Option<VerdictLine<'_>>
     ensures { option_map told_of result ≡ told_in verdict (words_of text.now) }
 {
@@ -105,7 +105,7 @@ fn told_in(verdict: Verdict, text: &str) -> Option<VerdictLine<'_>>
     })
 }
 
-/// The server's end, in its fields.
+/// Reads the server's end from its fields.
 fn local_in(word: &str) -> Option<End<'_>>
     ensures { option_map end_of result ≡ local_in (fields_of word.now) }
 {
@@ -113,7 +113,7 @@ fn local_in(word: &str) -> Option<End<'_>>
     end_in(host, ip, port)
 }
 
-/// The other end, which has the name of the user too.
+/// Reads the other end from its fields, with the name of the user.
 fn peer_in(word: &str) -> Option<(End<'_>, Option<&str>)>
     ensures { option_map (λ peer. client_of peer.0 peer.1) result ≡ peer_in (fields_of word.now) }
 {
@@ -147,7 +147,7 @@ fn port_in(word: &str) -> Option<u16>
     u16::try_from(port).ok()
 }
 
-/// The number up to a greatest that is written so.
+/// Reads a number as a server writes it, up to a greatest.
 fn number_written(word: &str, greatest: u64) -> Option<u64>
     ensures { result ≡ number_written greatest word.now }
 {
@@ -159,7 +159,7 @@ fn number_written(word: &str, greatest: u64) -> Option<u64>
     }
 }
 
-/// The name in a field, which is empty where it was absent.
+/// The name in a field, which is empty if there is none.
 fn name_in(field: &str) -> Option<&str>
     ensures { given result ≡ name_in field.now }
 {

@@ -3,7 +3,7 @@ ghost use Rattle.std.specs.Prelude.{◌≡◌, ◌==◌, ◌<◌, ◌∷◌, [],
 ghost use Rattle.std.specs.List.{slice_split};
 ghost use Rattle.script_words.specs.Parts.{four_of, four_texts, three_of, three_texts};
 
-/// A text cut at the first of these characters, if it has one.
+/// Cuts a text at the first of these characters, if it has one.
 fn cut(text: &str, at: char) -> Option<(&str, &str)>
     requires { at < 128 }
     ensures { MatchOption result (slice_split (λ b. b == at) text.now ≡ text.now ∷ [])
@@ -12,7 +12,7 @@ fn cut(text: &str, at: char) -> Option<(&str, &str)>
     text.split_once(at)
 }
 
-/// The parts of a text that is cut at each of these characters, if there are three.
+/// The three parts of a text that is cut at each of these characters. `None` if there are more or fewer.
 pub fn three_parts(text: &str, at: char) -> Option<(&str, &str, &str)>
     requires { at < 128 }
     ensures { option_map three_texts result ≡ three_of (slice_split (λ b. b == at) text.now) }
@@ -25,7 +25,7 @@ pub fn three_parts(text: &str, at: char) -> Option<(&str, &str, &str)>
     }
 }
 
-/// The same where there are four.
+/// The four parts of a text that is cut at each of these characters. `None` if there are more or fewer.
 pub fn four_parts(text: &str, at: char) -> Option<(&str, &str, &str, &str)>
     requires { at < 128 }
     ensures { option_map four_texts result ≡ four_of (slice_split (λ b. b == at) text.now) }

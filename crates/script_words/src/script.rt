@@ -14,46 +14,46 @@ use rules_install::Phase;
 use server_events::Event;
 use std::alloc::{AllocError, Global};
 
-/// What a line asks for.
+/// A command of a script: what a line asks for.
 #[derive(Drop)]
 pub enum Command<'a> {
-    /// Nothing: it is empty or a comment.
+    /// Nothing: the line is empty or a comment.
     Skip,
-    /// That this be added to the pending text as a line.
+    /// Add this to the pending text as a line.
     Add(&'a [u8]),
-    /// That the pending text be installed.
+    /// Install the pending text.
     Install,
-    /// That the installation of the pending text begin.
+    /// Begin to install the pending text.
     Begin,
-    /// That the installation go on to this phase.
+    /// Go on with the installation to this phase.
     To(Phase),
-    /// A stop with this choice.
+    /// Stop the machine with this choice.
     Stop(Choice),
-    /// A decision for this peer.
+    /// Decide this peer.
     Ask(Peer),
-    /// That the rules file be opened, and kept under this name.
+    /// Open the rules file, and keep it under this name.
     Reader(&'a str),
-    /// A decision for this peer, from the file that is kept under this name.
+    /// Decide this peer by the file that is kept under this name.
     AskBy(&'a str, Peer),
-    /// An empty list of events, under these limits.
+    /// Begin an empty list of events, under these limits.
     Events {
         /// How many connections may be alive at once.
         limit: u64,
-        /// How many of these from one address.
+        /// How many of these may be from one address.
         per_address: u64,
     },
-    /// That this be added to the list of events.
+    /// Add this to the list of events.
     Event(Event),
-    /// What the list of events comes to.
+    /// Print what the list of events comes to.
     Replay,
-    /// That the lines after it be taken as a log, and what would be decided otherwise be told.
+    /// Take the lines after this one as a log, and print what would be decided otherwise.
     Verdicts,
 }
 
 /// Why a line gives no command.
 #[derive(Clone, Copy)]
 pub enum LineEnd {
-    /// It is none.
+    /// The line is no command.
     Bad,
     /// There was no memory for it.
     OutOfMemory,
@@ -67,10 +67,10 @@ impl From<AllocError> for LineEnd {
     }
 }
 
-/// The command of a line, which has no line feed.
+/// Reads the command of a line, which has no line feed.
 ///
 /// # Errors
-/// `Bad` where the line is no command; `OutOfMemory`, but only of a line that has words.
+/// `Bad` if the line is no command. `OutOfMemory`, but only for a line that has words.
 pub fn read_command(alloc: Global, line: &[u8]) -> Result<Command<'_>, LineEnd>
     ensures read { IfOk result (λ command. command_of line.now ≡ Some (meaning command)) }
     ensures refused { IfErr result (RefusesLine line.now) }
@@ -90,7 +90,7 @@ pub fn read_command(alloc: Global, line: &[u8]) -> Result<Command<'_>, LineEnd>
     }
 }
 
-/// The command that the words of a line are.
+/// Reads the command of a line of words.
 fn read_words(alloc: Global, line: &str) -> Result<Command<'_>, LineEnd>
     ensures read { IfOk result (λ command.
         command_in (words_of line.now) ≡ Some (meaning command)) }
@@ -117,7 +117,7 @@ fn command_from<'a>(alloc: Global, words: &[&'a str]) -> Result<Command<'a>, Lin
     command_named(alloc, name, words)
 }
 
-/// The command with a name, and the words after that.
+/// Reads what belongs to the command with a name.
 fn command_named<'a>(alloc: Global, name: &str, words: &[&'a str]) -> Result<Command<'a>, LineEnd>
     ensures read { IfOk result (λ command.
         command_named name.now (texts words.now) ≡ Some (meaning command)) }
@@ -139,7 +139,7 @@ fn command_named<'a>(alloc: Global, name: &str, words: &[&'a str]) -> Result<Com
     }
 }
 
-/// The phase that an installation is to go on to.
+/// Reads the phase that an installation is to go on to.
 fn read_target<'a>(words: &[&str]) -> Result<Command<'a>, LineEnd>
     ensures read { IfOk result (λ command.
         option_map To (only_phase (texts words.now)) ≡ Some (meaning command)) }
@@ -149,7 +149,6 @@ fn read_target<'a>(words: &[&str]) -> Result<Command<'a>, LineEnd>
     Ok(Command::To(target))
 }
 
-/// The choice of a stop.
 fn read_stop<'a>(words: &[&str]) -> Result<Command<'a>, LineEnd>
     ensures read { IfOk result (λ command.
         option_map Stop (only_choice (texts words.now)) ≡ Some (meaning command)) }
@@ -159,7 +158,6 @@ fn read_stop<'a>(words: &[&str]) -> Result<Command<'a>, LineEnd>
     Ok(Command::Stop(choice))
 }
 
-/// The peer of a question.
 fn read_ask<'a>(alloc: Global, words: &[&str]) -> Result<Command<'a>, LineEnd>
     ensures read { IfOk result (λ command.
         option_map Ask (peer_in (texts words.now)) ≡ Some (meaning command)) }
@@ -169,7 +167,7 @@ fn read_ask<'a>(alloc: Global, words: &[&str]) -> Result<Command<'a>, LineEnd>
     Ok(Command::Ask(peer))
 }
 
-/// The name of a reader that is to be opened.
+/// Reads the name under which the rules file is to be kept.
 fn read_reader<'a>(words: &[&'a str]) -> Result<Command<'a>, LineEnd>
     ensures read { IfOk result (λ command.
         option_map Open (only_reader (texts words.now)) ≡ Some (meaning command)) }
@@ -179,7 +177,6 @@ fn read_reader<'a>(words: &[&'a str]) -> Result<Command<'a>, LineEnd>
     Ok(Command::Reader(name))
 }
 
-/// The limits of a list of events.
 fn read_events<'a>(words: &[&str]) -> Result<Command<'a>, LineEnd>
     ensures read { IfOk result (λ command.
         option_map events_under (limits_in (texts words.now)) ≡ Some (meaning command)) }
@@ -189,7 +186,6 @@ fn read_events<'a>(words: &[&str]) -> Result<Command<'a>, LineEnd>
     Ok(Command::Events { limit, per_address })
 }
 
-/// The event that is to be added to the list.
 fn read_addition<'a>(alloc: Global, words: &[&str]) -> Result<Command<'a>, LineEnd>
     ensures read { IfOk result (λ command.
         option_map AddEvent (event_in (texts words.now)) ≡ Some (meaning command)) }
@@ -199,7 +195,7 @@ fn read_addition<'a>(alloc: Global, words: &[&str]) -> Result<Command<'a>, LineE
     Ok(Command::Event(event))
 }
 
-/// The choice that the only word is.
+/// Reads a choice, if it is the only word.
 fn only_choice(words: &[&str]) -> Option<Choice>
     ensures { result ≡ only_choice (texts words.now) }
 {
@@ -220,7 +216,7 @@ fn choice_in(word: &str) -> Option<Choice>
     }
 }
 
-/// The reader's name that the only word is.
+/// Reads a reader's name, if it is the only word.
 fn only_reader<'a>(words: &[&'a str]) -> Option<&'a str>
     ensures { given result ≡ only_reader (texts words.now) }
 {
@@ -237,7 +233,7 @@ fn reader_in(word: &str) -> Option<&str>
     if word.is_empty() { None } else { Some(word) }
 }
 
-/// The question to a reader that words are: its name, and the peer.
+/// Reads a question to a reader: its name, and the peer.
 fn read_question<'a>(alloc: Global, words: &[&'a str]) -> Result<Command<'a>, LineEnd>
     ensures read { IfOk result (λ command. question_in (texts words.now) ≡ Some (meaning command)) }
     ensures refused { IfErr result (RefusesAs (question_in (texts words.now))) }
@@ -249,7 +245,7 @@ fn read_question<'a>(alloc: Global, words: &[&'a str]) -> Result<Command<'a>, Li
     Ok(Command::AskBy(name, read_peer(alloc, words)?))
 }
 
-/// The limit that the first word is, and the limit per address, which is the same where it is left out.
+/// Reads a limit, and a limit per address. That is the same if it is left out.
 fn read_limits(words: &[&str]) -> Option<(u64, u64)>
     ensures { result ≡ limits_in (texts words.now) }
 {
@@ -276,7 +272,7 @@ fn alone<'a>(command: Command<'a>, words: &[&str]) -> Result<Command<'a>, LineEn
     }
 }
 
-/// The peer that the words after `ask` name.
+/// Reads the peer behind `ask`.
 fn read_peer(alloc: Global, words: &[&str]) -> Result<Peer, LineEnd>
     ensures read { IfOk result (λ peer. peer_in (texts words.now) ≡ Some peer) }
     ensures refused { IfErr result (RefusesAs (peer_in (texts words.now))) }
@@ -299,7 +295,7 @@ fn read_peer(alloc: Global, words: &[&str]) -> Result<Peer, LineEnd>
     }
 }
 
-/// The peer with one option: of a word that is either, the user's.
+/// The peer with one option: that of the user, or else that of the host.
 fn peer_with(
     alloc: Global,
     ip: &str,
@@ -336,7 +332,7 @@ fn peer_with_both(
     }
 }
 
-/// What stands after the mark in a word that begins with it.
+/// What stands behind the mark in a word that begins with it.
 fn option_in<'a>(mark: &str, word: &'a str) -> Option<&'a str>
     ensures { given result ≡ option_in mark.now word.now }
 {

@@ -4,7 +4,8 @@ use Rattle.rule_lines.specs.Pairs.{Rule}
 use Rattle.server_events.specs.ServerState.{start}
 use Rattle.server_events.specs.Worlds.{IsStart, StandsFor, World, standing}
 
--- a new server with these limits over what is left, which follows the rules under the same name, and of whose texts this one alone is known
+-- a new server with these limits over what is left; it follows the rules under the same name, and knows this one text
+-- alone
 abbrev pub started_again : World → Option (List Rule) → ℕ → ℕ → World
 started_again w text limit per_address = record {
   directory = w.directory;

@@ -21,8 +21,8 @@ pub record Reaches (history : List Event) (w : World) : Type 0 where
   pub starts : IsStart begin
   pub legal : Legal begin history w
 
--- Under the rules name stands one whole accepted text, no older than the last acknowledged: now, and in whatever a stop may
--- leave before, after or within any call that may come next. Where nothing stands there the name is missing.
+-- Under the rules name stands one whole accepted text, no older than the last acknowledged: now, and in whatever a stop
+-- may leave before, after or within any call that may come next. If nothing stands there, the name is missing.
 pub record HasWholeText (w : World) (r : RulesName) : Type 0 where
   pub now : IsAccepted w (content w.directory r.name)
   pub after_a_stop : (image : Directory) → MayLeave w image → IsAccepted w (content image r.name)
@@ -66,13 +66,14 @@ pub record HasItsOpening (history : List Event) (n : ℕ) (x : World) (decision 
   pub is_its : peer_of n u.server.connections ≡ Some peer
   pub by_it : IsDecidedAt u peer decision
 
--- Each decision that may be next is by the text that stood when its connection opened the rules: for each opening before it,
+-- Each decision that may be next is by the text that stood when its connection opened the rules, whichever opening
+-- before it that was.
 abbrev pub DecidesByWhatStood : World → Type 0
 DecidesByWhatStood x =
     (before : List Event) (u : World) (n : ℕ) (peer : Client) (decision : Decision) → Reaches before u
     → OpensAndDecides n u x decision → peer_of n u.server.connections ≡ Some peer → IsDecidedAt u peer decision
 
--- and there is one in its history.
+-- Each decision that may be next has its opening in the history.
 abbrev pub HaveTheirOpenings : List Event → World → Type 0
 HaveTheirOpenings history x =
     (n : ℕ) (decision : Decision) (y : World) → Step x (Decided n decision) y → HasItsOpening history n x decision

@@ -15,7 +15,7 @@ stops_by _ = false
 abbrev pub is_stop : Event → Bool
 is_stop event = stops_by (effect event)
 
--- the events after the last stop, or all where there was none
+-- the events after the last stop, or all if there was none
 abbrev pub since_stop : List Event → List Event
 since_stop history = after_last is_stop history
 
@@ -32,7 +32,7 @@ admission_by _ = None
 abbrev pub admission : Event → Option Life
 admission event = admission_by (effect event)
 
--- by this event the connection n is gone: its start failed, or it ended, or it was dropped
+-- whether the connection n is gone by this event: its start failed, or it ended, or it was dropped
 abbrev pub ends : ℕ → Event → Bool
 ends n (StartFailed m fault) = n == m
 ends n (Ended m status) = n == m
@@ -50,35 +50,36 @@ concerns_by n _ = false
 abbrev pub concerns : ℕ → Event → Bool
 concerns n event = concerns_by n (effect event)
 
--- by this event the connection n is retired
+-- whether the connection n is retired by this event
 abbrev pub retires : ℕ → Event → Bool
 retires n (Retired m) = n == m
 retires n _ = false
 
--- those admitted and not yet ended, start-failed, dropped or stopped; retired ones stay until a stop
+-- The connections that were admitted and have not ended, failed to start, been dropped or been stopped. Retired ones
+-- stay until a stop.
 abbrev pub live_of : List Event → List Life
 live_of history =
     let recent = since_stop history in
     filter (λ (x : Life). not (list_any (ends x.serial) recent)) (filter_map admission recent)
 
--- those of them whose peer has an address
+-- the connections whose peer has an address
 abbrev pub live_at : List ℕ → List Event → List Life
 live_at ip history = filter (λ (x : Life). bytes_eq x.peer.ip ip) (live_of history)
 
--- the retired ones of them
+-- the retired connections
 abbrev pub retired_of : List Event → List Life
 retired_of history =
     filter (λ (x : Life). list_any (retires x.serial) (since_stop history)) (live_of history)
 
--- their serials, in the same order
+-- the serials of connections, in the same order
 abbrev pub serials_of : List Life → List ℕ
 serials_of lives = map (λ (x : Life). x.serial) lives
 
--- along a list of events no more than these are ever alive
+-- along a list of events no more than this many are ever alive
 abbrev pub KeepsLimit : ℕ → List Event → Type 0
 KeepsLimit limit history = (k : ℕ) → length (live_of (take k history)) ≤ limit
 
--- nor ever more than these from one address
+-- along a list of events no more than this many are ever alive from one address
 abbrev pub KeepsAddressLimit : ℕ → List Event → Type 0
 KeepsAddressLimit limit history = (ip : List ℕ) (k : ℕ) → length (live_at ip (take k history)) ≤ limit
 

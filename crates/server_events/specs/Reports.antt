@@ -1,4 +1,4 @@
--- What a list of events comes to, and when it has no report.
+-- The report of a list of events, and when there is none.
 use Rattle.std.specs.Prelude.{◌≡◌, ℕ, ◌+◌, ◌-◌, List, [], ◌∷◌, ◌++◌, Bool, true, false, Option, Some, None, is_some, option_map, length, map, take, max, if◌then◌else◌}
 use Rattle.std.specs.List.{count_by, range_with_len}
 use Rattle.server_events.specs.declared.event.Event.{Event}
@@ -16,7 +16,7 @@ abbrev pub greatest : List ℕ → ℕ
 greatest [] = 0
 greatest (n ∷ ns) = max n (greatest ns)
 
--- the greatest of how many are alive after the first k events, for k from 0 to the number of events
+-- the greatest number of connections alive after the first k events, for k from 0 to the number of events
 abbrev pub most_of : List Event → ℕ
 most_of history =
     greatest (map (λ (k : ℕ). length (live_of (take k history))) (range_with_len 0 (length history + 1)))
@@ -29,7 +29,7 @@ report_of history = record {
   most = most_of history;
 }
 
--- event i, counted from 1, is the first that may not happen where it stands
+-- event i, counted from 1, is the first that may not happen there
 pub record IsFirstIllegal (w : ServerState) (history : List Event) (i : ℕ) : Type 0 where
   pub before : is_legal w (take (i - 1) history) ≡ true
   pub with_it : is_legal w (take i history) ≡ false
@@ -40,7 +40,7 @@ first_illegal w [] = None
 first_illegal w (e ∷ es) =
     if may_happen w e then option_map (λ i. i + 1) (first_illegal (after w e) es) else Some 1
 
--- there was no memory at event k, counted from 1: it lets a connection in, and may happen where it stands, as each before it may
+-- there was no memory at event k, counted from 1: it lets a connection in, and may happen there, as each before it may
 pub record WantsMemory (w : ServerState) (history : List Event) : Type 0 where
   pub k : ℕ
   pub event : Event

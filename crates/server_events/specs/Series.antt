@@ -15,14 +15,14 @@ use Rattle.server_events.specs.declared.event.Event.TheVariants.{Stepped, StepFa
 abbrev pub stepped_to : List Phase → List Event
 stepped_to phases = map (λ (phase : Phase). Stepped phase) phases
 
--- the event of the step that failed, where the last one did
+-- the event of the step that failed, if the last one did
 abbrev pub failure_of : Result (Unit {0}) InstallFault → List Event
 failure_of (Ok done) = []
 failure_of (Err (Disk fault phase)) = StepFailed phase ∷ []
 failure_of (Err fault) = []
 
--- Steps that came to some phases, and one more where the last failed, lead from this world to one in which the installation is under way as
--- far as it has come.
+-- Steps that came to some phases, and a failed one if the last failed, lead from this world to one in which the
+-- installation is under way as far as it has come.
 pub record LeadsAlong (w : World) (t : Installing) (e : Directory) (result : Result (Unit {0}) InstallFault) : Type 0 where
   pub phases : List Phase
   pub v : World

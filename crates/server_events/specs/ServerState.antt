@@ -96,8 +96,9 @@ may_admit w n peer =
 abbrev pub newcomer : ℕ → Client → Connection
 newcomer n peer = record { serial = n; peer = peer; stage = stage.Admitted }
 
--- What an event does to the state: it lets a connection in, or has it open the rules, or decides it, or brings it from a stage of some kind to another, or
--- lets it go from one; or it brings the installation to a phase, or fails on the way there; or it ends all.
+-- An effect of an event on the state. It lets a connection in, or has it open the rules, or decides it, or brings it
+-- from a stage to another, or lets it go from a stage. Or it brings the installation to a phase, or fails on the way
+-- there. Or it ends all.
 pub data Effect : Type 0 where
   lets_in : ℕ → Client → Effect
   opens : ℕ → Bool → Effect
@@ -141,7 +142,7 @@ with_effect w (comes_to phase) = record w { phase = phase_after phase }
 with_effect w (fails_at phase) = record w { phase = None }
 with_effect w ends_all = record w { connections = []; phase = None }
 
--- an event may happen where its effect may be had, and leads to the state with it
+-- an event may happen if its effect may be had, and leads to the state with it
 abbrev pub may_happen : ServerState → Event → Bool
 may_happen w event = may_have w (effect event)
 

@@ -23,12 +23,12 @@ abbrev pub IsScratchName : Option RulesName → List ℕ → Type 0
 IsScratchName None tmp = ⊥
 IsScratchName (Some r) tmp = tmp ≢ r.name
 
--- the call by which an installation begins: it makes the scratch file, perhaps after it has taken away what an installation before left there,
--- and has made all changes of names lasting
+-- the call by which an installation begins: it makes the scratch file, perhaps after it has taken away what an earlier
+-- installation left there, and has made all changes of names lasting
 abbrev pub MakesScratch : List ℕ → Call → Type 0
 MakesScratch tmp call = (call ≡ makes tmp) ⊎ (call ≡ renews tmp)
 
--- the one call on the way to a phase, of an installation under way where one has to be; none without a rules name
+-- the one call on the way to a phase, of an installation under way if there has to be one; none without a rules name
 abbrev pub IsCallTo : Phase → Option UnderWay → Option RulesName → Call → Type 0
 IsCallTo Fresh under_way rules call = (tmp : List ℕ) × IsScratchName rules tmp × MakesScratch tmp call
 IsCallTo Filling (Some u) (Some r) call = ((piece : List ℕ) × (call ≡ appends piece))
@@ -42,9 +42,9 @@ IsCallTo phase under_way rules call = ⊥
 abbrev pub IsWhole : Directory → UnderWay → Type 0
 IsWhole d u = (file : FileState) × (scratch_of d ≡ Some file) × IsOf u.rules file.bytes
 
--- a step to `Fresh` begins an installation of the rules of an accepted text, which count as accepted with it; to `Filling` puts any bytes into
--- the scratch file; to `Synced` syncs it, only where it is whole; to `Named` moves it onto the rules name; to `Done` makes that lasting and
--- acknowledges the text
+-- What a step does. To `Fresh` it begins an installation of the rules of an accepted text, which counts as accepted
+-- from then on. To `Filling` it puts any bytes into the scratch file. To `Synced` it syncs the scratch file, if that is
+-- whole. To `Named` it moves the file onto the rules name. To `Done` it makes that lasting and acknowledges the text.
 abbrev pub Advances : Phase → World → World → Type 0
 Advances Fresh w w' =
     (rules : List Rule) × (tmp : List ℕ) × (call : Call) × AreOfText rules × IsScratchName w.rules tmp × MakesScratch tmp call
@@ -71,7 +71,7 @@ Advances Done w w' =
       under_way = None;
     })
 
--- a step that failed leaves of the directory what its call leaves whose device failed, and no installation under way
+-- a step that fails leaves of the directory what a failing device leaves of its call, and no installation under way
 abbrev pub FailsTo : Phase → World → World → Type 0
 FailsTo phase w w' =
     (call : Call) × IsCallTo phase w.under_way w.rules call × Fails call w.directory w'.directory
@@ -87,7 +87,7 @@ MayBeAt w state =
 abbrev pub MayLeave : World → Directory → Type 0
 MayLeave w image = (state : Directory) × MayBeAt w state × IsImage state image
 
--- what an effect is beside what it does to the state
+-- what an effect does beside its effect on the state
 abbrev pub MovesBy : Effect → World → World → Type 0
 MovesBy (opens n there) w w' =
     (there ≡ is_some (standing w)) × (w' ≡ record w { server = w'.server; kept = w.kept ++ record { serial = n; bytes = standing w } ∷ [] })
@@ -104,8 +104,8 @@ MovesBy _ w w' = w' ≡ record w { server = w'.server }
 abbrev pub Moves : Event → World → World → Type 0
 Moves event w w' = MovesBy (effect event) w w'
 
--- others leave a name alone: what stands under it stands there, a stop leaves under it only what one might have left before, and each file that
--- it may stand for stays as it is
+-- others leave a name alone: what stands under it stays there, a stop leaves under it only what one might have left
+-- before, and each file that it may stand for stays as it is
 pub record LeavesAlone (name : List ℕ) (d e : Directory) : Type 0 where
   pub now : number_of e name ≡ number_of d name
   pub left : (names : Names) → CanBeLeft e.names names → (was : Names) × CanBeLeft d.names was × (get names name ≡ get was name)
@@ -122,8 +122,8 @@ abbrev pub LeavesScratch : Option UnderWay → Directory → Directory → Type 
 LeavesScratch None d e = ⊤
 LeavesScratch (Some u) d e = LeavesAlone u.tmp d e × (e.scratch ≡ d.scratch)
 
--- A step of others, which is no event: whatever they do to the directory, they leave alone the rules name, and the scratch file of an
--- installation under way.
+-- A step of others, which is no event: whatever they do to the directory, they leave the rules name alone, and the
+-- scratch file of an installation under way.
 pub record Outside (w w' : World) : Type 0 where
   pub rules_alone : LeavesRules w.rules w.directory w'.directory
   pub scratch_alone : LeavesScratch w.under_way w.directory w'.directory

@@ -38,7 +38,7 @@ HasStage w n s = stage_of n w.connections ≡ Some s
 abbrev pub IsFull : ServerState → Type 0
 IsFull w = w.limit ≤ length w.connections
 
--- the same of those from one address
+-- as many from one address are alive as may be
 abbrev pub IsFullFor : ServerState → List ℕ → Type 0
 IsFullFor w ip = w.per_address ≤ count_from ip w.connections
 

@@ -26,7 +26,7 @@ use Rattle.server_events.specs.Worlds.{Accepted, RulesName, UnderWay, World, kep
 abbrev pub CanStep : World → Event → Type 0
 CanStep w event = (v : World) × Step w event v
 
--- and leave this directory
+-- an event may happen in a world and leave this directory
 abbrev pub CanStepTo : World → Event → Directory → Type 0
 CanStepTo w event d = (v : World) × Step w event v × (v.directory ≡ d)
 
@@ -34,7 +34,7 @@ CanStepTo w event d = (v : World) × Step w event v × (v.directory ≡ d)
 abbrev pub CanBeChanged : World → Directory → Type 0
 CanBeChanged w d = (v : World) × Outside w v × (v.directory ≡ d)
 
--- neither the rules name nor that of the scratch file of an installation under way
+-- neither the rules name nor the scratch name of an installation under way
 pub record IsOthers (w : World) (name : List ℕ) : Type 0 where
   pub not_rules : (r : RulesName) → w.rules ≡ Some r → r.name ≢ name
   pub not_scratch : (u : UnderWay) → w.under_way ≡ Some u → u.tmp ≢ name
@@ -68,11 +68,11 @@ pub record MayFail (w : World) (phase : Phase) (d : Directory) : Type 0 where
 abbrev pub is_there : World → Bool
 is_there w = is_some (standing w)
 
--- what a file decides of a peer, or that there is none
+-- what a file decides of a peer, or what is decided without one
 abbrev pub decided_by : World → Option (List ℕ) → Client → Result Decision DecideFault
 decided_by w bytes peer = decision_from (option_map reading bytes) (missing_in w) peer
 
--- what the connection with this serial opened decides so of its peer, and it was not decided yet
+-- what the connection with this serial opened decides so of its peer, and it is not decided yet
 pub record IsDue (w : World) (n : ℕ) (decision : Decision) : Type 0 where
   pub opened : HasStage w.server n stage.Opened
   pub bytes : Option (List ℕ)
@@ -90,7 +90,7 @@ abbrev pub HaveOtherNames : Option RulesName → Option UnderWay → Type 0
 HaveOtherNames (Some r) (Some u) = u.tmp ≢ r.name
 HaveOtherNames rules under_way = ⊤
 
--- a stop in this world, and some time later something that concerns the connection n
+-- a stop in this world, and some time later an event of the connection n
 pub record HappensAfterStop (w : World) (n : ℕ) : Type 0 where
   pub stopped : World
   pub stops : Step w Stop stopped

@@ -15,7 +15,7 @@ use Rattle.server_events.specs.Steps.{MayLeave, Step}
 use Rattle.server_events.specs.Worlds.{RulesName, UnderWay, World}
 use Rattle.server_events.specs.declared.event.Event.TheVariants.{Stepped, StepFailed}
 
--- the name of the rules file of an installation, and what a server does where no file is there
+-- the name of an installation's rules file, and what a server decides if no file stands there
 abbrev pub rules_named : NamePair → Missing → RulesName
 rules_named names missing = record { name = names.cdb; missing = missing }
 
@@ -23,7 +23,7 @@ rules_named names missing = record { name = names.cdb; missing = missing }
 abbrev pub as_under_way : Installing → ℕ → UnderWay
 as_under_way s number = record { rules = s.rules; number = number; tmp = s.names.tmp }
 
--- a world has it under way, as far as it has come
+-- a world has this installation under way, as far as it has come
 pub record IsAsFar (w : World) (s : Installing) : Type 0 where
   pub number : ℕ
   pub under_way : w.under_way ≡ Some (as_under_way s number)
@@ -38,8 +38,8 @@ HasReached w s (Some Synced) = IsAsFar w s
 HasReached w s (Some Named) = IsAsFar w s
 HasReached w s (Some Done) = ⊤
 
--- an installation is under way in a world: it has its directory and its rules name, and where it is not over, the world has it as
--- far as it has come
+-- an installation is under way in a world that has its directory and its rules name; unless it is over, the world has
+-- it as far as it has come
 pub record IsUnderWay (w : World) (s : Installing) (d : Directory) : Type 0 where
   pub directory : w.directory ≡ d
   pub missing : Missing
@@ -56,7 +56,8 @@ Arrives w t e (Err fault) = IsUnderWay w t e
 abbrev pub StepLeads : Installing → Installing → Directory → Directory → Result Phase InstallFault → Type 0
 StepLeads s t d e result = (w : World) → IsUnderWay w s d → Arrives w t e result
 
--- A stop since a step of an installation began left what a stop may leave of each such world, or of the directory after it.
+-- A stop since a step of an installation began left what a stop may leave of each such world, or of the directory after
+-- the step.
 abbrev pub Leaves : {D F : Type 0} → Ghosts D F → Installing → D → D → Type 0
 Leaves tells s old new =
     (w : World) (image : Directory) → IsUnderWay w s (tells.state old) → tells.left_since new (tells.moment old) image

@@ -7,14 +7,15 @@ use Rattle.server_events.specs.ServerState.{after}
 use Rattle.server_events.specs.Steps.{Outside}
 use Rattle.server_events.specs.Worlds.{World, standing}
 
--- others than the server go on, one step after another: installers, and whoever leaves the two names alone
+-- others than the server go on, step by step: installers, and whoever leaves the two names alone
 pub data OthersGo : World → List Event → World → Type 0 where
   none : {w : World} → OthersGo w [] w
   installs : {u v w : World} {event : Event} {events : List Event} → InstallerSteps u event v → OthersGo v events w
       → OthersGo u (event ∷ events) w
   outside : {u v w : World} {events : List Event} → Outside u v → OthersGo v events w → OthersGo u events w
 
--- While an opening was made others went on from one world to another, and it found what stood under the rules name at some moment of that.
+-- Others went on from one world to another while an opening was made. It found what stood under the rules name at a
+-- moment of that time.
 pub record FindsWithin (w v : World) (bytes : Option (List ℕ)) : Type 0 where
   pub before : List Event
   pub u : World
@@ -23,7 +24,7 @@ pub record FindsWithin (w v : World) (bytes : Option (List ℕ)) : Type 0 where
   pub behind : List Event
   pub rest : OthersGo u behind v
 
--- the history of that, with the opening at its moment
+-- the history of an opening that takes time, with the opening at its moment
 abbrev pub with_opening : {w v : World} {bytes : Option (List ℕ)} → ℕ → FindsWithin w v bytes → List Event
 with_opening {w} {v} {bytes} n finds = finds.before ++ Opened n (is_some bytes) ∷ finds.behind
 

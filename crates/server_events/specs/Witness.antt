@@ -35,9 +35,9 @@ two_texts =
 abbrev pub texts_of_it : Accepted
 texts_of_it = None ∷ Some (for_everybody Deny) ∷ Some (for_everybody Allow) ∷ Some (for_everybody Deny) ∷ []
 
--- A history of a server whose first text allows. An installation is given up for another one of a text that denies, whose name becomes
--- not lasting: the call that should make it so fails. It decides the first connection. The machine stops, and leaves the older text,
--- which decides the second connection; and it stops once more.
+-- A history of a server whose first text allows. An installation is given up for one of a text that denies. The call
+-- that should make that one's name lasting fails, and the text decides the first connection. The machine stops, and
+-- leaves the older text, which decides the second connection. Then it stops once more.
 abbrev pub an_older_text : List Event
 an_older_text =
     Stepped Fresh ∷ Stepped Filling ∷ Stepped Fresh ∷ Stepped Filling ∷ Stepped Synced ∷ Stepped Named ∷ StepFailed Done

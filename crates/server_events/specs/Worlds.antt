@@ -13,12 +13,12 @@ use Rattle.rule_lookup.specs.declared.decision.Missing.TheVariants.{Allow as All
 use Rattle.server_events.specs.ServerState.{ServerState, start}
 use Rattle.server_events.specs.declared.state.Connection.{Connection}
 
--- the texts that were accepted, each told by its rules; the first are what stood at the start, or what a stop would have left then, perhaps
--- nothing
+-- The texts that were accepted, each by its rules. The first are those that stood at the start, or that a stop would
+-- have left then; one of them may be that nothing stood there.
 abbrev pub Accepted : Type 0
 Accepted = List (Option (List Rule))
 
--- the name under which the server looks for its rules, and what it does where no file is there
+-- the name under which the server looks for its rules, and what it decides if no file stands there
 pub record RulesName : Type 0 where
   pub name : List ℕ
   pub missing : Missing
@@ -50,7 +50,7 @@ pub record World : Type 0 where
 abbrev pub standing : World → Option (List ℕ)
 standing w = option_and_then (λ (r : RulesName). content w.directory r.name) w.rules
 
--- what the server does where there is no file; without a rules name it allows
+-- what the server decides without a file; without a rules name it allows
 abbrev pub missing_by : Option RulesName → Missing
 missing_by None = AllowMissing
 missing_by (Some r) = r.missing
@@ -73,7 +73,7 @@ pub record IsOf (rules : List Rule) (file : List ℕ) : Type 0 where
   pub of_text : AreOfText rules
   pub compiled : IsCdb file (stored rules)
 
--- what may stand where a text was accepted: a file that is compiled of it; and nothing where there was none
+-- what may stand for an accepted text: a file that is compiled of it; for none, nothing
 abbrev pub StandsFor : Option (List Rule) → Option (List ℕ) → Type 0
 StandsFor None bytes = bytes ≡ None
 StandsFor (Some rules) bytes = (file : List ℕ) × (bytes ≡ Some file) × IsOf rules file
@@ -92,7 +92,7 @@ pub record HoldsRules (files : List FileState) (rules : List Rule) (number : ℕ
   pub there : slice_get files number ≡ Some (record { bytes = file; synced = true })
   pub compiled : IsOf rules file
 
--- where a text was accepted there is such a file, and where there was none there is no file
+-- what stands for an accepted text: a file that holds its rules; for none, no file
 abbrev pub StandsAt : List FileState → Option (List Rule) → Option ℕ → Type 0
 StandsAt files None number = number ≡ None
 StandsAt files (Some rules) number = (n : ℕ) × (number ≡ Some n) × HoldsRules files rules n

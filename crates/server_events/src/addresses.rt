@@ -13,7 +13,7 @@ pub(crate) struct AddressCounts {
 }
 
 impl AddressCounts {
-    /// Nothing is counted.
+    /// Counts of no connections.
     pub(crate) fn new(alloc: Global) -> AddressCounts
         ensures { (q : List ℕ) → count_of result q ≡ 0 }
     {

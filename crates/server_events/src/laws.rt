@@ -1,4 +1,4 @@
-//! Laws over the definitions alone.
+//! Laws of the definitions alone.
 ghost use Rattle.std.specs.Prelude.{◌≡◌, ◌≢◌, ◌↔◌, ℕ, ◌+◌, ◌≤◌, ◌<◌, Bool, List, Option, length, true, None, Some, IsSomeAnd};
 ghost use Rattle.std.specs.List.Sorted.{IsStrictlyIncreasing};
 ghost use Rattle.dir_calls.specs.Directory.{Directory, FileState};
@@ -25,68 +25,74 @@ ghost use Rattle.server_events.specs.declared.event.Event.{Event};
 ghost use Rattle.server_events.specs.declared.event.Event.TheVariants.{Admitted, Decided, Opened, Stepped, StepFailed, Stop};
 ghost use Rattle.server_events.specs.declared.event.Stage.TheVariants as Stage;
 
-/// Along each list of events that the table allows, no more connections than the limit are ever alive.
+/// Along each list of events that the table allows, no more connections are alive than the limit says.
 pub fn limit()
     ensures { (h : AllowedHistory) → KeepsLimit h.limit h.events }
 {}
 
-/// Along each such list no address ever has more connections alive than the limit per address.
+/// Along each list of events that the table allows, no address has more connections alive than the limit per address
+/// says.
 pub fn per_address()
     ensures { (h : AllowedHistory) → KeepsAddressLimit h.per_address h.events }
 {}
 
-/// After each such list those alive, told from its events alone, are the connections of the state that it leads to, and their
-/// serials rise, so that none is told twice.
+/// After each list of events that the table allows, those alive by the events alone are the connections of the state
+/// that it leads to. Their serials rise, so none is told twice.
 pub fn live()
     ensures connections { (h : AllowedHistory) → live_of h.events ≡ lives_of (connections_after h) }
     ensures serials { (h : AllowedHistory) → IsStrictlyIncreasing (serials_of (live_of h.events)) }
 {}
 
-/// The rules of the table and the functions agree, for one event and for a list of them.
+/// The rules of the table agree with the functions, for one event and for a list.
 pub fn table()
     ensures step { (w v : ServerState) (e : Event) → Happens w e v ↔ ((may_happen w e ≡ true) × (v ≡ after w e)) }
     ensures runs { (w v : ServerState) (events : List Event) → Runs w events v ↔ IsLegalTo w events v }
 {}
 
-/// The place of the first event that may not happen, as a function: it has none exactly where the table allows the list.
+/// The place of the first event that may not happen, as a function. There is none exactly if the table allows the list.
 pub fn first_illegal()
     ensures none { (w : ServerState) (es : List Event) → (first_illegal w es ≡ None) ↔ (is_legal w es ≡ true) }
     ensures some { (w : ServerState) (es : List Event) (i : ℕ) → (first_illegal w es ≡ Some i) ↔ IsFirstIllegal w es i }
 {}
 
-/// The history that a list of steps of the world is, is one that the table of events allows, and leads to the same connections; so
+/// The events of a list of steps of the world are a history that the table allows, and lead to the same connections. So
 /// `limit`, `per_address` and `live` speak of it too.
 pub fn allowed()
     ensures legal { (v w : World) (history : List Event) → Legal v history w → is_legal v.server history ≡ true }
     ensures same { (v w : World) (history : List Event) → Legal v history w → w.server ≡ state_after v.server history }
 {}
 
-/// In whatever world is reached from a start, one whole accepted text stands under the rules name, no older than the last
-/// acknowledged: now, and after a stop before, after or within any call of the directory that may come next.
+/// In each world that is reached from a start, one whole accepted text stands under the rules name, no older than the
+/// last acknowledged.
+///
+/// It stands there now, and after a stop before, after or within any call of the directory that may come next.
 pub fn whole_text()
     ensures { (history : List Event) (w : World) → Reaches history w → LeavesWholeText w }
 {}
 
-/// Each decision, and what its child is told, is by the text that stood under the rules name when its connection opened the
-/// rules: for each opening before it, and there is one in its history.
+/// Each decision, and what its child is told, is by the text that stood under the rules name when its connection opened
+/// the rules.
+///
+/// That is said of each opening before the decision, and there is one in its history.
 pub fn decisions()
     ensures by_what_stood { (x : World) → DecidesByWhatStood x }
     ensures opened { (history : List Event) (x : World) → Reaches history x → HaveTheirOpenings history x }
 {}
 
-/// The headline: `whole_text`, `decisions` and `limit` of every history of every world from a start.
+/// The headline: `whole_text`, `decisions` and `limit` hold of every history of every world from a start.
 pub fn headline()
     ensures { (history : List Event) (w : World) → Reaches history w → IsKeptBy history w }
 {}
 
-/// What an acknowledgement is worth: once an installation is done, whatever a stop leaves, before or within the next call, has its
-/// text under the rules name.
+/// Once an installation is done, its text is under the rules name after each stop, before or within the next call. That
+/// is what an acknowledgement is worth.
 pub fn done()
     ensures { (w v : World) (r : RulesName) (u : UnderWay) → Finishes w v r u → SurelyHas v r.name u.rules }
 {}
 
-/// Nothing takes back what was acknowledged or accepted, a stop and a failure neither: only the last step of an installation
-/// raises the one, and only a first step adds to the other.
+/// Nothing takes back what was acknowledged or accepted, not even a stop or a failure.
+///
+/// Only the last step of an installation raises what is acknowledged, and only a first step adds to what is accepted.
 pub fn keeps()
     ensures acknowledged { (w v : World) (e : Event) → Step w e v → w.acknowledged ≤ v.acknowledged }
     ensures raised { (w v : World) (e : Event) → Step w e v → e ≢ Stepped Done → v.acknowledged ≡ w.acknowledged }
@@ -94,9 +100,11 @@ pub fn keeps()
     ensures added { (w v : World) → Step w (Stepped Fresh) v → AddsText w v }
 {}
 
-/// Steps that a world does take, so that the laws speak of them: a stop may leave each image of the directory as it is, and of each
-/// moment within a call that may come next; a step may fail and leave whatever a failing device leaves; each rules file may be opened
-/// by who was let in, and decides as it says. And others may make a file under a name of their own, take one away, and make all names lasting.
+/// Steps that a world takes, so that the laws speak of something.
+///
+/// A stop may leave each image of the directory as it is, and of each moment within a call that may come next. A step
+/// may fail, and leave whatever a failing device leaves. Whoever was let in may open each rules file, which decides as
+/// it says. Others may make a file under a name of their own, take one away, and make all names lasting.
 pub fn taken()
     ensures stopped { (w : World) (image : Directory) → IsImage w.directory image → CanStepTo w Stop image }
     ensures stopped_within { (w : World) (image : Directory) → IsLeftWithin w image → CanStepTo w Stop image }
@@ -109,10 +117,12 @@ pub fn taken()
     ensures settled { (w : World) → CanBeChanged w (call.after settles w.directory) }
 {}
 
-/// Some steps that no world takes: a file that is not whole is not synced, and none is named before it is synced; without a rules name, or
-/// without an installation under way, none goes on; a scratch file's name is not the rules name; what is opened is what stands
-/// there, and a decision is by what the connection keeps; no admission passes a limit or takes another serial than the next; and
-/// after a stop nothing ever happens to a connection from before.
+/// Steps that no world takes.
+///
+/// A file that is not whole is not synced, and none is named before it is synced. An installation doesn't go on without
+/// a rules name, or if none is under way. A scratch file's name is not the rules name. A connection opens what stands
+/// there, and is decided by what it keeps. No admission passes a limit or takes another serial than the next. After a
+/// stop nothing happens to a connection from before.
 pub fn refusals()
     ensures short { (w : World) → HasShortScratch w.directory → CannotStep w (Stepped Synced) }
     ensures whole { (w v : World) → Step w (Stepped Synced) v → IsSomeAnd w.under_way (IsWhole w.directory) }
@@ -130,46 +140,59 @@ pub fn refusals()
     ensures others { (w v : World) (bytes : List ℕ) → Outside w v → standing w ≡ Some bytes → standing v ≡ Some bytes }
 {}
 
-/// A history in which all of this happens, so that the laws are not about nothing: a text that denies is installed, and a connection
-/// opens it and is decided by it; a text that allows is installed as far as its name, and the machine stops when it should become lasting; a
-/// connection is decided by that text and its child is retired; and the first text is installed once more.
+/// A history in which all of this happens, so that the laws are not about nothing.
+///
+/// A text that denies is installed; a connection opens it and is decided by it. A text that allows is installed as far
+/// as its name, and the machine stops when the name should become lasting. That text decides a connection, whose child
+/// is retired. Then the first text is installed once more.
 pub fn witness()
     ensures leads { LeadsTo two_texts texts_of_it 3 }
     ensures retired { length (retired_of two_texts) ≡ 1 }
 {}
 
-/// Another one, in which a stop takes a name back: an installation is given up for another, whose name doesn't become lasting since the call for
-/// it fails; a connection is decided by the new text, and after a stop another one by the text from the start.
+/// A history in which a stop takes a name back.
+///
+/// An installation is given up for another. That one's name doesn't become lasting, since the call for it fails. The
+/// new text decides a connection, and after a stop the text from the start decides another one.
 pub fn older()
     ensures { LeadsTo an_older_text texts_of_that 0 }
 {}
 
-/// What a stop leaves is a start: a text that was accepted before it stands there, no older than the last acknowledged, and a new server over it
-/// begins as all histories do. So the headline speaks of each of a machine's boots, and what was acknowledged in one holds in the next.
+/// What a stop leaves is a start.
+///
+/// A text that was accepted before it stands there, no older than the last acknowledged. A new server over it begins as
+/// all histories do. So the headline speaks of each of a machine's boots, and what was acknowledged in one holds in the
+/// next.
 pub fn again()
     ensures { (history : List Event) (w v : World) (limit per_address : ℕ) → Reaches history w → Step w Stop v
         → BeginsAgain v limit per_address }
 {}
 
-/// A server that installs nothing, and installers that are other processes, one after another, over the same directory: their steps, each made
-/// by itself in what the others left and woven in any order, are one history of the world that they share, and each history of that world is such
-/// steps. So the headline speaks of them.
+/// The steps of a server and of installers beside it are one history.
+///
+/// The server installs nothing. The installers are other processes, one after another, over the same directory. Each
+/// makes its steps in what the others left. Woven in any order, these steps are one history of the world that all
+/// share, and each history of that world is such steps. So the headline speaks of them.
 pub fn two_processes()
     ensures one { (w v : World) (history : List Event) → Woven w history v → Legal w history v }
     ensures parts { (w v : World) (history : List Event) → Legal w history v → Woven w history v }
     ensures headline { (w v : World) (history : List Event) → IsStart w → Woven w history v → IsKeptBy history v }
 {}
 
-/// A history of the two that happens: an installer makes a text lasting that denies, and a connection opens it; another installer is killed
-/// within the rename of a text that allows; somebody makes a file; and then that connection is decided by the text that it opened, and the next
-/// one by the newer text.
+/// A history of a server and installers beside it that happens.
+///
+/// An installer makes a text lasting that denies, and a connection opens it. Another installer is killed within the
+/// rename of a text that allows. Somebody makes a file. Then the connection is decided by the text that it opened, and
+/// the next one by the newer text.
 pub fn witness_of_two()
     ensures { WovenAround until_the_kill behind_the_kill texts_of_both 1 }
 {}
 
-/// An opening that takes some time. It finds what stood under the rules name at some moment of its call, and the server notes it when the call
-/// ends, in the world that others came to meanwhile. That is the world to which the steps of others lead with the opening at its moment among
-/// them: so it is one history of the two, and the decision is by the text that stood there then.
+/// An opening that takes some time is one at a moment of its call.
+///
+/// It finds what stood under the rules name at that moment. The server notes it when the call ends, in the world that
+/// others came to meanwhile. The same world is reached if the opening stands at its moment among the steps of others.
+/// So it is one history of the two, and the decision is by the text that stood there then.
 pub fn opened_within()
     ensures { (w v : World) (n : ℕ) (bytes : Option (List ℕ)) (finds : FindsWithin w v bytes)
         → HasStage w.server n Stage.Admitted → Woven w (with_opening n finds) (noting n bytes v) }

@@ -1,5 +1,4 @@
-//! What happens in a server: events, which lists of them may happen, what they come to, and what the headline says of
-//! them.
+//! The events of a server: which lists of them may happen, what they lead to, and the headline, which speaks of them.
 //!
 //! `laws::headline` is of definitions alone; `docs/internals/HEADLINE.md` reads it phrase by phrase. Two calls tie code
 //! to it: `make_step` for each step of an installation here, and each call of a yard in `server_yard`. `rulesim` uses

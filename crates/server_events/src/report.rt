@@ -1,4 +1,4 @@
-//! What a list of events comes to.
+//! The report of a list of events.
 ghost use Rattle.std.specs.Prelude.{◌≡◌, IfOk, IfErr, OnOk, true};
 ghost use Rattle.server_events.specs.ServerState.{start, is_legal};
 ghost use Rattle.server_events.specs.Reports.{report_of, RefusesReplay};
@@ -9,7 +9,7 @@ use crate::state::State;
 use std::alloc::{AllocError, Global};
 use thiserror::Error;
 
-/// The sums of a list of events.
+/// The report of a list of events: how many connections were let in, are alive, and ever were.
 #[derive(Clone, Copy, PartialEq, Eq, Debug)]
 pub struct Report {
     /// How many connections were let in.
@@ -25,7 +25,7 @@ pub struct Report {
 /// Why a list of events has no report.
 #[derive(Clone, Copy, PartialEq, Eq, Debug, Error)]
 pub enum ReplayFault {
-    /// This event, counted from 1, is the first that may not happen where it stands.
+    /// The event at this place, counted from 1, is the first that may not happen there.
     #[error("illegal event {0}")]
     IllegalEvent(u64),
     /// There was no memory to go through the list.
@@ -41,12 +41,12 @@ impl From<AllocError> for ReplayFault {
     }
 }
 
-/// The report of a list of events, with at most `limit` connections alive at once, and at most `per_address` of them from one
-/// address, retired ones included.
+/// The report of a list of events. At most `limit` connections are alive at once, and at most `per_address` of them
+/// from one address, retired ones included.
 ///
 /// # Errors
-/// `IllegalEvent` with the place, from 1, of the first event that may not happen where it stands. `OutOfMemory` only at an event that lets
-/// a connection in, where no event up to it is illegal: no other event takes memory.
+/// `IllegalEvent` with the place, from 1, of the first event that may not happen there. `OutOfMemory` only at an
+/// admission, if no event up to it is illegal: no other event takes memory.
 pub fn replay(
     alloc: Global,
     limit: u64,

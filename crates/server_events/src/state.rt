@@ -1,4 +1,4 @@
-//! What a list of events leads to.
+//! The state that a list of events leads to.
 ghost use Rattle.std.specs.Prelude.{◌≡◌, length, option_copied, true, OnOk, OnErr};
 ghost use Rattle.std.specs.List.{count_by};
 ghost use Rattle.server_events.specs.Reports.{is_admission};
@@ -17,7 +17,7 @@ use std::marker::Model;
 /// A connection that is alive.
 #[derive(Drop)]
 pub struct Connection {
-    /// Its number.
+    /// The number of the connection.
     pub serial: u64,
     /// Its other end.
     pub peer: Peer,
@@ -51,7 +51,7 @@ impl Model for State {
 }
 
 impl State {
-    /// No connection, and no installation under way.
+    /// A state without connections and without an installation under way.
     pub fn new(alloc: Global, limit: u64, per_address: u64) -> State
         ensures { result ≡ start limit per_address }
     {
@@ -162,7 +162,7 @@ impl State {
         }
     }
 
-    /// Goes on by an event that may happen now. Memory may be wanted for an admission alone, and nothing changes where there is none.
+    /// Applies an event that may happen now. Only an admission may want memory, and without memory nothing changes.
     pub fn apply(&mut self, event: &Event) -> Result<(), AllocError>
         requires may_happen { may_happen self.old event.now ≡ true }
         ensures applied { OnOk result (self.new ≡ after self.old event.now) }

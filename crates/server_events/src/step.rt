@@ -11,12 +11,13 @@ use dir_calls::Dir;
 use rules_install::{Install, InstallFault, Phase};
 use std::alloc::Global;
 
-/// Makes the next step of an installation that is neither over nor done: in each world in which it is under way an event of the
-/// table, or nothing.
+/// Makes the next step of an installation that is neither over nor done.
+///
+/// In each world in which the installation is under way the step is an event of the table, or nothing.
 ///
 /// # Errors
-/// As `Install::step`: `Disk` with the phase that was to be reached, after which the installation is over; `OutOfMemory`, after which
-/// nothing has changed.
+/// Those of `Install::step`. After `Disk`, which has the phase that was to be reached, the installation is over. After
+/// `OutOfMemory` nothing has changed.
 pub fn make_step<D: Dir>(
     alloc: Global,
     dir: &mut D,
@@ -25,10 +26,10 @@ pub fn make_step<D: Dir>(
     requires is_open { IsOpen install.old }
     requires undone { IsUndone install.old }
     requires fits { IsTrue D.honest → Fits (installing install.old) (D.state dir.old) }
-    // the world goes on by the event that is answered, to one in which the installation is under way as it is then
+    // by the answered event the world goes on to one in which the installation is under way as far as it has come
     ensures leads { IsTrue D.honest
         → StepLeads (installing install.old) (installing install.new) (D.state dir.old) (D.state dir.new) result }
-    // whenever the machine stopped since the step began, it left what a stop may leave of the world, or of the one after it
+    // a stop at any moment since left what a stop may leave of the world, or of the one after it
     ensures stops { IsTrue D.honest
         → Leaves D.Dir (installing install.old) dir.old dir.new }
     ensures fits { IsTrue D.honest → Fits (installing install.new) (D.state dir.new) }
@@ -38,7 +39,7 @@ pub fn make_step<D: Dir>(
     ensures more { result ≡ Ok Filling → FillsMore (installing install.old) (installing install.new) }
     ensures kept { result ≢ Ok Filling → HasFilled (installing install.old) (installing install.new) }
     ensures changes { IsTrue D.honest → StepChanges install.old (D.state dir.old) (D.state dir.new) result }
-    // and the device is blamed only where it failed, and that was counted
+    // and the device is blamed only if it failed, and that was counted
     ensures device { IsTrue D.honest → IsOfDevice result }
     ensures failures { D.failed dir.old ≤ D.failed dir.new }
     ensures blames { BlamesDevice (D.failed dir.old) (D.failed dir.new) result }

@@ -54,7 +54,7 @@ end_text serial status = codes "tcpserver: end " ++ decimal serial ++ codes " st
 abbrev pub retired_text : ℕ → List ℕ
 retired_text serial = codes "tcpserver: retired " ++ decimal serial ++ codes "\n"
 
--- the words for a cause; a denied connection has none, and no line
+-- the words for a cause; a denied connection has no words, and no line
 abbrev pub cause_text : DropCause → Option (List ℕ)
 cause_text Denied = None
 cause_text Banner = Some (codes "banner fault")
@@ -71,7 +71,7 @@ drop_by serial (Some cause) = codes "tcpserver: drop " ++ decimal serial ++ code
 abbrev pub drop_text : ℕ → DropCause → List ℕ
 drop_text serial cause = drop_by serial (cause_text cause)
 
--- the words for a fault of a start; none is that of a child that gave no pipe ends
+-- the words for a fault of a start; without a fault the child gave no pipe ends
 abbrev pub fault_text : Option StartFault → List ℕ
 fault_text (Some NotFound) = codes "not found"
 fault_text (Some Refused) = codes "refused"
@@ -107,8 +107,8 @@ abbrev pub cause_lines : Level → Option CauseText → List (List ℕ)
 cause_lines level None = []
 cause_lines level (Some cause) = progress level (cause_line (codes "tcpserver") cause.what cause.why)
 
--- The lines of each event. The status stands in front of the line of an admission, and behind that of any other event that changes how many
--- are alive; a cause stands right behind its fault. The text of a connection that was denied is empty.
+-- The lines of each event. The status stands in front of the line of an admission, and behind the line of any other
+-- event that changes how many are alive. A cause stands right behind its fault. A denied connection has an empty text.
 abbrev pub event_lines : Level → (limit live : ℕ) → Told → List (List ℕ)
 event_lines level limit live (Told.Admitted serial ip) = status_lines level limit live ++ progress level (pid_line serial ip)
 event_lines level limit live (Told.Decided serial verdict local peer) = progress level (verdict_text verdict serial local.now peer.now)

@@ -17,11 +17,11 @@ level_of log = log.level
 abbrev pub limit_of : {W : Type 0} → Log W → ℕ
 limit_of log = log.limit
 
--- the place of the last event that it told
+-- the place of the last event that it was told
 abbrev pub last_of : {W : Type 0} → Log W → ℕ
 last_of log = log.last
 
--- what its writer holds, where that is known
+-- what its writer holds, if that is known
 abbrev pub held : {W : Type 0} → (W → Option (List ℕ)) → Log W → Option (List ℕ)
 held contents log = contents (writer_of log)
 
@@ -30,7 +30,7 @@ pub record KeepsSettings {W : Type 0} (old new : Log W) : Type 0 where
   pub level : level_of new ≡ level_of old
   pub limit : limit_of new ≡ limit_of old
 
--- of these lines these are left, whole and in their order
+-- these of the lines are left, whole and in their order
 abbrev pub AreLeft : (lines left : List (List ℕ)) → Type 0
 AreLeft [] left = left ≡ []
 AreLeft (line ∷ lines) left = ((rest : List (List ℕ)) × (left ≡ line ∷ rest) × AreLeft lines rest) ⊎ AreLeft lines left
@@ -46,7 +46,8 @@ pub record IsCut (bytes front : List ℕ) : Type 0 where
   pub more : List ℕ
   pub is : bytes ≡ front ++ first ∷ more
 
--- What an event with these lines wrote: all of them; those that found memory; or a front of those, where the writer did not take all.
+-- What an event with these lines wrote: all of them; those that found memory; or a front of those, if the writer did
+-- not take all.
 abbrev pub Logged : List (List ℕ) → (old new : Option (List ℕ)) → Result (Unit {0}) LogFault → Type 0
 Logged lines old new (Ok done) = Appends old new (concat lines)
 Logged lines old new (Err OutOfOrder) = ⊥
@@ -70,7 +71,8 @@ Takes bytes old new (Err WriteFault) = (front : List ℕ) × IsCut bytes front �
 abbrev pub IsLater : (old at : ℕ) → Type 0
 IsLater old at = (old < at) ⊎ (at ≡ 2 ^ 64 - 1)
 
--- a log that told events up to one place tells one at a later place, and then it has told up to there; or it refuses one that isn't later
+-- a log that was told events up to one place tells an event at a later place, and then was told up to there; or it
+-- refuses an event that isn't later
 abbrev pub TellsInOrder : (old at new : ℕ) → Result (Unit {0}) LogFault → Type 0
 TellsInOrder old at new (Err OutOfOrder) = ¬ IsLater old at × (new ≡ old)
 TellsInOrder old at new told = IsLater old at × (new ≡ at)

@@ -19,7 +19,7 @@ impl<'a> Model for Cause<'a> {
 }
 
 impl<'a> Cause<'a> {
-    /// That this was asked for, and refused with these words.
+    /// A cause: this was asked for, and refused with these words.
     pub fn new(what: &'a [u8], why: &'a str) -> Cause<'a>
         ensures { result ≡ record { what = what.now; why = why.now } }
     {
@@ -33,7 +33,7 @@ impl<'a> Cause<'a> {
         self.what
     }
 
-    /// Its words for its error.
+    /// The system's words for its error.
     pub fn why(&self) -> &'a str
         ensures { result.now ≡ self.now.why }
     {

@@ -10,7 +10,7 @@ use connection_facts::{Peer, Status};
 use std::alloc::AllocError;
 use ucspi_env::Local;
 
-/// Adds a field, or nothing where it is absent.
+/// Adds a field, or nothing if it is absent.
 pub fn push_field(out: &mut Vec<u8>, name: Option<&str>) -> Result<(), AllocError>
     ensures { AppendsPart (field (given name.entry)) out.old.items out.new.items result }
 {
@@ -20,7 +20,7 @@ pub fn push_field(out: &mut Vec<u8>, name: Option<&str>) -> Result<(), AllocErro
     }
 }
 
-/// Adds the name of a host, or nothing where it is absent, and its address.
+/// Adds the name of a host, or nothing if it is absent, and its address.
 fn push_host(out: &mut Vec<u8>, name: Option<&str>, ip: [u8; 4]) -> Result<(), AllocError>
     ensures { AppendsPart (field (given name.entry) ++ codes ":" ++ ipv4_text ip) out.old.items out.new.items result }
 {
@@ -38,7 +38,7 @@ pub fn push_local(out: &mut Vec<u8>, local: &Local) -> Result<(), AllocError>
     push_number(out, u64::from(local.port()))
 }
 
-/// Adds the other end.
+/// Adds the other end of a connection.
 pub fn push_remote(out: &mut Vec<u8>, peer: &Peer) -> Result<(), AllocError>
     ensures { AppendsPart (remote_text peer.now) out.old.items out.new.items result }
 {

@@ -1,4 +1,5 @@
-//! The lines of the log, and those of each event where the level has them. After an `Err` there was no memory for a line, and it was not added.
+//! The lines of the log, and those of each event at each level. After an `Err` there was no memory for a line, and it
+//! was not added.
 ghost use Rattle.std.specs.Prelude.{◌≡◌, Some, ◌++◌, List, ℕ, codes, decimal};
 ghost use Rattle.connection_facts.specs.Peers.{given};
 ghost use Rattle.byte_text.specs.Outcomes.{AppendsLine, AppendsPart};
@@ -15,7 +16,7 @@ use server_words::Level;
 use std::alloc::AllocError;
 use ucspi_env::Local;
 
-/// Adds the lines of an event, after which so many connections are alive.
+/// Adds the lines of an event, after which `live` connections are alive.
 pub(crate) fn add_event(
     level: Level,
     limit: u64,
@@ -56,7 +57,7 @@ pub(crate) fn add_event(
     }
 }
 
-/// Adds the line of how many are alive behind lines that were added.
+/// Adds the status line behind lines that were added.
 fn add_status_behind(
     level: Level,
     limit: u64,
@@ -88,7 +89,7 @@ fn add_admitted(
     status.and(pid)
 }
 
-/// Adds the line of how many are alive.
+/// Adds the status line, if the level has it.
 pub(crate) fn add_status(
     level: Level,
     limit: u64,
@@ -113,7 +114,6 @@ fn add_pid(level: Level, serial: u64, ip: [u8; 4], out: &mut Vec<u8>) -> Result<
     }
 }
 
-/// Adds the line of a decision.
 fn add_verdict(
     level: Level,
     verdict: Verdict,
@@ -131,7 +131,6 @@ fn add_verdict(
     }
 }
 
-/// Adds the line of a child that ended.
 fn add_end(level: Level, serial: u64, ended: Status, out: &mut Vec<u8>) -> Result<(), AllocError>
     ensures { Adds (progress level (end_text serial ended)) out.old.items out.new.items result }
 {
@@ -156,7 +155,7 @@ pub(crate) fn add_start(
     }
 }
 
-/// Adds the line of why the system refused something, if it is told.
+/// Adds the line of a cause, if there is one and the level has it.
 fn add_cause(level: Level, cause: Option<Cause<'_>>, out: &mut Vec<u8>) -> Result<(), AllocError>
     ensures { Adds (cause_lines level cause.entry) out.old.items out.new.items result }
 {
@@ -166,7 +165,7 @@ fn add_cause(level: Level, cause: Option<Cause<'_>>, out: &mut Vec<u8>) -> Resul
     }
 }
 
-/// Adds the line of a child that was not started, and behind it why, where that is told.
+/// Adds the line of a child that was not started, and behind it that of the cause, if there is one.
 fn add_refused(
     level: Level,
     serial: u64,
@@ -181,7 +180,6 @@ fn add_refused(
     start.and(why)
 }
 
-/// Adds the line of a child that could not be waited for.
 fn add_retired(level: Level, serial: u64, out: &mut Vec<u8>) -> Result<(), AllocError>
     ensures { Adds (error level (retired_text serial)) out.old.items out.new.items result }
 {
@@ -206,7 +204,7 @@ fn add_drop(
     }
 }
 
-/// Adds the line of a connection that was given up, and behind it why, where that is told.
+/// Adds the line of a connection that was given up, and behind it that of the cause, if there is one.
 fn add_given_up(
     level: Level,
     serial: u64,
@@ -221,7 +219,7 @@ fn add_given_up(
     dropped.and(why)
 }
 
-/// Adds the line of an address of which as many connections are alive as may be.
+/// Adds the line of an address from which as many connections are alive as may be.
 pub(crate) fn add_full(level: Level, ip: [u8; 4], out: &mut Vec<u8>) -> Result<(), AllocError>
     ensures { Adds (error level (full_text ip)) out.old.items out.new.items result }
 {
@@ -231,10 +229,10 @@ pub(crate) fn add_full(level: Level, ip: [u8; 4], out: &mut Vec<u8>) -> Result<(
     }
 }
 
-/// How many connections are alive, and how many may be.
+/// Appends the status line: how many connections are alive, and how many may be.
 ///
 /// # Errors
-/// There was no memory, and nothing was appended; so it is of each call.
+/// There was no memory, and nothing was appended. So it is of each call of this module.
 pub fn status(live: u64, limit: u64, out: &mut Vec<u8>) -> Result<(), AllocError>
     ensures { AppendsLine (status_line live limit) out.old.items out.new.items result }
 {
@@ -253,7 +251,7 @@ fn push_status_line(live: u64, limit: u64, out: &mut Vec<u8>) -> Result<(), Allo
     push_text(out, "\n")
 }
 
-/// That a connection came from an address.
+/// Appends the line of a connection that came from an address.
 pub fn pid_from(serial: u64, ip: [u8; 4], out: &mut Vec<u8>) -> Result<(), AllocError>
     ensures { AppendsLine (pid_line serial ip) out.old.items out.new.items result }
 {
@@ -272,8 +270,10 @@ fn push_pid_line(serial: u64, ip: [u8; 4], out: &mut Vec<u8>) -> Result<(), Allo
     push_text(out, "\n")
 }
 
-/// What was decided of a connection, and its two ends. In the names a byte that would be misread is `?`, and of a hundred bytes or more a
-/// hundred are printed, followed by `...`.
+/// Appends the line of what was decided of a connection, with its two ends.
+///
+/// In the names `?` stands for a byte that would be misread. Of a hundred bytes or more a hundred are printed, followed
+/// by `...`.
 pub fn verdict_line(
     verdict: Verdict,
     serial: u64,
@@ -316,7 +316,7 @@ fn verdict_word(verdict: Verdict) -> &'static str
     }
 }
 
-/// How a connection's child ended.
+/// Appends the line of how a connection's child ended.
 pub fn end_line(serial: u64, ended: Status, out: &mut Vec<u8>) -> Result<(), AllocError>
     ensures { AppendsLine (end_text serial ended) out.old.items out.new.items result }
 {
@@ -335,7 +335,7 @@ fn push_end_line(serial: u64, ended: Status, out: &mut Vec<u8>) -> Result<(), Al
     push_text(out, "\n")
 }
 
-/// That a connection's place is given up, since its child could not be waited for.
+/// Appends the line of a connection whose place is given up, since its child could not be waited for.
 pub fn retired_line(serial: u64, out: &mut Vec<u8>) -> Result<(), AllocError>
     ensures { AppendsLine (retired_text serial) out.old.items out.new.items result }
 {
@@ -352,7 +352,7 @@ fn push_retired_line(serial: u64, out: &mut Vec<u8>) -> Result<(), AllocError>
     push_text(out, "\n")
 }
 
-/// Why a connection was dropped; nothing where a rule denied it.
+/// Appends the line of why a connection was dropped; nothing if a rule denied it.
 pub fn drop_line(serial: u64, cause: DropCause, out: &mut Vec<u8>) -> Result<(), AllocError>
     ensures { AppendsLine (drop_text serial cause) out.old.items out.new.items result }
 {
@@ -364,7 +364,7 @@ pub fn drop_line(serial: u64, cause: DropCause, out: &mut Vec<u8>) -> Result<(),
     whole_or_none(out, whole, done)
 }
 
-/// The words for a cause, if its connection has a line.
+/// The words for a cause, if a drop for it has a line.
 fn cause_words(cause: DropCause) -> Option<&'static str>
     ensures { given result ≡ cause_text cause }
 {
@@ -379,7 +379,8 @@ fn cause_words(cause: DropCause) -> Option<&'static str>
     }
 }
 
-/// Why a connection's child was not started; `None` is a child that was started and gave no pipe ends.
+/// Appends the line of why a connection's child was not started. `None` is for a child that was started and gave no
+/// pipe ends.
 pub fn start_fault_line(
     serial: u64,
     fault: Option<StartFault>,
@@ -404,7 +405,7 @@ fn fault_words(fault: Option<StartFault>) -> &'static str
     }
 }
 
-/// Adds a line of a serial number, with words before it and after it.
+/// Adds a line of a serial number, with words before it and behind it.
 fn push_reason_line(
     before: &str,
     serial: u64,
@@ -421,7 +422,7 @@ fn push_reason_line(
     push_text(out, "\n")
 }
 
-/// That as many connections from an address are alive as may be.
+/// Appends the line of an address from which as many connections are alive as may be.
 pub fn drop_address_line(ip: [u8; 4], out: &mut Vec<u8>) -> Result<(), AllocError>
     ensures { AppendsLine (full_text ip) out.old.items out.new.items result }
 {

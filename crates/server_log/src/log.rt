@@ -1,4 +1,4 @@
-//! The log: which lines an event has, and when they are printed.
+//! The log of a server: which lines an event has, and when they are written.
 ghost use Rattle.std.specs.Prelude.{◌≡◌, ◌≢◌, ◌↔◌, Err, IfErr, IsTrue, List, [], ℕ};
 ghost use Rattle.std.specs.Io.{WritesAtMost};
 ghost use Rattle.std.specs.Io.KnownBytes.{Keeps, WriteAppends};
@@ -14,8 +14,11 @@ use std::alloc::{AllocError, Global};
 use std::io;
 use std::io::Write;
 
-/// A log. The lines of one event are written together, by one write where the writer takes them so. A line that finds no memory is left
-/// out, and so is what the writer does not take. Events are told in the order of the history: one that comes too late is left out.
+/// The log of a server: it writes the lines of the events that it is told.
+///
+/// The lines of one event are written together, by one write if the writer takes them so. A line that finds no memory
+/// is left out, and so is what the writer does not take. Events are told in the order of the history; one that comes
+/// too late is left out.
 #[derive(Drop)]
 pub struct Log<W> {
     writer: W,
@@ -28,7 +31,7 @@ pub struct Log<W> {
 }
 
 impl<W: Write> Log<W> {
-    /// A log of this level, of a server with this limit of connections. It takes no memory, and nothing is written.
+    /// A log of this level, for a server with this limit of connections. It takes no memory, and nothing is written.
     pub fn new(alloc: Global, writer: W, level: Level, limit: u64) -> Log<W>
         ensures writer { writer_of result ≡ writer }
         ensures level { level_of result ≡ level }
@@ -44,10 +47,10 @@ impl<W: Write> Log<W> {
         }
     }
 
-    /// How many connections are alive.
+    /// Tells how many connections are alive.
     ///
     /// # Errors
-    /// There was no memory for the line, or the writer did not take it; so it is of each event.
+    /// There was no memory for the line, or the writer did not take it. So it is of each event.
     pub fn status(&mut self, live: u64) -> Result<(), LogFault>
         ensures lines { Logged (status_lines (level_of self.old) (limit_of self.old) live)
             (held W.contents self.old) (held W.contents self.new) result }
@@ -59,10 +62,11 @@ impl<W: Write> Log<W> {
         self.write_lines(status)
     }
 
-    /// An event, at its place in the history, after which so many connections are alive.
+    /// Tells an event at its place in the history, after which `live` connections are alive.
     ///
     /// # Errors
-    /// `OutOfOrder` where one at this place or a later one was told before: nothing is written. Else as at `status`.
+    /// `OutOfOrder` if one at this place or a later one was told before; nothing is written. Otherwise those of
+    /// `status`.
     pub fn tell(&mut self, at: u64, live: u64, told: Told<'_>) -> Result<(), LogFault>
         ensures order { TellsInOrder (last_of self.old) at (last_of self.new) result }
         ensures lines { result ≢ Err LogFault.OutOfOrder
@@ -80,7 +84,7 @@ impl<W: Write> Log<W> {
         self.write_lines(added)
     }
 
-    /// A child that was started gave no pipe ends, or its input got no thread.
+    /// Tells that a child which was started gave no pipe ends, or that its input got no thread.
     pub fn no_pipe_ends(&mut self, serial: u64) -> Result<(), LogFault>
         ensures lines { Logged (no_ends_lines (level_of self.old) serial)
             (held W.contents self.old) (held W.contents self.new) result }
@@ -92,7 +96,7 @@ impl<W: Write> Log<W> {
         self.write_lines(failed)
     }
 
-    /// A connection was refused: as many of its address are alive as may be.
+    /// Tells that a connection was refused, since as many of its address are alive as may be.
     pub fn address_full(&mut self, ip: [u8; 4]) -> Result<(), LogFault>
         ensures lines { Logged (full_lines (level_of self.old) ip)
             (held W.contents self.old) (held W.contents self.new) result }
@@ -104,7 +108,7 @@ impl<W: Write> Log<W> {
         self.write_lines(full)
     }
 
-    /// A connection was refused: there was no memory for it. Its line takes no memory.
+    /// Tells that a connection was refused for want of memory. Its line takes no memory.
     ///
     /// # Errors
     /// The writer did not take the line.
@@ -124,7 +128,7 @@ impl<W: Write> Log<W> {
         }
     }
 
-    /// There are rules by name, and no client has a name. Its line takes no memory.
+    /// Tells that there are rules by name, and that no client has a name. Its line takes no memory.
     ///
     /// # Errors
     /// The writer did not take the line.
@@ -145,7 +149,7 @@ impl<W: Write> Log<W> {
         }
     }
 
-    /// Writes the lines that were added. `added` tells whether all found memory.
+    /// Writes the lines that were added. `added` says whether all of them found memory.
     fn write_lines(&mut self, added: Result<(), AllocError>) -> Result<(), LogFault>
         ensures lines { (lines : List (List ℕ)) → Adds lines [] self.old.lines.items added
             → Logged lines (held W.contents self.old) (held W.contents self.new) result }
@@ -159,14 +163,12 @@ impl<W: Write> Log<W> {
     }
 }
 
-/// Whether one place is later than another.
 fn is_later(last: u64, at: u64) -> bool
     ensures { IsTrue result ↔ IsLater last at }
 {
     last < at || at == u64::MAX
 }
 
-/// Writes bytes.
 fn write_text<W: Write>(bytes: &[u8], writer: &mut W) -> Result<(), LogFault>
     ensures { Takes bytes.now (W.contents writer.old) (W.contents writer.new) result }
 {

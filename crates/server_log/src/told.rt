@@ -4,7 +4,7 @@ use connection_facts::{DropCause, Peer, StartFault, Status};
 use rule_lines::Verdict;
 use ucspi_env::Local;
 
-/// An event of the connection with a serial, with what its lines need. The other events have none.
+/// An event of a connection, with what its lines need. Other events have no lines.
 #[derive(Drop)]
 pub enum Told<'a> {
     /// It was let in, from this address.
@@ -12,14 +12,14 @@ pub enum Told<'a> {
         serial: u64,
         ip: [u8; 4],
     },
-    /// It was decided; its ends.
+    /// It was decided, between these ends.
     Decided {
         serial: u64,
         verdict: Verdict,
         local: &'a Local,
         peer: &'a Peer,
     },
-    /// Its child could not be started, by this cause where the system told one.
+    /// Its child could not be started, by this cause if the system told one.
     StartFailed {
         serial: u64,
         fault: StartFault,
@@ -34,7 +34,7 @@ pub enum Told<'a> {
     Retired {
         serial: u64,
     },
-    /// It was given up before its child was started, for this reason where the system told one.
+    /// It was given up before its child was started, by this cause of the system if there was one.
     Dropped {
         serial: u64,
         cause: DropCause,

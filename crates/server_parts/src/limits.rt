@@ -62,6 +62,12 @@ const GOING_ON: usize = 32 * 1024;
 
 const BUFFERS: usize = 256 * 1024;
 
+/// The least limits of data and of address space, in bytes, under which a server serves one client after another, as `bench/least` measures
+/// them; buffers come on top.
+const DATA_ALONE: u64 = 2_100_000;
+
+const ADDRESSES_ALONE: u64 = 5_100_000;
+
 /// What the system gives the connections of a server in this mode, of which so many may be alive, and whose programs inherit so many variables.
 pub fn supply_for(mode: Mode, connections: u64, variables: usize) -> Supply {
     let most = connections.saturating_mul(PUMPED).saturating_add(BESIDE);
@@ -82,6 +88,46 @@ pub fn supply_for(mode: Mode, connections: u64, variables: usize) -> Supply {
         to_begin,
         to_go_on,
         memory: has_limited_memory().then_some(memory),
+    }
+}
+
+/// A limit on memory that is too small for a server.
+#[derive(Drop)]
+pub struct SmallLimit {
+    /// What it limits: `data` (`ulimit -d`) or `address space` (`ulimit -v`).
+    pub name: &'static str,
+    /// The limit, in bytes.
+    pub limit: u64,
+    /// How many bytes a server wants at least, with one connection whose program inherits no variables.
+    pub wanted: u64,
+}
+
+/// The limit on memory that is too small for a server in this mode, if one is.
+pub fn small_limit(mode: Mode) -> Option<SmallLimit> {
+    let buffers = match mode {
+        Mode::HandedOver => 0,
+        Mode::Pumped => BUFFERS as u64,
+    };
+    smaller_than(DATA, "data", buffers.saturating_add(DATA_ALONE)).or_else(|| {
+        smaller_than(
+            ADDRESSES,
+            "address space",
+            buffers.saturating_add(ADDRESSES_ALONE),
+        )
+    })
+}
+
+// The limit on something, if it is smaller than what is wanted.
+fn smaller_than(something: i32, name: &'static str, wanted: u64) -> Option<SmallLimit> {
+    let limit = limit_on(something);
+    if limit < wanted {
+        Some(SmallLimit {
+            name,
+            limit,
+            wanted,
+        })
+    } else {
+        None
     }
 }
 

@@ -223,6 +223,17 @@ pub struct ProgramInput<'a, R> {
 }
 
 impl<R: Wait + Clock> ProgramInput<'_, R> {
+    // Whether the program is over.
+    fn is_over(&self) -> bool {
+        *self.over.lock(self.rt)
+    }
+
+    // The same after a wait for room, which a process that it left behind may have made.
+    fn is_over_after_wait(&self) -> bool {
+        self.wait_for_room();
+        self.is_over()
+    }
+
     // Waits until the pipe has room, but no longer than a pause.
     fn wait_for_room(&self) {
         let mut watched = [pollfd {
@@ -243,10 +254,9 @@ impl<R: Wait + Clock> Write for ProgramInput<'_, R> {
                 Err(error) if error.kind() == ErrorKind::WouldBlock => {}
                 outcome => return outcome,
             }
-            if *self.over.lock(self.rt) {
+            if self.is_over() || self.is_over_after_wait() {
                 return Err(Error::from(ErrorKind::BrokenPipe));
             }
-            self.wait_for_room();
         }
         Err(Error::from(ErrorKind::WouldBlock))
     }

@@ -1,55 +1,66 @@
 //! The lines of causes, behind that of a fault with which the tool ends.
-use byte_text::{
-    append_cause, append_os_cause, push_address, push_number, push_text, words_of_error,
-};
+use byte_text::{append_os_cause, push_address, push_number, push_text, words_of_error};
+use fault_hints::{Detail, Voice, append_help};
 use rules_tools::path::{folder_path, split_path};
+use server_parts::limits::{SmallLimit, small_limit};
 use server_parts::{ServerFailure, ServerFault};
-use server_words::{Lacking, Level, Operands, ServerWords, UsageCause, usage_cause};
+use server_words::{Mode, Operands, ServerWords, ServerWordsFault};
 use std::alloc::{AllocError, Global};
 
 /// The tool's name, at the head of its lines.
 const TOOL: &str = "tcpserver";
 
-/// Leaves the line of what words lack that get the usage line, where `-v` asks for it.
-pub(crate) fn tell_usage(alloc: Global, words: &[String], causes: &mut Vec<u8>) {
-    if let Ok(Some(lacking)) = usage_cause(alloc, words) {
-        let _ = append_lacking(&lacking, causes);
-    }
+/// Leaves what is told behind the line of a fault of words.
+pub(crate) fn tell_words(
+    alloc: Global,
+    voice: Voice,
+    words: &[String],
+    fault: ServerWordsFault,
+    causes: &mut Vec<u8>,
+) {
+    let _ = append_help(causes, alloc, voice, words, fault);
 }
 
-fn append_lacking(cause: &UsageCause<'_>, causes: &mut Vec<u8>) -> Result<(), AllocError> {
-    let word = cause.word().as_bytes();
-    match cause.lacking() {
-        Lacking::Host => append_cause(causes, TOOL, word, "no host"),
-        Lacking::Port => append_cause(causes, TOOL, word, "no port"),
-        Lacking::Program => causes.extend_from_slice(b"tcpserver: cause: no program\n"),
-    }
-}
-
-/// Leaves the line of the cause by which a server ends, where `-v` asks for it and there is one.
+/// Leaves the line of the cause by which a server ends, where it is told and there is one.
 pub(crate) fn tell_failure(
     alloc: Global,
+    voice: Voice,
     words: &ServerWords<'_>,
     failure: ServerFailure,
     causes: &mut Vec<u8>,
 ) {
-    if words.level() != Level::All {
+    if let Detail::Line = voice.detail(words.level()) {
         return;
     }
     let _ = match failure.error {
         Some(error) => append_failure(alloc, words, failure.fault, error, causes),
-        None => append_known(failure.fault, causes),
+        None => append_known(words.mode(), failure.fault, causes),
     };
 }
 
 // The line of a fault that has one without an error of the system.
-fn append_known(fault: ServerFault, causes: &mut Vec<u8>) -> Result<(), AllocError> {
+fn append_known(mode: Mode, fault: ServerFault, causes: &mut Vec<u8>) -> Result<(), AllocError> {
     match fault {
         ServerFault::CannotWait => {
             causes.extend_from_slice(b"tcpserver: cause: SIGCHLD is ignored\n")
         }
+        ServerFault::OutOfMemory => match small_limit(mode) {
+            Some(small) => append_small(&small, causes),
+            None => Ok(()),
+        },
         _ => Ok(()),
     }
+}
+
+// The line of a limit on memory that is too small.
+fn append_small(small: &SmallLimit, causes: &mut Vec<u8>) -> Result<(), AllocError> {
+    push_text(causes, "tcpserver: cause: ")?;
+    push_text(causes, small.name)?;
+    push_text(causes, ": limited to ")?;
+    push_number(causes, small.limit)?;
+    push_text(causes, " bytes, at least ")?;
+    push_number(causes, small.wanted)?;
+    push_text(causes, " needed\n")
 }
 
 // The line of an error, with what the system was asked for.

@@ -10,5 +10,4 @@ mod rules;
 pub mod tool;
 
 pub use server_parts::{ServerFault, ServiceLauncher, Wrapper};
-pub use server_words::Mode;
 pub use tool::run_tcpserver;

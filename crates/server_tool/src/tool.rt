@@ -2,11 +2,12 @@
 ghost use Rattle.std.specs.Prelude.{◌≡◌, false, IfOk, vec_len};
 ghost use Rattle.shared_site.specs.Callers.{total_share};
 
-use crate::causes::{tell_failure, tell_usage};
+use crate::causes::{tell_failure, tell_words};
 use crate::rules::{FolderRules, RulesOnDisk, RulesPath};
 use child_jobs::{Job, Plan};
 use dir_calls::{Dir, Name};
 use event_journals::Counts;
+use fault_hints::Voice;
 use rule_lookup::Missing;
 use server_parts::limits::supply_for;
 use server_parts::opening::{listen, names_of, open_rules, plan_of, print_port, stand_in};
@@ -16,8 +17,7 @@ use server_parts::{
     Wrapper, chain_of,
 };
 use server_words::{
-    ConnectionLimits, Level, Mode, ServerWords, ServerWordsFault, Wrapping as WrapperNames,
-    read_server_words,
+    ConnectionLimits, Level, Mode, ServerWords, Wrapping as WrapperNames, read_server_words,
 };
 use server_yard::{Assumptions, Yard};
 use shared_site::{Caller, Callers, Site};
@@ -49,17 +49,16 @@ const ALL: u64 = 600;
 const CALLERS: u64 = 2;
 
 /// Runs `tcpserver` with these words, over the system's sockets, files and programs; `errors` takes the lines of its log. Without `-s` and
-/// `-S` connections are handed over or pumped as `by_name` says. It returns once as many connections were served as it was to serve, and
+/// `-S` connections are handed over or pumped as `voice` says. It returns once as many connections were served as it was to serve, and
 /// all of them are over.
 ///
 /// # Errors
-/// In the order of `ServerFault`. Under `-v` the line of its cause is left in `causes`, where it has one and there is memory for it; and
-/// behind a usage line what is lacking.
+/// In the order of `ServerFault`. What the voice tells behind its line is left in `causes`, where there is memory for it.
 pub fn run_tcpserver<R, E>(
     rt: &R,
     errors: E,
     words: &[Vec<u8>],
-    by_name: Mode,
+    voice: Voice,
     causes: &mut Vec<u8>,
 ) -> Result<(), ServerFault>
 where
@@ -75,7 +74,7 @@ where
     let alloc = rt.alloc();
     let _held = [stand_in(rt), stand_in(rt), stand_in(rt)];
     let texts = texts_of(alloc, words)?;
-    run_words(rt, errors, texts.as_slice(), by_name, causes)
+    run_words(rt, errors, texts.as_slice(), voice, causes)
 }
 
 // What a server has but for its site and its socket.
@@ -92,7 +91,7 @@ fn run_words<R, E>(
     rt: &R,
     errors: E,
     words: &[String],
-    by_name: Mode,
+    voice: Voice,
     causes: &mut Vec<u8>,
 ) -> Result<(), ServerFault>
 where
@@ -105,19 +104,17 @@ where
     <R::Started as OpenProcess>::Stdout: Send,
     <R::Started as OpenProcess>::Stderr: Send,
 {
-    let words = match read_server_words(rt.alloc(), words, by_name) {
+    let words = match read_server_words(rt.alloc(), words, voice.mode()) {
         Ok(words) => words,
         Err(fault) => {
-            if fault == ServerWordsFault::Usage {
-                tell_usage(rt.alloc(), words, causes);
-            }
+            tell_words(rt.alloc(), voice, words, fault, causes);
             return Err(ServerFault::Words(fault));
         }
     };
     match run_server(rt, errors, &words) {
         Ok(()) => Ok(()),
         Err(failure) => {
-            tell_failure(rt.alloc(), &words, failure, causes);
+            tell_failure(rt.alloc(), voice, &words, failure, causes);
             Err(failure.fault)
         }
     }
@@ -249,7 +246,7 @@ struct Wrappers<'a> {
 }
 
 impl ChainSource for Wrappers<'_> {
-    type LineWrapper = Wrapper;
+    type Wrapper = Wrapper;
 
     #[tactic(auto, using(crate::proofs::Renewed::is_new))]
     fn chains(&self, alloc: Global) -> Result<Chains<Wrapper>, AllocError> {
@@ -282,7 +279,7 @@ where
     R::Started: OpenProcess<Stdin = ChildStdin> + Send,
     <R::Started as OpenProcess>::Stdout: Send,
     <R::Started as OpenProcess>::Stderr: Send,
-    T: OpenListener<Stream = TcpStream> + Drop,
+    T: OpenListener<Stream = TcpStream> + Send + Drop,
     E: Write + Send,
     requires places { (places.name ≡ L.name) × (places.parts ≡ L.parts) × (places.parts ≡ words.now.limits.connections) }
     requires met { L.met ≡ false }
@@ -358,7 +355,7 @@ where
     R::Started: OpenProcess<Stdin = ChildStdin> + Send,
     <R::Started as OpenProcess>::Stdout: Send,
     <R::Started as OpenProcess>::Stderr: Send,
-    T: OpenListener<Stream = TcpStream> + Drop,
+    T: OpenListener<Stream = TcpStream> + Send + Drop,
     E: Write + Send,
     requires callers { (N.all ≡ 2) × (N.parts ≡ 2) × (vec_len site.1 ≡ 2) × (total_share site.1.items ≡ 0) }
 {
@@ -399,7 +396,7 @@ where
     U::Handle: Send,
     R: AllocGlobal + Threads + Wait + Clock + Sync,
     E: Write + Send,
-    A: Acceptor,
+    A: Acceptor + Send,
     A::Writer: Follow<<S::Job as Job>::Output>,
     S: Starter<A::Shut> + Sync,
     S::Job: Send,

@@ -14,7 +14,7 @@ use Rattle.server_words.specs.declared.fault.ServerWordsFault.TheVariants as fau
 use Rattle.server_words.specs.declared.level.Level.TheVariants.{Quiet, Errors}
 use Rattle.server_words.specs.declared.mode.Mode.{Mode}
 use Rattle.server_words.specs.declared.mode.Mode.TheVariants.{HandedOver, Pumped}
-use Rattle.server_words.specs.declared.wrapping.StageName.TheVariants.{AddCr, DelCr, FixCr}
+use Rattle.server_words.specs.declared.wrapping.LineWrapperName.TheVariants.{AddCr, DelCr, FixCr}
 use Rattle.server_words.specs.Faults.{fault_line}
 use Rattle.server_words.specs.Operands.{address_in, port_in}
 use Rattle.server_words.specs.Plans.{ServerPlan, plan_of}

@@ -1,6 +1,6 @@
 pub mod Cases
 pub mod CheckLemmas
-pub mod StageLemmas
+pub mod LineWrapperLemmas
 pub mod LetterLemmas
 pub mod OptionLemmas
 pub mod RuleLemmas

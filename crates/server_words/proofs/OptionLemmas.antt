@@ -4,12 +4,12 @@ use Rattle.std.specs.Borrow.{Bor}
 use Rattle.std.specs.List.{list_any}
 use Rattle.std.proofs.lemmas.Bool.{eq-eqb, eqb-true, false_from_ne_true}
 use Rattle.std.proofs.lemmas.List.{reverse-append, map_more}
-use Rattle.server_words.specs.declared.options.Given.{Given}
+use Rattle.server_words.specs.declared.options.OptionGiven.{OptionGiven}
 use Rattle.server_words.specs.OptionWords.{letter_of, last_given, last_of}
 use Rattle.server_words.specs.Words.{LetterGiven}
 
 -- a test of the letters
-pub list_any-letters : (p : LetterGiven → Bool) (gs : List Given) → list_any (λ g. p (letter_of g)) gs ≡ list_any p (map letter_of gs)
+pub list_any-letters : (p : LetterGiven → Bool) (gs : List OptionGiven) → list_any (λ g. p (letter_of g)) gs ≡ list_any p (map letter_of gs)
 list_any-letters p [] = refl
 list_any-letters p (g ∷ gs) = ap (λ t. p (letter_of g) || t) (list_any-letters p gs)
 
@@ -21,7 +21,7 @@ letter_chosen : (b : Bool) (g : LetterGiven) (found : Option LetterGiven) → op
 letter_chosen true g found = refl
 letter_chosen false g found = refl
 
-module _ (gs : List Given) (i : ℕ) (d : Given) (within : i < length gs) where
+module _ (gs : List OptionGiven) (i : ℕ) (d : OptionGiven) (within : i < length gs) where
   last_given-more : (letter : ℕ) → last_given (map letter_of (take (i + 1) gs)) letter ≡ cond ((get_or gs i d).letter == letter) (Some (letter_of (get_or gs i d))) (last_given (map letter_of (take i gs)) letter)
   last_given-more letter =
       ap (λ (os : List LetterGiven). last_given os letter) (map_more letter_of gs i d within)
@@ -34,14 +34,14 @@ module _ (gs : List Given) (i : ℕ) (d : Given) (within : i < length gs) where
       ∙ letter_chosen (list_any (λ letter. letter == (get_or gs i d).letter) letters) (letter_of (get_or gs i d)) (find (λ (g : LetterGiven). list_any (λ letter. letter == g.letter) letters) (reverse (map letter_of (take i gs))))
 
   -- an option with the letter, and one with another
-  pub last_given-this : (letter : ℕ) (now : Option (Bor Given)) (g : Bor Given) → now ≡ Some g → g.now ≡ get_or gs i d → (get_or gs i d).letter ≡ letter → option_map (λ (given : Bor Given). letter_of given.now) now ≡ last_given (map letter_of (take (i + 1) gs)) letter
+  pub last_given-this : (letter : ℕ) (now : Option (Bor OptionGiven)) (g : Bor OptionGiven) → now ≡ Some g → g.now ≡ get_or gs i d → (get_or gs i d).letter ≡ letter → option_map (λ (given : Bor OptionGiven). letter_of given.now) now ≡ last_given (map letter_of (take (i + 1) gs)) letter
   last_given-this letter now g is here same =
-      ap (option_map (λ (given : Bor Given). letter_of given.now)) is ∙ ap (λ (given : Given). Some (letter_of given)) here
+      ap (option_map (λ (given : Bor OptionGiven). letter_of given.now)) is ∙ ap (λ (given : OptionGiven). Some (letter_of given)) here
       ∙ sym (last_given-more letter ∙ ap (λ b. cond b (Some (letter_of (get_or gs i d))) (last_given (map letter_of (take i gs)) letter)) (eq-eqb ((get_or gs i d).letter) letter same))
 
-  pub last_given-other : (letter : ℕ) (now before : Option (Bor Given)) → now ≡ before → option_map (λ (given : Bor Given). letter_of given.now) before ≡ last_given (map letter_of (take i gs)) letter → (get_or gs i d).letter ≢ letter → option_map (λ (given : Bor Given). letter_of given.now) now ≡ last_given (map letter_of (take (i + 1) gs)) letter
+  pub last_given-other : (letter : ℕ) (now before : Option (Bor OptionGiven)) → now ≡ before → option_map (λ (given : Bor OptionGiven). letter_of given.now) before ≡ last_given (map letter_of (take i gs)) letter → (get_or gs i d).letter ≢ letter → option_map (λ (given : Bor OptionGiven). letter_of given.now) now ≡ last_given (map letter_of (take (i + 1) gs)) letter
   last_given-other letter now before is so_far other =
-      ap (option_map (λ (given : Bor Given). letter_of given.now)) is ∙ so_far
+      ap (option_map (λ (given : Bor OptionGiven). letter_of given.now)) is ∙ so_far
       ∙ sym (last_given-more letter ∙ ap (λ b. cond b (Some (letter_of (get_or gs i d))) (last_given (map letter_of (take i gs)) letter)) (false_from_ne_true ((get_or gs i d).letter == letter) (λ same. other (eqb-true ((get_or gs i d).letter) letter same))))
 
   -- an option with one of the letters, and one with none

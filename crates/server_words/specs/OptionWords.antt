@@ -5,7 +5,7 @@ use Rattle.std.specs.List.{list_any}
 use Rattle.std.specs.Borrow.{Bor}
 use Rattle.server_words.specs.declared.option_fault.WordFault.{WordFault}
 use Rattle.server_words.specs.declared.option_fault.WordFault.TheVariants as fault
-use Rattle.server_words.specs.declared.options.Given.{Given}
+use Rattle.server_words.specs.declared.options.OptionGiven.{OptionGiven}
 use Rattle.server_words.specs.Numbers.{number_in}
 use Rattle.server_words.specs.Words.{LetterGiven}
 
@@ -14,7 +14,7 @@ abbrev pub text_of : Option (Bor (List ℕ)) → Option (List ℕ)
 text_of value = option_map (λ (text : Bor (List ℕ)). text.now) value
 
 -- a letter with its value
-abbrev pub letter_of : Given → LetterGiven
+abbrev pub letter_of : OptionGiven → LetterGiven
 letter_of given = record { letter = given.letter; value = text_of given.value }
 
 -- the last of the options with this letter

@@ -4,54 +4,54 @@ use Rattle.std.specs.Borrow.{Bor}
 use Rattle.std.specs.List.{slice_split}
 use Rattle.server_words.specs.declared.fault.ServerWordsFault.{ServerWordsFault}
 use Rattle.server_words.specs.declared.fault.ServerWordsFault.TheVariants as fault
-use Rattle.server_words.specs.declared.wrapping.StageName.{StageName}
-use Rattle.server_words.specs.declared.wrapping.StageName.TheVariants.{AddCr, DelCr, FixCr}
+use Rattle.server_words.specs.declared.wrapping.LineWrapperName.{LineWrapperName}
+use Rattle.server_words.specs.declared.wrapping.LineWrapperName.TheVariants.{AddCr, DelCr, FixCr}
 
--- the stages of a connection's input and those of its output, each in the order in which it goes through them, and whether both ways
+-- the line wrappers of a connection's input and those of its output, each in the order in which it goes through them, and whether both ways
 -- are recorded
 pub record Wrappers : Type 0 where
   pub records : Bool
-  pub input : List StageName
-  pub output : List StageName
+  pub input : List LineWrapperName
+  pub output : List LineWrapperName
 
 -- texts, each behind a reference
 abbrev pub texts : List (Bor (List ℕ)) → List (List ℕ)
 texts words = map (λ (word : Bor (List ℕ)). word.now) words
 
--- the stage of a wrapper
-abbrev pub stage_named : List ℕ → Option StageName
-stage_named name =
+-- the line wrapper with a name
+abbrev pub line_wrapper_named : List ℕ → Option LineWrapperName
+line_wrapper_named name =
     if bytes_eq name (codes "addcr") then Some AddCr
     else (if bytes_eq name (codes "delcr") then Some DelCr
     else (if bytes_eq name (codes "fixcrio") then Some FixCr else None))
 
--- the stages of wrappers, where each of them has one
-abbrev pub stages_in : List (List ℕ) → Option (List StageName)
-stages_in [] = Some []
-stages_in (name ∷ names) = option_and_then (λ stage. option_map (λ stages. stage ∷ stages) (stages_in names)) (stage_named name)
+-- the line wrappers with these names, if each name has one
+abbrev pub line_wrappers_in : List (List ℕ) → Option (List LineWrapperName)
+line_wrappers_in [] = Some []
+line_wrappers_in (name ∷ names) = option_and_then (λ line_wrapper. option_map (λ line_wrappers. line_wrapper ∷ line_wrappers) (line_wrappers_in names)) (line_wrapper_named name)
 
 -- `delcr` acts on input, `addcr` on output, `fixcrio` on both
-abbrev pub acts_on_input : StageName → Bool
+abbrev pub acts_on_input : LineWrapperName → Bool
 acts_on_input AddCr = false
 acts_on_input DelCr = true
 acts_on_input FixCr = true
 
-abbrev pub acts_on_output : StageName → Bool
+abbrev pub acts_on_output : LineWrapperName → Bool
 acts_on_output AddCr = true
 acts_on_output DelCr = false
 acts_on_output FixCr = true
 
 -- the first is nearest to the network: so input, which comes from there, goes through them in their order, and output in the opposite one
-abbrev pub wrapping_of : Bool → List StageName → Wrappers
-wrapping_of records stages =
-    record { records = records; input = filter acts_on_input stages; output = filter acts_on_output (reverse stages) }
+abbrev pub wrapping_of : Bool → List LineWrapperName → Wrappers
+wrapping_of records line_wrappers =
+    record { records = records; input = filter acts_on_input line_wrappers; output = filter acts_on_output (reverse line_wrappers) }
 
 -- `recordio` may only be first
 abbrev pub wrapping_by_names : List (List ℕ) → Option Wrappers
-wrapping_by_names [] = option_map (wrapping_of false) (stages_in [])
+wrapping_by_names [] = option_map (wrapping_of false) (line_wrappers_in [])
 wrapping_by_names (name ∷ names) =
-    if bytes_eq name (codes "recordio") then option_map (wrapping_of true) (stages_in names)
-    else option_map (wrapping_of false) (stages_in (name ∷ names))
+    if bytes_eq name (codes "recordio") then option_map (wrapping_of true) (line_wrappers_in names)
+    else option_map (wrapping_of false) (line_wrappers_in (name ∷ names))
 
 -- the names in a text, a comma between each two
 abbrev pub names_in : List ℕ → List (List ℕ)

@@ -7,7 +7,7 @@ ghost use Rattle.server_words.specs.declared.option_fault.WordFault.TheVariants.
 use crate::letter::{Meaning, split_first_char};
 use crate::option_fault::WordFault;
 use crate::option_laws::by_the_rules;
-use crate::options::{Given, Options};
+use crate::options::{OptionGiven, Options};
 use std::alloc::Global;
 
 /// Reads the options at the start of `words`, as `letters` describes them, and gives them with the words that follow.
@@ -115,7 +115,7 @@ fn read_letters<'a>(
     let mut rest = text;
     while let Some((letter, after)) = split_first_char(rest) {
         match Meaning::of(letters, letter) {
-            Meaning::Plain => options.push(Given {
+            Meaning::Plain => options.push(OptionGiven {
                 letter,
                 value: None,
             })?,
@@ -141,7 +141,7 @@ fn read_value<'a>(
     if rest.is_empty() {
         return Ok(Some(letter));
     }
-    options.push(Given {
+    options.push(OptionGiven {
         letter,
         value: Some(rest),
     })?;
@@ -167,7 +167,7 @@ fn take_value<'a>(
     let Some((value, after)) = words.split_first() else {
         return Err(WordFault::NoValue(letter));
     };
-    options.push(Given {
+    options.push(OptionGiven {
         letter,
         value: Some(value.as_str()),
     })?;

@@ -1,7 +1,7 @@
 //! Options that were given.
 ghost use Rattle.std.specs.Prelude.{◌≡◌, ◌++◌, ◌∷◌, [], map, option_map, OnOk, OnErr};
 ghost use Rattle.std.specs.Borrow.{Bor};
-ghost use Rattle.server_words.specs.declared.options.Given.{Given};
+ghost use Rattle.server_words.specs.declared.options.OptionGiven.{OptionGiven};
 ghost use Rattle.server_words.specs.OptionWords.{text_of, letter_of, last_given, value_of, is_given, last_of, number_of};
 
 use crate::number::number_in;
@@ -11,7 +11,7 @@ use std::marker::Model;
 
 /// An option that was given.
 #[derive(Clone, Copy)]
-pub struct Given<'a> {
+pub struct OptionGiven<'a> {
     /// Its letter.
     pub letter: char,
     /// Its value, if it takes one.
@@ -21,7 +21,7 @@ pub struct Given<'a> {
 /// The options that were given, in their order. Of one that was given more than once the last counts.
 #[derive(Drop)]
 pub struct Options<'a> {
-    given: Vec<Given<'a>>,
+    given: Vec<OptionGiven<'a>>,
 }
 
 impl<'a> Model for Options<'a> {
@@ -45,7 +45,7 @@ impl<'a> Options<'a> {
     }
 
     /// Adds an option at the end.
-    pub fn push(&mut self, given: Given<'a>) -> Result<(), AllocError>
+    pub fn push(&mut self, given: OptionGiven<'a>) -> Result<(), AllocError>
         ensures added { OnOk result (self.new ≡ self.old ++ letter_of given.entry ∷ []) }
         ensures kept { OnErr result (self.new ≡ self.old) }
     {
@@ -54,7 +54,7 @@ impl<'a> Options<'a> {
     }
 
     /// The options in their order.
-    pub fn as_slice(&self) -> &[Given<'a>]
+    pub fn as_slice(&self) -> &[OptionGiven<'a>]
         ensures { map letter_of result.now ≡ self.now }
     {
         self.given.as_slice()
@@ -100,8 +100,8 @@ impl<'a> Options<'a> {
 }
 
 /// The last of the options with a letter.
-fn last_given<'s, 'a>(options: &'s [Given<'a>], letter: char) -> Option<&'s Given<'a>>
-    ensures { option_map (λ (given : Bor Given). letter_of given.now) result
+fn last_given<'s, 'a>(options: &'s [OptionGiven<'a>], letter: char) -> Option<&'s OptionGiven<'a>>
+    ensures { option_map (λ (given : Bor OptionGiven). letter_of given.now) result
         ≡ last_given (map letter_of options.now) letter }
 {
     let mut last = None;
@@ -114,7 +114,7 @@ fn last_given<'s, 'a>(options: &'s [Given<'a>], letter: char) -> Option<&'s Give
 }
 
 /// The letter of the last of the options with one of these letters.
-fn last_of(options: &[Given<'_>], letters: &[char]) -> Option<char>
+fn last_of(options: &[OptionGiven<'_>], letters: &[char]) -> Option<char>
     ensures { result ≡ last_of (map letter_of options.now) letters.now }
 {
     let mut last = None;

@@ -1,15 +1,15 @@
 //! The wrappers that `-w` names.
 ghost use Rattle.std.specs.Prelude.{◌≡◌, Some, IfOk, IfErr, option_map};
-ghost use Rattle.server_words.specs.Wrappings.{RefusesAs, acts_on_input, acts_on_output, names_in, stage_named, stages_in, texts, wrapping_by_names, wrapping_in, wrapping_of};
+ghost use Rattle.server_words.specs.Wrappings.{RefusesAs, acts_on_input, acts_on_output, names_in, line_wrapper_named, line_wrappers_in, texts, wrapping_by_names, wrapping_in, wrapping_of};
 ghost use Rattle.server_words.specs.OptionWords.{text_of};
 
 use crate::fault::ServerWordsFault;
 use std::alloc::{AllocError, Global};
 use std::marker::Model;
 
-/// A stage that changes a text by its lines, by the name of its wrapper.
+/// The name of a line wrapper: of a wrapper that changes a text by its lines.
 #[derive(Clone, Copy)]
-pub enum StageName {
+pub enum LineWrapperName {
     /// `addcr`, which acts on output.
     AddCr,
     /// `delcr`, which acts on input.
@@ -18,15 +18,15 @@ pub enum StageName {
     FixCr,
 }
 
-impl StageName {
-    /// The stage of a wrapper, if it is one that has a stage.
-    fn named(name: &str) -> Option<StageName>
-        ensures { result ≡ stage_named name.now }
+impl LineWrapperName {
+    /// The line wrapper with a name, if it is one.
+    fn named(name: &str) -> Option<LineWrapperName>
+        ensures { result ≡ line_wrapper_named name.now }
     {
         match name {
-            "addcr" => Some(StageName::AddCr),
-            "delcr" => Some(StageName::DelCr),
-            "fixcrio" => Some(StageName::FixCr),
+            "addcr" => Some(LineWrapperName::AddCr),
+            "delcr" => Some(LineWrapperName::DelCr),
+            "fixcrio" => Some(LineWrapperName::FixCr),
             _ => None,
         }
     }
@@ -35,8 +35,8 @@ impl StageName {
         ensures { result ≡ acts_on_input self }
     {
         match self {
-            StageName::AddCr => false,
-            StageName::DelCr | StageName::FixCr => true,
+            LineWrapperName::AddCr => false,
+            LineWrapperName::DelCr | LineWrapperName::FixCr => true,
         }
     }
 
@@ -44,19 +44,19 @@ impl StageName {
         ensures { result ≡ acts_on_output self }
     {
         match self {
-            StageName::DelCr => false,
-            StageName::AddCr | StageName::FixCr => true,
+            LineWrapperName::DelCr => false,
+            LineWrapperName::AddCr | LineWrapperName::FixCr => true,
         }
     }
 }
 
-/// The wrappers of each connection: the stages that its input goes through and those of its output, each in the order in which it
+/// The wrappers of each connection: the line wrappers that its input goes through and those of its output, each in the order in which it
 /// does, and whether both ways are recorded at the network's side.
 #[derive(Drop)]
 pub struct Wrapping {
     records: bool,
-    input: Vec<StageName>,
-    output: Vec<StageName>,
+    input: Vec<LineWrapperName>,
+    output: Vec<LineWrapperName>,
 }
 
 impl Model for Wrapping {
@@ -89,24 +89,28 @@ impl Wrapping {
         ensures refused { IfErr result (RefusesAs (wrapping_by_names (texts names.now))) }
     {
         let (records, names) = split_recorder(names);
-        let stages = stages_of(alloc, names)?;
-        Ok(Wrapping::new(alloc, records, stages.as_slice())?)
+        let line_wrappers = line_wrappers_of(alloc, names)?;
+        Ok(Wrapping::new(alloc, records, line_wrappers.as_slice())?)
     }
 
-    /// These stages, in the order of their names: those of the input in this order, those of the output in the opposite one.
-    fn new(alloc: Global, records: bool, stages: &[StageName]) -> Result<Wrapping, AllocError>
-        ensures { IfOk result (λ wrapping. wrapping ≡ wrapping_of records stages.now) }
+    /// These line wrappers, in the order of their names: those of the input in this order, those of the output in the opposite one.
+    fn new(
+        alloc: Global,
+        records: bool,
+        line_wrappers: &[LineWrapperName],
+    ) -> Result<Wrapping, AllocError>
+        ensures { IfOk result (λ wrapping. wrapping ≡ wrapping_of records line_wrappers.now) }
     {
-        let input = stages
+        let input = line_wrappers
             .iter()
             .copied()
-            .filter(|stage| stage.acts_on_input())
+            .filter(|line_wrapper| line_wrapper.acts_on_input())
             .collect(alloc)?;
-        let output = stages
+        let output = line_wrappers
             .iter()
             .rev()
             .copied()
-            .filter(|stage| stage.acts_on_output())
+            .filter(|line_wrapper| line_wrapper.acts_on_output())
             .collect(alloc)?;
         Ok(Wrapping {
             records,
@@ -122,15 +126,15 @@ impl Wrapping {
         self.records
     }
 
-    /// The stages that input goes through on its way from the network to the program, the first one first.
-    pub fn input(&self) -> &[StageName]
+    /// The line wrappers that input goes through on its way from the network to the program, the first one first.
+    pub fn input(&self) -> &[LineWrapperName]
         ensures { result.now ≡ self.now.input }
     {
         self.input.as_slice()
     }
 
-    /// The stages that output goes through on its way from the program to the network, the first one first.
-    pub fn output(&self) -> &[StageName]
+    /// The line wrappers that output goes through on its way from the program to the network, the first one first.
+    pub fn output(&self) -> &[LineWrapperName]
         ensures { result.now ≡ self.now.output }
     {
         self.output.as_slice()
@@ -147,7 +151,7 @@ fn split_names(alloc: Global, text: &str) -> Result<Vec<&str>, AllocError>
 /// Whether the first name is `recordio`, and the names without it.
 fn split_recorder<'s, 'a>(names: &'s [&'a str]) -> (bool, &'s [&'a str])
     ensures { wrapping_by_names (texts names.now)
-        ≡ option_map (wrapping_of result.0) (stages_in (texts result.1.now)) }
+        ≡ option_map (wrapping_of result.0) (line_wrappers_in (texts result.1.now)) }
 {
     let Some((first, rest)) = names.split_first() else {
         return (false, names);
@@ -159,17 +163,17 @@ fn split_recorder<'s, 'a>(names: &'s [&'a str]) -> (bool, &'s [&'a str])
     }
 }
 
-/// The stages with these names, in their order.
-fn stages_of(alloc: Global, names: &[&str]) -> Result<Vec<StageName>, ServerWordsFault>
-    ensures read { IfOk result (λ stages. stages_in (texts names.now) ≡ Some stages.items) }
-    ensures refused { IfErr result (RefusesAs (stages_in (texts names.now))) }
+/// The line wrappers with these names, in their order.
+fn line_wrappers_of(alloc: Global, names: &[&str]) -> Result<Vec<LineWrapperName>, ServerWordsFault>
+    ensures read { IfOk result (λ line_wrappers. line_wrappers_in (texts names.now) ≡ Some line_wrappers.items) }
+    ensures refused { IfErr result (RefusesAs (line_wrappers_in (texts names.now))) }
 {
-    let mut stages = Vec::new(alloc);
+    let mut line_wrappers = Vec::new(alloc);
     for name in names {
-        match StageName::named(name) {
-            Some(stage) => stages.push(stage)?,
+        match LineWrapperName::named(name) {
+            Some(line_wrapper) => line_wrappers.push(line_wrapper)?,
             None => return Err(ServerWordsFault::BadWrappers),
         }
     }
-    Ok(stages)
+    Ok(line_wrappers)
 }

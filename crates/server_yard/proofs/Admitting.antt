@@ -4,7 +4,7 @@ use Rattle.std.proofs.Props.{props}
 use Rattle.std.proofs.lemmas.Slice.Eq.{bytes_eq-Decides}
 use Rattle.std.proofs.lemmas.Bool.{true≢false}
 use mathlib.Core.Logic.{∥∥₁_elim}
-use Rattle.child_jobs.specs.Seats.{OneMoreAt, Seats, live_at}
+use Rattle.child_jobs.specs.PlacesOut.{OneMoreAt, PlacesOut, live_at}
 use Rattle.event_journals.specs.Journals.{Books}
 use Rattle.connection_facts.specs.Peers.{Client}
 use Rattle.server_events.specs.ServerState.{ServerState, count_from, newcomer, start}
@@ -23,7 +23,7 @@ all_within books s has = ∥∥₁_elim has (hlevel props) (λ (x : (h : List Ev
 pub each_within : (books : Books) (s : ServerState) (ip : List ℕ) → HasHistory books s → count_from ip s.connections ≤ s.per_address
 each_within books s ip has = ∥∥₁_elim has (hlevel props) (λ (x : (h : List Event) × IsHistory books s h). (limits_of books s x.0 x.1).each ip)
 
-pub joined_at : (ip : List ℕ) (n : ℕ) (peer : Client) (s : ServerState) (old new : Seats) → OneMoreAt peer.ip old new
+pub joined_at : (ip : List ℕ) (n : ℕ) (peer : Client) (s : ServerState) (old new : PlacesOut) → OneMoreAt peer.ip old new
     → live_at ip old ≡ count_from ip s.connections → live_at ip new ≡ count_from ip (s.connections ++ newcomer n peer ∷ [])
 joined_at ip n peer s old new more same = go (bytes_eq peer.ip ip) refl
   where

@@ -2,7 +2,7 @@
 use Rattle.std.proofs.Common.{◌≡◌, ◌≢◌, ℕ, ◌+◌, ◌-◌, List, Bool, true, false, cond, Option, Some, refl, sym, ap, subst, ◌∙◌, arith, bytes_eq}
 use Rattle.std.proofs.lemmas.Slice.Eq.{bytes_eq-Decides}
 use Rattle.std.proofs.lemmas.Bool.{true≢false}
-use Rattle.child_jobs.specs.Seats.{OneMoreAt, Seats, live_at}
+use Rattle.child_jobs.specs.PlacesOut.{OneMoreAt, PlacesOut, live_at}
 use Rattle.connection_facts.specs.Peers.{Client}
 use Rattle.server_events.specs.ServerState.{ServerState, count_from, stage_of, without}
 use Rattle.server_events.specs.Worlds.{peer_of}
@@ -14,7 +14,7 @@ pub spare_is : (s : ServerState) (n : ℕ) (at : Stage) → stage_of n s.connect
     → spare_events (stage_of n s.connections) ≡ events_left at - 1
 spare_is s n at is = ap (λ (o : Option Stage). spare_events o) is
 
-pub left_at : (ip : List ℕ) (n : ℕ) (peer : Client) (s : ServerState) (old new : Seats) → OneMoreAt peer.ip new old
+pub left_at : (ip : List ℕ) (n : ℕ) (peer : Client) (s : ServerState) (old new : PlacesOut) → OneMoreAt peer.ip new old
     → live_at ip old ≡ count_from ip s.connections → peer_of n s.connections ≡ Some peer
     → live_at ip new ≡ count_from ip (without n s.connections)
 left_at ip n peer s old new fewer same its = go (bytes_eq peer.ip ip) refl

@@ -5,7 +5,7 @@ use Rattle.std.proofs.lemmas.Bool.Decides.{nat_tests}
 use Rattle.std.specs.Cmp.{nat_cmp_total, unsigned_tied}
 use Rattle.std.specs.FinMap as map
 use Rattle.std.specs.Ordering.{eq_by_cmp, nat_cmp}
-use Rattle.child_jobs.specs.Seats.{Seats, is_used, with_place, without_place}
+use Rattle.child_jobs.specs.PlacesOut.{PlacesOut, is_used, with_place, without_place}
 use Rattle.connection_facts.specs.Peers.{Client}
 use Rattle.server_events.specs.declared.event.Event.TheVariants.{Admitted}
 use Rattle.server_events.specs.declared.event.Stage.{Stage}
@@ -19,14 +19,14 @@ use Rattle.server_yard.proofs.Histories.{Distinct, nothing}
 use Rattle.server_yard.proofs.Peopled.{NobodyMoves}
 
 -- nobody comes or goes
-pub seats_stay : (seat : ℕ → Option ℕ) (table : Seats) (s s' : ServerState) → NobodyMoves s s' → HasSeats seat table s → HasSeats seat table s'
+pub seats_stay : (seat : ℕ → Option ℕ) (table : PlacesOut) (s s' : ServerState) → NobodyMoves s s' → HasSeats seat table s → HasSeats seat table s'
 seats_stay seat table s s' stays has = record {
   up_to_last = λ index serial is. subst (λ (k : ℕ). serial ≤ k) (sym stays.last) (has.up_to_last index serial is);
   for_its_peer = λ index serial peer is its. has.for_its_peer index serial peer is (sym (stays.peers serial) ∙ its);
 }
 
 -- other seats that tell the same
-pub seats_same : (seat seat' : ℕ → Option ℕ) (table table' : Seats) (s : ServerState) → KeepsSeats seat seat' → table'.places ≡ table.places
+pub seats_same : (seat seat' : ℕ → Option ℕ) (table table' : PlacesOut) (s : ServerState) → KeepsSeats seat seat' → table'.places ≡ table.places
     → HasSeats seat table s → HasSeats seat' table' s
 seats_same seat seat' table table' s same places has = record {
   up_to_last = λ index serial is. has.up_to_last index serial (sym (same index) ∙ is);
@@ -52,7 +52,7 @@ tied_is : (j i : ℕ) (b : Bool) → (j == i) ≡ b → eq_by_cmp nat_cmp j i �
 tied_is j i b is = unsigned_tied j i ∙ is
 
 -- one comes, and is given a seat at a place
-pub seats_come : (seat seat' : ℕ → Option ℕ) (table : Seats) (s : ServerState) (n index : ℕ) (peer : Client) → n ≡ s.last + 1 → Distinct s
+pub seats_come : (seat seat' : ℕ → Option ℕ) (table : PlacesOut) (s : ServerState) (n index : ℕ) (peer : Client) → n ≡ s.last + 1 → Distinct s
     → GivesSeat index n seat seat' → HasSeats seat table s → HasSeats seat' (with_place index peer.ip table) (after s (Admitted n peer))
 seats_come seat seat' table s n index peer next apart gives has = record {
   up_to_last = λ j m is. go_last j m (j == index) refl (sym (gives j) ∙ is);
@@ -83,7 +83,7 @@ seats_come seat seat' table s n index peer next apart gives has = record {
         ∙ has.for_its_peer j m p had before
 
 -- one goes, and its place is free
-pub seats_go : (seat : ℕ → Option ℕ) (table : Seats) (s : ServerState) (n index : ℕ) → Distinct s → seat index ≡ Some n
+pub seats_go : (seat : ℕ → Option ℕ) (table : PlacesOut) (s : ServerState) (n index : ℕ) → Distinct s → seat index ≡ Some n
     → HasSeats seat table s → HasSeats seat (without_place index table) (record s { connections = without n s.connections })
 seats_go seat table s n index apart own has = record {
   up_to_last = has.up_to_last;
@@ -113,7 +113,7 @@ seats_go seat table s n index apart own has = record {
         ] refl
 
 -- a seat that nobody has is lost
-pub seats_lost : (seat seat' : ℕ → Option ℕ) (table : Seats) (s : ServerState) → LosesOne table seat seat' → HasSeats seat table s
+pub seats_lost : (seat seat' : ℕ → Option ℕ) (table : PlacesOut) (s : ServerState) → LosesOne table seat seat' → HasSeats seat table s
     → HasSeats seat' table s
 seats_lost seat seat' table s loses has = record {
   up_to_last = λ j m is. has.up_to_last j m (had j m is);
@@ -124,7 +124,7 @@ seats_lost seat seat' table s loses has = record {
     had j m is = ⊎_elim (λ same. sym same ∙ is) (λ none. absurd (let gone = none.0 in cc)) (loses j)
 
 -- and so each seat tells the same connection, or none as before
-pub serials_kept : (seat seat' : ℕ → Option ℕ) (table : Seats) (s : ServerState) → LosesOne table seat seat' → HasSeats seat table s
+pub serials_kept : (seat seat' : ℕ → Option ℕ) (table : PlacesOut) (s : ServerState) → LosesOne table seat seat' → HasSeats seat table s
     → KeepsSerials s seat seat'
 serials_kept seat seat' table s loses has j = ⊎_elim (λ same. ap (λ (o : Option ℕ). serial_at o s) same) (λ none. ap (λ (o : Option ℕ). serial_at o s) none.0 ∙ sym (nobody (seat j) refl none.1)) (loses j)
   where
@@ -141,7 +141,7 @@ serials_kept seat seat' table s loses has j = ⊎_elim (λ same. ap (λ (o : Opt
     nobody (Some m) is unused = by_stage m (stage_of m s.connections) is refl unused
 
 -- a place that was given and taken back
-pub place_back : (table : Seats) (index : ℕ) (ip : List ℕ) → is_used table index ≡ false → without_place index (with_place index ip table) ≡ table
+pub place_back : (table : PlacesOut) (index : ℕ) (ip : List ℕ) → is_used table index ≡ false → without_place index (with_place index ip table) ≡ table
 place_back table index ip vacant = ap (λ p. record table { places = p }) (map.same_map nat_cmp_total map.nat_cmp-IsAntisymmetric _ _ each)
   where
     none : map.get table.places index ≡ None
@@ -165,7 +165,7 @@ seat_at None s t e = absurd (cc)
 seat_at (Some n) s t e = (n, refl, e, refl)
 
 -- a place that was given is in use
-pub used_placed : (table : Seats) (index : ℕ) (ip : List ℕ) → is_used (with_place index ip table) index ≡ true
+pub used_placed : (table : PlacesOut) (index : ℕ) (ip : List ℕ) → is_used (with_place index ip table) index ≡ true
 used_placed table index ip =
     ap is_some (map.get-insert nat_cmp_total table.places index ip index)
     ∙ ap (λ (b : Bool). is_some (cond b (Some ip) (map.get table.places index))) (unsigned_tied index index)

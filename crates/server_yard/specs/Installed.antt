@@ -1,7 +1,6 @@
 -- What the installations of a yard left in its directory.
-use Rattle.std.specs.Prelude.{◌≡◌, ◌++◌, ◌⊎◌, ⊤, ℕ, List, Option, None, Some, IfSome, map}
+use Rattle.std.specs.Prelude.{◌≡◌, ◌++◌, ⊤, ℕ, List, Option, None, Some, IfSome, map}
 use Rattle.std.specs.List.{filter}
-use Rattle.dir_calls.specs.Directory.{Directory, content, number_of}
 use Rattle.event_journals.specs.Journals.{Books}
 use Rattle.rule_lines.specs.Pairs.{Rule}
 use Rattle.server_events.specs.Steps.{Legal}
@@ -15,9 +14,9 @@ use Rattle.server_yard.specs.Standing.{HasUnderWay, YardState}
 abbrev pub installs_of : List Event → List Event
 installs_of history = filter is_installations history
 
--- The installations of a history, by themselves, are a history of the headline: they lead from a start to a world with the yard's
--- directory, rules name, phase and installation under way, whose accepted texts behind those of the start are the lists of rules that are
--- stored.
+-- The installations of a history, by themselves, are a history of the headline. It leads from a start to a world with
+-- the yard's directory, rules name, phase and installation under way. The accepted texts of that world, behind those of
+-- the start, are the lists of rules that are stored.
 pub record IsInstalledBy (lists : Option (List (List Rule))) (y : YardState) (history : List Event) : Type 0 where
   pub first : World
   pub starts : IsStart first
@@ -34,11 +33,6 @@ pub record KeepsHistory (books : Books) (y : YardState) : Type 0 where
   pub history : List Event
   pub is_history : IsHistory books y.server history
   pub installed : IsInstalledBy books.lists y history
-
--- a file, or nothing: one that is compiled of rules, or no name at all
-abbrev pub IsWholeOrMissing : Directory → List ℕ → Type 0
-IsWholeOrMissing d name =
-    (number_of d name ≡ None) ⊎ ((file : List ℕ) × (rules : List Rule) × (content d name ≡ Some file) × IsOf rules file)
 
 -- an opened file that is compiled of rules, or that there was none
 abbrev pub IsWholeFile : Option (List ℕ) → Type 0

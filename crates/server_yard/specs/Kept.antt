@@ -16,7 +16,7 @@ use Rattle.server_yard.specs.declared.register.Register.{Register}
 use Rattle.server_yard.specs.declared.yard.Installation.{Installation}
 use Rattle.server_yard.specs.declared.yard.Installation.TheVariants.{Idle, UnderWay, AtDone}
 
--- the rules name, and what is done where no file stands there
+-- the rules name, and what is decided if no file stands there
 abbrev pub rules_of : Option (List ℕ × Missing) → Option RulesName
 rules_of rules = option_map (λ r. record { name = r.0; missing = r.1 }) rules
 
@@ -48,11 +48,11 @@ pub record IsGoing (s : Installing) (rules : Option RulesName) : Type 0 where
   pub for_rules : (r : RulesName) → rules ≡ Some r → s.names.cdb ≡ r.name
   pub follows : rules ≢ None
 
--- the installation that is kept is such, if there is one
+-- the installation that is kept is one that is under way, if there is one
 abbrev pub IsKeptInstallation : Option Installing → Option RulesName → Type 0
 IsKeptInstallation kept rules = (s : Installing) → kept ≡ Some s → IsGoing s rules
 
--- over an honest directory the installation that is kept finds it as its steps left it
+-- over an honest directory the installation that is kept finds the directory as its steps left it
 abbrev pub FindsItsFile : Bool → Option Installing → Directory → Type 0
 FindsItsFile honest kept d = IsTrue honest → (s : Installing) → kept ≡ Some s → Fits s d
 

@@ -30,12 +30,12 @@ pass_file pass = pass.file
 abbrev pub pass_bytes : {L F : Type 0} {p : _} {l : _} {f : _} → (F → List ℕ) → Pass L F p l f → Option (List ℕ)
 pass_bytes bytes pass = option_map bytes (pass_file pass)
 
--- how far what a file holds is known; without a file it is
+-- what a file holds is known as far as its source knows it; without a file it is known
 abbrev pub trust_in : Bool → Bool → Option (List ℕ) → Trust
 trust_in honest sound None = Sound
 trust_in honest sound (Some bytes) = trust_of honest sound
 
--- `decide` decided so for what a pass has and this peer, as far as what the file holds is known
+-- `decide` decides so by what a pass has, for this peer, as far as what the file holds is known
 abbrev pub IsDecidedBy : {L F : Type 0} {p : _} {l : _} {f : _} → (honest sound : Bool) → (bytes : F → List ℕ)
     → Pass L F p l f → Client → Decision → Type 0
 IsDecidedBy honest sound bytes pass peer decision =

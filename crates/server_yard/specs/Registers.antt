@@ -18,6 +18,6 @@ journal_of r = r.journal
 abbrev pub books_of : {L J : Type 0} {j : _} → Register L J j → Books
 books_of {j = j} r = j.books r.journal
 
--- the serial that the place of an index was last given to
+-- the serial that last got the place of an index
 abbrev pub seat_of : {L J : Type 0} {j : _} → Register L J j → ℕ → Option ℕ
 seat_of r index = get nat_cmp r.seats index

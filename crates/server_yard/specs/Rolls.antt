@@ -7,7 +7,8 @@ use Rattle.server_events.specs.declared.event.Stage.{Stage}
 use Rattle.event_journals.specs.Journals.{Books, TellsOf, next_report, one_more}
 use Rattle.event_journals.specs.declared.journal.Noted.{Noted}
 
--- the state that the events led to; what the journal that noted them tells, and whether it has room for so many more; and who speaks
+-- the state that the events led to; what the journal that noted them tells, and whether it has room for a number of
+-- events more; and who speaks
 pub record Roll : Type 0 where
   pub server : ServerState
   pub books : Books
@@ -31,13 +32,13 @@ pub record IsQuiet (old new : Roll) : Type 0 where
   pub counts : new.books.count ≡ old.books.count
   pub stores : new.books.notes ≡ old.books.notes
 
--- the event of a call is noted, if it had one
+-- the event of a call is noted, if the call was one
 abbrev pub NotesSome : Option Event → (old new : Roll) → Type 0
 NotesSome None old new = IsQuiet old new
 NotesSome (Some event) old new = Notes event old new
 
--- a list of events leads to a state from the empty one with its limits, as the table of events allows; a journal tells its report and
--- its number, and where it stores the events these are they
+-- a list of events leads from the empty state to this one, as the table of events allows; a journal tells its report
+-- and its number, and the journal's events are the list if it stores them
 pub record IsHistory (books : Books) (server : ServerState) (history : List Event) : Type 0 where
   pub tells : TellsOf books history
   pub legal : is_legal (start server.limit server.per_address) history ≡ true
@@ -63,15 +64,15 @@ HasHistory books server = ∥ ((history : List Event) × IsHistory books server 
 abbrev pub StoresNothing : Books → Type 0
 StoresNothing books = IfSome books.notes (λ notes. notes ≡ [])
 
--- the stage of the connection that a seat is given to
+-- the stage of the connection that has a seat
 abbrev pub stage_at : Option ℕ → ServerState → Option Stage
 stage_at seat server = option_and_then (λ n. stage_of n server.connections) seat
 
--- the serial of the connection that a seat is given to, where it is alive
+-- the serial of the connection that has a seat, if it is alive
 abbrev pub serial_at : Option ℕ → ServerState → Option ℕ
 serial_at seat server = option_and_then (λ n. option_map (λ (s : Stage). n) (stage_of n server.connections)) seat
 
--- the serial that a seat is given to, or 0, which is nobody's
+-- the serial that last got a seat, or 0, which is nobody's
 abbrev pub number_at : Option ℕ → ℕ
 number_at None = 0
 number_at (Some n) = n

@@ -5,7 +5,7 @@ use Rattle.server_events.specs.declared.event.Stage.TheVariants.{Admitted, Opene
 use Rattle.server_events.specs.declared.state.Connection.{Connection}
 use Rattle.server_yard.specs.Rolls.{Roll}
 
--- from its stage on: it is opened, decided, started, and ends or is retired; a retired one has no more
+-- by its stage: it is opened, decided, started, and ends or is retired; a retired one has no more
 abbrev pub events_left : Stage → ℕ
 events_left Admitted = 4
 events_left Opened = 3
@@ -23,6 +23,6 @@ abbrev pub room_needed : List Connection → ℕ
 room_needed [] = 0
 room_needed (c ∷ cs) = events_left c.stage + room_needed cs
 
--- beyond what its connections may still have, a journal has room for as many events as before
+-- a journal has as much room as before, beyond the events that its connections may still have
 abbrev pub KeepsRoom : (old new : Roll) → Type 0
 KeepsRoom old new = (n : ℕ) → new.room (n + room_needed new.server.connections) ≡ old.room (n + room_needed old.server.connections)

@@ -1,7 +1,7 @@
 -- Connections and the places that they were given.
 use Rattle.std.specs.Prelude.{◌≡◌, ◌<◌, ◌≤◌, ◌+◌, ◌-◌, ◌^◌, ◌==◌, ◌⊎◌, ℕ, Bool, true, false, not, List, Option, Some, None, length, if◌then◌else◌}
 use Rattle.std.specs.FinMap as map
-use Rattle.child_jobs.specs.Seats.{Seats, is_used}
+use Rattle.child_jobs.specs.PlacesOut.{PlacesOut, is_used}
 use Rattle.connection_facts.specs.Peers.{Client}
 use Rattle.server_events.specs.ServerState.{Effect, ServerState, opens, decides, brings, lets_go, count_from, effect, is_retired}
 use Rattle.server_events.specs.Worlds.{peer_of}
@@ -17,25 +17,25 @@ KeepsSeats old new = (index : ℕ) → new index ≡ old index
 abbrev pub GivesSeat : (index serial : ℕ) (old new : ℕ → Option ℕ) → Type 0
 GivesSeat index serial old new = (i : ℕ) → new i ≡ (if i == index then Some serial else old i)
 
--- each seat tells the same connection, or none as before
+-- each seat has the same connection, or none as before
 abbrev pub KeepsSerials : ServerState → (old new : ℕ → Option ℕ) → Type 0
 KeepsSerials server old new = (index : ℕ) → serial_at (new index) server ≡ serial_at (old index) server
 
--- each seat is as before, or nobody's now and that of a place that is not out
-abbrev pub LosesOne : Seats → (old new : ℕ → Option ℕ) → Type 0
+-- each seat is as before, or nobody has it now and its place is not out
+abbrev pub LosesOne : PlacesOut → (old new : ℕ → Option ℕ) → Type 0
 LosesOne table old new = (index : ℕ) → (new index ≡ old index) ⊎ ((new index ≡ None) × (is_used table index ≡ false))
 
 -- No seat was given to a serial above the last. The place of a seat whose connection is alive is out, for the address of its peer.
-pub record HasSeats (seat : ℕ → Option ℕ) (table : Seats) (server : ServerState) : Type 0 where
+pub record HasSeats (seat : ℕ → Option ℕ) (table : PlacesOut) (server : ServerState) : Type 0 where
   pub up_to_last : (index serial : ℕ) → seat index ≡ Some serial → serial ≤ server.last
   pub for_its_peer : (index serial : ℕ) (peer : Client) → seat index ≡ Some serial → peer_of serial server.connections ≡ Some peer
       → map.get table.places index ≡ Some peer.ip
 
--- another one could be let in, but no serial is left
+-- a connection could be let in, but no serial is left
 abbrev pub IsSpent : ServerState → Type 0
 IsSpent server = (length server.connections < server.limit) × (server.last ≡ 2 ^ 64 - 1)
 
--- another one could be let in, but not from this address
+-- a connection could be let in, but not from this address
 abbrev pub IsAddressFull : List ℕ → ServerState → Type 0
 IsAddressFull ip server =
     (length server.connections < server.limit) × (server.last < 2 ^ 64 - 1) × (count_from ip server.connections ≡ server.per_address)
@@ -50,7 +50,7 @@ goes_on_by (decides n decision) = true
 goes_on_by (brings n from to) = not (is_retired to)
 goes_on_by _ = false
 
--- by this event a connection goes on, with its place
+-- whether a connection goes on by this event and keeps its place
 abbrev pub goes_on : Event → Bool
 goes_on event = goes_on_by (effect event)
 
@@ -58,6 +58,6 @@ abbrev pub leaver_by : Effect → Option ℕ
 leaver_by (lets_go n from) = Some n
 leaver_by _ = None
 
--- by this event a connection goes, and its place is free
+-- whether a connection goes by this event and its place is free
 abbrev pub leaver : Event → Option ℕ
 leaver event = leaver_by (effect event)

@@ -8,8 +8,9 @@ use Rattle.server_events.specs.Processes.{ServerSteps, of_server}
 use Rattle.server_events.specs.Worlds.{KeptFile, World}
 use Rattle.server_yard.specs.Standing.{IsReachedBy, LeadsDecided, LeadsOn, LeadsOpened, Matches, YardState}
 
--- The calls that serve a connection from its admission on, each by its event: it is given up at once; or it opens the rules, and is given up
--- undecided; or it is decided by what it opened, and then given up, or its child runs or could not be started. The last event tells which.
+-- The calls that serve a connection from its admission on, each by its event. It is given up at once; or it opens the
+-- rules, and is given up undecided; or it is decided by what it opened, and then given up, or its child runs or could
+-- not be started. The last event tells which.
 pub data Serves (n : ℕ) : YardState → List Event → YardState → Type 0 where
   at_once : {y z : YardState} {last : Event} → LeadsOn last y z → Serves n y (last ∷ []) z
   undecided : {x y z : YardState} {bytes : Option (List ℕ)} {last : Event}
@@ -26,7 +27,7 @@ IsReachedOn history y = (files : List KeptFile) × IsReachedBy history y files
 abbrev pub over : YardState → Directory → YardState
 over y d = record y { directory = d }
 
--- What a server has of a world that it shares with installers is its yard's, over the directory of now.
+-- What a server has of a world that it shares with installers is its yard's, over the directory as it is now.
 abbrev pub IsServers : YardState → List KeptFile → World → Type 0
 IsServers y files w = Matches (over y w.directory) files (of_server w)
 

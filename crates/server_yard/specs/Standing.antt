@@ -11,20 +11,20 @@ use Rattle.server_events.specs.Worlds.{Accepted, KeptFile, RulesName, StartsWith
 use Rattle.server_events.specs.declared.event.Event.{Event}
 use Rattle.server_events.specs.declared.event.Event.TheVariants.{Opened, Decided}
 
--- what a yard has of a world: the directory; the rules name with what is done where nothing stands there; the limits, the last serial, the
--- connections with their peers and stages, and the phase; and the installation under way
+-- what a yard has of a world: the directory; the rules name with what is decided if nothing stands there; the limits,
+-- the last serial, the connections with their peers and stages, and the phase; and the installation under way
 pub record YardState : Type 0 where
   pub directory : Directory
   pub rules : Option RulesName
   pub server : ServerState
   pub installing : Option Installing
 
--- the world has it under way, as far as it has come; or none
+-- the world has the same installation under way, as far as it has come, or none
 abbrev pub HasUnderWay : World → Option Installing → Type 0
 HasUnderWay w None = w.under_way ≡ None
 HasUnderWay w (Some s) = IsAsFar w s
 
--- A world is the yard's, where its opened connections keep these files.
+-- A world is the yard's if its opened connections keep these files.
 pub record Matches (y : YardState) (files : List KeptFile) (w : World) : Type 0 where
   pub directory : w.directory ≡ y.directory
   pub rules : w.rules ≡ y.rules
@@ -32,15 +32,15 @@ pub record Matches (y : YardState) (files : List KeptFile) (w : World) : Type 0 
   pub installing : HasUnderWay w y.installing
   pub kept : w.kept ≡ files
 
--- From each world that is the yard's before an event there is a step by it to one that is the yard's after it.
+-- From each world that is the yard's before an event, a step by that event leads to one that is the yard's after it.
 abbrev pub Leads : Event → YardState → List KeptFile → YardState → List KeptFile → Type 0
 Leads event y files z more = (w : World) → Matches y files w → (v : World) × Step w event v × Matches z more v
 
--- by an event a yard leads on, whatever files its connections keep, and they keep them
+-- an event leads a yard on, whatever files its connections keep, and they go on to keep them
 abbrev pub LeadsOn : Event → YardState → YardState → Type 0
 LeadsOn event y z = (files : List KeptFile) → Leads event y files z files
 
--- a call leads on by its event, and where it had none the yard is as before
+-- a call leads on by its event; without an event the yard is as before
 abbrev pub LeadsSome : Option Event → YardState → YardState → Type 0
 LeadsSome None y z = z ≡ y
 LeadsSome (Some event) y z = LeadsOn event y z
@@ -50,7 +50,7 @@ abbrev pub LeadsOpened : ℕ → Option (List ℕ) → YardState → YardState �
 LeadsOpened n bytes y z =
     (files : List KeptFile) → Leads (Opened n (is_some bytes)) y files z (files ++ record { serial = n; bytes = bytes } ∷ [])
 
--- by its decision a connection leads its yard on, where it keeps this file, or none
+-- a decision leads the yard on, if its connection keeps this file, or none
 abbrev pub LeadsDecided : ℕ → Option (List ℕ) → Decision → YardState → YardState → Type 0
 LeadsDecided n bytes decision y z =
     (files : List KeptFile) → kept_by n files ≡ Some bytes → Leads (Decided n decision) y files z files
@@ -59,13 +59,13 @@ LeadsDecided n bytes decision y z =
 abbrev pub standing_of : YardState → Option (List ℕ)
 standing_of y = option_and_then (λ (r : RulesName). content y.directory r.name) y.rules
 
--- A directory begins with one of some accepted texts under the rules name, compiled in a synced file, or with nothing, whatever names a stop
--- leaves.
+-- A directory begins with one of some accepted texts under the rules name, compiled in a synced file, or with nothing
+-- there, whatever names a stop leaves.
 pub record Begins (d : Directory) (rules : Option RulesName) : Type 0 where
   pub texts : Accepted
   pub stand : StartsWith d rules texts
 
--- the directory is honest, and begins so
+-- the directory is honest, and begins with one of these texts or with nothing
 abbrev pub BeginsWell : Bool → Directory → Option RulesName → Type 0
 BeginsWell honest d rules = IsTrue honest × Begins d rules
 

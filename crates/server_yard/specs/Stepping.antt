@@ -11,7 +11,7 @@ use Rattle.server_events.specs.ServerState.{ServerState, may_come}
 use Rattle.server_events.specs.declared.event.Event.{Event}
 use Rattle.server_events.specs.declared.event.Event.TheVariants.{Stepped, StepFailed}
 
--- the event of a step that met a fault: that it failed, where the fault is the directory's, and else none
+-- the event of a step that met a fault: that it failed, if the fault is the directory's; otherwise none
 abbrev pub fault_event : InstallFault → Option Event
 fault_event (Disk fault phase) = Some (StepFailed phase)
 fault_event fault = None
@@ -30,7 +30,7 @@ abbrev pub begin_event : {I : Type 0} → BeginAnswer I → Option Event
 begin_event (Ok number) = Some (Stepped Fresh)
 begin_event (Err refused) = fault_event refused.1
 
--- the event of a call that steps an installation only where one is under way
+-- the event of a call that steps an installation, if one is under way
 abbrev pub event_of_step : Option Installing → Result Phase InstallFault → Option Event
 event_of_step None result = None
 event_of_step (Some s) result = step_event result
@@ -45,14 +45,14 @@ abbrev pub MayFail : ServerState → InstallFault → Type 0
 MayFail server (Disk fault phase) = may_come server.phase phase ≡ true
 MayFail server fault = ⊤
 
--- the installation that is kept after a step, by its answer: none that is done or met a fault of the directory
+-- the installation that is kept after a step, by its answer: none if it is done or met a fault of the directory
 abbrev pub kept_then : Installing → Result Phase InstallFault → Option Installing
 kept_then s (Ok Done) = None
 kept_then s (Ok phase) = Some s
 kept_then s (Err (Disk fault phase)) = None
 kept_then s (Err fault) = Some s
 
--- the number of the installation that is kept after a fault: none, where the fault is the directory's
+-- the number of the installation that is kept after a fault: none if the fault is the directory's
 abbrev pub kept_after_fault : InstallFault → Option ℕ → Option ℕ
 kept_after_fault (Disk fault phase) kept = None
 kept_after_fault fault kept = kept
@@ -75,7 +75,7 @@ abbrev pub last_begun_after : {I : Type 0} → BeginAnswer I → ℕ → ℕ
 last_begun_after (Ok number) last = number
 last_begun_after (Err refused) last = last
 
--- the lists of rules that are stored: with one more where an installation made its first step
+-- the lists of rules that are stored: one more if an installation made its first step
 abbrev pub lists_after_begin : {I : Type 0} → BeginAnswer I → List Rule → Option (List (List Rule)) → Option (List (List Rule))
 lists_after_begin (Ok number) rules lists = option_map (λ all. all ++ rules ∷ []) lists
 lists_after_begin (Err refused) rules lists = lists
@@ -85,12 +85,12 @@ abbrev pub IsRefusedAs : {N I : Type 0} → InstallFault → Result N (I × Inst
 IsRefusedAs fault (Ok number) = ⊥
 IsRefusedAs fault (Err refused) = refused.1 ≡ fault
 
--- an installation that is refused is handed back: after a fault of the directory it is over, else it is as it was
+-- a refused installation is handed back: over after a fault of the directory, and otherwise as it was
 abbrev pub HandsBack : Installing → Installing → InstallFault → Type 0
 HandsBack s t (Disk fault phase) = t.over ≡ true
 HandsBack s t fault = t ≡ s
 
--- a step of an installation answers as the installation does, and this one is kept, as far as it has come
+-- a step answers as the installation does, which is kept as far as it has come
 pub record GoesAsStep (s : Installing) (kept_now : Option Installing) (result : Result Phase InstallFault) : Type 0 where
   pub after_it : Installing
   pub goes : Goes (next_phase s) s after_it result

@@ -13,17 +13,17 @@ abbrev pub apart_by : ℕ → Effect → Bool
 apart_by n ends_all = false
 apart_by n x = not (concerns_by n x)
 
--- an event that neither happens to this connection nor ends all
+-- an event of another connection, and no stop
 abbrev pub is_apart : ℕ → Event → Bool
 is_apart n event = apart_by n (effect event)
 
--- each of these events is such
+-- each event is one of another connection, and no stop
 abbrev pub AreApart : ℕ → List Event → Type 0
 AreApart n [] = ⊤
 AreApart n (event ∷ events) = (is_apart n event ≡ true) × AreApart n events
 
--- What the connection found in the world u is told some events later, and the yard is as it is then: all is as if the connection had opened the rules
--- in u, at once. It keeps what it found, and each other connection what it kept.
+-- What the connection found in the world u is told after some events. The yard then is as if the connection had opened
+-- the rules in u: it keeps what it found, and each other connection keeps what it kept.
 pub record ToldLater (n : ℕ) (bytes : Option (List ℕ)) (u : World) (events : List Event) (files : List KeptFile) (z : YardState) : Type 0 where
   pub v : World
   pub woven : Woven u (Opened n (is_some bytes) ∷ events) v

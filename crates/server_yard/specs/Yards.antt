@@ -1,4 +1,4 @@
--- A yard: what contracts say of it.
+-- What contracts say of a yard.
 use Rattle.std.specs.Prelude.{◌≡◌, ◌<◌, ◌-◌, ◌^◌, ◌==◌, ◌⊎◌, ℕ, List, Option, None, Some, false, option_map, if◌then◌else◌}
 use Rattle.dir_calls.specs.Directory.{Directory}
 use Rattle.dir_calls.specs.Images.{IsImage}
@@ -52,7 +52,7 @@ module _ {L D J F : Type 0} {p : assumptions.Ghosts L} {d : dir.Ghosts D F} {f :
   abbrev pub yard_directory : Yard L D J F p d f j → D
   yard_directory y = y.dir
 
-  -- its rules name, with what is done where no file stands there
+  -- its rules name, with what is decided if no file stands there
   abbrev pub yard_rules : Yard L D J F p d f j → Option RulesName
   yard_rules y = rules_of y.rules
 
@@ -60,7 +60,7 @@ module _ {L D J F : Type 0} {p : assumptions.Ghosts L} {d : dir.Ghosts D F} {f :
   abbrev pub yard_seat : Yard L D J F p d f j → ℕ → Option ℕ
   yard_seat y index = seat_of y.register index
 
-  -- the serial of the connection that has this place, where it is alive; that serial, or 0; and the connection's stage
+  -- the serial of the connection that has this place, if it is alive; that serial, or 0; and the connection's stage
   abbrev pub serial_of : Yard L D J F p d f j → ℕ → Option ℕ
   serial_of y place = serial_at (yard_seat y place) (yard_server y)
 
@@ -70,7 +70,7 @@ module _ {L D J F : Type 0} {p : assumptions.Ghosts L} {d : dir.Ghosts D F} {f :
   abbrev pub stage_of_place : Yard L D J F p d f j → ℕ → Option Stage
   stage_of_place y place = stage_at (yard_seat y place) (yard_server y)
 
-  -- the number of the last installation, and the one that is kept: under way, or done
+  -- the number of the last installation, and that of the one that is kept: under way, or done
   abbrev pub last_begun : Yard L D J F p d f j → ℕ
   last_begun y = y.begun
 
@@ -80,13 +80,14 @@ module _ {L D J F : Type 0} {p : assumptions.Ghosts L} {d : dir.Ghosts D F} {f :
   abbrev pub yard_installing : Yard L D J F p d f j → Option Installing
   yard_installing y = installing_of y.installation
 
-  -- A stop at any moment since left what a stop may leave of each world that was the yard's, or of the directory as it is after it.
+  -- A stop at any moment since left what a stop may leave of a world that was the yard's before the call, or an image
+  -- of the directory after it.
   abbrev pub LeavesNothingElse : (old new : Yard L D J F p d f j) → Type 0
   LeavesNothingElse old new =
       (files : List KeptFile) (w : World) (image : Directory) → Matches (yard_state old) files w
       → d.left_since (yard_directory new) (d.moment (yard_directory old)) image → MayLeave w image ⊎ IsImage (yard_state new).directory image
 
-  -- but for what its events change, and where they are noted, a yard is as before
+  -- a yard is as before, but for what its events change and where they are noted
   pub record IsSameBeside (old new : Yard L D J F p d f j) : Type 0 where
     pub directory : yard_directory new ≡ yard_directory old
     pub rules : yard_rules new ≡ yard_rules old
@@ -114,7 +115,7 @@ module _ {L D J F : Type 0} {p : assumptions.Ghosts L} {d : dir.Ghosts D F} {f :
     pub none_kept : kept_number y ≡ None
     pub none_begun : last_begun y ≡ 0
 
-  -- but for what its events change, and its directory, a yard is as before
+  -- a yard is as before, but for what its events change and its directory
   pub record IsSameButDirectory (old new : Yard L D J F p d f j) : Type 0 where
     pub rules : yard_rules new ≡ yard_rules old
     pub installing : yard_installing new ≡ yard_installing old

@@ -1,13 +1,13 @@
-//! What is known of a yard's directory.
+//! The assumptions about a yard's directory.
 ghost use Rattle.std.specs.Prelude.{Bool, false};
 
 use std::marker::Brand;
 use std::sync::ledger::Ledger;
 
-/// The ledger of a yard's places, which also says what is known of the yard's directory.
+/// The ledger of a yard's places, which also says what is assumed of the yard's directory.
 pub trait Assumptions: Ledger {
-    /// Whether the directory is honest and began as it has to: with no pending change, and under the rules name with nothing, or
-    /// with a synced file that is compiled of one accepted text.
+    /// Whether the directory is honest and began as it has to: no change of names is pending, and the rules name stands
+    /// for nothing, or for a synced file that is compiled of one accepted text.
     ghost met: { Bool };
 }
 

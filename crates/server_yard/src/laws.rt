@@ -1,4 +1,4 @@
-//! Laws over the definitions alone.
+//! Laws of the definitions alone.
 ghost use Rattle.std.specs.Prelude.{◌≡◌, ◌++◌, ℕ, List, [], Option, Some, length, true};
 ghost use Rattle.rule_lines.specs.Pairs.{Rule};
 ghost use Rattle.server_events.specs.Headline.{Reaches};
@@ -12,33 +12,39 @@ ghost use Rattle.server_yard.specs.Serving.{IsReachedOn, IsServers, Serves, Step
 ghost use Rattle.server_yard.specs.Standing.{IsNew, IsReachedBy, Leads, LeadsOpened, Series, YardState, standing_of};
 ghost use Rattle.server_yard.specs.Telling.{AreApart, ToldLater};
 
-/// From a yard that was just made, over a directory that began as it has to, each series of calls is a history of the headline: it leads
-/// from a start to a world that is the yard's. So all that the headline says of histories is true of the running yard.
+/// From a new yard each series of calls is a history of the headline.
+///
+/// The directory began as it has to. The history leads from a start to a world that is the yard's. So all that the
+/// headline says of histories is true of the running yard.
 pub fn reached()
     ensures { (y z : YardState) (files : List KeptFile) (history : List Event) → IsNew y → Series y [] history z files
         → IsReachedBy history z files }
 {}
 
-/// A connection that is served after its admission: whatever a yard comes to, its history goes on by the events of the calls that serve it, and
-/// is one of the headline.
+/// The calls that serve a connection after its admission go on with a yard's history.
+///
+/// Whatever a yard has come to, the history with their events is one of the headline.
 pub fn served()
     ensures { (n : ℕ) (history events : List Event) (y z : YardState) (files : List KeptFile)
         → IsReachedBy history y files → HasStage y.server n Stage.Admitted → Serves n y events z
         → IsReachedOn (history ++ events) z }
 {}
 
-/// A server beside installers that are other processes, and others: each call of its yard that leads on over the directory as they left it is a
-/// step of the server by itself, as `server_events::laws::two_processes` weaves them.
+/// Each call of a server's yard is a step of the server by itself, beside installers in other processes, and others.
+///
+/// The call leads on over the directory as the others left it. `server_events::laws::two_processes` weaves such steps.
 pub fn beside()
     ensures { (w : World) (y z : YardState) (files more : List KeptFile) (event : Event) → is_connections event ≡ true
         → IsServers y files w → Leads event (over y w.directory) files (over z w.directory) more
         → StepsByItself w event z more }
 {}
 
-/// An opening that takes some time, by `Yard::open` or by a handle of the connection's own: others go on meanwhile, and the yard's other
-/// connections too. Where it found what stood at a moment meanwhile, and the yard is told of it later (clause `beside` of `Yard::open` and
-/// `Yard::opened`), all is as if it had opened the rules at that moment. So the headline says that its decision is by the text that
-/// stood then.
+/// An opening that takes some time is as good as one at a moment of its call.
+///
+/// It is made by `Yard::open`, or by a handle of the connection's own. Others go on meanwhile, and the yard's other
+/// connections too. It found what stood at that moment, and the yard is told of it later (clause `beside` of
+/// `Yard::open` and `Yard::opened`). All is as if it had opened the rules at that moment, so the headline says that its
+/// decision is by the text that stood then.
 pub fn told_later()
     ensures { (history events : List Event) (u w : World) (y z : YardState) (files : List KeptFile)
         (n : ℕ) (bytes : Option (List ℕ)) → Reaches history u
@@ -47,10 +53,11 @@ pub fn told_later()
         → LeadsOpened n bytes (over y u.directory) (over z u.directory) → ToldLater n bytes u events files z }
 {}
 
-/// What a reader finds, in each yard as its type keeps it where the assumptions were met when it was made. Whatever a stop leaves under it, the
-/// rules name is absent, or stands for a synced file that is compiled of rules. Over a journal that stores the lists of the
-/// installations, since any of them answered `Done` it stands for one that is compiled of the list of that installation or of a later one;
-/// there is one list for each.
+/// A reader finds no file or a whole one, in each yard whose assumptions were met when it was made.
+///
+/// Whatever a stop leaves, the rules name is absent, or stands for a synced file that is compiled of rules. If the
+/// journal stores the list of each installation, there is one list for each. Once an installation answered `Done`, the
+/// file is compiled of its list or of a later one.
 pub fn readers()
     ensures always { (k : KeptYard) → IsAbsentOrCompiled k.state.directory k.rules.name }
     ensures since_done { (k : KeptYard) (lists : List (List Rule)) → k.books.lists ≡ Some lists

@@ -3,9 +3,9 @@
 //!
 //! Each call of `Yard` that is an event is one step of the headline's world over an honest directory (`step`), one
 //! event of the table over any directory (`noted`), and a step over whatever directory other processes left (`beside`).
-//! The type keeps the rest, so a caller has no premise. `tcpserver` opens the rules outside the lock and uses `opened`;
-//! `open`, `install_begin` and `install_step` are used by tests alone, since `tcprules` is another process. Which
-//! thread makes which call is said in `tcp_service`.
+//! The type keeps the rest, so a caller has no premise. `tcpserver` opens the rules outside the lock and uses `opened`.
+//! Only tests use `new`, and also `open`, `install_begin` and `install_step`, since `tcprules` is another process. The
+//! headline speaks of a yard that makes all of these calls. `tcp_service` says which thread makes which call.
 #![tactic(auto)]
 
 pub mod assumptions;

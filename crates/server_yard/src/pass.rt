@@ -8,22 +8,22 @@ use dir_calls::RulesFile;
 use rule_lookup::Missing;
 use std::marker::PhantomData;
 
-/// The rules file that a connection opened, or that there was none; it keeps its bytes, whatever becomes of the name. Only `Yard::open` makes
-/// one.
+/// The rules file that a connection opened, or that there was none. It keeps its bytes, whatever becomes of the name.
+/// Only `Yard::open` and `Yard::opened` make one.
 #[derive(Drop)]
 pub struct Pass<L: Assumptions, F: RulesFile + Drop> {
     pub(crate) serial: u64,
     pub(crate) file: Option<CdbFile<F>>,
     pub(crate) missing: Missing,
     pub(crate) yard: PhantomData<L>,
-    /// where its yard's directory is honest and began as it has to, the file is compiled of rules
+    /// if its yard's directory is honest and began as it has to, the file is compiled of rules
     pub ghost whole: { IsTrue L.met → ∥ IsWholeFile (option_map F.bytes file) ∥₁ },
 }
 
 impl<L: Assumptions, F: RulesFile + Drop> Pass<L, F> {
     ghost use Rattle.server_yard.specs.Passes.{pass_file, pass_missing, pass_serial};
 
-    /// The file, as a source of decisions.
+    /// The file that decides, if there is one.
     pub fn source(&self) -> Option<&CdbFile<F>>
         ensures { option_copied result ≡ pass_file self.now }
     {
@@ -33,7 +33,7 @@ impl<L: Assumptions, F: RulesFile + Drop> Pass<L, F> {
         }
     }
 
-    /// What is decided where there is no file.
+    /// What is decided if there is no file.
     pub fn missing(&self) -> Missing
         ensures { result ≡ pass_missing self.now }
     {

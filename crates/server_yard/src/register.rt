@@ -4,7 +4,7 @@ ghost use Rattle.std.specs.List.{count_by};
 ghost use Rattle.std.specs.BTreeMap.{get};
 ghost use Rattle.std.specs.Ordering.{nat_cmp};
 ghost use Rattle.child_jobs.specs.Runs.{place_of};
-ghost use Rattle.child_jobs.specs.Seats.{is_used, live_at, live_of, OneMoreAt, RefusesLimits, with_place};
+ghost use Rattle.child_jobs.specs.PlacesOut.{is_used, live_at, live_of, OneMoreAt, RefusesLimits, with_place};
 ghost use Rattle.child_jobs.specs.declared.table.TableFault.{TableFault};
 ghost use Rattle.event_journals.specs.Journals.{HasOneMore, HasSameRoom, TellsOf, without_last};
 ghost use Rattle.server_events.specs.Processes.{is_installations};
@@ -16,7 +16,7 @@ ghost use Rattle.server_yard.specs.Rooms.{KeepsRoom, events_left, room_needed, s
 ghost use Rattle.server_yard.specs.Seating.{GivesSeat, HasSeats, HasSpareRoom, IsAddressFull, IsSpent, KeepsSeats, KeepsSerials, LosesOne, goes_on, leaver};
 ghost use Rattle.server_yard.specs.declared.register.AdmitFault.TheVariants.{Full, FullForAddress, OutOfMemory, Spent};
 
-use child_jobs::{Job, Place, Running, Table, TableFault};
+use child_jobs::{Job, Place, PlaceTable, Running, TableFault};
 use connection_facts::Peer;
 use event_journals::Journal;
 use rule_lines::RuleList;
@@ -27,7 +27,7 @@ use std::sync::ledger::{Blank, Ledger};
 use thiserror::Error;
 
 /// Why a connection isn't let in. Nothing changed.
-#[derive(Clone, Copy, PartialEq, Eq, Debug, Error)]
+#[derive(Clone, Copy, Debug, Error)]
 pub enum AdmitFault {
     /// As many connections are alive as may be, retired ones counted.
     #[error("all places are taken")]
@@ -54,12 +54,12 @@ impl From<AllocError> for AdmitFault {
 // How many events a connection may have, the first among them.
 const EVENTS: usize = 5;
 
-/// The connections of a server, each with the place that it was given, and the journal of all events.
+/// The connections of a server, each with its place, and the journal of all events.
 #[derive(Drop)]
 pub(crate) struct Register<L: Ledger, J: Journal> {
     state: State,
-    table: Table<L>,
-    // the serial of the connection that the place of each index was last given to
+    table: PlaceTable<L>,
+    // for each index the serial of the connection that last got its place
     seats: BTreeMap<usize, u64>,
     journal: J,
     speaker: u64,
@@ -77,7 +77,7 @@ pub(crate) struct Register<L: Ledger, J: Journal> {
 impl<L: Ledger, J: Journal> Register<L, J> {
     ghost use Rattle.server_yard.specs.Registers.{journal_of, roll_of, seat_of};
 
-    /// No connection.
+    /// A register without connections.
     pub(crate) fn new(
         alloc: Global,
         blank: Blank,
@@ -95,7 +95,7 @@ impl<L: Ledger, J: Journal> Register<L, J> {
         ensures limited { IfOk result (λ _. (0 < limit) × (0 < per_address)) }
         ensures refused { IfErr result (RefusesLimits limit per_address) }
     {
-        let table = Table::with_address_limit(alloc, blank, limit, per_address)?;
+        let table = PlaceTable::with_address_limit(alloc, blank, limit, per_address)?;
         Ok(Register {
             state: State::new(alloc, limit, per_address),
             table,
@@ -105,18 +105,11 @@ impl<L: Ledger, J: Journal> Register<L, J> {
         })
     }
 
-    /// What happened so far.
+    /// The state that the events led to.
     pub(crate) fn state(&self) -> &State
         ensures { result.now ≡ (roll_of self.now).server }
     {
         &self.state
-    }
-
-    /// The limit per address.
-    pub(crate) fn address_limit(&self) -> u64
-        ensures { result ≡ (roll_of self.now).server.per_address }
-    {
-        self.table.address_limit()
     }
 
     /// The limit.
@@ -133,7 +126,7 @@ impl<L: Ledger, J: Journal> Register<L, J> {
         &self.journal
     }
 
-    /// Who calls the events that follow.
+    /// Says who makes the events that follow.
     pub(crate) fn speak(&mut self, speaker: u64)
         ensures roll { roll_of self.new ≡ record (roll_of self.old) { speaker = speaker } }
         ensures journal { journal_of self.new ≡ journal_of self.old }
@@ -142,14 +135,14 @@ impl<L: Ledger, J: Journal> Register<L, J> {
         self.speaker = speaker;
     }
 
-    /// The serial that the place of an index was last given to, or 0.
+    /// The serial of the connection that last got the place of an index, or 0.
     pub(crate) fn number(&self, index: usize) -> u64
         ensures { result ≡ number_at (seat_of self.now index) }
     {
         self.seats.get(&index).copied().unwrap_or(0)
     }
 
-    /// The serial of the connection that has the place of an index, where it is alive.
+    /// The serial of the connection that has the place of an index, if it is alive.
     pub(crate) fn serial(&self, index: usize) -> Option<u64>
         ensures { result ≡ serial_at (seat_of self.now index) (roll_of self.now).server }
     {
@@ -158,7 +151,7 @@ impl<L: Ledger, J: Journal> Register<L, J> {
         Some(serial)
     }
 
-    /// That serial, with the connection's stage.
+    /// The serial and the stage of the connection that has the place of an index, if it is alive.
     pub(crate) fn stage(&self, index: usize) -> Option<(u64, Stage)>
         ensures serial { option_map (λ r. r.0) result ≡ serial_at (seat_of self.now index) (roll_of self.now).server }
         ensures stage { option_map (λ r. r.1) result ≡ stage_at (seat_of self.now index) (roll_of self.now).server }
@@ -193,7 +186,7 @@ impl<L: Ledger, J: Journal> Register<L, J> {
         }
     }
 
-    // The serial of a connection that may be let in.
+    // The serial of a connection, if it may be let in.
     fn next_serial(&self, peer: &Peer) -> Result<u64, AdmitFault>
         ensures full { (result ≡ Err Full) ↔
             (length (roll_of self.now).server.connections ≡ (roll_of self.now).server.limit) }
@@ -214,7 +207,7 @@ impl<L: Ledger, J: Journal> Register<L, J> {
         Ok(serial)
     }
 
-    // Lets a connection in that may be, with room for all of its events.
+    // Lets in a connection that may be let in, with room for all of its events.
     fn take_in(&mut self, peer: &Peer, serial: u64) -> Result<Place<L>, AllocError>
         requires may { may_admit (roll_of self.old).server serial peer.now ≡ true }
         ensures noted { OnOk result (Notes (Admitted serial peer.now) (roll_of self.old) (roll_of self.new)) }
@@ -248,7 +241,7 @@ impl<L: Ledger, J: Journal> Register<L, J> {
         }
     }
 
-    /// A connection goes on, and keeps its place.
+    /// Notes an event by which a connection goes on. It keeps its place.
     pub(crate) fn advance(&mut self, event: Event)
         requires kind { goes_on event ≡ true }
         requires may { may_happen (roll_of self.old).server event ≡ true }
@@ -273,7 +266,7 @@ impl<L: Ledger, J: Journal> Register<L, J> {
         }
     }
 
-    /// A connection goes, and its place is free.
+    /// Notes an event by which a connection goes. Its place is free.
     pub(crate) fn leave(&mut self, place: Place<L>, serial: u64, event: Event)
         requires kind { leaver event ≡ Some serial }
         requires seat { seat_of self.old place ≡ Some serial }
@@ -293,7 +286,7 @@ impl<L: Ledger, J: Journal> Register<L, J> {
         self.journal.release(spare);
     }
 
-    /// A child is retired, and its place stays counted for good.
+    /// Retires a child. Its place stays counted for good.
     pub(crate) fn retire<C: Job>(&mut self, running: Running<L, C>)
         requires started { stage_at (seat_of self.old (place_of running)) (roll_of self.old).server ≡ Some stage.Started }
         ensures noted { Notes
@@ -311,7 +304,7 @@ impl<L: Ledger, J: Journal> Register<L, J> {
         self.journal.note(event, self.speaker);
     }
 
-    /// Takes the room for an event of an installation.
+    /// Takes room for an event of an installation.
     pub(crate) fn reserve(&mut self) -> Result<(), AllocError>
         ensures room { OnOk result (HasSpareRoom (roll_of self.new)) }
         ensures one_more { OnOk result (HasOneMore (roll_of self.old).room (roll_of self.new).room) }
@@ -323,7 +316,7 @@ impl<L: Ledger, J: Journal> Register<L, J> {
         self.journal.reserve(1)
     }
 
-    /// Gives that room back.
+    /// Gives the room for an event of an installation back.
     pub(crate) fn release(&mut self)
         requires room { HasSpareRoom (roll_of self.old) }
         ensures one_less { HasOneMore (roll_of self.new).room (roll_of self.old).room }
@@ -334,7 +327,7 @@ impl<L: Ledger, J: Journal> Register<L, J> {
         self.journal.release(1);
     }
 
-    /// Notes an event of an installation, into that room.
+    /// Notes an event of an installation, into the room that was taken.
     pub(crate) fn note_step(&mut self, event: Event)
         requires kind { is_installations event ≡ true }
         requires may { may_happen (roll_of self.old).server event ≡ true }
@@ -362,7 +355,7 @@ impl<L: Ledger, J: Journal> Register<L, J> {
         self.journal.keep_list(list)
     }
 
-    /// Takes the last rules back, of an installation that did not begin.
+    /// Takes the last rules back, if their installation did not begin.
     pub(crate) fn forget_list(&mut self)
         ensures forgotten { (roll_of self.new).books.lists
             ≡ option_map without_last (roll_of self.old).books.lists }
@@ -387,9 +380,10 @@ fn events_left(stage: Stage) -> usize
     }
 }
 
-// A place for a connection that is let in: all three change, or none but a seat that nobody has.
+// Gives a connection that is let in a place. All three change; or none does, but that the seat of a free index may be
+// lost.
 fn give_place<L: Ledger>(
-    table: &mut Table<L>,
+    table: &mut PlaceTable<L>,
     seats: &mut BTreeMap<usize, u64>,
     state: &mut State,
     peer: &Peer,

@@ -1,4 +1,4 @@
-//! Steps of installations, each noted as what it was.
+//! Steps of installations, each noted as the event that it was.
 ghost use Rattle.std.specs.Prelude.{◌≡◌, ◌≢◌, ◌++◌, ◌∷◌, [], None, IsTrue, OnOk, OnErr, option_map};
 ghost use Rattle.event_journals.specs.Journals.{HasOneMore, HasSameRoom};
 ghost use Rattle.server_events.specs.UnderWay.{StepLeads, Leaves};
@@ -18,7 +18,8 @@ use server_events::{Event, make_step};
 use std::alloc::Global;
 use std::sync::ledger::Ledger;
 
-/// The next step of an installation that was begun, in the phase that the register has, or of one that was not.
+/// Makes the next step of an installation, and notes it. The installation has not begun, or it is in the phase that the
+/// register has.
 pub(crate) fn step_noted<L: Ledger, D: Dir, J: Journal>(
     alloc: Global,
     register: &mut Register<L, J>,
@@ -59,7 +60,7 @@ pub(crate) fn step_noted<L: Ledger, D: Dir, J: Journal>(
     }
 }
 
-// What a step was that met a fault: one that failed, or none.
+// Notes a step that met a fault. If the fault is not the directory's, there is no event.
 fn note_fault<L: Ledger, J: Journal>(register: &mut Register<L, J>, fault: InstallFault)
     requires may { MayFail (roll_of register.old).server fault }
     requires room { HasSpareRoom (roll_of register.old) }
@@ -74,7 +75,7 @@ fn note_fault<L: Ledger, J: Journal>(register: &mut Register<L, J>, fault: Insta
     }
 }
 
-/// The first step of an installation, with its rules kept where it was made.
+/// Makes the first step of an installation, and notes it. Its rules are kept if it was made.
 pub(crate) fn begin_noted<L: Ledger, D: Dir, J: Journal>(
     alloc: Global,
     register: &mut Register<L, J>,

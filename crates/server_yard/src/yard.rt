@@ -1,7 +1,7 @@
-//! The yard.
+//! The yard: the connections of a server and the installations beside them, over one directory.
 ghost use Rattle.std.specs.Prelude.{◌≡◌, ◌≢◌, ◌+◌, ◌<◌, ◌≤◌, ◌∷◌, ◌↔◌, ℕ, List, [], true, false, Err, Ok, Some, None, IsTrue, IfOk, IfErr, IfNone, IfSome, OnErr, Contains, is_some, length, option_map};
 ghost use Rattle.child_jobs.specs.Runs.{place_of};
-ghost use Rattle.child_jobs.specs.Seats.{RefusesLimits};
+ghost use Rattle.child_jobs.specs.PlacesOut.{RefusesLimits};
 ghost use Rattle.dir_calls.specs.Directory.{Directory};
 ghost use Rattle.dir_calls.specs.Moments.{CountsFault};
 ghost use Rattle.event_journals.specs.Journals.{HasSameRoom};
@@ -53,11 +53,11 @@ enum Installation {
     AtDone,
 }
 
-/// The connections of a server and the installations beside them, over one directory: each call that is an event is one step of the
-/// headline's world.
+/// The connections of a server and the installations beside them, over one directory. Each call that is an event is one
+/// step of the headline's world.
 ///
-/// A place, a running child or a pass that a call takes has the yard's ledger, as its type says; `serial_of`, `stage` and `is_peer` tell
-/// whether its event may happen.
+/// A place, a running child or a pass that a call takes has the yard's ledger, by its type. `serial_of`, `stage` and
+/// `is_peer` tell whether its event may happen.
 #[derive(Drop)]
 pub struct Yard<L: Assumptions, D: Dir + Drop, J: Journal> {
     register: Register<L, J>,
@@ -66,13 +66,14 @@ pub struct Yard<L: Assumptions, D: Dir + Drop, J: Journal> {
     installation: Installation,
     // the number of the last installation that made its first step
     begun: u64,
-    // where the assumptions are met the directory is honest
+    // if the assumptions are met, the directory is honest
     ghost honest: { IsTrue L.met → IsTrue D.honest },
     // the phase is that of the installation that is kept
     pub ghost phase: { phase_of (installing_of installation) ≡ (roll_of register).server.phase },
     ghost going: { IsKeptInstallation (installing_of installation) (rules_of rules) },
     ghost finds: { FindsItsFile D.honest (installing_of installation) (D.state dir) } by { FindsItsFile-prop D.honest (installing_of installation) (D.state dir) },
-    // where the assumptions are met the installations of its history, by themselves, are a history of the headline that left its directory
+    // if the assumptions are met, the installations of its history alone are a history of the headline, which left its
+    // directory
     pub ghost installed: { IsTrue L.met
         → ∥ KeepsHistory (books_of register) (state_of register (D.state dir) rules installation) ∥₁ },
 }
@@ -80,12 +81,14 @@ pub struct Yard<L: Assumptions, D: Dir + Drop, J: Journal> {
 impl<L: Assumptions, D: Dir + Drop, J: Journal> Yard<L, D, J> {
     ghost use Rattle.server_yard.specs.Yards.{IsMade, IsSameBeside, IsSameButDirectory, LeavesNothingElse, MayBegin, kept_number, kept_under, last_begun, name_of, number_of, serial_of, stage_of_place, yard_books, yard_directory, yard_installing, yard_journal, yard_over, yard_roll, yard_rules, yard_seat, yard_server, yard_state};
 
-    /// A yard over a directory, with the name of its rules file and what is decided where no file stands there; without a name every connection is
-    /// allowed. No connection is there, and no installation under way. At most `limit` connections are alive at once. `blank` has as many
-    /// parts as the limit says, and the journal has no event.
+    /// A yard over a directory, without connections and without an installation under way.
+    ///
+    /// `rules` has the name of the rules file, and what is decided if no file stands there. Without a name every
+    /// connection is allowed. At most `limit` connections are alive at once. `blank` has as many parts as the limit
+    /// says, and the journal has no event.
     ///
     /// # Errors
-    /// `ZeroLimit` where the limit is 0.
+    /// `ZeroLimit` if the limit is 0.
     pub fn new(
         alloc: Global,
         blank: Blank,
@@ -104,10 +107,10 @@ impl<L: Assumptions, D: Dir + Drop, J: Journal> Yard<L, D, J> {
         Yard::with_address_limit(alloc, blank, dir, rules, limit, limit, journal)
     }
 
-    /// The same with at most `per_address` connections alive from one address.
+    /// A yard as `new` makes it, with at most `per_address` connections alive from one address.
     ///
     /// # Errors
-    /// `ZeroLimit` where the limit is 0, else `ZeroAddressLimit` where the limit per address is 0.
+    /// `ZeroLimit` if the limit is 0; otherwise `ZeroAddressLimit` if the limit per address is 0.
     pub fn with_address_limit(
         alloc: Global,
         blank: Blank,
@@ -140,21 +143,14 @@ impl<L: Assumptions, D: Dir + Drop, J: Journal> Yard<L, D, J> {
         self.register.state().live()
     }
 
-    /// How many may be alive at once.
+    /// How many connections may be alive at once.
     pub fn limit(&self) -> u64
         ensures { result ≡ (yard_server self.now).limit }
     {
         self.register.limit()
     }
 
-    /// How many of them may come from one address.
-    pub fn address_limit(&self) -> u64
-        ensures { result ≡ (yard_server self.now).per_address }
-    {
-        self.register.address_limit()
-    }
-
-    /// What is decided where no rules file stands: what `open` gives its pass.
+    /// What is decided if no rules file stands. `open` gives it to its pass.
     pub fn missing(&self) -> Missing
         ensures { result ≡ missing_by (yard_rules self.now) }
     {
@@ -178,15 +174,18 @@ impl<L: Assumptions, D: Dir + Drop, J: Journal> Yard<L, D, J> {
         self.register.journal()
     }
 
-    /// A law: what a reader finds, as `laws::readers` has it, of each yard whose assumptions were met when it was made.
+    /// A law: what a reader finds is what `laws::readers` says, in each yard whose assumptions were met when it was
+    /// made.
     pub fn consistent(&self)
         ensures { IsTrue L.met → IfSome (yard_rules self.now) (λ rules.
             ∥ ReadersFind (yard_books self.now) (yard_state self.now) rules ∥₁) }
     {}
 
-    /// A law: the history of each yard. There is one that the table of events allows, with these limits and with the report, the number and the
-    /// notes of the journal; never more are alive along it than may be, in all and from one address. As many events are stored as are counted,
-    /// where the journal stores them.
+    /// A law: each yard has a history.
+    ///
+    /// The table of events allows it, with these limits. The journal's report, number and notes are those of the
+    /// history. Along it never more connections are alive than may be, in all and from one address. If the journal
+    /// stores events, it stores as many as it counts.
     pub fn history(&self)
         ensures lived { ∥ Lived (yard_books self.now) (yard_server self.now) ∥₁ }
         ensures limit { length (yard_server self.now).connections ≤ (yard_server self.now).limit }
@@ -195,7 +194,7 @@ impl<L: Assumptions, D: Dir + Drop, J: Journal> Yard<L, D, J> {
         ensures stored { CountsStored (yard_books self.now) }
     {}
 
-    /// Who calls the events that follow: a number from 1, or 0 for nobody, as at first. Nothing else changes.
+    /// Says who makes the events that follow: a number from 1, or 0 for nobody, as at first. Nothing else changes.
     pub fn speaker(&mut self, speaker: u64)
         ensures speaks { yard_roll self.new ≡ record (yard_roll self.old) { speaker = speaker } }
         ensures journal { yard_journal self.new ≡ yard_journal self.old }
@@ -205,15 +204,15 @@ impl<L: Assumptions, D: Dir + Drop, J: Journal> Yard<L, D, J> {
         self.register.speak(speaker);
     }
 
-    /// The serial of the connection that has a place, where it is alive.
+    /// The serial of the connection that has a place, if it is alive.
     pub fn serial_of(&self, place: &Place<L>) -> Option<u64>
         ensures { result ≡ serial_of self.now place.now }
     {
         self.register.serial(place.index())
     }
 
-    /// The serial and the stage of the connection that has a place, where it is alive: the test for what the calls that take a place
-    /// require.
+    /// The serial and the stage of the connection that has a place, if it is alive. By this a caller tests what the
+    /// calls that take a place require.
     pub fn stage_of(&self, place: &Place<L>) -> Option<(u64, Stage)>
         ensures serial { option_map (λ r. r.0) result ≡ serial_of self.now place.now }
         ensures stage { option_map (λ r. r.1) result ≡ stage_of_place self.now place.now }
@@ -229,7 +228,7 @@ impl<L: Assumptions, D: Dir + Drop, J: Journal> Yard<L, D, J> {
         self.register.state().stage(serial)
     }
 
-    /// Whether this is the other end of a connection that is alive.
+    /// Whether a peer is the other end of a connection that is alive.
     pub fn is_peer(&self, serial: u64, peer: &Peer) -> bool
         ensures { IsTrue result ↔ (peer_of serial (yard_server self.now).connections ≡ Some peer.now) }
     {
@@ -239,12 +238,13 @@ impl<L: Assumptions, D: Dir + Drop, J: Journal> Yard<L, D, J> {
         }
     }
 
-    /// Lets a connection in: it is alive from now on, and has the next serial and a place. All the room that its events will take is
-    /// made now, so that none of them can want for memory.
+    /// Lets a connection in: it is alive from now on, and has the next serial and a place.
+    ///
+    /// All room that its events will take is made now. So none of them can want for memory.
     ///
     /// # Errors
-    /// `Full` where as many connections are alive as may be, else `Spent` where the last serial was given, else `FullForAddress` where as many
-    /// from its address are alive as may be; else `OutOfMemory`. Nothing changed.
+    /// `Full` if as many connections are alive as may be; otherwise `Spent` if the last serial was given; otherwise
+    /// `FullForAddress` if as many from its address are alive as may be; otherwise `OutOfMemory`. Nothing changed.
     pub fn admit(&mut self, peer: &Peer) -> Result<(u64, Place<L>), AdmitFault>
         ensures full { (result ≡ Err Full) ↔ (length (yard_server self.old).connections ≡ (yard_server self.old).limit) }
         ensures spent { (result ≡ Err Spent) ↔ IsSpent (yard_server self.old) }
@@ -264,7 +264,7 @@ impl<L: Assumptions, D: Dir + Drop, J: Journal> Yard<L, D, J> {
         self.register.admit(peer)
     }
 
-    // A connection goes on by an event, and keeps its place.
+    // Notes an event by which a connection goes on. It keeps its place.
     fn advance(&mut self, event: Event)
         requires kind { goes_on event ≡ true }
         requires may { may_happen (yard_server self.old) event ≡ true }
@@ -276,7 +276,7 @@ impl<L: Assumptions, D: Dir + Drop, J: Journal> Yard<L, D, J> {
         self.register.advance(event);
     }
 
-    // A connection goes by an event, and its place is free.
+    // Notes an event by which a connection goes. Its place is free.
     fn leave(&mut self, place: Place<L>, serial: u64, event: Event)
         requires kind { leaver event ≡ Some serial }
         requires seat { yard_seat self.old place ≡ Some serial }
@@ -292,7 +292,7 @@ impl<L: Assumptions, D: Dir + Drop, J: Journal> Yard<L, D, J> {
         self.register.leave(place, serial, event);
     }
 
-    // What stands under the rules name, and what is decided where nothing does.
+    // What stands under the rules name, and what is decided if nothing does.
     fn find(&mut self, alloc: Global) -> Result<(Option<CdbFile<D::File>>, Missing), DirFault>
         ensures missing { IfOk result (λ r. r.1 ≡ missing_by (yard_rules self.old)) }
         ensures found { IsTrue D.honest → IfOk result (λ r.
@@ -316,9 +316,10 @@ impl<L: Assumptions, D: Dir + Drop, J: Journal> Yard<L, D, J> {
         }
     }
 
-    /// Opens the rules for a connection that was let in. The pass has what stands under the rules name in the directory of now, and
-    /// keeps it through all later calls. Without a rules name there is no file, no call of the directory is made, and the connection is
-    /// allowed.
+    /// Opens the rules for a connection that was let in.
+    ///
+    /// The pass has what stands under the rules name now, and keeps it through all later calls. Without a rules name
+    /// there is no file, the directory is not called, and the connection is allowed.
     ///
     /// # Errors
     /// Those of `Dir::open`. A fault is no event: the connection is as before.
@@ -360,9 +361,10 @@ impl<L: Assumptions, D: Dir + Drop, J: Journal> Yard<L, D, J> {
         })
     }
 
-    /// A connection that was let in has opened the rules by a handle of its own, and has found this: its pass has it, and keeps it through all
-    /// later calls. Where that is what stands under the rules name in the directory of now, it is the step that `open` is. The directory is not
-    /// called, and no memory is taken.
+    /// Notes that a connection which was let in has opened the rules by a handle of its own, and has found this.
+    ///
+    /// Its pass has what was found, and keeps it through all later calls. If that is what stands under the rules name
+    /// now, this is the step that `open` is. The directory is not called, and no memory is taken.
     pub fn opened(&mut self, serial: u64, finding: Finding<L, D::File>) -> Pass<L, D::File>
         requires admitted { stage_of serial (yard_server self.old).connections ≡ Some stage.Admitted }
         ensures its { pass_serial result ≡ serial }
@@ -392,7 +394,7 @@ impl<L: Assumptions, D: Dir + Drop, J: Journal> Yard<L, D, J> {
         }
     }
 
-    /// A connection is decided as `decide` decided for the pass that it opened. It takes no memory.
+    /// Notes that a connection was decided, as `decide` decides by the pass that it opened. It takes no memory.
     pub fn decided(&mut self, pass: Pass<L, D::File>, peer: &Peer, decision: Decision)
         requires opened { stage_of (pass_serial pass) (yard_server self.old).connections ≡ Some stage.Opened }
         requires missing { pass_missing pass ≡ missing_by (yard_rules self.old) }
@@ -414,7 +416,7 @@ impl<L: Assumptions, D: Dir + Drop, J: Journal> Yard<L, D, J> {
         });
     }
 
-    /// The child of a connection that was allowed runs, at its place. It takes no memory.
+    /// Notes that the child of an allowed connection runs, at its place. It takes no memory.
     pub fn started<C: Job>(&mut self, running: &Running<L, C>)
         requires allowed { is_allowed (stage_of_place self.old (place_of running.now)) ≡ true }
         ensures noted { Notes
@@ -432,7 +434,7 @@ impl<L: Assumptions, D: Dir + Drop, J: Journal> Yard<L, D, J> {
         self.advance(Event::Started { serial });
     }
 
-    /// The child of a connection that was allowed could not be started: the connection is gone. It takes no memory.
+    /// Notes that the child of an allowed connection could not be started. The connection is gone. It takes no memory.
     pub fn start_failed(&mut self, place: Place<L>, fault: StartFault)
         requires allowed { is_allowed (stage_of_place self.old place) ≡ true }
         ensures noted { Notes (StartFailed (number_of self.old place) fault) (yard_roll self.old) (yard_roll self.new) }
@@ -450,7 +452,7 @@ impl<L: Assumptions, D: Dir + Drop, J: Journal> Yard<L, D, J> {
         self.leave(place, serial, Event::StartFailed { serial, fault });
     }
 
-    /// The child of a connection has ended: the connection is gone. It takes no memory.
+    /// Notes that the child of a connection has ended. The connection is gone. It takes no memory.
     pub fn ended(&mut self, place: Place<L>, status: Status)
         requires started { stage_of_place self.old place ≡ Some stage.Started }
         ensures noted { Notes (Ended (number_of self.old place) status) (yard_roll self.old) (yard_roll self.new) }
@@ -468,7 +470,8 @@ impl<L: Assumptions, D: Dir + Drop, J: Journal> Yard<L, D, J> {
         self.leave(place, serial, Event::Ended { serial, status });
     }
 
-    /// The child of a connection could not be waited for: it is abandoned, and its place stays counted for good. It takes no memory.
+    /// Notes that the child of a connection could not be waited for. It is abandoned, and its place stays counted for
+    /// good. It takes no memory.
     pub fn retired<C: Job>(&mut self, running: Running<L, C>)
         requires started { stage_of_place self.old (place_of running) ≡ Some stage.Started }
         ensures noted { Notes
@@ -485,7 +488,7 @@ impl<L: Assumptions, D: Dir + Drop, J: Journal> Yard<L, D, J> {
         self.register.retire(running);
     }
 
-    /// A connection is given up before a child was started: it is gone. It takes no memory.
+    /// Notes that a connection was given up before a child was started. The connection is gone. It takes no memory.
     pub fn dropped(&mut self, place: Place<L>, cause: DropCause)
         requires unstarted { is_unstarted (stage_of_place self.old place) ≡ true }
         ensures noted { Notes (Dropped (number_of self.old place) cause) (yard_roll self.old) (yard_roll self.new) }
@@ -513,7 +516,7 @@ impl<L: Assumptions, D: Dir + Drop, J: Journal> Yard<L, D, J> {
         }
     }
 
-    // The number of an installation that may begin.
+    // The number for an installation, if it may begin.
     fn next_number(&self, install: &Install) -> Option<u64>
         ensures some { IfSome result (λ number. MayBegin self.now (installing install.now) × (number ≡ last_begun self.now + 1)) }
         ensures none { result ≡ None → ¬ MayBegin self.now (installing install.now) }
@@ -538,13 +541,15 @@ impl<L: Assumptions, D: Dir + Drop, J: Journal> Yard<L, D, J> {
         number == self.begun && self.installation.is_under_way()
     }
 
-    /// Begins an installation by its first step, and keeps it, in place of any other, until it is done or meets a fault of the
-    /// directory. It answers the installation's number, counted from 1.
+    /// Begins an installation by its first step, and keeps it in place of any other.
+    ///
+    /// It is kept until it is done or meets a fault of the directory. The answer is the installation's number, counted
+    /// from 1.
     ///
     /// # Errors
-    /// The installation is handed back. `Over` where it was stepped before, is not for the rules name, or no number is left: nothing
-    /// changed. `Disk` where the directory's call failed: an event, which ends any installation that was kept. `OutOfMemory`: nothing
-    /// changed.
+    /// The installation is handed back. `Over` if it was stepped before, is not for the rules name, or no number is
+    /// left; nothing changed. `Disk` if the directory's call failed, which is an event and ends any installation that
+    /// was kept. `OutOfMemory`; nothing changed.
     pub fn install_begin(
         &mut self,
         alloc: Global,
@@ -563,7 +568,7 @@ impl<L: Assumptions, D: Dir + Drop, J: Journal> Yard<L, D, J> {
         ensures lists { (yard_books self.new).lists
             ≡ lists_after_begin result (installing install).rules (yard_books self.old).lists }
         ensures back { IfErr result (λ r. HandsBack (installing install) (installing r.0) r.1) }
-        // the device is blamed only where it failed, and that was counted
+        // the device is blamed only if it failed, and that was counted
         ensures device { IsTrue D.honest → IfErr result (λ r. IsOfDevice (Err r.1)) }
         ensures blames { IfErr result (λ r.
             BlamesFault (D.failed (yard_directory self.old)) (D.failed (yard_directory self.new)) r.1) }
@@ -591,12 +596,12 @@ impl<L: Assumptions, D: Dir + Drop, J: Journal> Yard<L, D, J> {
         }
     }
 
-    /// Makes the next step of the installation with this number, if it is kept, as `Install::step` does. After `Done` it is done, and a
-    /// step of it answers `Done`, does nothing and is no event.
+    /// Makes the next step of the installation with this number, if it is kept, as `Install::step` does. After `Done` a
+    /// step answers `Done`, does nothing and is no event.
     ///
     /// # Errors
-    /// `Over` where no installation with this number is kept; nothing changed. `Disk` with the phase that was to be reached: an
-    /// event, which ends the installation. `OutOfMemory`: nothing changed.
+    /// `Over` if no installation with this number is kept; nothing changed. `Disk` with the phase that was to be
+    /// reached, which is an event and ends the installation. `OutOfMemory`; nothing changed.
     pub fn install_step(&mut self, alloc: Global, number: u64) -> Result<Phase, InstallFault>
         ensures over { (result ≡ Err Over) ↔ (kept_number self.old ≢ Some number) }
         ensures after_done { kept_number self.old ≡ Some number → yard_installing self.old ≡ None → result ≡ Ok Done }
@@ -611,7 +616,8 @@ impl<L: Assumptions, D: Dir + Drop, J: Journal> Yard<L, D, J> {
         ensures begun { last_begun self.new ≡ last_begun self.old }
         ensures rules { yard_rules self.new ≡ yard_rules self.old }
         ensures lists { (yard_books self.new).lists ≡ (yard_books self.old).lists }
-        // the device is blamed only where it failed, and that was counted; where none is under way the directory is not called
+        // the device is blamed only if it failed, and that was counted; if none is under way the directory is not
+        // called
         ensures device { IsTrue D.honest → IsOfDevice result }
         ensures blames { BlamesDevice (D.failed (yard_directory self.old)) (D.failed (yard_directory self.new)) result }
         ensures untouched { kept_under self.old number ≡ None → yard_directory self.new ≡ yard_directory self.old }
@@ -643,7 +649,7 @@ impl Installation {
         matches!(self, Installation::UnderWay(..))
     }
 
-    // What becomes of an installation that was stepped.
+    // What a step leaves of an installation, by its answer.
     fn after(install: Install, answer: Result<Phase, InstallFault>) -> Installation
         ensures installing { installing_of result ≡ kept_then (installing install) answer }
         ensures kept { is_kept result ≡ is_kept_after answer }
@@ -655,7 +661,7 @@ impl Installation {
     }
 }
 
-// What is left where an answer ends an installation; `None` where it goes on.
+// What is left if an answer ends an installation; `None` if it goes on.
 fn ended_by(answer: Result<Phase, InstallFault>) -> Option<Installation>
     ensures ended { IfSome result (λ left. (installing_of left ≡ None) × (is_kept left ≡ is_kept_after answer)
         × ((s : Installing) → kept_then s answer ≡ None)) }
@@ -678,7 +684,6 @@ fn is_same(one: &Peer, other: &Peer) -> bool
         && one.info() == other.info()
 }
 
-// Whether two names are the same.
 fn is_same_name(one: &Name, other: &Name) -> bool
     ensures { IsTrue result ↔ (one.now ≡ other.now) }
 {

@@ -1,7 +1,7 @@
 -- How far a tool came that passes one stream on, by the end of its pump.
 use Rattle.std.proofs.Common.{◌≡◌, ◌≢◌, ◌⊎◌, inl, inr, ℕ, Bool, true, false, List, [], ◌∷◌, ◌++◌, Option, None, Some, Result, Ok, Err, OnOk, IfSome, refl, sym, ap, subst, ◌∙◌, append-nil}
 use Rattle.std.specs.Io.KnownBytes.{Appends, Consumes, IsAtEnd}
-use Rattle.byte_streams.specs.Stages.{Gives, deleted_from, through}
+use Rattle.byte_streams.specs.Wrappers.{Gives, deleted_from, through}
 use Rattle.byte_streams.specs.Pumps.{Ends, Gave, GivesFirst, IsWritten, Pumped}
 use Rattle.byte_streams.specs.Taps.{Shown}
 use Rattle.byte_streams.specs.declared.pumping.PumpEnd.{PumpEnd}
@@ -10,10 +10,10 @@ use Rattle.byte_streams.specs.declared.pumping.Why.TheVariants as why
 use Rattle.stream_tools.specs.declared.filter.FilterFault.{FilterFault}
 use Rattle.stream_tools.specs.Filters.{Came, EndWithNothing, Leaves, answer_of}
 
--- a chain of such stages writes nothing more at the end either
-pub through_nothing : {S : Type 0} (rest : S → List ℕ → List ℕ) → EndWithNothing rest → (stages : List S) → through rest stages [] ≡ []
+-- a chain of such wrappers writes nothing more at the end either
+pub through_nothing : {S : Type 0} (rest : S → List ℕ → List ℕ) → EndWithNothing rest → (wrappers : List S) → through rest wrappers [] ≡ []
 through_nothing rest ends [] = refl
-through_nothing rest ends (stage ∷ stages) = ap (through rest stages) (ends stage) ∙ through_nothing rest ends stages
+through_nothing rest ends (wrapper ∷ wrappers) = ap (through rest wrappers) (ends wrapper) ∙ through_nothing rest ends wrappers
 
 -- ---- all of it at the end
 
@@ -28,7 +28,7 @@ passed_by why.End old new (Some xs) (Some ys) w w' text given written reads writ
 passed_by why.ReadFault old new r r' w w' text given written reads writes gave all = tt
 passed_by why.WriteFault old new r r' w w' text given written reads writes gave all = tt
 passed_by why.ZeroWrite old new r r' w w' text given written reads writes gave all = tt
-passed_by why.TurnsOver old new r r' w w' text given written reads writes gave all = tt
+passed_by why.ReadsOver old new r r' w w' text given written reads writes gave all = tt
 passed_by why.Failed old new r r' w w' text given written reads writes gave all = tt
 passed_by why.OutOfMemory old new r r' w w' text given written reads writes gave all = tt
 
@@ -75,7 +75,7 @@ left_by why.End old new nothing r' text given written gave all =
     record { left = []; makes = none_left old text given written (sym gave.1) all; leaves = (gave.0, refl) }
 left_by why.ReadFault old new nothing r' text given written gave all =
     record { left = []; makes = none_left old text given written (all_given old new nothing text given gave) all; leaves = refl }
-left_by why.TurnsOver old new nothing r' text given written gave all =
+left_by why.ReadsOver old new nothing r' text given written gave all =
     record { left = []; makes = none_left old text given written (all_given old new nothing text given gave) all; leaves = refl }
 left_by why.WriteFault old new nothing r' text given written gave all =
     record { left = all.0 ∷ all.1; makes = all_at_fault old new nothing text given r' gave ∙ all.2; leaves = some_left all.0 all.1 }
@@ -115,5 +115,5 @@ pub deleted_nothing : (held : Bool) → deleted_from held [] ≡ []
 deleted_nothing false = refl
 deleted_nothing true = refl
 
-pub one_stage : {S : Type 0} (rest : S → List ℕ → List ℕ) (stages : List S) (stage : S) (make : List ℕ → List ℕ) → stages ≡ stage ∷ [] → rest stage ≡ make → through rest stages ≡ make
-one_stage rest stages stage make is does = ap (through rest) is ∙ does
+pub one_wrapper : {S : Type 0} (rest : S → List ℕ → List ℕ) (wrappers : List S) (wrapper : S) (make : List ℕ → List ℕ) → wrappers ≡ wrapper ∷ [] → rest wrapper ≡ make → through rest wrappers ≡ make
+one_wrapper rest wrappers wrapper make is does = ap (through rest) is ∙ does

@@ -9,7 +9,7 @@ use Rattle.stream_tools.specs.declared.filter.FilterFault.TheVariants.{ReadFault
 
 -- at the end of a text these write nothing more
 abbrev pub EndWithNothing : {S : Type 0} → (S → List ℕ → List ℕ) → Type 0
-EndWithNothing {S} rest = (stage : S) → rest stage [] ≡ []
+EndWithNothing {S} rest = (wrapper : S) → rest wrapper [] ≡ []
 
 -- how a tool that passes one stream on ended
 abbrev pub FilterEnd : Type 0
@@ -37,7 +37,7 @@ pub record Came (make : List ℕ → List ℕ) (reader-old reader-new writer-old
 abbrev pub answer_of : Why → FilterEnd
 answer_of End = Ok tt
 answer_of why.ReadFault = Err ReadFault
-answer_of why.TurnsOver = Err ReadFault
+answer_of why.ReadsOver = Err ReadFault
 answer_of why.WriteFault = Err WriteFault
 answer_of why.ZeroWrite = Err WriteFault
 answer_of why.Failed = Err OutOfMemory

@@ -9,7 +9,7 @@ use Rattle.byte_streams.specs.Taps.{shown_to}
 use Rattle.byte_streams.specs.declared.tap.NoTap.{NoTap}
 use Rattle.byte_streams.specs.declared.tap.Recorder.{Recorder}
 use Rattle.byte_streams.specs.declared.pumping.PumpEnd.{PumpEnd}
-use Rattle.byte_streams.specs.declared.pumping.Why.TheVariants.{Failed, TurnsOver}
+use Rattle.byte_streams.specs.declared.pumping.Why.TheVariants.{Failed, ReadsOver}
 use Rattle.child_jobs.specs.Programs.{ProgramText}
 use Rattle.byte_streams.specs.Watches.{left_under, reader_of, watch_of}
 use Rattle.byte_streams.specs.declared.watched.Watch.{Watch}
@@ -17,12 +17,12 @@ use Rattle.byte_streams.specs.declared.watched.Watched.{Watched}
 use Rattle.connection_facts.specs.declared.outcome.StartFault.{StartFault}
 use Rattle.connection_facts.specs.declared.outcome.StartFault.TheVariants as fault
 use Rattle.ucspi_env.specs.Variables.{Variables}
-use Rattle.byte_streams.specs.Chains.{has_failed, stages_of}
-use Rattle.byte_streams.specs.Stages.{Writing, fixed_from, through}
+use Rattle.byte_streams.specs.Chains.{has_failed, wrappers_of}
+use Rattle.byte_streams.specs.Wrappers.{Writing, fixed_from, through}
 use Rattle.byte_streams.specs.Wrapped.{fixed}
 use Rattle.byte_streams.specs.declared.chain.Chain.{Chain}
 use Rattle.byte_streams.specs.declared.recording.Way.{Way}
-use Rattle.byte_streams.specs.declared.stages.FixCr.{FixCr}
+use Rattle.byte_streams.specs.declared.wrappers.FixCr.{FixCr}
 use Rattle.stream_tools.specs.declared.between.BetweenFault.{BetweenFault}
 use Rattle.stream_tools.specs.declared.between.BetweenFault.TheVariants.{CannotStart, OutOfMemory}
 use Rattle.stream_tools.specs.declared.between.Lane.{Lane}
@@ -41,7 +41,7 @@ pub record Ran {R W S T : Type 0}
   pub pumped : Pumped (ends_of remaining contents rest reader writer chain)
       (ends_of remaining contents rest reader-now writer-now chain-now)
       (shown_to watches sees ends tap tap-now) reads end
-  pub over : end.why ≡ TurnsOver → reads ≡ 2 ^ 40
+  pub over : end.why ≡ ReadsOver → reads ≡ 2 ^ 40
   pub ready : has_failed chain ≡ false → end.why ≢ Failed
 
 -- The input of a program: a pump ran from the stream of this lane to a pipe of the program, and ended so. The stream was watched as `watch`, whose
@@ -66,12 +66,12 @@ pub record Drained {P O S T : Type 0}
 
 -- a lane over this stream, in which each line gets a carriage return where it has none
 abbrev pub IsFixing : {E : Type 0} → E → Lane E FixCr NoTap → Type 0
-IsFixing stream lane = (lane.stream ≡ stream) × (through (λ (stage : FixCr). fixed_from stage.after_cr) (stages_of lane.chain) ≡ fixed)
+IsFixing stream lane = (lane.stream ≡ stream) × (through (λ (wrapper : FixCr). fixed_from wrapper.after_cr) (wrappers_of lane.chain) ≡ fixed)
 
 -- a lane over this stream, which changes nothing and is recorded with this number and way
 pub record IsRecording {E W : Type 0} (number : ℕ) (way : Way) (errors : W) (stream : E) (lane : Lane E FixCr (Recorder W)) : Type 0 where
   pub over : lane.stream ≡ stream
-  pub plain : stages_of lane.chain ≡ []
+  pub plain : wrappers_of lane.chain ≡ []
   pub numbered : number_of lane.tap ≡ number
   pub goes : way_of lane.tap ≡ way
   pub writes : writer_of lane.tap ≡ errors

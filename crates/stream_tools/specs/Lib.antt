@@ -7,4 +7,4 @@ pub mod Programs
 pub mod Searches
 pub mod Starts
 pub use Rattle.byte_streams.specs.Chains
-pub use Rattle.byte_streams.specs.Stages
+pub use Rattle.byte_streams.specs.Wrappers

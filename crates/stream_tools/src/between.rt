@@ -7,8 +7,10 @@ ghost use Rattle.byte_streams.specs.Taps.{shown_to};
 ghost use Rattle.stream_tools.specs.Lanes.{Drained, Fed, IsNotStarted, IsRunOf, Ran};
 ghost use Rattle.stream_tools.specs.declared.between.BetweenFault.TheVariants.{CannotStart, OutOfMemory};
 
-use crate::filter::TURNS;
-use byte_streams::{Chain, LineStage, PumpEnd, Steps, Tap, Watch, Watched, Why, pump_counted};
+use crate::filter::MOST_READS;
+use byte_streams::{
+    Chain, LineWrapper, PumpEnd, ReadCount, Tap, Watch, Watched, Why, pump_counted,
+};
 use child_jobs::{Job, Launcher, Program, WaitFault};
 use connection_facts::{StartFault, Status};
 use std::alloc::{AllocError, Global};
@@ -49,7 +51,7 @@ impl From<AllocError> for BetweenFault {
 pub struct Lane<E, S, T> {
     /// Where the bytes come from, or where they go.
     pub stream: E,
-    /// The stages that they pass.
+    /// The wrappers that they pass.
     pub chain: Chain<S>,
     /// What watches them.
     pub tap: T,
@@ -99,7 +101,7 @@ where
     <L::Job as Job>::Output: Drop,
     I: Read + Send + Drop,
     O: Write + Drop,
-    S: LineStage + Send + Drop,
+    S: LineWrapper + Send + Drop,
     T: Tap + Send + Drop,
     requires { F.IsAlwaysCallable watch }
     ensures ended { IfOk result (λ end. (job : L.Job)
@@ -157,7 +159,7 @@ where
     J::Output: Drop,
     I: Read + Send + Drop,
     O: Write + Drop,
-    S: LineStage + Send + Drop,
+    S: LineWrapper + Send + Drop,
     T: Tap + Send + Drop,
     requires { F.IsAlwaysCallable watch }
     ensures program { J.program job.new ≡ J.program job.old }
@@ -226,7 +228,7 @@ struct Feeding<I, P, S, T> {
     to: Snapshot<P>,
 }
 
-impl<I: Read, P: Write, S: LineStage, T: Tap> Promise<PumpEnd> for Feeding<I, P, S, T> {
+impl<I: Read, P: Write, S: LineWrapper, T: Tap> Promise<PumpEnd> for Feeding<I, P, S, T> {
     ghost kept_by = { λ feeding end. Ran I.remaining P.contents S.rest T.watches T.sees T.ends
         feeding.input.value.stream feeding.to.value feeding.input.value.chain feeding.input.value.tap end };
 }
@@ -245,7 +247,7 @@ where
     P: Write + Send + Drop,
     F: Read + Drop,
     O: Write + Drop,
-    S: LineStage + Send + Drop,
+    S: LineWrapper + Send + Drop,
     T: Tap + Send + Drop,
     ensures input { IfSome result (λ pumps. Ran I.remaining P.contents S.rest T.watches T.sees T.ends
         feeding.0.stream feeding.1 feeding.0.chain feeding.0.tap pumps.input) }
@@ -279,7 +281,7 @@ where
 }
 
 /// Pumps what a lane reads into a program, and closes both.
-fn feed<I: Read, P: Write, S: LineStage, T: Tap>(
+fn feed<I: Read, P: Write, S: LineWrapper, T: Tap>(
     alloc: Global,
     input: Lane<I, S, T>,
     to: P,
@@ -296,7 +298,7 @@ where
 }
 
 /// `feed` with a ledger that counts the reads.
-fn feed_from<I: Read, P: Write, S: LineStage, T: Tap, L: Ledger>(
+fn feed_from<I: Read, P: Write, S: LineWrapper, T: Tap, L: Ledger>(
     alloc: Global,
     input: Lane<I, S, T>,
     to: P,
@@ -313,12 +315,12 @@ where
         input.stream to input.chain input.tap result }
 {
     let (mut input, mut to) = (input, to);
-    let mut reads = Steps::<L>::new(blank);
+    let mut reads = ReadCount::<L>::new(blank);
     pump_in(alloc, &mut input, &mut to, &mut reads)
 }
 
 /// Pumps what a program writes into a lane, and closes both.
-fn drain<F: Read, O: Write, S: LineStage, T: Tap>(
+fn drain<F: Read, O: Write, S: LineWrapper, T: Tap>(
     alloc: Global,
     from: F,
     output: Lane<O, S, T>,
@@ -335,7 +337,7 @@ where
 }
 
 /// `drain` with a ledger that counts the reads.
-fn drain_from<F: Read, O: Write, S: LineStage, T: Tap, L: Ledger>(
+fn drain_from<F: Read, O: Write, S: LineWrapper, T: Tap, L: Ledger>(
     alloc: Global,
     from: F,
     output: Lane<O, S, T>,
@@ -352,22 +354,22 @@ where
         from output.stream output.chain output.tap result }
 {
     let (mut from, mut output) = (from, output);
-    let mut reads = Steps::<L>::new(blank);
+    let mut reads = ReadCount::<L>::new(blank);
     pump_out(alloc, &mut from, &mut output, &mut reads)
 }
 
 /// Passes what a lane reads through its chain into a program's input, under the eyes of its tap, to the end of one of them; the reads are
 /// counted.
-pub fn pump_in<I: Read, P: Write, S: LineStage, T: Tap, L: Ledger>(
+pub fn pump_in<I: Read, P: Write, S: LineWrapper, T: Tap, L: Ledger>(
     alloc: Global,
     input: &mut Lane<I, S, T>,
     to: &mut P,
-    reads: &mut Steps<L>,
+    reads: &mut ReadCount<L>,
 ) -> PumpEnd
     ensures pumped { Pumped (ends_of I.remaining P.contents S.rest input.old.stream to.old input.old.chain)
         (ends_of I.remaining P.contents S.rest input.new.stream to.new input.new.chain)
         (shown_to T.watches T.sees T.ends input.old.tap input.new.tap) (reads.new - reads.old) result }
-    ensures over { result.why ≡ Why.TurnsOver → reads.new ≡ reads.old + 2 ^ 40 }
+    ensures over { result.why ≡ Why.ReadsOver → reads.new ≡ reads.old + 2 ^ 40 }
     ensures ready { has_failed input.old.chain ≡ false → result.why ≢ Why.Failed }
 {
     pump_counted(
@@ -376,23 +378,23 @@ pub fn pump_in<I: Read, P: Write, S: LineStage, T: Tap, L: Ledger>(
         to,
         &mut input.chain,
         &mut input.tap,
-        TURNS,
+        MOST_READS,
         reads,
     )
 }
 
 /// Passes a program's output through the chain of a lane to where it goes, under the eyes of its tap, to the end of one of them; the reads
 /// are counted.
-pub fn pump_out<F: Read, O: Write, S: LineStage, T: Tap, L: Ledger>(
+pub fn pump_out<F: Read, O: Write, S: LineWrapper, T: Tap, L: Ledger>(
     alloc: Global,
     from: &mut F,
     output: &mut Lane<O, S, T>,
-    reads: &mut Steps<L>,
+    reads: &mut ReadCount<L>,
 ) -> PumpEnd
     ensures pumped { Pumped (ends_of F.remaining O.contents S.rest from.old output.old.stream output.old.chain)
         (ends_of F.remaining O.contents S.rest from.new output.new.stream output.new.chain)
         (shown_to T.watches T.sees T.ends output.old.tap output.new.tap) (reads.new - reads.old) result }
-    ensures over { result.why ≡ Why.TurnsOver → reads.new ≡ reads.old + 2 ^ 40 }
+    ensures over { result.why ≡ Why.ReadsOver → reads.new ≡ reads.old + 2 ^ 40 }
     ensures ready { has_failed output.old.chain ≡ false → result.why ≢ Why.Failed }
 {
     pump_counted(
@@ -401,7 +403,7 @@ pub fn pump_out<F: Read, O: Write, S: LineStage, T: Tap, L: Ledger>(
         &mut output.stream,
         &mut output.chain,
         &mut output.tap,
-        TURNS,
+        MOST_READS,
         reads,
     )
 }

@@ -1,21 +1,21 @@
 //! `addcr` and `delcr`: one stream through a chain.
 ghost use Rattle.std.specs.Prelude.{◌≡◌, [], ◌∷◌, IfOk, IfSome, OnOk};
 ghost use Rattle.std.specs.Io.KnownBytes.{Appends};
-ghost use Rattle.byte_streams.specs.Chains.{stages_of};
-ghost use Rattle.byte_streams.specs.Stages.{through};
+ghost use Rattle.byte_streams.specs.Chains.{wrappers_of};
+ghost use Rattle.byte_streams.specs.Wrappers.{through};
 ghost use Rattle.byte_streams.specs.Wrapped.{added, deleted};
 ghost use Rattle.stream_tools.specs.Filters.{Came, EndWithNothing, answer_of};
 ghost use Rattle.stream_tools.specs.declared.filter.FilterFault.TheVariants.{OutOfMemory};
 
-use byte_streams::{AddCr, Chain, DelCr, LineStage, NoTap, Why, pump};
+use byte_streams::{AddCr, Chain, DelCr, LineWrapper, NoTap, Why, pump};
 use std::alloc::{AllocError, Global};
 use std::io::{Read, Write};
 use thiserror::Error;
 
 /// How many reads a pump of a tool makes at most.
-pub const TURNS: u64 = 1 << 40;
+pub const MOST_READS: u64 = 1 << 40;
 
-const _: () = prove!(TURNS == 1_099_511_627_776);
+const _: () = prove!(MOST_READS == 1_099_511_627_776);
 
 /// Why a stream was not passed on to its end.
 #[derive(Clone, Copy, Debug, Error)]
@@ -43,7 +43,7 @@ impl From<AllocError> for FilterFault {
 ///
 /// # Errors
 /// What was read until the fault was passed on, as far as it was written.
-pub fn run_filter<R: Read, W: Write, S: LineStage>(
+pub fn run_filter<R: Read, W: Write, S: LineWrapper>(
     alloc: Global,
     reader: &mut R,
     writer: &mut W,
@@ -51,11 +51,11 @@ pub fn run_filter<R: Read, W: Write, S: LineStage>(
 ) -> Result<(), FilterFault>
     ensures passed { OnOk result (IfSome (R.remaining reader.old) (λ text.
         Appends (W.contents writer.old) (W.contents writer.new)
-        (through S.rest (stages_of chain.old) text))) }
-    ensures came { EndWithNothing S.rest → Came (through S.rest (stages_of chain.old)) (R.remaining reader.old)
+        (through S.rest (wrappers_of chain.old) text))) }
+    ensures came { EndWithNothing S.rest → Came (through S.rest (wrappers_of chain.old)) (R.remaining reader.old)
         (R.remaining reader.new) (W.contents writer.old) (W.contents writer.new) result }
 {
-    let end = pump(alloc, reader, writer, chain, &mut NoTap, TURNS);
+    let end = pump(alloc, reader, writer, chain, &mut NoTap, MOST_READS);
     answer_of(end.why)
 }
 
@@ -65,7 +65,7 @@ fn answer_of(why: Why) -> Result<(), FilterFault>
 {
     match why {
         Why::End => Ok(()),
-        Why::ReadFault | Why::TurnsOver => Err(FilterFault::ReadFault),
+        Why::ReadFault | Why::ReadsOver => Err(FilterFault::ReadFault),
         Why::WriteFault | Why::ZeroWrite => Err(FilterFault::WriteFault),
         Why::OutOfMemory | Why::Failed => Err(FilterFault::OutOfMemory),
     }
@@ -107,11 +107,14 @@ pub fn delete_returns<R: Read, W: Write>(
     run_filter(alloc, reader, writer, &mut chain)
 }
 
-/// A chain of one stage.
-pub(crate) fn chain_of<S: LineStage + Drop>(alloc: Global, stage: S) -> Result<Chain<S>, AllocError>
-    ensures { IfOk result (λ chain. stages_of chain ≡ stage ∷ []) }
+/// A chain of one wrapper.
+pub(crate) fn chain_of<S: LineWrapper + Drop>(
+    alloc: Global,
+    wrapper: S,
+) -> Result<Chain<S>, AllocError>
+    ensures { IfOk result (λ chain. wrappers_of chain ≡ wrapper ∷ []) }
 {
-    let mut stages = Vec::new(alloc);
-    stages.push(stage)?;
-    Ok(Chain::new(alloc, stages))
+    let mut wrappers = Vec::new(alloc);
+    wrappers.push(wrapper)?;
+    Ok(Chain::new(alloc, wrappers))
 }

@@ -1,14 +1,14 @@
 //! `fixcrio`: a program both of whose streams get carriage returns.
 ghost use Rattle.std.specs.Prelude.{◌≡◌, ◌⊎◌, IfErr, IfOk};
 ghost use Rattle.byte_streams.specs.declared.tap.NoTap.{NoTap};
-ghost use Rattle.byte_streams.specs.declared.stages.FixCr.{FixCr};
+ghost use Rattle.byte_streams.specs.declared.wrappers.FixCr.{FixCr};
 ghost use Rattle.stream_tools.specs.Lanes.{Drained, Fed, IsFixing, IsNotStarted, IsRunOf};
 ghost use Rattle.stream_tools.specs.declared.between.BetweenFault.TheVariants.{OutOfMemory};
 ghost use Rattle.stream_tools.specs.declared.between.Lane.{Lane};
 
 use crate::between::{BetweenFault, Lane, RunEnd, run_between};
 use crate::filter::chain_of;
-use byte_streams::{FixCr, LineStage, NoTap, Tap, Watch};
+use byte_streams::{FixCr, LineWrapper, NoTap, Tap, Watch};
 use child_jobs::{Job, Launcher, Program};
 use std::alloc::{AllocError, Global};
 use std::io::{Read, Write};
@@ -40,10 +40,10 @@ where
     ensures ended { IfOk result (λ end. (job : L.Job)
         × IsRunOf L.Job.program L.Job.environment run.entry.0.now run.entry.1.now job × L.Job.ended job end.status) }
     ensures input { IfOk result (λ end. (lane : Lane I FixCr NoTap) × IsFixing streams.0 lane
-        × Fed F.FnOnce I.remaining L.Job.Input.contents ⟦<FixCr as LineStage>⟧.rest
+        × Fed F.FnOnce I.remaining L.Job.Input.contents ⟦<FixCr as LineWrapper>⟧.rest
         ⟦<NoTap as Tap>⟧.watches ⟦<NoTap as Tap>⟧.sees ⟦<NoTap as Tap>⟧.ends watch lane end.pumps.input) }
     ensures output { IfOk result (λ end. (lane : Lane O FixCr NoTap) × IsFixing streams.1 lane
-        × Drained L.Job.Output.remaining O.contents ⟦<FixCr as LineStage>⟧.rest
+        × Drained L.Job.Output.remaining O.contents ⟦<FixCr as LineWrapper>⟧.rest
         ⟦<NoTap as Tap>⟧.watches ⟦<NoTap as Tap>⟧.sees ⟦<NoTap as Tap>⟧.ends lane end.pumps.output) }
     ensures fault { IfErr result (λ why. (why ≡ OutOfMemory)
         ⊎ (IsNotStarted L.refuses launcher run.entry.0.now run.entry.1.now why

@@ -6,6 +6,7 @@ use crate::search::SearchPath;
 use child_jobs::{Job, Launcher, NoEnds, Program, WaitFault};
 use connection_facts::{StartFault, Status};
 use std::alloc::Global;
+use std::cell::Cell;
 use std::fs::Files;
 use std::io;
 use std::os::fd::{AsRawFd, OwnedFd, RawFd};
@@ -100,6 +101,41 @@ impl<'a, P: Processes + Files> Launcher for OsLauncher<'a, P> {
         match self.start_between(alloc, program, environment) {
             Ok(job) => Ok(job),
             Err(not_started) => Err(not_started.fault),
+        }
+    }
+}
+
+/// A launcher that notes the system's number of the error by which a program was not started.
+#[derive(Drop)]
+pub struct NotingLauncher<'a, P> {
+    launcher: OsLauncher<'a, P>,
+    error: &'a Cell<Option<i32>>,
+}
+
+impl<'a, P> NotingLauncher<'a, P> {
+    /// This launcher, whose errors are noted there.
+    pub fn new(launcher: OsLauncher<'a, P>, error: &'a Cell<Option<i32>>) -> NotingLauncher<'a, P> {
+        NotingLauncher { launcher, error }
+    }
+}
+
+impl<'a, P: Processes + Files> Launcher for NotingLauncher<'a, P> {
+    type Job = OsJob;
+
+    ghost refuses = { λ _ _ _ _. ⊤ };
+
+    fn start(
+        self,
+        alloc: Global,
+        program: &Program,
+        environment: &Environment,
+    ) -> Result<OsJob, StartFault> {
+        match self.launcher.start_between(alloc, program, environment) {
+            Ok(job) => Ok(job),
+            Err(not_started) => {
+                self.error.set(not_started.error);
+                Err(not_started.fault)
+            }
         }
     }
 }

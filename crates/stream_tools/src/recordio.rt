@@ -3,14 +3,14 @@ ghost use Rattle.std.specs.Prelude.{◌≡◌, ◌⊎◌, IfErr, IfOk, codes};
 ghost use Rattle.byte_streams.specs.declared.tap.Recorder.{Recorder};
 ghost use Rattle.connection_facts.specs.Peers.{given};
 ghost use Rattle.ucspi_env.specs.Variables.{value_of};
-ghost use Rattle.byte_streams.specs.declared.stages.FixCr.{FixCr};
+ghost use Rattle.byte_streams.specs.declared.wrappers.FixCr.{FixCr};
 ghost use Rattle.byte_streams.specs.declared.recording.Way.TheVariants.{Input, Output};
 ghost use Rattle.stream_tools.specs.Lanes.{Drained, Fed, IsNotStarted, IsRecording, IsRunOf};
 ghost use Rattle.stream_tools.specs.Programs.{recorder_number};
 ghost use Rattle.stream_tools.specs.declared.between.Lane.{Lane};
 
 use crate::between::{BetweenFault, Lane, RunEnd, run_between};
-use byte_streams::{Chain, FixCr, LineStage, Recorder, Tap, Watch, Way};
+use byte_streams::{Chain, FixCr, LineWrapper, Recorder, Tap, Watch, Way};
 use child_jobs::{Job, Launcher, Program};
 use server_words::number_in;
 use std::alloc::Global;
@@ -47,11 +47,11 @@ where
         × IsRunOf L.Job.program L.Job.environment run.entry.0.now run.entry.1.now job × L.Job.ended job end.status) }
     ensures input { IfOk result (λ end. (lane : Lane I FixCr (Recorder W))
         × IsRecording (recorder_number (value_of run.entry.1.now (codes "TCPREMOTEPORT"))) Input errors.0 streams.0 lane
-        × Fed F.FnOnce I.remaining L.Job.Input.contents ⟦<FixCr as LineStage>⟧.rest
+        × Fed F.FnOnce I.remaining L.Job.Input.contents ⟦<FixCr as LineWrapper>⟧.rest
         ⟦<Recorder<W> as Tap>⟧.watches ⟦<Recorder<W> as Tap>⟧.sees ⟦<Recorder<W> as Tap>⟧.ends watch lane end.pumps.input) }
     ensures output { IfOk result (λ end. (lane : Lane O FixCr (Recorder W))
         × IsRecording (recorder_number (value_of run.entry.1.now (codes "TCPREMOTEPORT"))) Output errors.1 streams.1 lane
-        × Drained L.Job.Output.remaining O.contents ⟦<FixCr as LineStage>⟧.rest
+        × Drained L.Job.Output.remaining O.contents ⟦<FixCr as LineWrapper>⟧.rest
         ⟦<Recorder<W> as Tap>⟧.watches ⟦<Recorder<W> as Tap>⟧.sees ⟦<Recorder<W> as Tap>⟧.ends lane end.pumps.output) }
     ensures fault { IfErr result (λ why. IsNotStarted L.refuses launcher run.entry.0.now run.entry.1.now why
         ⊎ ((job : L.Job) × IsRunOf L.Job.program L.Job.environment run.entry.0.now run.entry.1.now job)) }

@@ -1,7 +1,7 @@
 //! The tools over the standard streams and the system's programs.
 use crate::between::BetweenFault;
 use crate::fixcrio::fix_between;
-use crate::launcher::OsLauncher;
+use crate::launcher::{NotingLauncher, OsLauncher};
 use crate::recordio::record_between;
 use crate::search::SearchPath;
 use crate::shared::SharedWriter;
@@ -10,6 +10,7 @@ use byte_streams::{Patient, Watch};
 use child_jobs::Program;
 use connection_facts::Status;
 use std::alloc::{AllocError, Global};
+use std::cell::Cell;
 use std::fs::Files;
 use std::io;
 use std::io::Write;
@@ -47,26 +48,32 @@ impl ToldRun {
 /// Runs a program whose lines get a carriage return where they have none, both ways.
 ///
 /// # Errors
-/// As of `fix_between`.
-pub fn run_fixcrio<R>(rt: &R, words: &[Vec<u8>]) -> Result<Status, BetweenFault>
+/// As of `fix_between`. Where the system did not start the program the number of its error is left in `error`.
+pub fn run_fixcrio<R>(
+    rt: &R,
+    words: &[Vec<u8>],
+    error: &mut Option<i32>,
+) -> Result<Status, BetweenFault>
 where
     R: Env + Input + Print + AllocGlobal + Processes + Threads + Wait + Sync + Clock + Net + Files,
     R::Reader: Send,
 {
     let told = ToldRun::by_words(rt.alloc(), rt, words)?;
-    let status = fix_told(rt, &told);
+    let noted = Cell::new(None);
+    let status = fix_told(rt, &told, &noted);
+    *error = noted.get();
     drop(told);
     status
 }
 
 /// `fixcrio` of a program that was told, over the standard streams.
-fn fix_told<R>(rt: &R, told: &ToldRun) -> Result<Status, BetweenFault>
+fn fix_told<R>(rt: &R, told: &ToldRun, error: &Cell<Option<i32>>) -> Result<Status, BetweenFault>
 where
     R: Input + Print + AllocGlobal + Processes + Threads + Wait + Sync + Clock + Net + Files,
     R::Reader: Send,
 {
     let alloc = rt.alloc();
-    let launcher = OsLauncher::new(rt, &told.search);
+    let launcher = NotingLauncher::new(OsLauncher::new(rt, &told.search), error);
     let run = (&told.program, &told.variables);
     let streams = (
         Patient::new(rt, rt.reader()),
@@ -81,8 +88,13 @@ where
 /// Runs a program, and records what goes both ways on `errors`.
 ///
 /// # Errors
-/// As of `record_between`.
-pub fn run_recordio<R, E>(rt: &R, errors: E, words: &[Vec<u8>]) -> Result<Status, BetweenFault>
+/// As of `record_between`; `error` as for `run_fixcrio`.
+pub fn run_recordio<R, E>(
+    rt: &R,
+    errors: E,
+    words: &[Vec<u8>],
+    error: &mut Option<i32>,
+) -> Result<Status, BetweenFault>
 where
     R: Env + Input + Print + AllocGlobal + Processes + Threads + Wait + Sync + Clock + Net + Files,
     R::Reader: Send,
@@ -91,7 +103,9 @@ where
     let errors = Mutex::new(errors);
     let status = match ToldRun::by_words(rt.alloc(), rt, words) {
         Ok(told) => {
-            let status = record_told(rt, &errors, &told);
+            let noted = Cell::new(None);
+            let status = record_told(rt, &errors, &told, &noted);
+            *error = noted.get();
             drop(told);
             status
         }
@@ -102,14 +116,19 @@ where
 }
 
 /// `recordio` of a program that was told, over the standard streams.
-fn record_told<R, E>(rt: &R, errors: &Mutex<E>, told: &ToldRun) -> Result<Status, BetweenFault>
+fn record_told<R, E>(
+    rt: &R,
+    errors: &Mutex<E>,
+    told: &ToldRun,
+    error: &Cell<Option<i32>>,
+) -> Result<Status, BetweenFault>
 where
     R: Input + Print + AllocGlobal + Processes + Threads + Wait + Sync + Clock + Net + Files,
     R::Reader: Send,
     E: Write + Send + Drop,
 {
     let alloc = rt.alloc();
-    let launcher = OsLauncher::new(rt, &told.search);
+    let launcher = NotingLauncher::new(OsLauncher::new(rt, &told.search), error);
     let run = (&told.program, &told.variables);
     let streams = (
         Patient::new(rt, rt.reader()),

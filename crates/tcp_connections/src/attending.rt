@@ -6,7 +6,7 @@ ghost use Rattle.tcp_connections.specs.Ends.{IsEndTold};
 
 use crate::accepting::{Follow, Patience, Shut};
 use crate::rounds::wait_in_rounds;
-use byte_streams::{Chain, LineStage, NoTap, Recorder, Tap, Way, pump};
+use byte_streams::{Chain, LineWrapper, NoTap, Recorder, Tap, Way, pump};
 use child_jobs::{Job, Place, Running};
 use connection_facts::Status;
 use server_log::Log;
@@ -17,7 +17,7 @@ use std::sync::{Mutex, Wait};
 use stream_tools::SharedWriter;
 
 /// How many reads a pump makes at most.
-const TURNS: u64 = 1 << 40;
+const MOST_READS: u64 = 1 << 40;
 
 /// The streams of a connection.
 #[derive(Drop)]
@@ -164,7 +164,7 @@ impl<R: Wait, W: Write> Attendant<'_, R, W> {
     where
         I: Read + Drop,
         P: Write + Drop,
-        G: LineStage + Drop,
+        G: LineWrapper + Drop,
     {
         let Upward {
             port,
@@ -195,7 +195,7 @@ impl<R: Wait, W: Write> Attendant<'_, R, W> {
         F: Read + Drop,
         O: Write + Drop,
         X: Shut + Drop,
-        G: LineStage + Drop,
+        G: LineWrapper + Drop,
         ensures told { IsEndTold E.tells_end E.tells_retired serial endings.old endings.new }
     {
         let Talk {
@@ -210,7 +210,7 @@ impl<R: Wait, W: Write> Attendant<'_, R, W> {
     }
 
     // Pumps what a child says to its client; both ends are let go.
-    fn pump_down<F: Read + Drop, O: Write + Drop, G: LineStage + Drop>(
+    fn pump_down<F: Read + Drop, O: Write + Drop, G: LineWrapper + Drop>(
         &self,
         port: u16,
         from: F,
@@ -242,12 +242,19 @@ fn pump_stream<E, F, G, T>(alloc: Global, reader: E, writer: F, chain: Chain<G>,
 where
     E: Read + Drop,
     F: Write + Drop,
-    G: LineStage + Drop,
+    G: LineWrapper + Drop,
     T: Tap + Drop,
 {
     let (mut reader, mut writer, mut tap) = (reader, writer, tap);
     let mut chain = chain;
-    pump(alloc, &mut reader, &mut writer, &mut chain, &mut tap, TURNS);
+    pump(
+        alloc,
+        &mut reader,
+        &mut writer,
+        &mut chain,
+        &mut tap,
+        MOST_READS,
+    );
 }
 
 /// Waits for the child of a connection that it holds itself, and tells its end: its place is given back once it was waited for.

@@ -1,5 +1,6 @@
 //! What the system gives a server for its connections.
-use std::sync::{Condvar, Mutex, Wait};
+use std::sync::{Condvar, CondvarTimeouts, Mutex, Wait};
+use std::time::{Clock, Duration};
 
 /// What the system gives a server for its connections, and what each of them takes. A connection is taken once there is what it may take.
 #[derive(Clone, Copy, PartialEq, Eq, Debug)]
@@ -33,14 +34,6 @@ impl Supply {
             to_begin: 0,
             to_go_on: 0,
             memory: None,
-        }
-    }
-
-    // How many connections there may be at once beside the next one whose child does not run yet, where that is limited.
-    pub(crate) fn others(&self) -> u64 {
-        match self.memory {
-            Some(memory) => memory.at_once.saturating_sub(1),
-            None => 0,
         }
     }
 
@@ -90,35 +83,115 @@ impl Reserve {
     }
 }
 
-/// So many of something, which is taken and given back.
+/// What there is for connections, and who has some of it.
 #[derive(Drop)]
-pub(crate) struct Semaphore {
-    left: Mutex<u64>,
+pub(crate) struct Means {
+    supply: Supply,
+    held: Mutex<Held>,
     changed: Condvar,
 }
 
-impl Semaphore {
-    /// So many are left.
-    pub fn new(count: u64) -> Semaphore {
-        Semaphore {
-            left: Mutex::new(count),
+// What connections have of it.
+#[derive(Clone, Copy)]
+struct Held {
+    // how many connections are alive, the next one counted; and how many of these have no child yet
+    alive: u64,
+    beginning: u64,
+    // how many descriptors are left
+    descriptors: u64,
+}
+
+impl Means {
+    /// Nobody has any of it.
+    pub fn new(supply: Supply) -> Means {
+        Means {
+            supply,
+            held: Mutex::new(Held {
+                alive: 0,
+                beginning: 0,
+                descriptors: supply.descriptors,
+            }),
             changed: Condvar::new(),
         }
     }
 
-    /// Waits until so many are left, and takes them. Only one thread takes more than one.
-    pub fn take<R: Wait>(&self, rt: &R, count: u64) {
-        let mut left = self
-            .changed
-            .wait_while(rt, self.left.lock(rt), |left| *left < count);
-        *left = left.saturating_sub(count);
+    /// Waits until there is what one more connection takes, and takes it.
+    pub fn take<R: Wait>(&self, rt: &R) {
+        let (to_begin, at_once) = (self.supply.to_begin, self.supply.at_once());
+        let mut held = self.changed.wait_while(
+            rt,
+            self.held.lock(rt),
+            |held| held.descriptors < to_begin || held.beginning >= at_once,
+        );
+        held.alive = held.alive.saturating_add(1);
+        held.beginning = held.beginning.saturating_add(1);
+        held.descriptors = held.descriptors.saturating_sub(to_begin);
     }
 
-    /// Gives so many back.
-    pub fn give<R: Wait>(&self, rt: &R, count: u64) {
-        let mut left = self.left.lock(rt);
-        *left = left.saturating_add(count);
-        drop(left);
+    /// The child of a connection runs.
+    pub fn began<R: Wait>(&self, rt: &R) {
+        let mut held = self.held.lock(rt);
+        held.beginning = held.beginning.saturating_sub(1);
+        let spared = self.supply.to_begin.saturating_sub(self.supply.to_go_on);
+        held.descriptors = held.descriptors.saturating_add(spared);
+        drop(held);
         self.changed.notify_all();
+    }
+
+    /// A connection is over whose child ran.
+    pub fn ended<R: Wait>(&self, rt: &R) {
+        self.give(rt, 0, self.supply.to_go_on);
+    }
+
+    /// A connection is over whose child did not run, or it did not come.
+    pub fn give_back<R: Wait>(&self, rt: &R) {
+        self.give(rt, 1, self.supply.to_begin);
+    }
+
+    // What a connection had is there again.
+    fn give<R: Wait>(&self, rt: &R, beginning: u64, descriptors: u64) {
+        let mut held = self.held.lock(rt);
+        held.alive = held.alive.saturating_sub(1);
+        held.beginning = held.beginning.saturating_sub(beginning);
+        held.descriptors = held.descriptors.saturating_add(descriptors);
+        drop(held);
+        self.changed.notify_all();
+    }
+
+    /// How many connections begin. Where memory is limited, it first waits until none does, and none is taken until
+    /// `let_begin`: so a look for memory takes none that they need.
+    pub fn hold_up<R: Wait>(&self, rt: &R) -> u64 {
+        let is_limited = self.supply.memory.is_some();
+        let mut held = self.changed.wait_while(
+            rt,
+            self.held.lock(rt),
+            |held| is_limited && held.beginning > 0,
+        );
+        let beginning = held.beginning;
+        if is_limited {
+            held.beginning = self.supply.at_once();
+        }
+        beginning
+    }
+
+    /// After `hold_up`, connections may begin again.
+    pub fn let_begin<R: Wait>(&self, rt: &R) {
+        if self.supply.memory.is_some() {
+            self.held.lock(rt).beginning = 0;
+            self.changed.notify_all();
+        }
+    }
+
+    /// Waits until a connection is over, but for no longer than `most`. Where none is alive it waits for none, and says so.
+    pub fn wait_for_one<R: Wait + Clock>(&self, rt: &R, most: Duration) -> bool {
+        let held = self.held.lock(rt);
+        let before = held.alive;
+        if before == 0 {
+            return false;
+        }
+        let _ = self
+            .changed
+            .wait_timeout_while(rt, held, most, |held| held.alive >= before);
+        true
     }
 }

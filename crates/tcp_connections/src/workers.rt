@@ -1,359 +1,442 @@
-//! Who is at work, and on what.
-use crate::supply::{Semaphore, Supply};
-use std::alloc::{AllocError, Global};
-use std::sync::atomic::AtomicUsize;
-use std::sync::{Arc, Condvar, CondvarTimeouts, Mutex, Wait};
-use std::time::{Clock, Duration};
+//! Workers: each lets one connection after another in, and serves it up to the start of its program and on to its end.
+ghost use Rattle.std.specs.Prelude.{◌≡◌, ◌≢◌};
+ghost use Rattle.std.specs.Thread.{IsSend, IsSync};
+ghost use Rattle.tcp_connections.specs.Admissions.{IsServed};
+ghost use Rattle.tcp_connections.specs.declared.admission.ServeEnd.TheVariants.{Count};
 
-/// What the admission loop and its threads share: who is free to begin a connection, who to keep one whose child runs, and what the system has for
-/// connections. A thread that begins connections needs more memory than one that keeps them, and there are few of it.
-#[derive(Drop)]
-pub(crate) struct Workers<T, U, K> {
-    pub supply: Supply,
-    /// Who begins connections, up to the start of their children.
-    pub beginners: WorkerPool<BeginnerSlot<T>>,
-    /// Who keeps connections, to their ends.
-    pub keepers: WorkerPool<KeeperSlot<U, K>>,
-    /// How many bytes of memory a look for it found last, where it is limited.
-    pub found: AtomicUsize,
+use crate::accepting::AcceptFault;
+use crate::admission::{Admission, ServeEnd, Serving};
+use crate::crew::Crew;
+use crate::door::{Door, Pause};
+use crate::going_on::GoingOn;
+use crate::handover::Handover;
+use crate::helpers::{Helper, Helpers};
+use crate::supply::{Means, Reserve, Supply};
+use crate::threads::{connection_thread, has_processes, start_reserve};
+use std::alloc::Global;
+use std::sync::atomic::{AtomicUsize, Ordering};
+use std::sync::{Arc, Mutex, Wait};
+use std::thread;
+use std::thread::{Scope, Threads};
+use std::time::Clock;
+
+/// So often a server tries to make its first worker, over some two and a half seconds.
+const TRIES: u32 = 8;
+
+/// For so many programs at most it is looked whether there are processes, before a worker is made. Where there are too
+/// few, the last programs wait for those before them.
+const PROCESSES: u64 = 4;
+
+/// By so many bytes, two pages, a look for memory asks for more than the last one.
+const MORE: usize = 8 * 1024;
+
+/// Lets connections in, at most so many at once, until `count` were let in or no more can be. Then it closes
+/// `admission`, waits until all that were let in are over, and gives it back. A worker lets each in, and serves it until
+/// its program runs. A keeper goes on with it, and a second thread passes on what the client sends, where that is done.
+/// Where there is no keeper to have, the worker goes on himself. This thread makes one more worker where none waits.
+///
+/// How many were let in is counted from none: `admission` is a new one.
+pub fn serve_through<R, V, Q, U>(
+    rt: &R,
     alloc: Global,
-    descriptors: Semaphore,
-    // how many more connections may come whose child does not run yet
-    entries: Semaphore,
-}
-
-/// Where the thread of a beginner waits.
-#[derive(Drop)]
-pub(crate) struct BeginnerSlot<T> {
-    /// For its next connection, and the number of who is to keep it.
-    pub handover: Handover<(T, usize)>,
-    /// How many of its threads are there.
-    pub up: Semaphore,
-}
-
-/// Where the two threads of a keeper wait.
-#[derive(Drop)]
-pub(crate) struct KeeperSlot<U, K> {
-    /// For its next connection.
-    pub handover: Handover<K>,
-    /// For what the client of its connection sends.
-    pub upward: Handover<U>,
-    /// How many of its threads are there.
-    pub up: Semaphore,
-}
-
-impl<T: Drop, U: Drop, K: Drop> Workers<T, U, K> {
-    /// For so many connections at once. Nobody is there yet.
-    pub fn new(alloc: Global, most: usize, supply: Supply) -> Workers<T, U, K> {
-        Workers {
-            supply,
-            beginners: WorkerPool::new(alloc, most),
-            keepers: WorkerPool::new(alloc, most),
-            found: AtomicUsize::new(0),
-            alloc,
-            descriptors: Semaphore::new(supply.descriptors),
-            entries: Semaphore::new(supply.at_once()),
-        }
-    }
-
-    /// One more beginner, who is not free: his number.
-    pub fn add_beginner<R: Wait>(&self, rt: &R) -> Result<usize, AllocError> {
-        let slot = BeginnerSlot {
-            handover: Handover::new(),
-            up: Semaphore::new(0),
-        };
-        self.beginners.add(rt, Arc::new(self.alloc, slot)?)
-    }
-
-    /// One more keeper, who is not free: his number.
-    pub fn add_keeper<R: Wait>(&self, rt: &R) -> Result<usize, AllocError> {
-        let slot = KeeperSlot {
-            handover: Handover::new(),
-            upward: Handover::new(),
-            up: Semaphore::new(0),
-        };
-        self.keepers.add(rt, Arc::new(self.alloc, slot)?)
-    }
-
-    /// Takes the last beginner away: his thread ends.
-    pub fn remove_beginner<R: Wait>(&self, rt: &R) {
-        if let Some(slot) = self.beginners.remove_last(rt) {
-            slot.handover.close(rt);
-        }
-    }
-
-    /// Takes the last keeper away: his threads end.
-    pub fn remove_keeper<R: Wait>(&self, rt: &R) {
-        if let Some(slot) = self.keepers.remove_last(rt) {
-            slot.handover.close(rt);
-            slot.upward.close(rt);
-        }
-    }
-
-    /// Waits until there is what one more connection takes, and takes it.
-    pub fn reserve<R: Wait>(&self, rt: &R) {
-        self.entries.take(rt, 1);
-        self.descriptors.take(rt, self.supply.to_begin);
-    }
-
-    /// The connection for which it was taken does not come.
-    pub fn release<R: Wait>(&self, rt: &R) {
-        self.entries.give(rt, 1);
-        self.descriptors.give(rt, self.supply.to_begin);
-    }
-
-    /// Waits, where memory is limited, until no connection begins, and lets none begin.
-    pub fn hold_up<R: Wait>(&self, rt: &R) {
-        self.entries.take(rt, self.supply.others());
-    }
-
-    /// Lets connections begin again.
-    pub fn let_go_on<R: Wait>(&self, rt: &R) {
-        self.entries.give(rt, self.supply.others());
-    }
-
-    /// Hands a connection to a beginner, and tells who is to keep it. Where he is not there it is let go, and it is over.
-    pub fn hand<R: Wait>(&self, rt: &R, beginner: usize, work: T, keeper: usize) {
-        if let Some(slot) = self.beginners.slot(rt, beginner) {
-            slot.handover.hand(rt, (work, keeper));
-            return;
-        }
-        drop(work);
-        self.began(rt, true);
-        self.beginners.give(rt, beginner);
-        self.keepers.give(rt, keeper);
-    }
-
-    /// Hands a connection whose child runs to a keeper, with what its client sends where that is passed on. Where he is not there it is let go,
-    /// and it is over.
-    pub fn hand_on<R: Wait>(&self, rt: &R, keeper: usize, upward: Option<U>, talk: K) {
-        if let Some(slot) = self.keepers.slot(rt, keeper) {
-            if let Some(upward) = upward {
-                slot.upward.hand(rt, upward);
-            }
-            slot.handover.hand(rt, talk);
-            return;
-        }
-        drop(talk);
-        self.ended(rt);
-        self.keepers.give(rt, keeper);
-    }
-
-    /// The child of a connection runs, or the connection is over before it did.
-    pub fn began<R: Wait>(&self, rt: &R, is_over: bool) {
-        self.entries.give(rt, 1);
-        let kept = if is_over { 0 } else { self.supply.to_go_on };
-        self.descriptors
-            .give(rt, self.supply.to_begin.saturating_sub(kept));
-    }
-
-    /// A connection whose child ran is over.
-    pub fn ended<R: Wait>(&self, rt: &R) {
-        self.descriptors.give(rt, self.supply.to_go_on);
-    }
-
-    /// Asks for a little memory, and gives it back.
-    pub fn ask_for_memory(&self) {
-        drop(Vec::<u8>::with_capacity(self.alloc, 64));
-    }
-
-    /// No connection comes any more: waits until all are over, and then all threads end.
-    pub fn close<R: Wait>(&self, rt: &R) {
-        self.beginners.wait_for_all(rt);
-        self.keepers.wait_for_all(rt);
-        for member in self.beginners.members.lock(rt).iter() {
-            member.slot.handover.close(rt);
-        }
-        for member in self.keepers.members.lock(rt).iter() {
-            member.slot.handover.close(rt);
-            member.slot.upward.close(rt);
-        }
-    }
-}
-
-/// Workers of one kind, numbered from 1: which of them are free, and where each of them waits.
-#[derive(Drop)]
-pub(crate) struct WorkerPool<P> {
+    admission: Q,
+    server: &V,
     most: usize,
-    members: Mutex<Vec<Member<P>>>,
-    changed: Condvar,
+    count: Option<u32>,
+    supply: Supply,
+    reserve: &Reserve,
+) -> (ServeEnd, Q)
+where
+    R: Threads + Wait + Clock + Sync,
+    Q: Admission + Send + Drop,
+    V: Serving<Q::Work, Upward = U> + Sync,
+    U: Send + Drop,
+    requires nobody { Q.let_in admission ≡ 0 }
+    ensures served { IsServed result.0 count 0 (Q.let_in result.1) }
+{
+    let (means, seconds) = (Means::new(supply), Helpers::new(alloc));
+    let workers = Workers {
+        rt,
+        alloc,
+        server,
+        door: Mutex::new(Door::new(admission, count)),
+        crew: Crew::new(most),
+        arrived: Handover::new(),
+        wanted: Handover::new(),
+        seconds: &seconds,
+        keepers: Helpers::new(alloc),
+        supply,
+        means: &means,
+        found: AtomicUsize::new(0),
+        reserve,
+    };
+    if supply.descriptors < supply.to_begin || supply.at_once() == 0 {
+        workers.end(ServeEnd::AcceptFaults);
+    } else {
+        workers.run();
+    }
+    let Workers { door, keepers, .. } = workers;
+    keepers.discard();
+    door.into_inner().into_end(count)
 }
 
-// One of them.
+/// What the workers share.
 #[derive(Drop)]
-struct Member<P> {
-    is_free: bool,
-    slot: Arc<P, Global>,
+struct Workers<'a, R: Wait, V: Serving<Q::Work, Upward = U>, Q: Admission, U: Drop> {
+    rt: &'a R,
+    alloc: Global,
+    server: &'a V,
+    door: Mutex<Door<Q>>,
+    crew: Crew,
+    // whether the one that was made is there, with his second thread where there is one; and then, whether he stays
+    arrived: Handover<bool>,
+    wanted: Handover<bool>,
+    // second threads, and those that go on with connections
+    seconds: &'a Helpers<U>,
+    keepers: Helpers<GoingOn<'a, R, V, Q::Work, U>>,
+    supply: Supply,
+    means: &'a Means,
+    // how many bytes of memory a look for it found last, where it is limited
+    found: AtomicUsize,
+    reserve: &'a Reserve,
 }
 
-impl<P: Drop> WorkerPool<P> {
-    /// Of at most so many, none of whom is there yet.
-    fn new(alloc: Global, most: usize) -> WorkerPool<P> {
-        WorkerPool {
-            most,
-            members: Mutex::new(Vec::new(alloc)),
-            changed: Condvar::new(),
+impl<'a, R, V, Q, U> Workers<'a, R, V, Q, U>
+where
+    R: Threads + Wait + Clock + Sync,
+    Q: Admission,
+    V: Serving<Q::Work, Upward = U>,
+    U: Drop,
+{
+    // Whether memory is limited.
+    fn is_limited(&self) -> bool {
+        self.supply.memory.is_some()
+    }
+
+    // Whether there was no want of threads yet: a connection may have more than its worker.
+    fn has_plenty(&self) -> bool {
+        !self.is_limited() && !self.reserve.is_gone(self.rt)
+    }
+
+    // The server ends so.
+    fn end(&self, end: ServeEnd)
+        requires other { end ≢ Count }
+    {
+        self.door.lock(self.rt).close(end);
+    }
+
+    // Waits for the door, and lets the next connection in. `None` once no more come.
+    fn next_connection(&self) -> Option<Q::Work> {
+        let mut door = self.door.lock(self.rt);
+        let next = self.lead(&mut door);
+        if door.is_over() {
+            self.crew.end(self.rt);
+        }
+        drop(door);
+        self.crew.leave_door(self.rt);
+        next
+    }
+
+    // Lets the next connection in. `None` once no more come.
+    fn lead(&self, door: &mut Door<Q>) -> Option<Q::Work> {
+        for _ in self.rt.forever() {
+            if door.is_over() || !door.wait_for_room() {
+                return None;
+            }
+            self.means.take(self.rt);
+            match door.next() {
+                Ok(Some(work)) => return Some(work),
+                Ok(None) => self.means.give_back(self.rt),
+                Err(fault) => {
+                    self.means.give_back(self.rt);
+                    self.pause(door, fault);
+                }
+            }
+        }
+        unreachable!()
+    }
+
+    // Counts a fault of accepting. One for want of descriptors or memory waits for a pause, or until a connection is
+    // over; where there was one to wait for it is none of the hundred.
+    fn pause(&self, door: &mut Door<Q>, fault: AcceptFault) {
+        if fault == AcceptFault::NoRoom {
+            let pause = door.next_pause();
+            if self.means.wait_for_one(self.rt, pause) {
+                return;
+            }
+            thread::sleep(self.rt, pause);
+        }
+        door.count_fault();
+    }
+
+    // Passes on what one client after another sends, until none comes any more.
+    fn pass_up_in_turn(&self, second: &Handover<U>) {
+        for _ in self.rt.forever() {
+            let Some(sent) = second.take(self.rt) else {
+                return;
+            };
+            self.server.pass_up(sent);
+            second.finish(self.rt);
         }
     }
 
-    /// How many there are.
-    pub fn count<R: Wait>(&self, rt: &R) -> usize {
-        self.members.lock(rt).len()
+    // Whether there is what the connections of all workers take beside descriptors: memory where it is limited, and
+    // processes where there were too few before.
+    fn has_supplies(&self, workers: usize, beginning: u64) -> bool {
+        self.has_memory(workers)
+            && (!self.reserve.is_gone(self.rt)
+                || has_processes(self.rt, beginning.clamp(1, PROCESSES)))
     }
 
-    /// Whether there are as many as there may be.
-    pub fn is_whole<R: Wait>(&self, rt: &R) -> bool {
-        self.count(rt) >= self.most
+    // Whether there is memory for the connections of so many workers, where it is limited. Each look asks for more than
+    // the last that found it: what is no larger the C library takes from what it keeps for this thread alone.
+    fn has_memory(&self, workers: usize) -> bool {
+        let Some(memory) = self.supply.memory else {
+            return true;
+        };
+        let more = self.found.load(Ordering::SeqCst).saturating_add(MORE);
+        let all = memory
+            .to_go_on
+            .saturating_mul(workers)
+            .saturating_add(memory.to_begin)
+            .max(more);
+        let is_there = Vec::<u8>::with_capacity(self.alloc, all).is_ok();
+        if is_there {
+            self.found.store(all, Ordering::SeqCst);
+        }
+        is_there
     }
 
-    /// How many are at work.
-    pub fn count_busy<R: Wait>(&self, rt: &R) -> usize {
-        let members = self.members.lock(rt);
-        members.len().saturating_sub(count_free(&members))
+    // A thread is there. Where memory is limited it first asks for some, with which the C library takes what it reserves.
+    fn come_up(&self) {
+        if self.is_limited() {
+            drop(Vec::<u8>::with_capacity(self.alloc, 64));
+        }
     }
+}
 
-    // One more, who waits here and is not free: his number.
-    fn add<R: Wait>(&self, rt: &R, slot: Arc<P, Global>) -> Result<usize, AllocError> {
-        let mut members = self.members.lock(rt);
-        members.push(Member {
-            is_free: false,
-            slot,
-        })?;
-        Ok(members.len())
-    }
-
-    // Takes the last one away.
-    fn remove_last<R: Wait>(&self, rt: &R) -> Option<Arc<P, Global>> {
-        Some(self.members.lock(rt).pop()?.slot)
-    }
-
-    /// Where one of them waits.
-    pub fn slot<R: Wait>(&self, rt: &R, number: usize) -> Option<Arc<P, Global>> {
-        let members = self.members.lock(rt);
-        Arc::try_clone(&members.get(number.checked_sub(1)?)?.slot).ok()
-    }
-
-    /// Takes the first one who is free: he is free no more.
-    pub fn take<R: Wait>(&self, rt: &R) -> Option<usize> {
-        let mut members = self.members.lock(rt);
-        let found = members.iter().position(|member| member.is_free)?;
-        members[found].is_free = false;
-        found.checked_add(1)
-    }
-
-    /// Waits until one is free.
-    pub fn wait<R: Wait>(&self, rt: &R) {
-        drop(
-            self.changed
-                .wait_while(rt, self.members.lock(rt), |members| {
-                    count_free(members) == 0
-                }),
+impl<'a, R, V, Q, U> Workers<'a, R, V, Q, U>
+where
+    R: Threads + Wait + Clock + Sync,
+    Q: Admission + Send + Drop,
+    V: Serving<Q::Work, Upward = U> + Sync,
+    U: Send + Drop,
+{
+    // Lets connections in until the server comes to an end, and waits until all that were let in are over.
+    fn run(&self) {
+        let workers = self;
+        thread::scope(
+            thread::scope_env(),
+            workers.rt,
+            move |scope|
+                requires { IsSync R.row × IsSync V.row × IsSend Q.row × IsSend U.row × IsSend V.Talk.row }
+            {
+                if !start_reserve(scope, workers.rt, workers.reserve) {
+                    workers.reserve.give_back(workers.rt);
+                }
+                workers.make_workers(scope);
+                workers.reserve.give_back(workers.rt);
+                workers.seconds.end(workers.rt);
+                workers.keepers.end(workers.rt);
+            },
         );
     }
 
-    // Waits until all are free.
-    fn wait_for_all<R: Wait>(&self, rt: &R) {
-        drop(
-            self.changed
-                .wait_while(rt, self.members.lock(rt), |members| {
-                    count_free(members) < members.len()
-                }),
-        );
+    // Makes one more worker where none is at the door, until no more connections come. Where that fails it is tried
+    // again after a pause. A server whose first worker can't be made ends.
+    fn make_workers<'s, E>(&'s self, scope: &'s Scope<'s, E>) {
+        let (mut pause, mut left, mut is_made) = (Pause::first(), TRIES, false);
+        for _ in self.rt.forever() {
+            if !self.crew.wait_for_want(self.rt) {
+                return;
+            }
+            let beginning = self.means.hold_up(self.rt);
+            let one_more = self.make_worker(scope, beginning);
+            self.means.let_begin(self.rt);
+            if one_more {
+                is_made = true;
+                pause = Pause::first();
+                continue;
+            }
+            left = left.saturating_sub(1);
+            if left == 0 && !is_made {
+                self.end(ServeEnd::OutOfMemory);
+                return;
+            }
+            self.crew.pause(self.rt, pause.next());
+        }
     }
 
-    /// Waits until one more is free than now, but for no longer than `most`. Where all are free it waits for none, and says so.
-    pub fn wait_for_one<R: Wait + Clock>(&self, rt: &R, most: Duration) -> bool {
-        let members = self.members.lock(rt);
-        let before = count_free(&members);
-        if before >= members.len() {
+    // Makes a worker, where there is a thread for him and what his connection would take, while so many begin.
+    fn make_worker<'s, E>(&'s self, scope: &'s Scope<'s, E>, beginning: u64) -> bool {
+        if !self.start_worker(scope) || self.arrived.take(self.rt) != Some(true) {
             return false;
         }
-        let _ = self
-            .changed
-            .wait_timeout_while(rt, members, most, |members| count_free(members) <= before);
-        true
-    }
-
-    /// This one is free.
-    pub fn give<R: Wait>(&self, rt: &R, number: usize) {
-        if let Some(member) = self.members.lock(rt).get_mut(number.saturating_sub(1)) {
-            member.is_free = true;
+        let stays = self.has_supplies(self.crew.count(self.rt).saturating_add(1), beginning);
+        if stays {
+            self.crew.add(self.rt);
         }
-        self.changed.notify_one();
+        self.wanted.hand(self.rt, stays);
+        stays
     }
-}
 
-// How many are free.
-fn count_free<P>(members: &[Member<P>]) -> usize {
-    members.iter().filter(|member| member.is_free).count()
-}
+    // Starts the thread of a worker, where there is one to have.
+    fn start_worker<'s, E>(&'s self, scope: &'s Scope<'s, E>) -> bool {
+        let workers = self;
+        connection_thread()
+            .spawn_scoped(
+                scope,
+                move ||
+                    requires { IsSync R.row × IsSync V.row × IsSend Q.row × IsSend U.row × IsSend V.Talk.row }
+                { workers.come_to_work(scope) },
+            )
+            .is_ok()
+    }
 
-/// Where one thread hands something to another one, which is kept for it: one thing at a time.
-#[derive(Drop)]
-pub(crate) struct Handover<T> {
-    state: Mutex<HandoverState<T>>,
-    changed: Condvar,
-}
-
-// The state of a handover.
-#[derive(Drop)]
-struct HandoverState<T> {
-    // what was handed over, until it is taken
-    waiting: Option<T>,
-    // whether what was handed over last is not done with
-    is_busy: bool,
-    is_closed: bool,
-}
-
-impl<T: Drop> Handover<T> {
-    /// An empty one. It takes no memory.
-    pub fn new() -> Handover<T> {
-        Handover {
-            state: Mutex::new(HandoverState {
-                waiting: None,
-                is_busy: false,
-                is_closed: false,
-            }),
-            changed: Condvar::new(),
+    // A worker comes, and works if he is wanted. Where what clients send is passed on he has a second thread, or goes.
+    fn come_to_work<'s, E>(&'s self, scope: &'s Scope<'s, E>) {
+        self.come_up();
+        let second = self.second(scope);
+        if let Some(second) = &second {
+            second.wait_for_finish(self.rt);
+        }
+        let is_whole = second.is_some() || !self.server.passes_up();
+        self.arrived.hand(self.rt, is_whole);
+        if is_whole && self.wanted.take(self.rt) == Some(true) {
+            self.work(scope, second);
+        } else if let Some(second) = second {
+            second.close(self.rt);
         }
     }
 
-    /// Hands something over. What was handed over before has to be done with.
-    pub fn hand<R: Wait>(&self, rt: &R, what: T) {
-        let mut state = self.state.lock(rt);
-        state.waiting = Some(what);
-        state.is_busy = true;
-        drop(state);
-        self.changed.notify_one();
-    }
-
-    /// Waits for the next that is handed over, and takes it. `None` once it is closed, and what was handed over before is taken.
-    pub fn take<R: Wait>(&self, rt: &R) -> Option<T> {
-        let mut state = self.changed.wait_while(
-            rt,
-            self.state.lock(rt),
-            |state| state.waiting.is_none() && !state.is_closed,
+    // Starts a second thread, where there is one to have.
+    fn start_second<'s, E>(&'s self, scope: &'s Scope<'s, E>) -> Option<Helper<U>> {
+        let workers = self;
+        let second = Arc::new(workers.alloc, Handover::new()).ok()?;
+        let his = Arc::try_clone(&second).ok()?;
+        let started = connection_thread().spawn_scoped(
+            scope,
+            move ||
+                requires { IsSync R.row × IsSync V.row × IsSend Q.row × IsSend U.row × IsSend V.Talk.row }
+            {
+                workers.come_up();
+                his.finish(workers.rt);
+                workers.pass_up_in_turn(&his);
+            },
         );
-        state.waiting.take()
+        started.ok()?;
+        Some(second)
     }
 
-    /// What was taken last is done with.
-    pub fn finish<R: Wait>(&self, rt: &R) {
-        self.state.lock(rt).is_busy = false;
-        self.changed.notify_one();
+    // Lets one connection after another in and serves it, until no more come, or it lacks a second thread.
+    fn work<'s, E>(&'s self, scope: &'s Scope<'s, E>, second: Option<Helper<U>>) {
+        let mut second = second;
+        for _ in self.rt.forever() {
+            let Some(work) = self.next_connection() else {
+                break;
+            };
+            self.serve(scope, work, &mut second);
+            if second.is_none() && self.server.passes_up() {
+                self.crew.remove(self.rt);
+                return;
+            }
+            self.crew.come_back(self.rt);
+        }
+        if let Some(second) = second {
+            second.close(self.rt);
+        }
     }
 
-    /// Waits until what was handed over last is done with.
-    pub fn wait_for_finish<R: Wait>(&self, rt: &R) {
-        drop(
-            self.changed
-                .wait_while(rt, self.state.lock(rt), |state| state.is_busy),
+    // Serves a connection up to the start of its program. A keeper goes on with it, or this worker where there is none
+    // to have. Afterwards the worker has the second thread for the next connection, where it is to be had.
+    fn serve<'s, E>(
+        &'s self,
+        scope: &'s Scope<'s, E>,
+        work: Q::Work,
+        second: &mut Option<Helper<U>>,
+    ) {
+        let (upward, talk) = match self.server.begin(work) {
+            Ok(begun) => begun,
+            Err(_over) => {
+                self.means.give_back(self.rt);
+                return;
+            }
+        };
+        self.means.began(self.rt);
+        let second_of_this = second.take();
+        if let (Some(second), Some(upward)) = (&second_of_this, upward) {
+            second.hand(self.rt, upward);
+        }
+        let going_on = GoingOn {
+            rt: self.rt,
+            server: self.server,
+            means: self.means,
+            seconds: self.seconds,
+            talk,
+            second: second_of_this,
+        };
+        match self.keeper(scope) {
+            Some(keeper) => keeper.hand(self.rt, going_on),
+            None => drop(going_on),
+        }
+        *second = self.second(scope);
+    }
+
+    // A keeper that has nothing to do, where there is one to have and there was no want of threads.
+    fn keeper<'s, E>(
+        &'s self,
+        scope: &'s Scope<'s, E>,
+    ) -> Option<Helper<GoingOn<'a, R, V, Q::Work, U>>> {
+        if !self.has_plenty() {
+            self.keepers.end(self.rt);
+            return None;
+        }
+        if let Some(keeper) = self.keepers.take(self.rt) {
+            return Some(keeper);
+        }
+        self.start_keeper(scope)
+    }
+
+    // A second thread that has nothing to do, where there is one to have and what clients send is passed on.
+    fn second<'s, E>(&'s self, scope: &'s Scope<'s, E>) -> Option<Helper<U>> {
+        if !self.server.passes_up() {
+            return None;
+        }
+        if let Some(second) = self.seconds.take(self.rt) {
+            return Some(second);
+        }
+        self.start_second(scope)
+    }
+
+    // Starts a keeper, where there is a thread to have.
+    fn start_keeper<'s, E>(
+        &'s self,
+        scope: &'s Scope<'s, E>,
+    ) -> Option<Helper<GoingOn<'a, R, V, Q::Work, U>>> {
+        let workers = self;
+        let keeper = Arc::new(workers.alloc, Handover::new()).ok()?;
+        let his = Arc::try_clone(&keeper).ok()?;
+        let started = connection_thread().spawn_scoped(
+            scope,
+            move ||
+                requires { IsSync R.row × IsSync V.row × IsSend Q.row × IsSend U.row × IsSend V.Talk.row }
+            {
+                his.finish(workers.rt);
+                workers.keep_in_turn(&his);
+            },
         );
+        started.ok()?;
+        Some(keeper)
     }
 
-    /// Nothing more is handed over.
-    pub fn close<R: Wait>(&self, rt: &R) {
-        self.state.lock(rt).is_closed = true;
-        self.changed.notify_all();
+    // Goes on with one connection after another, until none comes any more.
+    fn keep_in_turn<'s>(&'s self, keeper: &'s Helper<GoingOn<'a, R, V, Q::Work, U>>) {
+        for _ in self.rt.forever() {
+            let Some(going_on) = keeper.take(self.rt) else {
+                return;
+            };
+            drop(going_on);
+            self.keepers.give_back(self.rt, keeper);
+        }
     }
 }

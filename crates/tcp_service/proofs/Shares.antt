@@ -1,5 +1,5 @@
 -- What the two callers of a site made.
-use Rattle.std.proofs.Common.{◌≡◌, ◌≢◌, ◌+◌, ◌-◌, ◌^◌, ◌++◌, ◌∷◌, [], ℕ, List, Option, ap, subst, ◌∙◌, arith}
+use Rattle.std.proofs.Common.{◌≡◌, ◌≢◌, ◌+◌, ◌-◌, ◌^◌, ◌++◌, ◌∷◌, [], ℕ, List, ap, ◌∙◌, arith}
 use Rattle.std.proofs.lemmas.List.Sums.{sum_by-append}
 use Rattle.event_journals.specs.Journals.{one_more}
 use Rattle.server_events.specs.declared.event.Event.{Event}
@@ -8,8 +8,6 @@ use Rattle.shared_site.specs.declared.receipt.Made.{Made}
 use Rattle.shared_site.specs.declared.receipt.Receipt.{Receipt}
 use Rattle.shared_site.specs.Callers.{caller_share, total_share}
 use Rattle.shared_site.specs.declared.caller.Caller.{Caller}
-use Rattle.tcp_connections.specs.Admissions.{IsServed}
-use Rattle.tcp_connections.specs.declared.admission_loop.ServeEnd.{ServeEnd}
 
 -- what a list of callers made that ends with these two
 ends_with : {N : Type 0} {l : _} (all rest : List (Caller N l)) (first second : Caller N l) → all ≡ (rest ++ first ∷ []) ++ second ∷ []
@@ -33,10 +31,6 @@ pub of_both : {N : Type 0} {l : _} (all none : List (Caller N l)) (first second 
 of_both all none first second is empty =
     let whole = ends_with all none first second is in
     omega (arith, whole, ap total_share empty)
-
--- a count from nothing on
-pub served_from : (end : ServeEnd) (count : Option ℕ) (old new : ℕ) → old ≡ 0 → IsServed end count old new → IsServed end count 0 new
-served_from end count old new none served = subst (λ (n : ℕ). IsServed end count n new) none served
 
 -- the share of one whose event was made, where it has not the last number of all
 pub one_came : (made : Made) (event : Event) (who before after old new : ℕ) → receipt_of made ≡ receipt_after before who event → (receipt_of made).at ≢ 2 ^ 64 - 1

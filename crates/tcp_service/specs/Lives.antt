@@ -6,8 +6,8 @@ use Rattle.server_events.specs.declared.event.Event.TheVariants.{Admitted, Retir
 use Rattle.server_yard.specs.Seating.{leaver}
 use Rattle.shared_site.specs.Receipts.{made_event}
 use Rattle.shared_site.specs.declared.receipt.Made.{Made}
-use Rattle.tcp_connections.specs.declared.admission_loop.AdmitOutcome.{AdmitOutcome}
-use Rattle.tcp_connections.specs.declared.admission_loop.AdmitOutcome.TheVariants.{In}
+use Rattle.tcp_connections.specs.declared.admission.AdmitOutcome.{AdmitOutcome}
+use Rattle.tcp_connections.specs.declared.admission.AdmitOutcome.TheVariants.{In}
 
 -- where a client is let in, the event that was made is the admission of it, by the serial that it has
 abbrev pub AdmitsOwn : {P : Type 0} → AdmitOutcome (ℕ × P × Made) → Client → Type 0

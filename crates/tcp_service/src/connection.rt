@@ -6,7 +6,7 @@ use crate::observer::Observer;
 use crate::opening::Rules;
 use crate::over::Over;
 use crate::service::ChainSource;
-use byte_streams::LineStage;
+use byte_streams::LineWrapper;
 use child_jobs::Job;
 use connection_facts::DropCause;
 use dir_calls::Dir;
@@ -19,8 +19,7 @@ use std::io::{Read, Write};
 use std::sync::Wait;
 use tcp_connections::{Attendant, Chains, Follow, Line, Serving, Shut, Starter, Talk, Upward};
 
-/// A connection that was let in, until its thread takes it.
-#[derive(Drop)]
+/// A connection that was let in, with its streams.
 pub(crate) struct NewConnection<
     'a,
     L: Assumptions,
@@ -39,7 +38,6 @@ pub(crate) struct NewConnection<
 }
 
 /// A connection whose child runs, and what that says where it is passed on; else the child holds the connection itself.
-#[derive(Drop)]
 pub(crate) struct Begun<
     'a,
     L: Assumptions,
@@ -76,8 +74,8 @@ pub(crate) struct Server<'a, S, M, R, W: Observer> {
 
 impl<S, M, R, W, G> Server<'_, S, M, R, W>
 where
-    M: ChainSource<LineWrapper = G>,
-    G: LineStage + Drop,
+    M: ChainSource<Wrapper = G>,
+    G: LineWrapper + Drop,
     R: Wait,
     W: Observer,
 {
@@ -182,8 +180,8 @@ where
     S::Job: Send,
     <S::Job as Job>::Input: Send + Drop,
     <S::Job as Job>::Output: Send + Drop,
-    M: ChainSource<LineWrapper = G>,
-    G: LineStage + Send + Drop,
+    M: ChainSource<Wrapper = G>,
+    G: LineWrapper + Send + Drop,
     R: Wait + Sync,
     W: Observer + Sync,
     W::Writer: Send,

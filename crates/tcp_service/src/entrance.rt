@@ -2,7 +2,7 @@
 ghost use Rattle.std.specs.Prelude.{◌≡◌};
 ghost use Rattle.shared_site.specs.Callers.{caller_share};
 ghost use Rattle.tcp_connections.specs.Admissions.{LetsIn};
-ghost use Rattle.tcp_connections.specs.declared.admission_loop.AdmitOutcome.TheVariants.{Refused};
+ghost use Rattle.tcp_connections.specs.declared.admission.AdmitOutcome.TheVariants.{Refused};
 ghost use Rattle.tcp_service.specs.Lives.{AdmitsOwn};
 
 use crate::connection::NewConnection;

@@ -1,5 +1,4 @@
-//! The life of a connection at a site, from its admission to its end: each value of it is made of the one before, and one that is let go tells its
-//! end itself.
+//! The life of a connection at a site, from its admission to its end: each value of it is made of the one before, and none can be let go.
 ghost use Rattle.std.specs.Prelude.{◌≡◌, None, IfOk, IfErr};
 ghost use Rattle.child_jobs.specs.Runs.{IsSameRun, place_of};
 
@@ -8,7 +7,7 @@ use crate::opening::Rules;
 use crate::over::{LifeAgent, Over};
 use crate::permit::Permit;
 use crate::site_agent::{LoggedAgent, SiteAgent};
-use byte_streams::LineStage;
+use byte_streams::LineWrapper;
 use child_jobs::{Job, Place, Plan, Running};
 use connection_facts::{DropCause, Peer};
 use dir_calls::Dir;
@@ -38,7 +37,7 @@ pub(crate) struct Register<'a, L: Assumptions, N: Callers, D: Dir + Drop, J: Jou
 }
 
 /// A connection that was let in and whose child was not started yet: the right to what comes next. It is made of the place that its admission
-/// gave, and of the permit, which has its serial (`own`). One that is let go, as where no thread takes it, is given up.
+/// gave, and of the permit, which has its serial (`own`). It is served, or given up.
 pub(crate) struct Admitted<
     'a,
     L: Assumptions,
@@ -58,8 +57,7 @@ pub(crate) struct Admitted<
     pub(crate) ghost own: { permit.serial ≡ serial },
 }
 
-/// A connection whose child runs: the right to its end. It is made of one that was let in. One that is let go is retired: its child is abandoned,
-/// and its place stays counted.
+/// A connection whose child runs: the right to its end. It is made of one that was let in.
 pub(crate) struct Started<
     'a,
     L: Assumptions,
@@ -83,51 +81,6 @@ pub(crate) type Passed<'a, L, N, D, J, U, R, W, C, I, O, X, G> = (
     Started<'a, L, N, D, J, U, R, W, C>,
     Talk<<C as Job>::Output, O, X, G>,
 );
-
-impl<L, N, D, J, U, R, W> Drop for Admitted<'_, L, N, D, J, U, R, W>
-where
-    L: Assumptions,
-    N: Callers,
-    D: Dir + Drop,
-    J: Journal,
-    U: Rules<L, D::File>,
-    R: Wait,
-    W: Observer,
-{
-    fn drop(self) {
-        let Admitted {
-            register,
-            serial,
-            place,
-            peer,
-            local,
-            permit: _,
-        } = self;
-        let _over = register.give_up(serial, place, &peer, &local, DropCause::NoThread);
-    }
-}
-
-impl<L, N, D, J, U, R, W, C> Drop for Started<'_, L, N, D, J, U, R, W, C>
-where
-    L: Assumptions,
-    N: Callers,
-    D: Dir + Drop,
-    J: Journal,
-    U: Rules<L, D::File>,
-    R: Wait,
-    W: Observer,
-    C: Job,
-{
-    fn drop(self) {
-        let Started {
-            register,
-            serial,
-            running,
-            local,
-        } = self;
-        let _over = register.retire(serial, running, &local);
-    }
-}
 
 // What starts the program of one connection.
 fn launcher_of<'b, R, S, X>(
@@ -255,16 +208,6 @@ where
             Some(begun) => Ok(begun),
             None => Err(Over::of(&agent, serial)),
         }
-    }
-
-    // The child of a connection is not waited for any more.
-    fn retire<C: Job>(&self, serial: u64, running: Running<L, C>, local: &Local) -> Over
-        ensures own { result.serial ≡ serial }
-    {
-        let refusal = Mutex::new(None);
-        let mut agent = self.agent(serial, local, &refusal);
-        agent.retired(running, serial);
-        Over::of(&agent, serial)
     }
 }
 
@@ -416,7 +359,7 @@ where
         F: Read + Drop,
         O: Write + Drop,
         X: Shut + Drop,
-        G: LineStage + Drop,
+        G: LineWrapper + Drop,
         ensures own { result.serial ≡ self.entry.serial }
     {
         let Started {

@@ -2,7 +2,7 @@
 ghost use Rattle.std.specs.Prelude.{IfOk};
 ghost use Rattle.tcp_service.specs.Renewals.{IsNewChain};
 
-use byte_streams::LineStage;
+use byte_streams::LineWrapper;
 use server_words::{ConnectionLimits, Mode};
 use std::alloc::{AllocError, Global};
 use tcp_connections::{Chains, HostNames, Patience, Reserve, Supply};
@@ -29,13 +29,13 @@ pub struct Service {
 /// What makes the line wrappers of connections that are pumped.
 pub trait ChainSource {
     /// A wrapper.
-    type LineWrapper: LineStage + Drop;
+    type Wrapper: LineWrapper + Drop;
 
     /// Those of one connection, which are new: nothing of another connection's text has passed them.
     ///
     /// # Errors
     /// There was no memory.
-    fn chains(&self, alloc: Global) -> Result<Chains<Self::LineWrapper>, AllocError>
-        ensures input { IfOk result (λ chains. IsNewChain Self.LineWrapper.rest Self.LineWrapper.whole chains.input) }
-        ensures output { IfOk result (λ chains. IsNewChain Self.LineWrapper.rest Self.LineWrapper.whole chains.output) };
+    fn chains(&self, alloc: Global) -> Result<Chains<Self::Wrapper>, AllocError>
+        ensures input { IfOk result (λ chains. IsNewChain Self.Wrapper.rest Self.Wrapper.whole chains.input) }
+        ensures output { IfOk result (λ chains. IsNewChain Self.Wrapper.rest Self.Wrapper.whole chains.output) };
 }

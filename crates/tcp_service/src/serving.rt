@@ -59,7 +59,6 @@ pub struct Unfinished<L: Assumptions, N: Callers, D: Dir + Drop, J: Journal> {
 ///
 /// # Errors
 /// A place is lost: its connection is alive, and no thread has it. The site is closed all the same.
-#[tactic(auto, using(crate::proofs::Shares::served_from))]
 pub fn serve<A, L, N, D, J, U, S, M, R, W>(
     rt: &R,
     alloc: Global,
@@ -74,7 +73,7 @@ pub fn serve<A, L, N, D, J, U, S, M, R, W>(
     observer: &W,
 ) -> Result<Closed<L, N, D, J>, Unfinished<L, N, D, J>>
 where
-    A: Acceptor,
+    A: Acceptor + Send,
     L: Assumptions + Send + Sync,
     N: Callers + Send + Sync,
     D: Dir + Send + Drop,
@@ -88,7 +87,7 @@ where
     <S::Job as Job>::Output: Send + Drop,
     A::Writer: Follow<<S::Job as Job>::Output>,
     M: ChainSource + Sync,
-    M::LineWrapper: Send + Drop,
+    M::Wrapper: Send + Drop,
     R: Threads + Wait + Clock + Sync,
     W: Observer + Sync,
     W::Writer: Send,
@@ -139,7 +138,7 @@ fn serve_by<A, L, N, D, J, U, S, M, R, W>(
     service: &Service,
 ) -> (ServeEnd, Caller<N>)
 where
-    A: Acceptor,
+    A: Acceptor + Send,
     L: Assumptions + Send + Sync,
     N: Callers + Send + Sync,
     D: Dir + Send + Drop,
@@ -153,11 +152,12 @@ where
     <S::Job as Job>::Output: Send + Drop,
     A::Writer: Follow<<S::Job as Job>::Output>,
     M: ChainSource + Sync,
-    M::LineWrapper: Send + Drop,
+    M::Wrapper: Send + Drop,
     R: Threads + Wait + Clock + Sync,
     W: Observer + Sync,
     W::Writer: Send,
-    ensures count { IsServed result.0 service.now.limits.count (caller_share host) (caller_share result.1) }
+    requires idle { caller_share host ≡ 0 }
+    ensures count { IsServed result.0 service.now.limits.count 0 (caller_share result.1) }
 {
     let (rt, alloc, log) = (register.rt, register.alloc, register.observer.log());
     let server = Server {

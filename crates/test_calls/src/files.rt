@@ -1,12 +1,14 @@
-//! Makes calls that write compiled files, look keys up in them, and install rules in a directory in memory, and adds what each answers. The
-//! words are the name of a call and its arguments, and a file, a value or pairs come on standard input.
+//! Calls that write compiled files, look keys up in them, and install rules in a directory in memory. Each adds its
+//! answer.
+//!
+//! The words are the name of a call and its arguments. A file, a value or pairs come on standard input.
 //!
 //! - `hash KEY`, `record KEY`, `table PLACE HASH ..` and `header PLACE SLOTS` give a hash, or a piece of a file
-//! - `pairs LIMIT` gives the file of the pairs, one a line, each a key, a tab and a value
-//! - `find KEY MOST FAILING` looks a key up in the file, by reads of at most so many bytes, of which this one fails
+//! - `pairs LIMIT` gives the file of the pairs: each line has a key, a tab and a value
+//! - `find KEY MOST FAILING` looks a key up in the file: a read gives at most MOST bytes, and read number FAILING fails
 //! - `reads KEY` gives what such a look-up reads, and `cuts KEY` what it finds in each shorter file
 //! - `names CDB TMP` makes the names of an installation
-//! - `folder CALL COMMAND ..` runs commands on a directory, call number CALL of which fails
+//! - `folder CALL COMMAND ..` runs commands on a directory whose call number CALL fails
 
 mod compiled;
 mod folders;
@@ -18,7 +20,7 @@ use std::alloc::Global;
 use std::env::Args;
 use test_parts::Answer;
 
-/// Adds what a call answers that writes a file or a piece of one.
+/// Adds the answer of a call that writes a file or a piece of one.
 fn append_written(alloc: Global, name: &str, words: &mut Args, given: &[u8], out: &mut Answer) {
     match name {
         "hash" => compiled::append_hash(words, out),
@@ -42,7 +44,7 @@ fn append_answer(alloc: Global, name: &str, words: &mut Args, given: &[u8], out:
     }
 }
 
-/// Makes a call, and adds what it answers: nothing where it fails.
+/// Makes a call, and adds its answer: nothing if it fails.
 pub fn run(alloc: Global, words: &mut Args, given: &[u8], out: &mut Answer) {
     match words.next() {
         Some(name) => append_answer(alloc, name.as_str(), words, given, out),

@@ -1,5 +1,7 @@
-//! Makes calls of streams (`stream`), of tables of places (`table`) or of compiled files and installations in memory (`file`), and prints what each
-//! answers. The words behind that one say which calls. With no words it does nothing.
+//! Makes calls of streams (`stream`), of tables of places (`table`), or of compiled files and installations in memory
+//! (`file`), and prints the answers.
+//!
+//! The words behind the first one say which calls. Without words it does nothing.
 #![tactic(auto)]
 
 mod files;
@@ -23,7 +25,7 @@ fn make_calls(alloc: Global, first: &str, words: &mut Args, given: &[u8], out: &
     }
 }
 
-/// Makes the calls that the words ask for, with the standard input, and prints what they answer.
+/// Makes the calls that the words ask for, with the standard input, and prints their answers.
 ///
 /// # Errors
 /// The words ask for no such calls, one of the calls failed, or the standard input or output did.

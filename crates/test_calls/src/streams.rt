@@ -1,11 +1,13 @@
-//! Makes calls of line stages, chains, pumps and records on the text on standard input, and adds what each answers, bytes as a list of
-//! numbers. The words are `stage NAME SIZE ..`, `chain COUNT NAME .. CALL ..`, `record WAY NUMBER` or `record_end WAY NUMBER`.
+//! Calls of line wrappers, chains, pumps and records on the text on standard input. Each adds its answer, bytes as a
+//! list of numbers.
+//!
+//! The words are `wrapper NAME SIZE ..`, `chain COUNT NAME .. CALL ..`, `record WAY NUMBER` or `record_end WAY NUMBER`.
 
 mod chains;
 mod pieces;
 mod pumps;
-mod stages;
 mod words;
+mod wrappers;
 
 use crate::streams::words::next_way;
 use crate::words::next_number;
@@ -30,7 +32,7 @@ fn add_record(alloc: Global, name: &str, text: &[u8], words: &mut Args, out: &mu
 /// Makes the calls of a name.
 fn run_named(alloc: Global, name: &str, words: &mut Args, text: &[u8], out: &mut Answer) {
     match name {
-        "stage" => stages::add_staged(alloc, text, words, out),
+        "wrapper" => wrappers::add_wrapped(alloc, text, words, out),
         "chain" => chains::run_calls(alloc, text, words, out),
         "record" | "record_end" => add_record(alloc, name, text, words, out),
         _ => out.fail(),

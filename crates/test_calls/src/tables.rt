@@ -1,5 +1,6 @@
-//! Runs commands on a table of places, and adds what each answers. The words are its limit and, where it has another one for each address,
-//! that limit; the commands stand on standard input, one a line.
+//! Commands on a table of places, of which each adds its answer.
+//!
+//! The words are the limit and, if it differs, the limit per address. The commands stand on standard input, one a line.
 
 mod commands;
 

@@ -1,7 +1,7 @@
 //! The words of a call.
 use std::env::Args;
 
-/// The next word, a number.
+/// The next word, as a number.
 pub fn next_number(words: &mut Args) -> Option<u64> {
     words.next()?.as_str().parse().ok()
 }

@@ -1,4 +1,4 @@
-//! The commands that any directory takes: each makes one call of it, apart from `replace`, `patched` and `install`.
+//! The commands that any directory takes. Each makes one call, apart from `replace`, `patched` and `install`.
 use dir_calls::{Dir, DirFault, Name, RulesFile, replace_file};
 use rule_lines::Limits;
 use rules_install::FileNames;
@@ -6,7 +6,7 @@ use rules_install::whole::install;
 use std::alloc::Global;
 use test_parts::Answer;
 
-/// How many bytes of a file are shown at most.
+/// The greatest number of bytes of a file that are shown.
 const SHOWN: usize = 4_096;
 
 /// The words of a command; those that are missing are empty.
@@ -18,13 +18,13 @@ pub struct Words<'a> {
     pub third: &'a str,
 }
 
-/// A directory that takes some commands more.
+/// A directory that takes further commands.
 pub trait OwnCommands {
-    /// Obeys one of them.
+    /// Obeys one of the further commands.
     fn own(&mut self, alloc: Global, words: &Words<'_>, out: &mut Answer);
 }
 
-/// Obeys a command.
+/// Obeys a command, and adds its answer.
 pub fn obey<D: Dir + OwnCommands>(
     alloc: Global,
     dir: &mut D,
@@ -61,12 +61,12 @@ pub fn is_call<D: Dir>(alloc: Global, dir: &mut D, words: &Words<'_>, out: &mut 
     true
 }
 
-/// A name by its word.
+/// The name that a word is.
 pub fn name_of(alloc: Global, word: &str) -> Option<Name> {
     Name::new(alloc, word.as_bytes()).ok()
 }
 
-/// The names of the first two words.
+/// The names that the first two words are.
 fn two_names(alloc: Global, words: &Words<'_>) -> Option<(Name, Name)> {
     let first = name_of(alloc, words.first)?;
     Some((first, name_of(alloc, words.second)?))
@@ -183,7 +183,7 @@ fn show<F: RulesFile>(file: &F, out: &mut Answer) {
     }
 }
 
-/// `replace SCRATCH NAME TEXT` puts a whole file in the place of another.
+/// `replace SCRATCH NAME TEXT` puts a whole file in place of another.
 fn replace<D: Dir>(alloc: Global, dir: &mut D, words: &Words<'_>, out: &mut Answer) {
     match two_names(alloc, words) {
         Some((scratch, name)) => {
@@ -193,7 +193,7 @@ fn replace<D: Dir>(alloc: Global, dir: &mut D, words: &Words<'_>, out: &mut Answ
     }
 }
 
-/// Puts a file with these bytes in the place of another, by a scratch file that has another name.
+/// Puts a file with these bytes in place of another, by a scratch file with another name.
 fn replace_by<D: Dir>(
     alloc: Global,
     dir: &mut D,

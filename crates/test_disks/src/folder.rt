@@ -1,5 +1,7 @@
-//! Calls of a directory on a folder of the system. The words are the folder and then, for each call, its name and its arguments, as in
-//! `test_disks folder FOLDER fresh tmp append abc sync rename tmp file settle open file`.
+//! Calls of a directory on a folder of the system.
+//!
+//! The words are the folder, and for each call its name and its arguments, as in `test_disks folder FOLDER fresh tmp
+//! append abc sync rename tmp file settle open file`.
 ghost use Rattle.std.specs.Prelude.{◌≡◌, false};
 
 use crate::commands::{self, Words, is_call};
@@ -10,7 +12,7 @@ use std::fs::Files;
 use std::os::unix::fs::FileExt;
 use test_parts::Answer;
 
-/// How many bytes a call of `append` is given of a long row of zeros.
+/// How many of the zeros are given to a call of `append`.
 const PIECE: usize = 4_096;
 
 /// Makes a call of a directory of which nothing is known.
@@ -59,7 +61,7 @@ fn first_call(words: &[String]) -> Option<(Words<'_>, &[String])> {
     Some((call, rest))
 }
 
-/// `zeros COUNT` appends so many zero bytes, in pieces.
+/// `zeros COUNT` appends this many zero bytes, in pieces.
 fn zeros<D: Dir>(alloc: Global, dir: &mut D, words: &Words<'_>, out: &mut Answer) {
     let Ok(count) = words.first.parse() else {
         return out.fail();
@@ -116,7 +118,7 @@ fn show<F: RulesFile>(file: &F, out: &mut Answer) {
     }
 }
 
-/// Makes the calls that the words ask for on a folder. They stop at a word that is none, which is a fault.
+/// Makes the calls that the words ask for on a folder, up to a word that is no call, which is a fault.
 pub fn run_calls_on<R>(rt: &R, alloc: Global, folder: &str, calls: &[String], out: &mut Answer)
 where
     R: Files,

@@ -1,5 +1,7 @@
-//! The commands that directories of one kind take: `crash CHOICE NAME` shows what a stop leaves under a name, `stop CHOICE` goes on with what
-//! a stop leaves, where a choice may be `torn` too; a directory over a disk takes `remove NAME` and `calls`.
+//! The commands that directories of one kind take.
+//!
+//! In memory `crash CHOICE NAME` shows what a stop leaves under a name, and `stop CHOICE` goes on with what a stop
+//! leaves; a choice may be `torn` too. A directory over a disk takes `remove NAME` and `calls`.
 use crate::commands::{OwnCommands, Words, name_of, show_name};
 use crate::test_disk::TestDisk;
 use dir_calls::{Choice, Dir, DirFault, FuseDir, MemDir};
@@ -7,7 +9,7 @@ use dir_disk::{Disk, DiskDir, MemDisk};
 use std::alloc::Global;
 use test_parts::Answer;
 
-/// What a stop leaves, by its word.
+/// The choice of a stop that a word names.
 fn choice_of(word: &str) -> Option<Choice> {
     match word {
         "kept" => Some(Choice::Kept),
@@ -67,7 +69,7 @@ impl OwnCommands for FuseDir<MemDir> {
     }
 }
 
-/// Shows what a stop of the disk leaves under a name, where names that are not settled are kept or not.
+/// Shows what a stop of the disk leaves under a name, with the names that are not settled or without them.
 fn show_left(alloc: Global, disk: &TestDisk, words: &Words<'_>, out: &mut Answer) {
     match disk.after_stop(alloc, words.first == "kept") {
         Ok(left) => show_over(alloc, left, words.second, out),

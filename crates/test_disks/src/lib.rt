@@ -1,7 +1,11 @@
-//! Runs commands on a directory in memory, and prints what each answers. The commands stand on standard input, one a line. The words say which
-//! directory: `memory`, `fuse CALL`, where that call fails, `memory_disk`, a folder of a disk in memory, or `disk CALL MISHAP`, a folder of a disk
-//! whose call of that number has a mishap, counted from 1. `name`, `read PLACE ROOM` and `faults` are single calls without a directory; `folder` makes calls on a folder of the system,
-//! which stand among the words. With no words it does nothing.
+//! Runs commands on a directory, and prints what each answers. The commands stand on standard input, one a line;
+//! without words it does nothing.
+//!
+//! - `memory` is a directory in memory, and `fuse CALL` one whose call with this number fails
+//! - `memory_disk` is a folder of a disk in memory, and `disk CALL MISHAP` one of a disk whose call with this number,
+//!   from 1, has a mishap
+//! - `name`, `read PLACE ROOM` and `faults` are single calls without a directory
+//! - `folder` makes calls on a folder of the system, which stand among the words
 #![tactic(auto)]
 
 ghost use Rattle.std.specs.Prelude.{◌≡◌, IsTrue, None};
@@ -85,7 +89,7 @@ fn mishap_of(name: &str) -> Option<Mishap> {
     }
 }
 
-/// Runs the commands on a directory of which one call fails.
+/// Runs the commands on a directory whose call with a number fails.
 fn run_fuse(alloc: Global, words: &mut Args, given: &[u8], out: &mut Answer) {
     match next_number(words) {
         Some(call) => {
@@ -100,7 +104,7 @@ fn run_fuse(alloc: Global, words: &mut Args, given: &[u8], out: &mut Answer) {
     }
 }
 
-/// The call that has a mishap, and which.
+/// The number of the call that has a mishap, and which mishap.
 fn next_call(words: &mut Args) -> Option<(u64, Mishap)> {
     let at = next_number(words)?;
     Some((at, next_mishap(words)?))
@@ -126,7 +130,7 @@ where
     }
 }
 
-/// The place of a read, and the room for it.
+/// The place of a read, and how much room there is for it.
 fn next_read(words: &mut Args) -> Option<(u64, usize)> {
     let place = next_number(words)?;
     Some((place, usize::try_from(next_number(words)?).ok()?))
@@ -166,7 +170,7 @@ fn rest_of(alloc: Global, words: &mut Args) -> Result<Vec<String>, AllocError> {
     Ok(rest)
 }
 
-/// Makes the calls on a folder of the system that the words ask for.
+/// Makes the calls on a folder of the system, which stand among the words.
 fn run_folder<R: Files>(rt: &R, alloc: Global, words: &mut Args, out: &mut Answer)
 where
     R::File: FileExt,

@@ -24,7 +24,8 @@ fn show_copied(alloc: Global, name: &Name, out: &mut Answer) {
     }
 }
 
-/// Shows the length of a file of these bytes, how many a read gives, and the room afterwards, which was full of `-`.
+/// Shows the length of a file of these bytes, how many of them a read gives, and the room afterwards, which was full of
+/// `-`.
 pub fn show_read(alloc: Global, bytes: &[u8], place: u64, room: usize, out: &mut Answer) {
     match bytes.to_vec(alloc) {
         Ok(bytes) => show_read_of(alloc, &MemFile::new(bytes), place, room, out),
@@ -32,7 +33,7 @@ pub fn show_read(alloc: Global, bytes: &[u8], place: u64, room: usize, out: &mut
     }
 }
 
-/// The same of a file.
+/// Shows the same of a file.
 fn show_read_of(alloc: Global, file: &MemFile, place: u64, room: usize, out: &mut Answer) {
     match vec![in alloc; b'-'; room] {
         Ok(mut room) => show_read_into(file, place, &mut room, out),
@@ -40,7 +41,7 @@ fn show_read_of(alloc: Global, file: &MemFile, place: u64, room: usize, out: &mu
     }
 }
 
-/// The same of a file and its room.
+/// Shows the same of a file and a room.
 fn show_read_into(file: &MemFile, place: u64, room: &mut [u8], out: &mut Answer) {
     match file.read_at(place, room) {
         Ok(count) => {

@@ -1,4 +1,4 @@
-//! A disk in memory, of which one call fails, is short or interrupted, or from which on the machine stands still.
+//! A disk in memory with one call that fails, is short or is interrupted, or from which on the machine stands still.
 ghost use Rattle.std.specs.Prelude.{◌≡◌, ◌≤◌, [], ⊤, true, false, length, refl, IfOk};
 ghost use Rattle.dir_calls.specs.NoDirectory.{no_directory, not_honest};
 
@@ -8,7 +8,7 @@ use std::alloc::{AllocError, Global};
 use std::cell::Cell;
 use std::io::{self, ErrorKind};
 
-/// What befalls a call.
+/// A mishap of a call.
 #[derive(Clone, Copy)]
 pub enum Mishap {
     /// It fails and does nothing.
@@ -30,7 +30,7 @@ struct Held {
     synced: bool,
 }
 
-/// A disk in memory.
+/// A disk in memory, with a call that has a mishap.
 #[derive(Drop)]
 pub struct TestDisk {
     alloc: Global,
@@ -42,7 +42,7 @@ pub struct TestDisk {
     mishap: Mishap,
 }
 
-/// An opened file: its number, and its bytes then.
+/// An opened file: its number, and the bytes that it had when it was opened.
 #[derive(Drop)]
 pub struct TestHandle {
     number: usize,
@@ -59,7 +59,7 @@ fn fault(kind: ErrorKind) -> io::Error {
     io::Error::from(kind)
 }
 
-// Puts copies of names behind those that stand.
+// Puts copies of names behind others.
 fn add_names(
     alloc: Global,
     names: &mut Vec<(String, usize)>,
@@ -83,7 +83,7 @@ fn add_name(
     Ok(())
 }
 
-// Puts bytes over others from a place on, or at their end.
+// Puts bytes over others from a place on, or behind them.
 fn overwrite(bytes: &mut Vec<u8>, place: usize, others: &[u8]) -> Result<(), AllocError> {
     let start = bytes.len().min(place);
     let covered = others.len().min(bytes.len() - start);
@@ -92,7 +92,7 @@ fn overwrite(bytes: &mut Vec<u8>, place: usize, others: &[u8]) -> Result<(), All
 }
 
 impl TestDisk {
-    /// An empty disk, whose call number `at` has a mishap, counted from 1.
+    /// An empty disk. Its call number `at`, from 1, has a mishap.
     pub fn new(alloc: Global, at: u64, mishap: Mishap) -> Self {
         TestDisk {
             alloc,
@@ -110,7 +110,7 @@ impl TestDisk {
         self.calls.get()
     }
 
-    /// What a stop leaves: the names as they stood, or those that were settled. Files that are not synced are empty.
+    /// What a stop leaves: the names as they stand, or those that were settled. Files that are not synced are empty.
     pub fn after_stop(&self, alloc: Global, kept: bool) -> Result<TestDisk, AllocError> {
         let mut left = TestDisk::new(alloc, 0, Mishap::Fails);
         let names = if kept { &self.names } else { &self.settled };
@@ -140,7 +140,7 @@ impl TestDisk {
         Ok(())
     }
 
-    // Counts a call, and answers whether it has the mishap. One that is to fail at once, fails.
+    // Counts a call, and answers whether it has the mishap. A call that is to do nothing fails here.
     fn met(&self) -> io::Result<bool> {
         let call = self.calls.get().saturating_add(1);
         self.calls.set(call);
@@ -157,7 +157,7 @@ impl TestDisk {
         }
     }
 
-    // What is answered once the work is done.
+    // The answer of a call whose work is done.
     fn answered<T: Drop>(&self, met: bool, value: T) -> io::Result<T>
         ensures { IfOk result (λ given. given ≡ value) }
     {
@@ -223,7 +223,7 @@ impl TestDisk {
         Ok(())
     }
 
-    // Writes bytes, or the first one where the call is short, and answers how many.
+    // Writes bytes, or the first one if the call is short, and answers how many.
     fn write_file(&mut self, number: usize, place: usize, bytes: &[u8]) -> io::Result<usize>
         ensures { IfOk result (λ n. n ≤ length bytes.now) }
     {
@@ -247,7 +247,7 @@ impl TestDisk {
         self.answered(met, ())
     }
 
-    // Moves a name, unless the other stands for the same file.
+    // Moves a name, unless both names stand for one file.
     fn move_name(&mut self, made: usize, from: &str, to: &str) -> io::Result<()> {
         let met = self.met()?;
         let number = self.number_of(from)?;
@@ -262,7 +262,7 @@ impl TestDisk {
         self.answered(met, ())
     }
 
-    // A file that is opened.
+    // Opens a file.
     fn handle_of(&self, number: usize) -> io::Result<TestHandle> {
         match self.files.get(number) {
             Some(held) => Ok(TestHandle {

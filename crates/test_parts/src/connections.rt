@@ -1,4 +1,4 @@
-//! Connections of a yard, step by step. Each step is made where it may be, as the yard itself tells.
+//! Steps of a yard's connections. Each is made if the yard itself says that it may be.
 use crate::jobs::{EndedJob, EndedJobs};
 use crate::rules::stuck;
 use child_jobs::{Place, Program, Running, finish, start};

@@ -1,4 +1,4 @@
-//! Events in the words of a script, an end by a signal as one with code 0.
+//! Events in the words of a script. An end by a signal is written as one with code 0.
 use crate::Answer;
 use connection_facts::Status;
 use rule_lines::Verdict;

@@ -1,4 +1,4 @@
-//! Jobs that run no program, and end as they are told to.
+//! Jobs that run no program, and end as they are told.
 ghost use Rattle.std.specs.Prelude.{◌≡◌, Some, false, ⊤};
 
 use child_jobs::{Job, Launcher, NoEnds, Program, WaitFault};
@@ -9,7 +9,7 @@ use std::io::{Read, Write};
 use std::snapshot::Snapshot;
 use ucspi_env::Environment;
 
-/// A pipe end of no pipe.
+/// A pipe end without a pipe.
 #[derive(Drop)]
 pub struct NoPipe;
 
@@ -29,7 +29,7 @@ impl Write for NoPipe {
     }
 }
 
-/// A job that has ended already, with this status; or one that can't be waited for.
+/// A job that has ended with a status, or that can't be waited for.
 pub struct EndedJob {
     status: Option<Status>,
     program: Snapshot<Program>,
@@ -78,14 +78,14 @@ impl Job for EndedJob {
     }
 }
 
-/// Starts such jobs: with a status, without one, or none at all.
+/// A launcher of jobs that run no program: they end with a status, can't be waited for, or don't start.
 #[derive(Clone, Copy)]
 pub enum EndedJobs {
-    /// They have ended.
+    /// They have ended with this status.
     Ending(Status),
     /// They can't be waited for.
     Unwaitable,
-    /// None is started.
+    /// None is started, with this fault.
     Failing(StartFault),
 }
 

@@ -1,4 +1,4 @@
-//! What the small programs of the tests answer to the words they are called with.
+//! What the small programs of the tests print for the words with which they are called.
 #![tactic(auto)]
 
 pub mod connections;
@@ -17,7 +17,8 @@ use std::io;
 use std::io::{Error, ErrorKind, Write};
 pub use yards::yard_over;
 
-/// The bytes of an answer, and whether it has failed: a call could not be made, as its words ask for nothing, or memory lacked for a part.
+/// The bytes of an answer, and whether it has failed. It has if its words ask for no call, or if memory was lacking for
+/// a part.
 #[derive(Drop)]
 pub struct Answer {
     bytes: Vec<u8>,
@@ -25,7 +26,7 @@ pub struct Answer {
 }
 
 impl Answer {
-    /// No bytes.
+    /// An answer without bytes.
     pub fn new(alloc: Global) -> Answer {
         Answer {
             bytes: Vec::new(alloc),
@@ -40,11 +41,11 @@ impl Answer {
     pub fn fail(&mut self) {
         self.has_failed = true;
     }
-    /// Notes whether memory lacked for a step.
+    /// Notes that it has failed, if memory was lacking for a step.
     pub fn note(&mut self, done: Result<(), AllocError>) {
         self.has_failed |= done.is_err();
     }
-    /// Takes all bytes back where it has failed.
+    /// Takes all bytes back if it has failed.
     pub fn keep_whole(&mut self) {
         if self.has_failed {
             self.bytes.clear();
@@ -65,7 +66,7 @@ impl Answer {
     pub fn raw(&mut self, bytes: &[u8]) {
         self.has_failed |= self.bytes.extend_from_slice(bytes).is_err();
     }
-    /// Adds the bytes that a step made, if it did.
+    /// Adds the bytes that a step made, if it made them.
     pub fn made(&mut self, bytes: Result<Vec<u8>, AllocError>) {
         match bytes {
             Ok(bytes) => self.raw(&bytes),
@@ -128,7 +129,7 @@ impl Answer {
         self.debug(value);
         self.end_line();
     }
-    /// Adds that a call is done, or its fault, as a line.
+    /// Adds a line that says that a call is done, or its fault.
     pub fn done<E: Display + Drop>(&mut self, done: Result<(), E>) {
         match done {
             Ok(()) => self.line("done"),

@@ -12,7 +12,7 @@ use rules_install::whole::install;
 use std::alloc::Global;
 use std::io;
 
-/// What a step answers that can't be made.
+/// The error of a step that can't be made.
 pub fn stuck() -> io::Error {
     io::Error::from(io::ErrorKind::InvalidData)
 }
@@ -40,7 +40,9 @@ pub fn names(alloc: Global) -> io::Result<FileNames>
     }
 }
 
-/// A directory in memory with a text's rules installed. A yard may begin over it: whatever a stop leaves, the rules file of this text stands there.
+/// A directory in memory in which a text's rules are installed.
+///
+/// A yard may begin over it: whatever a stop leaves, the rules file of this text stands there.
 pub fn with_rules(alloc: Global, text: &[u8]) -> io::Result<MemDir>
     ensures { IfOk result (λ dir. (missing : Missing) → Begins (mem_state dir) (Some (rules_there missing))) }
 {

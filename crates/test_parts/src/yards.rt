@@ -1,4 +1,4 @@
-//! Yards.
+//! Yards over directories.
 ghost use Rattle.std.specs.Prelude.{◌≡◌, IsTrue, Some};
 ghost use Rattle.server_yard.specs.Kept.{HasNoEvents};
 ghost use Rattle.server_yard.specs.Standing.{BeginsWell};
@@ -13,7 +13,8 @@ use std::alloc::Global;
 use std::io;
 use std::sync::ledger::Blank;
 
-/// A yard with a rules name, over a journal without events; `missing` says what is decided where no rules file stands.
+/// A yard with a rules name, over a journal without events. `missing` says what is decided if no rules file stands
+/// there.
 pub fn yard_over<L: Assumptions, D: Dir + Drop, J: Journal>(
     alloc: Global,
     blank: Blank,

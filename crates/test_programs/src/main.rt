@@ -1,5 +1,7 @@
-//! The small programs of the tests and of the benchmarks in one, since each program of its own is proved, linked and compiled with all that stands
-//! below it. It looks at the name by which it is called, and makes the calls of the crate with that name. By any other name it does nothing.
+//! The small programs of the tests and of the benchmarks, as one program.
+//!
+//! Each program of its own would be proved, linked and compiled with all that stands below it. The name by which this
+//! one is called says which crate makes the calls. By any other name it does nothing.
 #![tactic(auto)]
 
 use std::env::Args;
@@ -11,7 +13,7 @@ use std::thread::Threads;
 use std::time::Clock;
 use std::{env, io};
 
-/// What stands after the last slash of a path: all of it where there is none.
+/// What stands behind the last slash of a path, or all of a path without one.
 fn last_part(path: &str) -> &str {
     match path.rsplit_once('/') {
         Some((_, last)) => last,

@@ -1,4 +1,5 @@
-//! Benchmarks of calls that no tool reaches: the words are a benchmark's name and a size. With no words it does nothing.
+//! Benchmarks of calls that no tool reaches. The words are a benchmark's name and a size. Without words it does
+//! nothing.
 
 use crate::journals::time_journals;
 use crate::places::{TURNS, time_places};
@@ -25,13 +26,13 @@ use std::thread::Threads;
 use std::time::Instant;
 use ucspi_env::HostTable;
 
-/// How many questions are put to a host table.
+/// How many questions a host table is asked.
 const CALLS: usize = 1_000_000;
 
-/// The limit of connections alive at once, and of those from one address, of `replay`.
+/// The limits of `replay`: connections alive at once, and those from one address.
 const LIMIT: u64 = 10_000;
 
-/// A text of this many lines, each a range of 256 addresses.
+/// A text with a number of lines, each a range of 256 addresses.
 fn ranges(alloc: Global, lines: usize) -> Result<String, AllocError> {
     let mut text = String::new(alloc);
     for n in 0..lines {
@@ -41,7 +42,7 @@ fn ranges(alloc: Global, lines: usize) -> Result<String, AllocError> {
     Ok(text)
 }
 
-/// The list of such a text.
+/// The list of a text of ranges.
 fn list_of(alloc: Global, lines: usize) -> Result<RuleList, ParseFault> {
     let text = ranges(alloc, lines)?;
     parse(alloc, text.as_str().as_bytes(), &Limits::profile())
@@ -60,7 +61,7 @@ fn write_all(alloc: Global, list: &mut RuleList) -> Result<usize, AllocError> {
     Ok(total)
 }
 
-/// Prints how many microseconds it takes to write the rules of a text of so many lines, one after another.
+/// Prints how many microseconds it takes to write the rules of a text with `lines` lines.
 fn time_rules<R: Print + Clock>(rt: &R, alloc: Global, lines: usize) -> io::Result<()> {
     let Ok(mut list) = list_of(alloc, lines) else {
         return Err(io::Error::from(io::ErrorKind::OutOfMemory));
@@ -81,8 +82,8 @@ fn admission(alloc: Global, serial: u64) -> Result<Event, PeerFault> {
     Ok(Event::Admitted { serial, peer })
 }
 
-/// The event at a place, from 0: as many connections are let in as may live, and from then on one is dropped for each that
-/// comes.
+/// The event at a place, from 0. As many connections are let in as may be alive. From then on one is dropped for each
+/// that comes.
 fn event_at(alloc: Global, place: u64) -> Result<Event, PeerFault> {
     let Some(past) = place.checked_sub(LIMIT) else {
         return admission(alloc, place + 1);
@@ -96,7 +97,7 @@ fn event_at(alloc: Global, place: u64) -> Result<Event, PeerFault> {
     })
 }
 
-/// A list of this many such events.
+/// A list of events that let connections in, and drop some once the limit is reached.
 fn turnover(alloc: Global, events: usize) -> Result<Vec<Event>, PeerFault> {
     let mut list = Vec::new(alloc);
     for place in 0..events {
@@ -105,7 +106,8 @@ fn turnover(alloc: Global, events: usize) -> Result<Vec<Event>, PeerFault> {
     Ok(list)
 }
 
-/// Prints how many microseconds a `replay` of so many events takes, most of them while as many connections live as may.
+/// Prints how many microseconds a `replay` of `events` events takes. For most of them as many connections are alive as
+/// may be.
 fn time_replay<R: Print + Clock>(rt: &R, alloc: Global, events: usize) -> io::Result<()> {
     let Ok(list) = turnover(alloc, events) else {
         return Err(io::Error::from(io::ErrorKind::OutOfMemory));
@@ -122,7 +124,7 @@ fn time_replay<R: Print + Clock>(rt: &R, alloc: Global, events: usize) -> io::Re
     )
 }
 
-/// Prints how long the journals take for so many such events.
+/// Prints how long the journals take for `events` events.
 fn time_both_journals<R: Print + Clock>(rt: &R, alloc: Global, events: usize) -> io::Result<()> {
     let (Ok(first), Ok(second)) = (turnover(alloc, events), turnover(alloc, events)) else {
         return Err(io::Error::from(io::ErrorKind::OutOfMemory));
@@ -130,7 +132,7 @@ fn time_both_journals<R: Print + Clock>(rt: &R, alloc: Global, events: usize) ->
     time_journals(rt, alloc, first, second)
 }
 
-/// A maker with so many pairs: keys of 12 bytes, and values of 2.
+/// A maker with `pairs` pairs: keys of 12 bytes, and values of 2.
 fn maker_of(alloc: Global, pairs: usize) -> Result<Maker, AddFault> {
     let mut maker = Maker::new(alloc, Limits::profile().file);
     for n in 0..pairs {
@@ -140,7 +142,7 @@ fn maker_of(alloc: Global, pairs: usize) -> Result<Maker, AddFault> {
     Ok(maker)
 }
 
-/// Prints how many microseconds it takes to add so many pairs and to make their file, and the file's length.
+/// Prints how many microseconds it takes to add `pairs` pairs and to make their file, and how long the file is.
 fn time_maker<R: Print + Clock>(rt: &R, alloc: Global, pairs: usize) -> io::Result<()> {
     let began = Instant::now(rt)?;
     let Ok(maker) = maker_of(alloc, pairs) else {
@@ -153,7 +155,7 @@ fn time_maker<R: Print + Clock>(rt: &R, alloc: Global, pairs: usize) -> io::Resu
     println!(rt; "{} microseconds, {} bytes", taken.as_micros(), image.len())
 }
 
-/// A text of this many lines, each an address of its own.
+/// A text with a number of lines, each a single address.
 fn addresses(alloc: Global, lines: usize) -> Result<String, AllocError> {
     let mut text = String::new(alloc);
     for n in 0..lines {
@@ -171,7 +173,7 @@ fn names_of(alloc: Global) -> Option<FileNames> {
     FileNames::new(cdb, tmp).ok()
 }
 
-/// Installs a text of so many lines in a folder, as the file `rules`.
+/// Installs a text in a folder, as the file `rules`.
 fn install_in<R: Files>(rt: &R, alloc: Global, text: &str, folder: &str) -> Result<(), InstallFault>
 where
     R::File: FileExt,
@@ -185,7 +187,7 @@ where
     install(alloc, &mut dir, names, &Limits::profile(), text.as_bytes())
 }
 
-/// Prints how many microseconds it takes to install a text of so many lines in the current folder.
+/// Prints how many microseconds it takes to install a text with `lines` lines in the current folder.
 fn time_install<R: Print + Clock + Files>(rt: &R, alloc: Global, lines: usize) -> io::Result<()>
 where
     R::File: FileExt,
@@ -209,7 +211,7 @@ pub(crate) fn address(n: usize) -> [u8; 4] {
     ]
 }
 
-/// A host table of this many lines: an address and its name, and a name and its address, by turns.
+/// A host table with a number of lines: by turns an address and its name, and a name and its address.
 fn host_lines(alloc: Global, lines: usize) -> Result<String, AllocError> {
     let mut text = String::new(alloc);
     for n in 0..lines {
@@ -223,7 +225,7 @@ fn host_lines(alloc: Global, lines: usize) -> Result<String, AllocError> {
     Ok(text)
 }
 
-/// Asks for names all over a table of so many lines, and whether they are confirmed, and answers how often there was one.
+/// Asks a table for names and whether they are confirmed, all over its lines, and answers how often there was one.
 fn ask_many(table: &HostTable, lines: usize) -> usize {
     let mut found = 0usize;
     for call in 0..CALLS {
@@ -234,7 +236,7 @@ fn ask_many(table: &HostTable, lines: usize) -> usize {
     found
 }
 
-/// Prints how many microseconds it takes to read a host table of so many lines, and to ask a million times.
+/// Prints how many microseconds it takes to read a host table with `lines` lines, and to ask it a million times.
 fn time_hosts<R: Print + Clock>(rt: &R, alloc: Global, lines: usize) -> io::Result<()> {
     let text = host_lines(alloc, lines)?;
     let began = Instant::now(rt)?;
@@ -251,7 +253,7 @@ fn time_hosts<R: Print + Clock>(rt: &R, alloc: Global, lines: usize) -> io::Resu
     )
 }
 
-/// Prints how many nanoseconds it takes to give a place where so many are out.
+/// Prints how many nanoseconds it takes to give out a place while `size` places are out.
 fn time_places_out<R: Print + Clock>(rt: &R, alloc: Global, size: usize) -> io::Result<()> {
     let limit = (size as u64).saturating_add(TURNS);
     time_places::<R, Brand>(rt, alloc, Blank::new(limit), limit)
@@ -260,7 +262,7 @@ fn time_places_out<R: Print + Clock>(rt: &R, alloc: Global, size: usize) -> io::
 /// How many lines the rules of a yard have.
 const RULES: usize = 100_000;
 
-/// Prints how long a yard takes for a connection where so many are alive.
+/// Prints how long a yard takes for a connection while `size` connections are alive.
 fn time_yard_with<R: Print + Clock>(rt: &R, alloc: Global, size: usize) -> io::Result<()> {
     let text = addresses(alloc, RULES)?;
     let limit = (size as u64).saturating_add(1);
@@ -268,7 +270,7 @@ fn time_yard_with<R: Print + Clock>(rt: &R, alloc: Global, size: usize) -> io::R
     time_yard::<R, Brand>(rt, alloc, Blank::new(limit), limit, bytes)
 }
 
-/// Runs the benchmark that the first word names, of the size that the second one says.
+/// Runs the benchmark that the first word names. The second word is its size.
 ///
 /// # Errors
 /// There is no such benchmark or size, its calls failed, or the clock or the standard output did.

@@ -22,7 +22,7 @@ const NOTHING: PumpEnd = PumpEnd {
     why: Why::End,
 };
 
-/// The ends of such pumps.
+/// The ends of two pumps that passed nothing on.
 const NO_TEXTS: PumpEnds = PumpEnds {
     input: NOTHING,
     output: NOTHING,
@@ -47,7 +47,7 @@ fn print_run<R: Print>(
     println!(rt; "{end:?}, {kills} kills, {waits} waits")
 }
 
-/// Runs a program by a script between a text and what is written of its own. Prints how it ended, what it was given and what was written.
+/// Runs a program by a script between two pumps. Prints how it ended, what it was given and what was written.
 pub fn print_between<R>(rt: &R, alloc: Global, scripts: &[String]) -> io::Result<()>
 where
     R: Print + Threads + Wait + Clock + Sync,
@@ -97,7 +97,7 @@ where
     Ok(run_between(rt, alloc, launcher, run, (input, output), |_| None))
 }
 
-/// Prints how a program by a script ends that was served, or was not.
+/// Prints how a program by a script ends, which was served or was not.
 pub fn print_end<R>(rt: &R, alloc: Global, scripts: &[String], served: bool) -> io::Result<()>
 where
     R: Print + Wait + Clock,

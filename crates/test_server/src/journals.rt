@@ -24,8 +24,8 @@ fn time_of<R: Clock, J: Journal>(rt: &R, journal: &mut J, events: Vec<Event>) ->
     Ok(began.elapsed(rt)?.as_micros())
 }
 
-/// Prints how many microseconds the two journals take for two equal lists of events, and how many bytes `Full` keeps of each event
-/// beside what the event owns.
+/// Prints how many microseconds the two journals take for two equal lists of events. It also prints how many bytes
+/// `Full` keeps of each event, beside what the event owns.
 pub fn time_journals<R: Print + Clock>(
     rt: &R,
     alloc: Global,

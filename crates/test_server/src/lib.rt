@@ -1,8 +1,12 @@
-//! Serves connections by clients and jobs of its own, runs such a job between two pumps, or tells a log of events, and prints what came of it.
-//! `serve` takes a limit, how many connections find no memory, how many come then, how many are let in before the server ends (any other word for
-//! no such number), and the scripts of the jobs; `history` the same and, in front of the scripts, the limit per address and of how many addresses
-//! they come: it prints the history too; `between`, `served` and `unserved` take a job's script; `log` takes a level and how many bytes can
-//! be written. With no words it does nothing.
+//! Serves connections by clients and jobs of its own, runs such a job between two pumps, or tells a log of events, and
+//! prints what came of it. Without words it does nothing.
+//!
+//! - `serve` takes a limit, how many connections find no memory, how many come then, how many are let in before the
+//!   server ends (another word: without end), and the scripts of the jobs
+//! - `history` takes the same, and in front of the scripts the limit per address and from how many addresses they come;
+//!   it prints the history too
+//! - `between`, `served` and `unserved` take the script of a job
+//! - `log` takes a level, and how many bytes can be written
 #![tactic(auto)]
 
 pub mod benchmarks;
@@ -29,18 +33,18 @@ use std::time::Clock;
 
 /// The greatest limit.
 const MOST: u64 = 10_000;
-/// The word at a place, which is empty where there is none.
+/// The word at a place, or an empty one.
 fn word(words: &[String], at: usize) -> &str {
     match words.get(at) {
         Some(word) => word.as_str(),
         None => "",
     }
 }
-/// The number at a place, 0 where there is none.
+/// The number at a place, or 0.
 fn number(words: &[String], at: usize) -> u64 {
     word(words, at).parse().unwrap_or(0)
 }
-/// Serves connections as the words ask for, by the scripts behind those.
+/// Serves connections as the words ask for, by the scripts that stand behind.
 fn serve<R: Print + Threads + Wait + Clock + Sync>(
     rt: &R,
     alloc: Global,

@@ -1,4 +1,4 @@
-//! The lines of the log, of each event.
+//! The lines of the log of each event.
 use connection_facts::{DropCause, Peer, PeerFault, StartFault, Status};
 use rule_lines::Verdict;
 use server_log::{Cause, Log, LogFault, Told};
@@ -17,8 +17,10 @@ fn level_of(name: &str) -> Level {
     }
 }
 
-/// Tells a log of this level, with a limit of 40, of a connection that goes well, of each fault, and of a connection that was denied. It is written
-/// where only so many bytes are taken. Prints whether all was taken, and what was written.
+/// Tells a log of this level, with a limit of 40, of a connection that goes well, of each fault, and of a connection
+/// that was denied.
+///
+/// Its writer takes only `room` bytes. Prints whether all was taken, and what was written.
 pub fn print_log<R: Print>(rt: &R, alloc: Global, level: &str, room: usize) -> io::Result<()> {
     let mut written = vec![in alloc; 0u8; room]?;
     let mut log = Log::new(alloc, written.as_mut_slice(), level_of(level), 40);
@@ -29,7 +31,7 @@ pub fn print_log<R: Print>(rt: &R, alloc: Global, level: &str, room: usize) -> i
     print!(rt; "{}", lines.trim_end_matches('\0'))
 }
 
-/// Whether a log has taken the lines of all events.
+/// Tells a log of all events, and answers whether it has taken all lines.
 fn tell<W: Write>(alloc: Global, log: &mut Log<W>) -> bool {
     match peer(alloc) {
         Ok((local, peer)) => tell_progress(log, &local, &peer).is_ok() && tell_faults(log).is_ok(),
@@ -62,7 +64,7 @@ fn tell_progress<W: Write>(log: &mut Log<W>, local: &Local, peer: &Peer) -> Resu
     log.tell(5, 0, Told::Ended { serial, status })
 }
 
-/// Tells it of each fault, and of a connection that was denied; and of an event that comes too late.
+/// Tells a log of each fault, of a connection that was denied, and of an event that comes too late.
 fn tell_faults<W: Write>(log: &mut Log<W>) -> Result<(), LogFault> {
     let failed = Told::StartFailed {
         serial: 2,

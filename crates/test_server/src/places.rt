@@ -1,7 +1,7 @@
-//! How long a table of places takes to give one.
+//! How long a table of places takes to give one out.
 ghost use Rattle.std.specs.Prelude.{◌≡◌};
 
-use child_jobs::Table;
+use child_jobs::PlaceTable;
 use connection_facts::Peer;
 use std::alloc::Global;
 use std::io;
@@ -9,10 +9,10 @@ use std::rt::Clock;
 use std::sync::ledger::{Blank, Ledger};
 use std::time::Instant;
 
-/// How many places are given while the time is taken.
+/// How many places are given out while the time is taken.
 pub const TURNS: u64 = 1000;
 
-/// Prints how many nanoseconds it takes to give one of the last places, with the limit as many as there are.
+/// Prints how many nanoseconds it takes to give out one of the last places, up to the limit.
 pub fn time_places<R: Print + Clock, L: Ledger>(
     rt: &R,
     alloc: Global,
@@ -23,7 +23,7 @@ pub fn time_places<R: Print + Clock, L: Ledger>(
     requires parts { (blank.parts ≡ L.parts) × (blank.parts ≡ limit) }
 {
     let per_address = limit.saturating_sub(1);
-    let Ok(mut table) = Table::<L>::with_address_limit(alloc, blank, limit, per_address) else {
+    let Ok(mut table) = PlaceTable::<L>::with_address_limit(alloc, blank, limit, per_address) else {
         return Err(io::Error::from(io::ErrorKind::InvalidInput));
     };
     for n in 0..limit.saturating_sub(TURNS) {
@@ -32,11 +32,11 @@ pub fn time_places<R: Print + Clock, L: Ledger>(
     time_last(rt, alloc, &mut table)
 }
 
-/// Prints how many nanoseconds it takes to give one of the last places of a table.
+/// Prints how many nanoseconds it takes to give out one of the last places of a table.
 fn time_last<R: Print + Clock, L: Ledger>(
     rt: &R,
     alloc: Global,
-    table: &mut Table<L>,
+    table: &mut PlaceTable<L>,
 ) -> io::Result<()> {
     let Ok(peer) = Peer::new(alloc, [10, 0, 0, 1], 4000, None, None) else {
         return Err(io::Error::from(io::ErrorKind::OutOfMemory));
@@ -53,15 +53,15 @@ fn time_last<R: Print + Clock, L: Ledger>(
     )
 }
 
-/// Gives one of 256 addresses a place.
-fn take_for_good<L: Ledger>(alloc: Global, table: &mut Table<L>, n: u64) {
+/// Gives out a place for one of 256 addresses.
+fn take_for_good<L: Ledger>(alloc: Global, table: &mut PlaceTable<L>, n: u64) {
     if let Ok(peer) = Peer::new(alloc, [10, 1, 0, (n % 256) as u8], 4000, None, None) {
         give(table, &peer);
     }
 }
 
-/// Gives a peer a place, which stays out; whether it could be given.
-fn give<L: Ledger>(table: &mut Table<L>, peer: &Peer) -> bool {
+/// Gives out a place for good, and answers whether there was one.
+fn give<L: Ledger>(table: &mut PlaceTable<L>, peer: &Peer) -> bool {
     match table.admit(peer) {
         Ok(place) => {
             place.strand();

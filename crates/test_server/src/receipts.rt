@@ -8,7 +8,7 @@ use std::sync::{Mutex, Wait};
 use tcp_service::Observer;
 use test_parts::verdict_word;
 
-/// A log, and a receipt of each event that it is told of, as the site answered it.
+/// A log that keeps a receipt of each event that it is told of, as the site answered it.
 #[derive(Drop)]
 pub struct ReceiptsLog<'a, R, W> {
     rt: &'a R,
@@ -19,7 +19,7 @@ pub struct ReceiptsLog<'a, R, W> {
 }
 
 impl<'a, R: Wait, W: Write + Drop> ReceiptsLog<'a, R, W> {
-    /// This log, without receipts.
+    /// Puts a log under it, without receipts.
     pub fn new(rt: &'a R, alloc: Global, log: Log<W>) -> ReceiptsLog<'a, R, W> {
         ReceiptsLog {
             rt,
@@ -29,8 +29,10 @@ impl<'a, R: Wait, W: Write + Drop> ReceiptsLog<'a, R, W> {
         }
     }
 
-    /// Each receipt in the order in which they came, in a line: the place of the event in the history, the number of its caller, what it was, the
-    /// serial of its connection, and of a decision the verdict.
+    /// The receipts in the order in which they came, each in a line.
+    ///
+    /// A line has the place of the event in the history, the number of its caller, what it was, the serial of its
+    /// connection, and of a decision the verdict.
     ///
     /// # Errors
     /// There was no memory for one of them.

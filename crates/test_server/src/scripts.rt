@@ -1,4 +1,4 @@
-//! Connections and jobs that answer as they are told to.
+//! Connections and jobs that answer as they are told.
 ghost use Rattle.std.specs.Prelude.{is_some, ⊤};
 
 use child_jobs::{Job, Launcher, NoEnds, Program, WaitFault};
@@ -14,7 +14,7 @@ use stream_tools::SharedWriter;
 use tcp_service::{AcceptFault, Accepted, Acceptor, Follow, NotStarted, Patience, Shut, Starter};
 use ucspi_env::{Environment, Local};
 
-/// How many milliseconds a job waits for another one's start at most.
+/// How many milliseconds a job waits at most for another one's start.
 const PATIENCE: u64 = 10_000;
 
 /// A stream that has ended, and takes all that is written.
@@ -45,8 +45,9 @@ impl<F> Follow<F> for Silent {
     fn follow(&mut self, _source: &F, _patience: Patience) {}
 }
 
-/// So many connections that find no memory, then so many of port 1024 at 127.0.0.1:25, in turn from so many addresses, of which 127.0.0.1 comes last,
-/// and after them faults alone.
+/// Connections that find no memory, then connections from port 1024 to 127.0.0.1:25, and then faults alone.
+///
+/// They come by turns from a number of addresses, of which 127.0.0.1 is the last.
 #[derive(Drop)]
 pub struct Clients {
     pub lost: u64,
@@ -90,7 +91,8 @@ impl Acceptor for Clients {
 /// What each program says.
 const SAID: &[u8] = b"up\nend";
 
-/// What became of jobs: how often they were started, or were to be, how often they were killed and waited for, and what they were given.
+/// What became of jobs: how often they were started or should have been, killed and waited for, and what they were
+/// given.
 #[derive(Drop)]
 pub struct ServedTally {
     pub starts: AtomicU64,
@@ -100,7 +102,7 @@ pub struct ServedTally {
 }
 
 impl ServedTally {
-    /// That of no jobs.
+    /// The tally of no jobs.
     pub fn new(alloc: Global) -> ServedTally {
         ServedTally {
             starts: AtomicU64::new(0),
@@ -111,10 +113,15 @@ impl ServedTally {
     }
 }
 
-/// What a job answers, in letters: `n`, `r`, `o` or `m` where its program is not found, is refused, can't be started for another reason or finds
-/// no memory; `e` where it has pipe ends; `k` where it can be killed, `x` where there is no memory for that. Behind `=` stands a letter for each
-/// wait: a digit for an end with that code, `s` for one by a signal, `a` for an end with 0 that comes only once another job was started, `m` for
-/// want of memory, and any other one, as for all waits that follow, for a wait that fails.
+/// What a job answers, in letters.
+///
+/// - `n`, `r`, `o`, `m`: its program is not found, is refused, can't be started for another reason, or finds no memory
+/// - `e`: it has pipe ends
+/// - `k`, `x`: it can be killed, or there is no memory for that
+///
+/// Behind `=` stands a letter for each wait. A digit is an end with that code, and `s` one by a signal. `a` is an end
+/// with 0 that comes only once another job was started, and `m` is want of memory. At any other letter the wait fails,
+/// and so do all that follow.
 #[derive(Clone, Copy)]
 struct Script<'a> {
     letters: &'a str,
@@ -130,7 +137,7 @@ impl<'a> Script<'a> {
         }
     }
 
-    // Whether the program is started.
+    // Starts the program, or answers why not.
     fn start(&self) -> Result<(), StartFault> {
         match self.letters {
             "n" => Err(StartFault::NotFound),
@@ -153,7 +160,7 @@ impl<'a> Script<'a> {
     }
 }
 
-/// Starts jobs by these scripts, in the order in which they are started, the last for all that follow.
+/// A launcher of jobs by these scripts, in order. The last script is for all jobs that follow.
 #[derive(Drop)]
 pub struct Scripts<'a, R> {
     pub rt: &'a R,
@@ -222,7 +229,7 @@ impl<'a, R: Clock + Wait> Starter<Silent> for Scripts<'a, R> {
 }
 
 impl<R: Clock> ScriptedJob<'_, R> {
-    // Waits until another job was started too. Whether it was in time.
+    // Waits until another job was started too, and answers whether it was in time.
     fn has_company(&self) -> bool {
         for _ in 0..PATIENCE {
             if self.tally.starts.load(Ordering::SeqCst) > 1 {

@@ -29,24 +29,24 @@ use tcp_service::{
 use test_parts::Answer;
 use ucspi_env::Environment;
 
-/// What is asked of a server.
+/// What is asked of a server: its limits, and which connections come.
 #[derive(Clone, Copy)]
 pub struct Asked {
     /// How many connections may be alive.
     pub limit: u64,
     /// How many of them from one address.
     pub per_address: u64,
-    /// From so many addresses they come, in turn.
+    /// From how many addresses they come, by turns.
     pub addresses: u8,
-    /// How many come first, and find no memory.
+    /// How many come first and find no memory.
     pub lost: u64,
-    /// How many there are then.
+    /// How many come then.
     pub clients: u64,
     /// How many it lets in before it ends.
     pub count: Option<u32>,
 }
 
-/// That there is no rules file.
+/// The rules of a server without a rules file.
 #[derive(Clone, Copy)]
 struct NoRules;
 
@@ -76,7 +76,7 @@ impl<L: Assumptions> RulesHandle<L, MemFile> for NoRules {
     }
 }
 
-/// How a server ended, how many connections were alive then, its history, and the receipts of the events that its log was told of.
+/// How a server ended: its fault, how many connections were alive, its history, and the receipts of its log.
 #[derive(Drop)]
 struct Ending {
     end: ServeEnd,
@@ -86,8 +86,10 @@ struct Ending {
     receipts: String,
 }
 
-/// Serves connections by jobs of these scripts, under a full log, until the server ends. Prints how it ended, how many connections were alive
-/// then and how often jobs were killed; its history and the receipts, where these are asked for; and the log.
+/// Serves connections by jobs of these scripts, under a full log, until the server ends.
+///
+/// Prints how it ended, how many connections were alive then and how often jobs were killed; its history and the
+/// receipts, if they are asked for; and the log.
 pub fn print_served<R>(
     rt: &R,
     alloc: Global,
@@ -225,12 +227,12 @@ fn site_of<L: Assumptions, N: Callers>(
     }
 }
 
-/// No line wrappers.
+/// A server's chains, which are without line wrappers.
 #[derive(Drop)]
 struct Unwrapped;
 
 impl ChainSource for Unwrapped {
-    type LineWrapper = FixCr;
+    type Wrapper = FixCr;
 
     fn chains(&self, alloc: Global) -> Result<Chains<FixCr>, AllocError> {
         Ok(Chains {

@@ -16,7 +16,7 @@ use std::thread::Threads;
 use std::time::Instant;
 use std::{io, thread};
 
-/// How many threads are beside the one.
+/// How many threads call at once.
 const THREADS: u64 = 4;
 
 /// Lets connections in and drops them, one after another, and answers how many calls were events.
@@ -42,7 +42,7 @@ fn call<L: Assumptions, N: Callers, R: Wait>(
     events
 }
 
-/// The same in as many threads as there are callers.
+/// Makes the same calls in a thread for each caller.
 fn call_in_threads<
     L: Assumptions + Send + Sync,
     N: Callers + Send + Sync,
@@ -65,7 +65,8 @@ fn call_in_threads<
     )
 }
 
-/// How many nanoseconds so many callers, each in a thread of its own, take for so many calls in all. Each has a place.
+/// How many nanoseconds callers take for a number of calls in all, each caller in a thread of its own. Each has a
+/// place.
 fn time_callers<
     L: Assumptions + Send + Sync,
     N: Callers + Send + Sync,
@@ -87,7 +88,7 @@ fn time_callers<
     time_site_of(rt, alloc, &site, all, callers, calls)
 }
 
-/// The same of this site, with as many callers.
+/// Times the callers of this site, as many as it has.
 fn time_site_of<
     L: Assumptions + Send + Sync,
     N: Callers + Send + Sync,
@@ -115,7 +116,7 @@ fn time_site_of<
     Ok(u64::try_from(taken.as_nanos()).unwrap_or(u64::MAX))
 }
 
-/// The same of a new site.
+/// Times the callers of a new site.
 fn time_new<R: Threads + Wait + Sync + Clock>(
     rt: &R,
     alloc: Global,
@@ -139,8 +140,10 @@ fn rate(calls: u64, nanoseconds: u64) -> u64 {
     calls.saturating_mul(1_000_000_000) / nanoseconds.max(1)
 }
 
-/// Prints how many calls a second one thread makes through a site, and four make through another, so many calls in all each time, and how
-/// long a call takes its caller: what it takes longer among four is what waiting for the lock costs.
+/// Prints how many calls a second one thread makes through a site, and how many four make through another.
+///
+/// It also prints how long a call takes its caller. What it takes longer among four is the price of waiting for the
+/// lock.
 pub fn time_site<R: Print + Threads + Wait + Sync + Clock>(
     rt: &R,
     alloc: Global,

@@ -18,14 +18,15 @@ use test_parts::{
     EndedJob, EndedJobs, decide_for, finish_for, open_for, start_for, stuck, with_rules, yard_over,
 };
 
-/// How many connections are timed, one after the other.
+/// How many connections are timed, one after another.
 const TURNS: u64 = 1_000;
 
 /// How many addresses the rules name.
 const ADDRESSES: u64 = 100_000;
 
-/// Prints how many microseconds a connection takes from its admission to its end, decided by the rules of a text, while one fewer than the
-/// limit are alive beside it.
+/// Prints how many microseconds a connection takes from its admission to its end.
+///
+/// The rules of a text decide it, and one fewer than the limit are alive beside it.
 pub fn time_yard<R: Print + Clock, L: Assumptions>(
     rt: &R,
     alloc: Global,
@@ -49,7 +50,7 @@ pub fn time_yard<R: Print + Clock, L: Assumptions>(
     time_connections(rt, alloc, &mut yard, limit)
 }
 
-/// Prints how long a yard without connections takes for one, while one fewer than the limit are alive beside it.
+/// Prints how long a yard takes for a connection, while one fewer than the limit are alive beside it.
 fn time_connections<R: Print + Clock, L: Assumptions>(
     rt: &R,
     alloc: Global,
@@ -109,7 +110,7 @@ fn begin<L: Assumptions>(
     start_for(alloc, yard, place, jobs).ok_or(stuck())
 }
 
-/// Opens the rules for a connection, and decides it: whether it is allowed.
+/// Opens the rules for a connection and decides it, and answers whether it is allowed.
 fn is_allowed<L: Assumptions>(
     alloc: Global,
     yard: &mut Yard<L, MemDir, Counts>,

@@ -1,4 +1,4 @@
-//! Calls of a site that have to succeed, each with its receipt kept.
+//! Calls of a site that have to succeed. The receipt of each is kept.
 ghost use Rattle.std.specs.Prelude.{◌≡◌, ℕ, IfOk};
 ghost use Rattle.shared_site.specs.Receipts.{made_event};
 ghost use Rattle.server_yard.specs.Passes.{IsDecidedBy};
@@ -29,7 +29,7 @@ pub(crate) fn keep<R: Abort>(rt: &R, receipts: &mut Vec<Receipt>, receipt: Recei
     receipts.push(receipt).expect(rt, "memory");
 }
 
-/// Keeps the receipt of an event that was made, as it has to be.
+/// Keeps the receipt of an event, which has to be made.
 pub(crate) fn keep_made<R: Abort>(
     rt: &R,
     receipts: &mut Vec<Receipt>,
@@ -44,7 +44,7 @@ pub(crate) fn keep_made<R: Abort>(
     }
 }
 
-/// A turn of a caller whose event has to be made; its receipt is kept.
+/// Makes a caller's turn, whose event has to be made, and keeps its receipt.
 pub(crate) fn make<
     L: Assumptions,
     N: Callers,
@@ -66,7 +66,7 @@ pub(crate) fn make<
     keep_made(rt, receipts, answer, event);
 }
 
-/// The decision for a peer by what its pass has.
+/// The decision for a peer by the file that a pass has.
 pub(crate) fn decide_by<L: Assumptions, F: RulesFile + Drop>(
     alloc: Global,
     pass: &Pass<L, F>,
@@ -77,7 +77,7 @@ pub(crate) fn decide_by<L: Assumptions, F: RulesFile + Drop>(
     decide(alloc, pass.source(), pass.missing(), peer)
 }
 
-/// Lets a connection in, once there is room for it.
+/// Lets a connection in once there is room for it.
 pub(crate) fn let_in<L: Assumptions, N: Callers, R: Abort + Wait>(
     rt: &R,
     site: &Site<L, N, MemDir, Full>,
@@ -207,7 +207,7 @@ pub(crate) fn drop_one<L: Assumptions, N: Callers, R: Abort + Wait>(
     );
 }
 
-/// A peer for a caller: for the first one 1.1.1.1, and so on.
+/// A peer for a caller: 1.1.1.1 for the first one, and so on.
 pub(crate) fn peer_for<N: Callers, R: Abort>(rt: &R, alloc: Global, caller: &Caller<N>) -> Peer {
     let n = u8::try_from(caller.number()).expect(rt, "there are few callers");
     peer_of(alloc, n).expect(rt, "memory")
@@ -218,7 +218,7 @@ pub(crate) fn rules_name<R: Abort>(rt: &R, alloc: Global) -> Name {
     Name::new(alloc, b"rules").expect(rt, "a name")
 }
 
-/// An installation of a text as `rules`, of which no step was made.
+/// An installation of a text as `rules`, before its first step.
 pub(crate) fn installation<R: Abort>(rt: &R, alloc: Global, text: &[u8]) -> Install {
     let limits = Limits::profile();
     let list = parse(alloc, text, &limits).expect(rt, "the text is well formed");
@@ -227,7 +227,7 @@ pub(crate) fn installation<R: Abort>(rt: &R, alloc: Global, text: &[u8]) -> Inst
     Install::begin(alloc, list, names, &limits).expect(rt, "memory")
 }
 
-/// Steps an installation on until it is done, or another one has taken its place, and answers whether it is done.
+/// Steps an installation until it is done, or another one has taken its place. It answers whether it is done.
 pub(crate) fn install<L: Assumptions, N: Callers, R: Abort + Wait>(
     rt: &R,
     alloc: Global,

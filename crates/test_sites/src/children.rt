@@ -54,7 +54,7 @@ impl Job for Idle {
     }
 }
 
-/// Starts such a job.
+/// A launcher of such jobs.
 #[derive(Drop)]
 struct Starts;
 

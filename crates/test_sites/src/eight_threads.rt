@@ -1,4 +1,4 @@
-//! Eight callers in threads of their own, for whom there are four places.
+//! Eight callers in threads of their own, who share four places.
 ghost use Rattle.std.specs.Prelude.{◌≡◌, false};
 
 use crate::calls::{
@@ -25,20 +25,20 @@ const CALLERS: u64 = 8;
 
 const LIMIT: u64 = 4;
 
-/// The connections of a caller.
+/// How many connections a caller has.
 const CONNECTIONS: u64 = 1_250;
 
-/// A caller installs rules before each so many connections of its own.
+/// After how many of its connections a caller installs rules.
 const BETWEEN: u64 = 100;
 
-/// What a caller leaves.
+/// What a caller leaves when its thread ends.
 #[derive(Drop)]
 struct Left<N: Callers> {
     caller: Caller<N>,
     receipts: Vec<Receipt>,
 }
 
-// Serves a connection, from its admission to its end.
+// Serves a connection from its admission to its end.
 fn serve<L: Assumptions, N: Callers, R: Abort + Wait>(
     rt: &R,
     alloc: Global,
@@ -58,7 +58,7 @@ fn serve<L: Assumptions, N: Callers, R: Abort + Wait>(
     }
 }
 
-// All connections and installations of a caller.
+// Makes all connections and installations of a caller.
 fn work<L: Assumptions, N: Callers, R: Abort + Wait>(
     rt: &R,
     alloc: Global,
@@ -81,7 +81,7 @@ fn work<L: Assumptions, N: Callers, R: Abort + Wait>(
     Left { caller, receipts }
 }
 
-// Eight callers in threads, until they have all ended.
+// Runs eight callers in threads until all have ended.
 fn run_all<
     L: Assumptions + Send + Sync,
     N: Callers + Send + Sync,
@@ -95,7 +95,7 @@ fn run_all<
     thread::map_vec(rt, callers, &|caller| work(rt, alloc, site, caller))
 }
 
-// The callers, and all their receipts.
+// Gathers the callers, and all their receipts.
 fn gather<N: Callers>(
     alloc: Global,
     all: Vec<Left<N>>,
@@ -112,7 +112,7 @@ fn gather<N: Callers>(
     Ok((callers, receipts))
 }
 
-// The same, after eight callers in threads have all ended.
+// Runs eight callers in threads, and gathers them and their receipts.
 fn gathered<
     L: Assumptions + Send + Sync,
     N: Callers + Send + Sync,
@@ -127,7 +127,7 @@ fn gathered<
     gather(alloc, all).expect(rt, "memory")
 }
 
-// The events of receipts, by their places.
+// The events of receipts, ordered by their places.
 fn in_order(alloc: Global, mut receipts: Vec<Receipt>) -> Result<Vec<Event>, AllocError> {
     receipts.sort_unstable_by_key(|receipt| receipt.at);
     let mut events = Vec::new(alloc);
@@ -137,7 +137,7 @@ fn in_order(alloc: Global, mut receipts: Vec<Receipt>) -> Result<Vec<Event>, All
     Ok(events)
 }
 
-// All connections were let in, and what the yard reports is what its history comes to.
+// Checks that all connections were let in, and that the yard reports what its history comes to.
 fn check_report<L: Assumptions, R: Abort>(
     rt: &R,
     alloc: Global,

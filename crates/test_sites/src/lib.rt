@@ -1,6 +1,6 @@
 //! A test of a site by eight callers in threads of their own, with their receipts and the audit of these.
 //!
-//! It stands apart from the crate `shared_site` that it tests, so that that one is proved once for itself and not once more for its test.
+//! It is no part of the crate `shared_site`, since a crate with a test is proved twice.
 #![tactic(auto)]
 
 use connection_facts::{Peer, PeerFault};

@@ -42,7 +42,7 @@ pub(crate) fn new_site<L: Assumptions, N: Callers, R: Abort>(
     }
 }
 
-/// The yard of a site whose callers are all back; their receipts are its whole history.
+/// The yard of a site whose callers are all back. Their receipts are its whole history.
 pub(crate) fn close<L: Assumptions, N: Callers, R: Abort>(
     rt: &R,
     site: Site<L, N, MemDir, Full>,

@@ -4,7 +4,7 @@ use rule_lookup::parse_address;
 use std::alloc::{AllocError, Global};
 use ucspi_env::{Environment, Local};
 
-/// The arguments of a call by their names, variables, and its standard input.
+/// The arguments of a call by their names, its variables, and its standard input.
 #[derive(Drop)]
 pub struct Arguments<'a> {
     named: Environment,
@@ -22,7 +22,7 @@ impl<'a> Arguments<'a> {
         }
     }
 
-    /// Adds the arguments of words like `port=25`, and the variables of words like `+HOME=/`, put in turn.
+    /// Adds the arguments of words such as `port=25`, and the variables of words such as `+HOME=/`, in order.
     pub fn add_all(&mut self, alloc: Global, words: &[String]) -> Result<(), AllocError> {
         for word in words {
             self.add(alloc, word.as_str())?;
@@ -61,40 +61,41 @@ impl<'a> Arguments<'a> {
         self.known(name).unwrap_or("")
     }
 
-    /// The number that an argument is, or 0.
+    /// The number of an argument, or 0.
     pub fn number(&self, name: &str) -> u64 {
         self.text(name).parse().unwrap_or(0)
     }
 
-    /// The place that is given, or 0.
+    /// The argument `place`, or 0.
     pub fn place(&self) -> usize {
         self.text("place").parse().unwrap_or(0)
     }
 
-    /// The port that an argument is, or 0.
+    /// The port of an argument, or 0.
     fn port(&self, name: &str) -> u16 {
         self.text(name).parse().unwrap_or(0)
     }
 
-    /// The address that an argument is, or 0.0.0.0.
+    /// The address of an argument, or 0.0.0.0.
     pub fn address(&self, name: &str) -> [u8; 4] {
         parse_address(self.text(name)).unwrap_or([0; 4])
     }
 
-    /// A copy of the peer `ip`, `port`, `host` and `info`.
+    /// A peer of the arguments `ip`, `port`, `host` and `info`.
     pub fn peer(&self, alloc: Global) -> Result<Peer, PeerFault> {
         let (ip, port) = (self.address("ip"), self.port("port"));
         let peer = Peer::new(alloc, ip, port, self.known("host"), self.known("info"))?;
         Ok(peer.copy()?)
     }
 
-    /// A copy of the server's end `local_ip`, `local_port` and `local_host`.
+    /// A server's end of the arguments `local_ip`, `local_port` and `local_host`.
     pub fn local(&self, alloc: Global) -> Result<Local, AllocError> {
         let (ip, port) = (self.address("local_ip"), self.port("local_port"));
-        match self.known("local_host") {
-            Some(host) => Local::new(ip, port, Some(String::from_str(alloc, host)?)).copy(alloc),
-            None => Local::new(ip, port, None).copy(alloc),
-        }
+        let host = match self.known("local_host") {
+            Some(host) => Some(String::from_str(alloc, host)?),
+            None => None,
+        };
+        Ok(Local::new(ip, port, host))
     }
 }
 

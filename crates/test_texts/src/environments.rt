@@ -23,16 +23,13 @@ pub fn push_built(
     }
 }
 
-/// Adds how many variables there are, whether there is none, each at its place, what is behind the last, and one by its name.
+/// Adds the variables in their order, and the value of one by its name.
 fn push_all(given: &Arguments<'_>, variables: &Environment, out: &mut Answer) {
-    out.number(variables.len() as u64);
-    out.text(" ");
-    out.show(&variables.is_empty());
-    out.text("\n");
-    for place in 0..variables.len() {
-        out.debug_line(&variables.at(place));
+    for (name, value) in variables.iter() {
+        out.text(name.as_str());
+        out.text("=");
+        out.line(value.as_str());
     }
-    out.debug_line(&variables.at(variables.len()));
     out.debug_line(&variables.get(given.text("name")));
 }
 

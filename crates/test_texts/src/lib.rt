@@ -1,5 +1,7 @@
-//! Makes one call of rule texts, decisions, environments or host tables, and prints the answer. The first word names the call, and the words
-//! after it are its arguments, as `port=25`; those of `encode` are settings. With no words it does nothing.
+//! Makes one call of rule texts, decisions, environments or host tables, and prints the answer.
+//!
+//! The first word names the call, and the words behind it are its arguments, as `port=25`; those of `encode` are
+//! settings. Without words it does nothing.
 #![tactic(auto)]
 
 mod arguments;

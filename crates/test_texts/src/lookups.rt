@@ -13,7 +13,7 @@ pub fn push_address(given: &Arguments<'_>, out: &mut Answer) {
     out.debug_line(&parse_address(given.text("text")));
 }
 
-/// Adds what a call says of a peer, or why it is none.
+/// Adds what a call says of a peer, or why the arguments make none.
 pub fn push_lookup(alloc: Global, call: &str, given: &Arguments<'_>, out: &mut Answer) {
     match given.peer(alloc) {
         Ok(peer) => push_about(alloc, call, given, &peer, out),
@@ -58,7 +58,7 @@ fn push_decided(alloc: Global, call: &str, given: &Arguments<'_>, peer: &Peer, o
     }
 }
 
-/// What the rules of the standard input decide of a peer, or a source with a fault, or none.
+/// The decision for a peer: by the rules of the standard input, by a source with a fault, or without a file.
 fn decided(alloc: Global, given: &Arguments<'_>, peer: &Peer) -> Result<Decision, DecideFault> {
     match parse(alloc, given.input(), &Limits::profile()) {
         Ok(list) => decided_by(alloc, given, &list, peer),
@@ -66,7 +66,7 @@ fn decided(alloc: Global, given: &Arguments<'_>, peer: &Peer) -> Result<Decision
     }
 }
 
-/// What a list decides of a peer, or a source with a fault, or none.
+/// The decision for a peer: by a list, by a source with a fault, or without a file.
 fn decided_by(
     alloc: Global,
     given: &Arguments<'_>,
@@ -100,7 +100,7 @@ fn push_decisions(alloc: Global, decision: &Decision, out: &mut Answer) {
     }
 }
 
-/// Adds a decision in words: by what it was made, its verdict, and its settings.
+/// Adds a decision in words: what decided it, its verdict, and its settings.
 fn push_decision(decision: &Decision, out: &mut Answer) {
     match &decision.found {
         Found::Address(address) => {

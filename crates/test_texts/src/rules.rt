@@ -8,7 +8,7 @@ use rule_lines::{
 use std::alloc::{AllocError, Global};
 use test_parts::Answer;
 
-/// The limits that are given, or those of the tools.
+/// The limits in the arguments, or else those of the tools.
 fn limits_of(given: &Arguments<'_>) -> Limits {
     match given.known("line") {
         Some(_) => Limits {
@@ -55,7 +55,7 @@ fn push_list(alloc: Global, call: &str, given: &Arguments<'_>, list: &RuleList, 
     }
 }
 
-/// Adds how many rules there are, whether there is none, and their addresses or their codes with a `|` after each.
+/// Adds how many rules there are, whether there are none, and their addresses or codes with a `|` after each.
 fn push_parts(alloc: Global, call: &str, list: &RuleList, out: &mut Answer) {
     out.number(list.len() as u64);
     out.text(" ");
@@ -119,7 +119,7 @@ fn push_code(code: Option<&[u8]>, out: &mut Answer) {
     }
 }
 
-/// Adds the instruction of the code that is the standard input.
+/// Adds the instruction of the code on standard input.
 pub fn push_decoded(alloc: Global, given: &Arguments<'_>, out: &mut Answer) {
     match decode_instr(alloc, given.input()) {
         Ok(instr) => push_instr(alloc, &instr, out),

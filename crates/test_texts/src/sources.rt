@@ -1,4 +1,4 @@
-//! A source with a fault.
+//! A source of pairs with a fault.
 ghost use Rattle.std.specs.Prelude.{⊤};
 ghost use Rattle.rule_lines.specs.Lookups.Finding.{Absent};
 ghost use Rattle.rule_lines.specs.Lookups.Trust.{Unknown};
@@ -7,7 +7,7 @@ use rule_lines::{FindFault, Instr, ListPairs, PairSource, RuleList};
 use rule_lookup::{DecideFault, RuleSource, find_and_decode};
 use std::alloc::Global;
 
-/// A list that answers a fault, or else bytes that are no code, under one key or under all.
+/// A list that answers a fault, or bytes that are no code, under one key or under all.
 #[derive(Drop)]
 pub struct Faulty<'a> {
     pub list: &'a RuleList,
@@ -41,7 +41,7 @@ impl RuleSource for Faulty<'_> {
     }
 }
 
-/// The fault with a name, if it is one.
+/// The fault with a name, if there is one.
 pub fn fault_of(name: &str) -> Option<FindFault> {
     match name {
         "short" => Some(FindFault::Short),

@@ -1,4 +1,4 @@
-//! Connections of which each meets the same, over yards whose directories are made for it.
+//! Cases: in each the connections meet the same, over yards whose directories are made for it.
 use crate::served::{Case, YardSetting, serve_case, setting_of};
 use event_journals::{Counts, Full};
 use std::alloc::Global;

@@ -1,4 +1,4 @@
-//! Connections one after the other, which end in five ways by turns.
+//! Connections one after another, which end in five ways by turns.
 ghost use Rattle.std.specs.Prelude.{◌≡◌};
 ghost use Rattle.server_yard.specs.Kept.{HasNoEvents};
 
@@ -18,10 +18,10 @@ use test_parts::{
     yard_over,
 };
 
-/// The last kind of connection is denied.
+/// The rules: the last kind of connection is denied.
 const RULES: &[u8] = b"10.0.4.:deny\n:allow\n";
 
-/// Serves so many connections, and adds their report, the number of their events, and those that the journal lists.
+/// Serves a number of connections, and adds the report, the number of events, and the events that the journal lists.
 pub fn run_connections<L: Assumptions, J: Journal + Lists>(
     alloc: Global,
     blank: Blank,
@@ -109,7 +109,7 @@ fn serve_admitted<L: Assumptions, J: Journal>(
     }
 }
 
-/// Why a connection that opened the rules is given up, unless it is allowed; the first kind is not decided.
+/// Why a connection that opened the rules is given up, unless it is allowed. The first kind is given up undecided.
 fn decided<L: Assumptions, J: Journal>(
     alloc: Global,
     yard: &mut Yard<L, MemDir, J>,
@@ -129,7 +129,7 @@ fn decided<L: Assumptions, J: Journal>(
     }
 }
 
-/// The jobs of a kind of connection, which can't be started, have ended, or can't be waited for.
+/// The jobs of a kind of connection: they can't be started, have ended, or can't be waited for.
 fn jobs_of(kind: u8) -> EndedJobs {
     match kind {
         1 => EndedJobs::Failing(StartFault::NotFound),

@@ -1,4 +1,5 @@
-//! Lists of events, which stand on standard input as in a script of `rulesim`: what they come to, and what journals tell of them.
+//! Lists of events, which stand on standard input as in a script of `rulesim`: what they come to, and what journals
+//! tell of them.
 use crate::shown::add_report;
 use event_journals::{Counts, Full, Journal};
 use script_words::{Command, read_command};
@@ -7,8 +8,9 @@ use std::alloc::Global;
 use std::io::Read;
 use test_parts::{Answer, add_event};
 
-/// Reads the events on standard input, and adds what they come to or what a journal tells of them, as the name says; the numbers are two limits,
-/// or first the greatest caller.
+/// Reads the events on standard input, and adds what they come to or what a journal tells of them, by the name.
+///
+/// The numbers are the limit and the limit per address. For a journal the first is the greatest caller.
 pub fn run_events<R: Input>(
     rt: &R,
     alloc: Global,
@@ -29,7 +31,7 @@ pub fn run_events<R: Input>(
     }
 }
 
-/// Adds the events in lines to others, or answers that one of them is none.
+/// Reads the events in lines, and answers that one of them is none.
 fn read_events(alloc: Global, lines: &[u8], events: &mut Vec<Event>) -> bool {
     let Ok(lines) = str::from_utf8(lines) else {
         return false;
@@ -42,7 +44,7 @@ fn read_events(alloc: Global, lines: &[u8], events: &mut Vec<Event>) -> bool {
     true
 }
 
-/// Adds the event in a line to others, or answers that it is none.
+/// Reads the event in a line, or answers that it is none.
 fn read_event(alloc: Global, line: &str, events: &mut Vec<Event>) -> bool {
     match read_command(alloc, line.as_bytes()) {
         Ok(Command::Event(event)) => events.push(event).is_ok(),
@@ -50,7 +52,7 @@ fn read_event(alloc: Global, line: &str, events: &mut Vec<Event>) -> bool {
     }
 }
 
-/// Adds what the events come to under two limits, or why they come to nothing.
+/// Adds what the events come to under a limit and a limit per address, or why they come to nothing.
 fn add_replayed(alloc: Global, limit: u64, per_address: u64, events: &[Event], out: &mut Answer) {
     match replay(alloc, limit, per_address, events) {
         Ok(report) => add_report(&report, events.len() as u64, out),
@@ -58,7 +60,7 @@ fn add_replayed(alloc: Global, limit: u64, per_address: u64, events: &[Event], o
     }
 }
 
-/// Notes the events, by callers from 1 to a greatest one in turn, and adds their report and their number.
+/// Notes the events, by callers from 1 to a greatest one by turns, and adds the report and the number of events.
 fn note_all<J: Journal>(journal: &mut J, events: Vec<Event>, callers: u64, out: &mut Answer) {
     let mut caller = 0;
     for event in events {
@@ -76,7 +78,8 @@ fn note<J: Journal>(journal: &mut J, event: Event, caller: u64, out: &mut Answer
     }
 }
 
-/// The same by a journal that stores them; and then what it has at each place, from the one before the first to the one after the last.
+/// Notes the events in a journal that stores them, and adds what it has at each place, and at the places before the
+/// first and behind the last.
 fn add_stored(alloc: Global, events: Vec<Event>, callers: u64, out: &mut Answer) {
     let mut full = Full::new(alloc);
     note_all(&mut full, events, callers, out);

@@ -1,4 +1,4 @@
-//! An installation through a yard, one call of whose directory fails, and what a stop leaves after each step.
+//! An installation through a yard whose directory fails at one call, and what a stop leaves after each step.
 ghost use Rattle.std.specs.Prelude.{◌≡◌, IfSome, IsTrue};
 ghost use Rattle.server_yard.specs.Readers.{ReadersFind};
 ghost use Rattle.server_yard.specs.Yards.{yard_books, yard_rules, yard_state};
@@ -19,8 +19,10 @@ use test_parts::{Answer, names, stuck, with_rules, yard_over};
 /// More steps than an installation of one rule has.
 const STEPS: usize = 20;
 
-/// Installs `:deny` where `:allow` stands, and call `call` of the directory fails. Adds each answer with what stops then leave, and the
-/// events. The assumptions of the yard are met: its directory is honest, and has the rules file of a text that was installed.
+/// Installs `:deny` over `:allow`, while call `call` of the directory fails. It adds each answer with what stops then
+/// leave, and the events.
+///
+/// The assumptions of the yard are met: its directory is honest, and has the rules file of a text that was installed.
 pub fn run_installation<L: Assumptions>(alloc: Global, blank: Blank, call: u64, out: &mut Answer)
     requires name { blank.name ≡ L.name }
     requires parts { (blank.parts ≡ L.parts) × (blank.parts ≡ 1) }
@@ -49,8 +51,8 @@ fn yard_of<L: Assumptions>(
     yard_over(alloc, blank, dir, Missing::Drop, 1, Full::new(alloc))
 }
 
-/// A law of such a yard, whatever was installed by it: whatever a stop leaves, its rules file is whole, and since an installation is done it is
-/// that of its text or of a later one.
+/// A law of such a yard, whatever it installed. Its rules file is whole, whatever a stop leaves. Once an installation
+/// is done the file is that of its text or of a later one.
 fn keeps_whole<L: Assumptions>(yard: &Yard<L, FuseDir<MemDir>, Full>)
     requires met { IsTrue L.met }
     ensures { IfSome (yard_rules yard.now) (λ rules.
@@ -83,7 +85,7 @@ fn prepared(alloc: Global) -> io::Result<Install> {
     }
 }
 
-/// What the first step of an installation answers.
+/// The answer of the first step of an installation.
 fn begin<L: Assumptions, D: Dir + Drop>(
     alloc: Global,
     yard: &mut Yard<L, D, Full>,
@@ -98,7 +100,7 @@ fn begin<L: Assumptions, D: Dir + Drop>(
     }
 }
 
-/// Makes the further steps, and adds each answer, from that of the first one on.
+/// Makes the further steps, and adds each answer, that of the first step too.
 fn go_on<L: Assumptions>(
     alloc: Global,
     yard: &mut Yard<L, FuseDir<MemDir>, Full>,
@@ -115,7 +117,7 @@ fn go_on<L: Assumptions>(
     }
 }
 
-/// What a further step of an installation answers.
+/// The answer of a further step of an installation.
 fn step<L: Assumptions, D: Dir + Drop>(
     alloc: Global,
     yard: &mut Yard<L, D, Full>,

@@ -1,9 +1,11 @@
-//! Jobs whose wait fails so often before it answers, or that do not start.
+//! Jobs whose wait fails a number of times, or that do not start.
 ghost use Rattle.std.specs.Prelude.{◌≡◌, Err, false, ⊤};
 ghost use Rattle.connection_facts.specs.declared.outcome.Status.TheVariants.{Code};
 
 use crate::shown::peer_of;
-use child_jobs::{Job, Launcher, NoEnds, Place, Program, Running, Table, WaitFault, finish, start};
+use child_jobs::{
+    Job, Launcher, NoEnds, Place, PlaceTable, Program, Running, WaitFault, finish, start,
+};
 use connection_facts::{StartFault, Status};
 use std::alloc::Global;
 use std::snapshot::Snapshot;
@@ -11,10 +13,10 @@ use std::sync::ledger::{Blank, Ledger};
 use test_parts::{Answer, NoPipe};
 use ucspi_env::Environment;
 
-/// How often a job is waited for at most.
+/// The greatest number of waits for a job.
 const WAITS: usize = 10;
 
-/// A job whose wait fails so often before it answers, and that can be killed once.
+/// A job whose wait fails a number of times before it answers, and that can be killed once.
 struct Stubborn {
     fails: u64,
     is_killed: bool,
@@ -68,7 +70,7 @@ impl Job for Stubborn {
     }
 }
 
-/// Starts such a job, or none.
+/// A launcher of such a job, or of none.
 #[derive(Drop)]
 struct Stubborns(Result<u64, StartFault>);
 
@@ -92,7 +94,8 @@ impl Launcher for Stubborns {
     }
 }
 
-/// Adds what a child's start answers, then its pipe ends and two kills, and each wait until it has ended, with the place that it holds.
+/// Adds the answer of a child's start, then its pipe ends and two kills, and each wait until it has ended, with the
+/// place that it holds.
 pub fn run_job<L: Ledger>(
     alloc: Global,
     blank: Blank,
@@ -102,7 +105,7 @@ pub fn run_job<L: Ledger>(
     requires name { blank.name ≡ L.name }
     requires parts { (blank.parts ≡ L.parts) × (blank.parts ≡ 1) }
 {
-    match Table::<L>::new(alloc, blank, 1) {
+    match PlaceTable::<L>::new(alloc, blank, 1) {
         Ok(mut table) => {
             admit(alloc, &mut table, Stubborns(fails), out);
             drop(table);
@@ -111,8 +114,13 @@ pub fn run_job<L: Ledger>(
     }
 }
 
-/// Lets a peer in, and runs a child in its place.
-fn admit<L: Ledger>(alloc: Global, table: &mut Table<L>, launcher: Stubborns, out: &mut Answer) {
+/// Lets a peer in, and runs a child at its place.
+fn admit<L: Ledger>(
+    alloc: Global,
+    table: &mut PlaceTable<L>,
+    launcher: Stubborns,
+    out: &mut Answer,
+) {
     let Some(peer) = peer_of(alloc, 1) else {
         return out.fail();
     };
@@ -126,7 +134,7 @@ fn admit<L: Ledger>(alloc: Global, table: &mut Table<L>, launcher: Stubborns, ou
 /// A child from its start to its end.
 fn run_child<L: Ledger>(
     alloc: Global,
-    table: &mut Table<L>,
+    table: &mut PlaceTable<L>,
     place: Place<L>,
     launcher: Stubborns,
     out: &mut Answer,
@@ -153,7 +161,11 @@ fn started<L: Ledger>(
 }
 
 /// Asks for a child's pipe ends, kills it twice, and waits for it.
-fn wait_for<L: Ledger>(table: &mut Table<L>, mut running: Running<L, Stubborn>, out: &mut Answer) {
+fn wait_for<L: Ledger>(
+    table: &mut PlaceTable<L>,
+    mut running: Running<L, Stubborn>,
+    out: &mut Answer,
+) {
     kill_twice(&mut running, out);
     for _ in 0..WAITS {
         let Some(again) = wait_once(table, running, out) else {
@@ -176,9 +188,9 @@ fn kill_twice<L: Ledger>(running: &mut Running<L, Stubborn>, out: &mut Answer) {
     out.end_line();
 }
 
-/// Waits for a child once: it is back where that failed.
+/// Waits for a child once. It is handed back if that fails.
 fn wait_once<L: Ledger>(
-    table: &mut Table<L>,
+    table: &mut PlaceTable<L>,
     running: Running<L, Stubborn>,
     out: &mut Answer,
 ) -> Option<Running<L, Stubborn>> {
@@ -199,7 +211,7 @@ fn wait_once<L: Ledger>(
 }
 
 /// Gives a place back that is in use.
-fn leave<L: Ledger>(table: &mut Table<L>, place: Place<L>, out: &mut Answer) {
+fn leave<L: Ledger>(table: &mut PlaceTable<L>, place: Place<L>, out: &mut Answer) {
     out.count("place ", place.index() as u64);
     if table.is_used(place.index()) {
         table.leave(place);

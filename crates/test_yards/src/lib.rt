@@ -1,6 +1,8 @@
-//! Makes calls of a yard over directories in memory, of journals and of jobs, or serves connections by a yard, and prints what each answers. The
-//! words are the name of a case and its number, for some a second one; the cases of connections that are served have no number. With no words it
-//! does nothing.
+//! Makes calls of a yard over directories in memory, of journals and of jobs, or serves connections by a yard, and
+//! prints what each answers.
+//!
+//! The words are the name of a case and its number, for some a second number. The cases of connections that are served
+//! have none. Without words it does nothing.
 #![tactic(auto)]
 
 mod cases;
@@ -42,13 +44,13 @@ fn run_numbered(alloc: Global, name: &str, number: u64, out: &mut Answer) {
     }
 }
 
-/// Serves so many connections over a journal that counts their events.
+/// Serves a number of connections over a journal that counts their events.
 fn run_counted(alloc: Global, number: u64, out: &mut Answer) {
     let blank = Blank::new(number);
     run_connections::<Brand, Counts>(alloc, blank, Counts::new(), number, out);
 }
 
-/// Serves so many connections over a journal that stores their events.
+/// Serves a number of connections over a journal that stores their events.
 fn run_stored(alloc: Global, number: u64, out: &mut Answer) {
     let blank = Blank::new(number);
     run_connections::<Brand, Full>(alloc, blank, Full::new(alloc), number, out);
@@ -59,7 +61,7 @@ fn next_number(words: &mut Args) -> Option<u64> {
     words.next()?.as_str().parse().ok()
 }
 
-/// Runs a case that has a number, or two.
+/// Runs a case that has one number, or two.
 fn run_with_number<R: Input>(
     rt: &R,
     alloc: Global,
@@ -79,7 +81,7 @@ fn run_with_number<R: Input>(
     }
 }
 
-/// Runs the case that the first word names, and prints what its calls answer: nothing where one of them failed.
+/// Runs the case that the first word names, and prints the answers of its calls: nothing if one of them failed.
 ///
 /// # Errors
 /// The words name no case, a call failed, or the standard output did.

@@ -1,4 +1,4 @@
-//! A limit of 0, and a full yard.
+//! A yard with a limit of 0, and a full yard.
 ghost use Rattle.std.specs.Prelude.{◌≡◌, false};
 
 use crate::shown::peer_of;
@@ -10,7 +10,7 @@ use std::alloc::Global;
 use std::sync::ledger::Blank;
 use test_parts::Answer;
 
-/// Adds what a yard with a limit answers when it is made, and what two connections then get.
+/// Adds how a yard with a limit is made, and what two connections then get.
 pub fn run_limit<L: Assumptions>(alloc: Global, blank: Blank, limit: u64, out: &mut Answer)
     requires name { blank.name ≡ L.name }
     requires parts { (blank.parts ≡ L.parts) × (blank.parts ≡ limit) }

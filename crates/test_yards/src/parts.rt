@@ -1,4 +1,4 @@
-//! What the cases are made of: a launcher that counts, a writer that takes only so much, and damaged rules.
+//! The parts of the cases: a launcher that counts, a writer that takes a part, and damaged rules.
 ghost use Rattle.std.specs.Prelude.{◌≡◌, ◌⊎◌};
 ghost use Rattle.connection_facts.specs.declared.outcome.StartFault.TheVariants.{OutOfMemory};
 
@@ -12,13 +12,13 @@ use std::sync::atomic::{AtomicU64, Ordering};
 use test_parts::{EndedJob, EndedJobs, rules_name, stuck, with_rules};
 use ucspi_env::Environment;
 
-/// How many bytes the file of `:deny` is cut to: one less than it has.
+/// To how many bytes the file of `:deny` is cut: one less than it has.
 const CUT: usize = 2_073;
 
-/// How much memory a start takes.
+/// How much memory the start of a job takes.
 const ROOM: usize = 64;
 
-/// Starts a job, which takes memory, and counts that it was asked to.
+/// A launcher of a job, which takes memory and counts that it was asked.
 #[derive(Drop)]
 pub struct Counted<'a> {
     pub jobs: EndedJobs,
@@ -46,7 +46,7 @@ impl Launcher for Counted<'_> {
     }
 }
 
-/// A writer that takes so many bytes, and then fails.
+/// A writer that takes a number of bytes, and then fails.
 #[derive(Drop)]
 pub struct Narrow {
     pub room: usize,
@@ -69,7 +69,7 @@ impl Write for Narrow {
     }
 }
 
-/// Fills the room with the front of the rules file in a directory, or answers that it could not.
+/// Fills the room with the front of the rules file in a directory, or answers that it can't.
 fn read_rules(alloc: Global, dir: &mut MemDir, room: &mut [u8]) -> bool {
     let Ok(name) = rules_name(alloc) else {
         return false;
@@ -80,7 +80,7 @@ fn read_rules(alloc: Global, dir: &mut MemDir, room: &mut [u8]) -> bool {
     file.read_at(0, room) == Ok(room.len())
 }
 
-/// A directory in memory whose rules file is the front of what is compiled of `:deny`.
+/// A directory in memory whose rules file is a front of what is compiled of `:deny`.
 pub fn with_cut_rules(alloc: Global) -> io::Result<MemDir> {
     let mut bytes = [0; CUT];
     let mut dir = with_rules(alloc, b":deny\n")?;
@@ -90,7 +90,7 @@ pub fn with_cut_rules(alloc: Global) -> io::Result<MemDir> {
     Err(stuck())
 }
 
-/// Puts these bytes in the place of the rules file, or answers that it could not.
+/// Puts these bytes in place of the rules file, or answers that it can't.
 fn put_rules(alloc: Global, dir: &mut MemDir, bytes: &[u8]) -> bool {
     match rules_name(alloc) {
         Ok(name) => put(alloc, dir, &name, bytes).is_ok(),

@@ -23,15 +23,15 @@ use ucspi_env::{Environment, Local};
 /// What is written to each connection first.
 const BANNER: &[u8] = b"220 here\n";
 
-/// How many connections are served, one after the other, by a yard where one may be alive.
+/// How many connections are served, one after another, by a yard with one place.
 const CONNECTIONS: usize = 2;
 
-/// What the connections meet.
+/// What the connections of a case meet.
 #[derive(Clone, Copy, PartialEq, Eq)]
 pub enum Case {
-    /// No rules file, where that denies.
+    /// No rules file, and that denies.
     Missing,
-    /// No rules file, where that allows.
+    /// No rules file, and that allows.
     MissingAllowed,
     /// A rules file that allows.
     Allowed,
@@ -41,7 +41,7 @@ pub enum Case {
     NotFound,
     /// A rules file that was cut.
     Cut,
-    /// A rules file of which every read fails.
+    /// A rules file whose every read fails.
     UnreadStream,
     /// A directory whose first call fails.
     Directory,
@@ -49,7 +49,7 @@ pub enum Case {
     Banner,
 }
 
-/// What the connections of a case meet, by which plan they are served, and their two ends.
+/// The connections of a case: what they meet, by which plan they are served, and their two ends.
 #[derive(Drop)]
 pub struct YardSetting {
     case: Case,
@@ -110,7 +110,7 @@ fn rules_of(alloc: Global, case: Case) -> io::Result<MemDir> {
     }
 }
 
-/// Serves the connections by rules in memory, in a directory whose first call fails if the case is that.
+/// Serves the connections by rules in memory. In one case the directory's first call fails.
 fn serve_rules<L: Assumptions, J: Journal>(
     alloc: Global,
     blank: Blank,
@@ -157,7 +157,7 @@ fn serve_over<L: Assumptions, D: Dir + Drop, J: Journal>(
     }
 }
 
-/// What is decided where no rules file stands.
+/// What is decided if no rules file stands.
 fn missing_of(case: Case) -> Missing {
     match case {
         Case::MissingAllowed => Missing::Allow,
@@ -165,7 +165,7 @@ fn missing_of(case: Case) -> Missing {
     }
 }
 
-/// Serves the connections by the agent of a yard, one after the other.
+/// Serves the connections by the agent of a yard, one after another.
 fn serve_all<L: Assumptions, D: Dir + Drop, J: Journal>(
     alloc: Global,
     agent: &mut YardAgent<L, D, J>,
@@ -178,7 +178,7 @@ fn serve_all<L: Assumptions, D: Dir + Drop, J: Journal>(
     }
 }
 
-/// What starts the programs of a case.
+/// The launcher of the programs of a case.
 fn jobs_of(case: Case) -> EndedJobs {
     match case {
         Case::NotFound => EndedJobs::Failing(StartFault::NotFound),
@@ -186,7 +186,7 @@ fn jobs_of(case: Case) -> EndedJobs {
     }
 }
 
-/// What takes the banner of a case.
+/// The writer that takes the banner of a case.
 fn writer_of(case: Case) -> Narrow {
     Narrow {
         room: if case == Case::Banner { 3 } else { 100 },
@@ -208,8 +208,8 @@ fn serve<L: Assumptions, D: Dir + Drop, J: Journal>(
     }
 }
 
-/// Serves a connection that was let in, and adds how, how often a program was started, how many are alive then and how much of the banner was
-/// taken. A child that runs ends.
+/// Serves a connection that was let in. It adds how, how often a program was started, how many are alive then, and how
+/// much of the banner was taken. A child that runs ends.
 fn serve_by<L: Assumptions, D: Dir + Drop, J: Journal>(
     alloc: Global,
     agent: &mut YardAgent<L, D, J>,

@@ -1,4 +1,4 @@
-//! What is told of answers, events and decisions.
+//! Answers, events and decisions in words.
 use cdb_read::CdbFile;
 use connection_facts::Peer;
 use dir_calls::{Choice, Dir, MemDir, MemFile};
@@ -71,7 +71,7 @@ pub fn add_report(report: &Report, events: u64, out: &mut Answer) {
 
 /// A journal that may be able to list its events.
 pub trait Lists {
-    /// Adds all events, in the words of a script, where it stores them.
+    /// Adds all events, in the words of a script, if it stores them.
     fn add_events(&self, out: &mut Answer);
 }
 

@@ -1,11 +1,11 @@
-//! A directory whose rules file can be opened, and not read.
+//! A directory whose rules file can be opened and not read.
 ghost use Rattle.std.specs.Prelude.{[], ⊤, false};
 ghost use Rattle.dir_calls.specs.NoDirectory.{no_directory, not_honest};
 
 use dir_calls::{DeviceFault, Dir, DirFault, Name, RulesFile};
 use std::alloc::Global;
 
-/// A file of which every read fails.
+/// A file whose every read fails.
 #[derive(Drop)]
 pub struct UnreadFile;
 
@@ -27,7 +27,7 @@ impl RulesFile for UnreadFile {
     }
 }
 
-/// A directory where such a file stands under every name. Nothing is told of it, and nothing can be made in it.
+/// A directory where an unreadable file stands under every name. Nothing is told of it, and nothing can be made in it.
 #[derive(Drop)]
 pub struct UnreadStream;
 

@@ -3,12 +3,13 @@ ghost use Rattle.ucspi_tools.specs.Systems.{anything};
 
 use byte_streams::Patient;
 use connection_facts::Status;
+use fault_hints::{KeepingReader, Voice};
 use rules_tools::{
-    CheckFailure, ReviewFault, RulesFailure, run_review, run_tcprules, run_tcprulescheck,
+    CheckFailure, ReviewFault, RulesFailure, TcprulesFault, run_review, run_tcprules,
+    run_tcprulescheck,
 };
 use script_tool::{SimFault, run_script};
 use server_parts::ServerFault;
-use server_words::Mode;
 use std::fs::{File, Files};
 use std::io;
 use std::io::{BufWriter, Write};
@@ -38,9 +39,9 @@ impl<R, E, S, F, P> Calls for StandardCalls<'_, R, E, S, F, P>
 where
     R: Env + Input + Print + AllocGlobal + Files<File = File> + Clock,
     E: Write + Copy + Drop,
-    S: Fn(Mode, &[Vec<u8>], &mut Vec<u8>) -> Result<(), ServerFault>,
-    F: Fn(&[Vec<u8>]) -> Result<Status, BetweenFault>,
-    P: Fn(&[Vec<u8>]) -> Result<Status, BetweenFault>,
+    S: Fn(Voice, &[Vec<u8>], &mut Vec<u8>) -> Result<(), ServerFault>,
+    F: Fn(&[Vec<u8>], &mut Option<i32>) -> Result<Status, BetweenFault>,
+    P: Fn(&[Vec<u8>], &mut Option<i32>) -> Result<Status, BetweenFault>,
 {
     ghost ready = { λ calls. S.IsAlwaysCallable calls.serve × F.IsAlwaysCallable calls.fix × P.IsAlwaysCallable calls.record };
 
@@ -48,33 +49,38 @@ where
 
     fn serve(
         &self,
-        by_name: Mode,
+        voice: Voice,
         words: &[Vec<u8>],
         causes: &mut Vec<u8>,
     ) -> Result<(), ServerFault> {
-        (self.serve)(by_name, words, causes)
+        (self.serve)(voice, words, causes)
     }
 
     fn simulate(&self) -> Result<(), SimFault> {
         run_script(self.rt)
     }
 
-    fn install(&self, cdb: &str, tmp: &str) -> Result<(), RulesFailure> {
-        let mut reader = Patient::new(self.rt, self.rt.reader());
-        let mut errors = Patient::new(self.rt, self.errors);
+    fn install(&self, cdb: &str, tmp: &str, faulty: &mut Vec<u8>) -> Result<(), RulesFailure> {
         let alloc = self.rt.alloc();
+        let mut reader = KeepingReader::new(alloc, Patient::new(self.rt, self.rt.reader()));
+        let mut errors = Patient::new(self.rt, self.errors);
         let done = run_tcprules(alloc, self.rt, &mut reader, &mut errors, cdb, tmp);
+        if let Err(failure) = done
+            && let TcprulesFault::Line(fault) = failure.fault
+        {
+            reader.copy_line(fault.line, faulty);
+        }
         drop(errors);
         drop(reader);
         done
     }
 
-    fn review(&self) -> Result<bool, ReviewFault> {
+    fn review(&self, faulty: &mut Vec<u8>) -> Result<bool, ReviewFault> {
         let errors = Patient::new(self.rt, self.errors);
         let Ok(mut lines) = BufWriter::new(self.rt.alloc(), errors) else {
             return Err(ReviewFault::OutOfMemory);
         };
-        let outcome = self.review_on(&mut lines);
+        let outcome = self.review_on(&mut lines, faulty);
         drop(lines);
         outcome
     }
@@ -86,20 +92,28 @@ where
         told
     }
 
-    fn fix(&self, words: &[Vec<u8>]) -> Result<Status, BetweenFault> {
-        (self.fix)(words)
+    fn fix(&self, words: &[Vec<u8>], error: &mut Option<i32>) -> Result<Status, BetweenFault> {
+        (self.fix)(words, error)
     }
 
-    fn record(&self, words: &[Vec<u8>]) -> Result<Status, BetweenFault> {
-        (self.record)(words)
+    fn record(&self, words: &[Vec<u8>], error: &mut Option<i32>) -> Result<Status, BetweenFault> {
+        (self.record)(words, error)
     }
 }
 
 impl<R: Input + AllocGlobal + Clock, E, S, F, P> StandardCalls<'_, R, E, S, F, P> {
     // Looks over the rule text that standard input has, and writes all its warnings.
-    fn review_on<W: Write>(&self, lines: &mut W) -> Result<bool, ReviewFault> {
-        let mut reader = Patient::new(self.rt, self.rt.reader());
-        let outcome = run_review(self.rt.alloc(), &mut reader, lines);
+    fn review_on<W: Write>(
+        &self,
+        lines: &mut W,
+        faulty: &mut Vec<u8>,
+    ) -> Result<bool, ReviewFault> {
+        let alloc = self.rt.alloc();
+        let mut reader = KeepingReader::new(alloc, Patient::new(self.rt, self.rt.reader()));
+        let outcome = run_review(alloc, &mut reader, lines);
+        if let Err(ReviewFault::Text(fault)) = outcome {
+            reader.copy_line(fault.line, faulty);
+        }
         drop(reader);
         match (outcome, lines.flush()) {
             (Ok(_), Err(_)) => Err(ReviewFault::WriteFault),

@@ -9,8 +9,8 @@ mod calls;
 
 use byte_streams::Patient;
 use calls::StandardCalls;
+use fault_hints::Voice;
 use server_tool::run_tcpserver;
-use server_words::Mode;
 use std::io;
 use std::process::ExitCode;
 use stream_tools::started::SystemGiven;
@@ -22,11 +22,13 @@ fn main(rt: HostRuntime) -> ExitCode {
     let calls = StandardCalls {
         rt: &rt,
         errors: rt.stderr(),
-        serve: |mode: Mode, words: &[Vec<u8>], causes: &mut Vec<u8>| {
-            run_tcpserver(&rt, Patient::new(&rt, rt.stderr()), words, mode, causes)
+        serve: |voice: Voice, words: &[Vec<u8>], causes: &mut Vec<u8>| {
+            run_tcpserver(&rt, Patient::new(&rt, rt.stderr()), words, voice, causes)
         },
-        fix: |words: &[Vec<u8>]| run_fixcrio(&rt, words),
-        record: |words: &[Vec<u8>]| run_recordio(&rt, Patient::new(&rt, rt.stderr()), words),
+        fix: |words: &[Vec<u8>], error: &mut Option<i32>| run_fixcrio(&rt, words, error),
+        record: |words: &[Vec<u8>], error: &mut Option<i32>| {
+            run_recordio(&rt, Patient::new(&rt, rt.stderr()), words, error)
+        },
     };
     let mut tools = SystemTools {
         alloc,

@@ -19,7 +19,7 @@ option_or (Some name) later = Some name
 abbrev pub key_of : List ℕ → List ℕ → Option (List ℕ)
 key_of name ip = if nat_le (length name) 255 then Some (ip ++ lower name) else None
 
--- what the fields of a table know: of each key the first four bytes are an address, and the others a name
+-- what the fields of a table know; the first four bytes of a key are an address, and the others a name
 abbrev pub hosts_in : BTreeMap (List ℕ) (String Global) → BTreeSet (Vec ℕ) → Hosts
 hosts_in names keys = record {
   names = map (λ (e : List ℕ × String Global). (e.0, string_bytes e.1)) names.entries;
@@ -32,7 +32,7 @@ row_said Nothing = ignored
 row_said (Gives ip name) = gives ip (lower name.now)
 row_said (Has name ip) = says (lower name.now) ip
 
--- what is read of a line, of which there is none where it is bad
+-- what is read of a line: nothing if it is bad
 abbrev pub row_read : Option Said → Row
 row_read None = bad
 row_read (Some said) = row_said said

@@ -33,7 +33,7 @@ after_blanks line = drop (length (take_while is_blank line)) line
 abbrev pub second_word : List ℕ → List ℕ
 second_word line = after_blanks (drop (length (first_word line)) line)
 
--- a name and an address, which is none where the text was not one
+-- a name and an address, which is none if the text was not one
 abbrev pub says_by : List ℕ → Option (List ℕ) → Row
 says_by name None = bad
 says_by name (Some ip) = if is_host_name name then says (lower name) ip else bad
@@ -61,7 +61,7 @@ abbrev pub is_bad : Row → Bool
 is_bad bad = true
 is_bad row = false
 
--- the number of the first bad line, where the first of these is line n
+-- the number of the first bad line, if the first of these is line n
 abbrev pub first_bad : ℕ → List Row → Option ℕ
 first_bad n [] = None
 first_bad n (row ∷ rows) = if is_bad row then Some n else first_bad (n + 1) rows

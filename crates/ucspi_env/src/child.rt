@@ -13,7 +13,7 @@ use rule_lookup::Decision;
 use std::alloc::{AllocError, Global};
 use std::net::Ipv4Addr;
 
-/// The names that a connection gives, and that are never inherited.
+/// The names of the variables that a connection gives. They are never inherited.
 const OWN_NAMES: [&str; 8] = [
     "PROTO",
     "TCPLOCALIP",
@@ -25,8 +25,10 @@ const OWN_NAMES: [&str; 8] = [
     "TCPREMOTEINFO",
 ];
 
-/// The environment of a child (UCSPI-1996 and the page of `tcp-environ`): what is inherited, but for the names that the connection gives; over
-/// it what the connection tells; over these the settings of the rule that decided, in order.
+/// The environment of a child, by UCSPI-1996 and the page of `tcp-environ`.
+///
+/// It has what is inherited, without the names that a connection gives; over it what the connection tells; and over
+/// these the settings of the rule that decided, in order.
 ///
 /// # Errors
 /// There was no memory.
@@ -45,7 +47,7 @@ pub fn build(
     Ok(variables)
 }
 
-/// What is inherited.
+/// Copies what is inherited, without the names that a connection gives.
 fn inherit(alloc: Global, inherited: &Environment) -> Result<Environment, AllocError>
     ensures { IfOk result (λ variables. variables ≡ without_own inherited.now) }
 {
@@ -56,7 +58,7 @@ fn inherit(alloc: Global, inherited: &Environment) -> Result<Environment, AllocE
     Ok(variables)
 }
 
-/// Puts what the connection tells.
+/// Puts the variables of the connection.
 fn put_connection(
     alloc: Global,
     variables: &mut Environment,
@@ -98,7 +100,7 @@ fn put_port(
     variables.put(alloc, name, Buffer::new().format(port))
 }
 
-/// Puts a variable that may be unknown.
+/// Puts a variable, if its value is known.
 fn put_known(
     alloc: Global,
     variables: &mut Environment,
@@ -113,7 +115,6 @@ fn put_known(
     }
 }
 
-/// Puts the settings, in order.
 fn put_settings(
     alloc: Global,
     variables: &mut Environment,

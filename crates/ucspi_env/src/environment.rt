@@ -1,5 +1,5 @@
-//! Variables.
-ghost use Rattle.std.specs.Prelude.{◌≡◌, ◌==◌, [], length, slice_get, map, option_map, IfOk, OnOk, OnErr};
+//! The variables of a program.
+ghost use Rattle.std.specs.Prelude.{◌≡◌, [], length, map, IfOk, OnOk, OnErr};
 ghost use Rattle.connection_facts.specs.Peers.{given};
 ghost use Rattle.ucspi_env.specs.Variables.{value_of, variable_of, with_value, without_value};
 
@@ -8,7 +8,7 @@ use std::collections::BTreeMap;
 use std::collections::btree_map::Iter;
 use std::marker::Model;
 
-/// A value for each of some names.
+/// The variables of a program: a value for each of some names.
 #[derive(Drop)]
 pub struct Environment {
     variables: BTreeMap<String, String>,
@@ -23,7 +23,7 @@ impl Model for Environment {
 }
 
 impl Environment {
-    /// No variables.
+    /// An environment without variables.
     pub fn new(alloc: Global) -> Environment
         ensures { result ≡ [] }
     {
@@ -32,7 +32,7 @@ impl Environment {
         }
     }
 
-    /// Gives a name a value, in the place of the one before.
+    /// Gives a name a value, in place of the one before.
     ///
     /// # Errors
     /// There was no memory, and the variables are as before.
@@ -53,7 +53,7 @@ impl Environment {
         let _ = self.variables.remove(name);
     }
 
-    /// The value of a name.
+    /// The value of a name, if it has one.
     pub fn get(&self, name: &str) -> Option<&str>
         ensures { given result ≡ value_of self.now name.now }
     {
@@ -68,21 +68,6 @@ impl Environment {
         self.variables.len()
     }
 
-    /// Whether there are none.
-    pub fn is_empty(&self) -> bool
-        ensures { result ≡ (length self.now == 0) }
-    {
-        self.variables.is_empty()
-    }
-
-    /// The name and the value at a place, from 0, in the order of the names' bytes. It goes there from the first.
-    pub fn at(&self, place: usize) -> Option<(&str, &str)>
-        ensures { option_map (λ v. (v.0.now, v.1.now)) result ≡ slice_get self.now place }
-    {
-        let (name, value) = self.variables.iter().nth(place)?;
-        Some((name.as_str(), value.as_str()))
-    }
-
     /// The names and values, in the order of the names' bytes.
     pub fn iter(&self) -> Iter<'_, String, String>
         ensures { map variable_of result ≡ self.now }
@@ -90,7 +75,7 @@ impl Environment {
         self.variables.iter()
     }
 
-    /// Equal variables.
+    /// A copy of the variables.
     pub fn copy(&self, alloc: Global) -> Result<Environment, AllocError>
         ensures { IfOk result (λ copy. copy ≡ self.now) }
     {

@@ -1,4 +1,4 @@
-//! The host table.
+//! The host table, which knows names of addresses and addresses of names.
 ghost use Rattle.std.specs.Prelude.{◌≡◌, ◌⊎◌, ◌||◌, ℕ, List, Some, None, IfOk, IfErr, IfSome, OnOk, length};
 ghost use Rattle.rule_lines.specs.Lines.{trimmed};
 ghost use Rattle.rule_lookup.specs.Addresses.{ipv4_in};
@@ -19,13 +19,14 @@ use thiserror::Error;
 /// The length of the longest name.
 const LONGEST: usize = 255;
 
-/// The length of an address.
+/// The length of an address, in bytes.
 const ADDRESS: usize = 4;
 
-/// Why a host table is none.
-#[derive(Clone, Copy, PartialEq, Eq, Debug, Error)]
+/// Why a text is no host table.
+#[derive(Clone, Copy, Debug, Error)]
 pub enum HostFault {
-    /// This line, from 1, is the first that is neither ignored, nor an address and a name, nor a name and an address.
+    /// The line with this number, from 1, is the first bad one. It is not ignored, and is neither an address and a
+    /// name, nor a name and an address.
     #[error("host table line {0}")]
     BadLine(u64),
     /// There was no memory.
@@ -53,7 +54,7 @@ impl<T: Drop> From<AllocFailed<T>> for HostFault {
 #[derive(Drop)]
 pub struct HostTable {
     names: BTreeMap<[u8; 4], String>,
-    // of each address that a name has the four bytes, and then the name, in lower case
+    // for each address of a name its four bytes, and then the name in lower case
     addresses: BTreeSet<Vec<u8>>,
 }
 
@@ -75,11 +76,13 @@ enum Said<'a> {
 }
 
 impl HostTable {
-    /// The table of a text: `IP NAME` gives an address a name, of which the first counts, and `=NAME IP` says that a name has an address. Blanks
-    /// at a line's end are removed; empty lines and those that begin with `#` are ignored.
+    /// Reads the table of a text.
+    ///
+    /// A line `IP NAME` gives an address a name; the first such line counts. A line `=NAME IP` says that a name has an
+    /// address. Blanks at a line's end are removed. Empty lines, and those that begin with `#`, are ignored.
     ///
     /// # Errors
-    /// `BadLine` with the number of the first line that is bad; `OutOfMemory`.
+    /// `BadLine` with the number of the first bad line; `OutOfMemory`.
     pub fn read(alloc: Global, text: &[u8]) -> Result<HostTable, HostFault>
         ensures table { IfOk result (λ table.
             (first_bad 1 (rows_of text.now) ≡ None) × SaysAs table (rows_of text.now)) }
@@ -110,7 +113,7 @@ impl HostTable {
         Some(name.as_str())
     }
 
-    /// Whether the table says that a name, in whatever case, has an address. It takes no memory.
+    /// Whether the table says that a name has an address. Capital and small letters are the same. It takes no memory.
     pub fn confirms(&self, name: &str, ip: [u8; 4]) -> bool
         ensures { result ≡ confirms self.now name.now ip }
     {
@@ -121,7 +124,7 @@ impl HostTable {
         }
     }
 
-    /// Adds what a line says. Of an address the first name stays.
+    /// Adds what a line says. The first name of an address stays.
     fn add(&mut self, alloc: Global, said: Said<'_>) -> Result<(), HostFault>
         requires { HasHostName said }
         ensures names { OnOk result ((ip : List ℕ) → name_of self.new ip
@@ -148,7 +151,7 @@ impl HostTable {
     }
 }
 
-/// Writes an address, and a name in lower case after it, into the front of `room`, unless the name is too long.
+/// Writes an address, and behind it a name in lower case, into the front of `room`. `None` if the name is too long.
 fn write_key<'a>(room: &'a mut [u8; ADDRESS + LONGEST], name: &str, ip: [u8; 4]) -> Option<&'a [u8]>
     ensures key { given result ≡ key_of name.now ip }
     ensures address { IfSome result (λ _. length ip ≡ 4) }
@@ -163,7 +166,7 @@ fn write_key<'a>(room: &'a mut [u8; ADDRESS + LONGEST], name: &str, ip: [u8; 4])
     Some(&room[..end])
 }
 
-/// What a line says, or none where it is bad.
+/// What a line says, or `None` if it is bad.
 fn read_line(line: &[u8]) -> Option<Said<'_>>
     ensures row { row_read result ≡ row_of_trimmed (trimmed line.now) }
     ensures name { IfSome result HasHostName }
@@ -179,7 +182,7 @@ fn read_line(line: &[u8]) -> Option<Said<'_>>
     }
 }
 
-/// The first word of a line, and what stands after the blanks that follow it.
+/// The first word of a line, and what stands behind the blanks that follow it.
 fn split_words(line: &[u8]) -> (&[u8], &[u8])
     ensures first { result.0.now ≡ first_word line.now }
     ensures second { result.1.now ≡ second_word line.now }
@@ -192,7 +195,6 @@ fn split_words(line: &[u8]) -> (&[u8], &[u8])
     (first, skip_blanks(rest))
 }
 
-/// A text without the blanks before it.
 fn skip_blanks(text: &[u8]) -> &[u8]
     ensures { result.now ≡ after_blanks text.now }
 {
@@ -205,7 +207,7 @@ fn skip_blanks(text: &[u8]) -> &[u8]
     rest
 }
 
-/// The name of a host that these bytes are.
+/// These bytes as the name of a host, if they are one.
 fn host_name(bytes: &[u8]) -> Option<&str>
     ensures { given result ≡ host_name_in bytes.now }
 {
@@ -223,14 +225,13 @@ fn is_host_name(bytes: &[u8]) -> bool
     !bytes.is_empty() && bytes.len() <= LONGEST && are_visible(bytes)
 }
 
-/// Whether bytes are visible ASCII characters.
 fn are_visible(bytes: &[u8]) -> bool
     ensures { result ≡ are_visible bytes.now }
 {
     bytes.iter().all(u8::is_ascii_graphic)
 }
 
-/// The address that these bytes are.
+/// These bytes as an address, if they are one.
 fn address(bytes: &[u8]) -> Option<[u8; 4]>
     ensures { result ≡ ipv4_in bytes.now }
 {

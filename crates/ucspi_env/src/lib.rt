@@ -1,4 +1,4 @@
-//! What a child of `tcpserver` is told: its environment; and what the server knows of the names of hosts.
+//! The environment of a child of `tcpserver`, and what the server knows of the names of hosts.
 //!
 //! The crates above use `build`. It makes the environment in three layers: what is inherited without the names that a
 //! connection gives, what the connection tells, and the rule's settings in order. `HostTable::read` gives exactly what

@@ -1,12 +1,12 @@
 //! The server's end of a connection.
-ghost use Rattle.std.specs.Prelude.{◌≡◌, IfOk, option_map, string_bytes};
+ghost use Rattle.std.specs.Prelude.{◌≡◌, option_map, string_bytes};
 ghost use Rattle.connection_facts.specs.Peers.{given};
 ghost use Rattle.ucspi_env.specs.Ends.{LocalEnd};
 
-use std::alloc::{AllocError, Global};
 use std::marker::Model;
 
-/// The server's end of a connection: its address and port, and the name of its host where it is known, which may be empty.
+/// The server's end of a connection: its address and port, and the name of its host if it is known. That name may be
+/// empty.
 #[derive(Drop)]
 pub struct Local {
     ip: [u8; 4],
@@ -24,43 +24,28 @@ impl Model for Local {
 }
 
 impl Local {
-    /// An end with this address and port, and the name of its host where it is known.
+    /// An end with this address and port, and the name of its host if it is known.
     pub fn new(ip: [u8; 4], port: u16, host: Option<String>) -> Local
         ensures { result ≡ record { ip = ip; port = port; host = option_map string_bytes host } }
     {
         Local { ip, port, host }
     }
 
-    /// An equal end.
-    pub fn copy(&self, alloc: Global) -> Result<Local, AllocError>
-        ensures { IfOk result (λ local. local ≡ self.now) }
-    {
-        let host = match &self.host {
-            Some(host) => Some(String::from_str(alloc, host.as_str())?),
-            None => None,
-        };
-        Ok(Local {
-            ip: self.ip,
-            port: self.port,
-            host,
-        })
-    }
-
-    /// The address.
+    /// The address of the server's end.
     pub fn ip(&self) -> [u8; 4]
         ensures { result ≡ self.now.ip }
     {
         self.ip
     }
 
-    /// The port.
+    /// The port of the server's end.
     pub fn port(&self) -> u16
         ensures { result ≡ self.now.port }
     {
         self.port
     }
 
-    /// The name of its host, where it is known.
+    /// The name of its host, if it is known.
     pub fn host(&self) -> Option<&str>
         ensures { given result ≡ self.now.host }
     {

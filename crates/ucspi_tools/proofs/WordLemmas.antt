@@ -6,8 +6,10 @@ use Rattle.std.specs.List.{list_all}
 use Rattle.std.specs.Str.{is_utf8}
 use Rattle.std.proofs.lemmas.Str.{is_utf8-from_IsUtf8}
 use Rattle.stream_tools.proofs.WordLemmas.{is_utf8-no_text}
+use Rattle.fault_hints.specs.declared.voice.Detail.{Detail}
+use Rattle.fault_hints.specs.declared.voice.Voice.{Voice}
 use Rattle.ucspi_tools.specs.declared.tool.Tool.TheVariants.{Tcprules, Tcprulescheck}
-use Rattle.ucspi_tools.specs.Choices.{installs, checks, usage_of, tcprules_at, tcprulescheck_at}
+use Rattle.ucspi_tools.specs.Choices.{installs, checks, usage_of, detail_by, plain_detail, tcprules_at, tcprulescheck_at}
 
 -- the bytes of each word
 abbrev pub bytes_of : List (Vec ℕ Global) → List (List ℕ)
@@ -39,35 +41,37 @@ not_all_texts (w ∷ words) (suc i) word inside at no_text =
     ap (λ b. is_utf8 w.items && b) (not_all_texts words i word (omega arith) at no_text) ∙ and-false (is_utf8 w.items)
 
 -- what `tcprulescheck` has for its one word
-module _ (verbose : Bool) (words : List (Vec ℕ Global)) (word : Vec ℕ Global) (some : 1 ≤ length words) (few : length words < 2) (at : word ≡ get_or words 0 word) (bytes : List ℕ) (held : bytes ≡ word.items) where
-  check_by : (b : Bool) → is_utf8 bytes ≡ b → cond b (checks verbose bytes) (usage_of Tcprulescheck) ≡ tcprulescheck_at verbose (bytes_of words)
+module _ (voice : Voice) (verbose : Bool) (words : List (Vec ℕ Global)) (word : Vec ℕ Global) (some : 1 ≤ length words) (few : length words < 2) (at : word ≡ get_or words 0 word) (bytes : List ℕ) (held : bytes ≡ word.items) where
+  check_by : (b : Bool) → is_utf8 bytes ≡ b → cond b (checks (detail_by voice verbose) bytes) (usage_of (plain_detail voice) Tcprulescheck) ≡ tcprulescheck_at voice verbose (bytes_of words)
   check_by b text =
-      ap (λ t. cond t (checks verbose bytes) (usage_of Tcprulescheck)) (sym text)
-      ∙ sym (ap (tcprulescheck_at verbose) (one_word words word some few at ∙ ap (λ (w : List ℕ). w ∷ []) (sym held)))
+      ap (λ t. cond t (checks (detail_by voice verbose) bytes) (usage_of (plain_detail voice) Tcprulescheck)) (sym text)
+      ∙ sym (ap (tcprulescheck_at voice verbose) (one_word words word some few at ∙ ap (λ (w : List ℕ). w ∷ []) (sym held)))
 
-  pub checks-text : (cdb : List ℕ) → cdb ≡ bytes → IsUtf8 bytes → checks verbose cdb ≡ tcprulescheck_at verbose (bytes_of words)
-  checks-text cdb read text = ap (checks verbose) read ∙ check_by true (is_utf8-from_IsUtf8 bytes text)
+  pub checks-text : (detail : Detail) (cdb : List ℕ) → detail ≡ detail_by voice verbose → cdb ≡ bytes → IsUtf8 bytes → checks detail cdb ≡ tcprulescheck_at voice verbose (bytes_of words)
+  checks-text detail cdb told read text =
+      ap (λ (d : Detail). checks d cdb) told ∙ ap (checks (detail_by voice verbose)) read ∙ check_by true (is_utf8-from_IsUtf8 bytes text)
 
-  pub checks-no_text : ¬ IsUtf8 bytes → usage_of Tcprulescheck ≡ tcprulescheck_at verbose (bytes_of words)
+  pub checks-no_text : ¬ IsUtf8 bytes → usage_of (plain_detail voice) Tcprulescheck ≡ tcprulescheck_at voice verbose (bytes_of words)
   checks-no_text no_text = check_by false (is_utf8-no_text bytes no_text)
 
 -- and `tcprules` for its two
-module _ (verbose : Bool) (words : List (Vec ℕ Global)) (first second : Vec ℕ Global) (some : 2 ≤ length words) (few : length words < 3) (at_first : first ≡ get_or words 0 first) (at_second : second ≡ get_or words 1 second) (one other : List ℕ) (held_one : one ≡ first.items) (held_other : other ≡ second.items) where
-  install_by : (b : Bool) → (is_utf8 one && is_utf8 other) ≡ b → cond b (installs verbose one other) (usage_of Tcprules) ≡ tcprules_at verbose (bytes_of words)
+module _ (voice : Voice) (verbose : Bool) (words : List (Vec ℕ Global)) (first second : Vec ℕ Global) (some : 2 ≤ length words) (few : length words < 3) (at_first : first ≡ get_or words 0 first) (at_second : second ≡ get_or words 1 second) (one other : List ℕ) (held_one : one ≡ first.items) (held_other : other ≡ second.items) where
+  install_by : (b : Bool) → (is_utf8 one && is_utf8 other) ≡ b → cond b (installs (detail_by voice verbose) one other) (usage_of (plain_detail voice) Tcprules) ≡ tcprules_at voice verbose (bytes_of words)
   install_by b texts =
-      ap (λ t. cond t (installs verbose one other) (usage_of Tcprules)) (sym texts)
-      ∙ sym (ap (tcprules_at verbose) (two_words words first second some few at_first at_second
+      ap (λ t. cond t (installs (detail_by voice verbose) one other) (usage_of (plain_detail voice) Tcprules)) (sym texts)
+      ∙ sym (ap (tcprules_at voice verbose) (two_words words first second some few at_first at_second
       ∙ ap (λ (w : List ℕ). w ∷ second.items ∷ []) (sym held_one) ∙ ap (λ (w : List ℕ). one ∷ w ∷ []) (sym held_other)))
 
-  pub installs-texts : (cdb tmp : List ℕ) → (cdb ≡ one) × IsUtf8 one → (tmp ≡ other) × IsUtf8 other → installs verbose cdb tmp ≡ tcprules_at verbose (bytes_of words)
-  installs-texts cdb tmp read_one read_other =
-      ap (λ (w : List ℕ). installs verbose w tmp) read_one.0 ∙ ap (λ (w : List ℕ). installs verbose one w) read_other.0
+  pub installs-texts : (detail : Detail) (cdb tmp : List ℕ) → detail ≡ detail_by voice verbose → (cdb ≡ one) × IsUtf8 one → (tmp ≡ other) × IsUtf8 other → installs detail cdb tmp ≡ tcprules_at voice verbose (bytes_of words)
+  installs-texts detail cdb tmp told read_one read_other =
+      ap (λ (d : Detail). installs d cdb tmp) told ∙ ap (λ (w : List ℕ). installs (detail_by voice verbose) w tmp) read_one.0
+      ∙ ap (λ (w : List ℕ). installs (detail_by voice verbose) one w) read_other.0
       ∙ install_by true (ap (λ b. b && is_utf8 other) (is_utf8-from_IsUtf8 one read_one.1) ∙ is_utf8-from_IsUtf8 other read_other.1)
 
-  pub installs-first_no_text : ¬ IsUtf8 one → usage_of Tcprules ≡ tcprules_at verbose (bytes_of words)
+  pub installs-first_no_text : ¬ IsUtf8 one → usage_of (plain_detail voice) Tcprules ≡ tcprules_at voice verbose (bytes_of words)
   installs-first_no_text no_text =
       install_by false (ap (λ b. b && is_utf8 other) (is_utf8-no_text one no_text))
 
-  pub installs-second_no_text : IsUtf8 one → ¬ IsUtf8 other → usage_of Tcprules ≡ tcprules_at verbose (bytes_of words)
+  pub installs-second_no_text : IsUtf8 one → ¬ IsUtf8 other → usage_of (plain_detail voice) Tcprules ≡ tcprules_at voice verbose (bytes_of words)
   installs-second_no_text text no_text =
       install_by false (ap (λ b. b && is_utf8 other) (is_utf8-from_IsUtf8 one text) ∙ is_utf8-no_text other no_text)

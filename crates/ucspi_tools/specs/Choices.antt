@@ -3,57 +3,73 @@ use Rattle.std.specs.Prelude.{◌≡◌, ◌+◌, ℕ, Bool, true, false, ◌&&�
 use Rattle.std.specs.List.{list_all}
 use Rattle.std.specs.Str.{is_utf8}
 use Rattle.memchr.specs.Find.{IsLastByte, is_byte}
-use Rattle.server_words.specs.declared.mode.Mode.{Mode}
-use Rattle.server_words.specs.declared.mode.Mode.TheVariants.{HandedOver, Pumped}
+use Rattle.fault_hints.specs.Voices.{detail_of}
+use Rattle.fault_hints.specs.declared.voice.Detail.{Detail}
+use Rattle.fault_hints.specs.declared.voice.Detail.TheVariants.{Line}
+use Rattle.fault_hints.specs.declared.voice.Voice.{Voice}
+use Rattle.fault_hints.specs.declared.voice.Voice.TheVariants.{Plain, Helpful}
+use Rattle.server_words.specs.declared.level.Level.TheVariants.{Errors, All}
 use Rattle.stream_tools.specs.Programs.{texts_of}
 use Rattle.ucspi_tools.specs.declared.choice.ToolChoice.{ToolChoice}
 use Rattle.ucspi_tools.specs.declared.choice.ToolChoice.TheVariants as choice
+use Rattle.fault_hints.specs.declared.words.TheConstants.{OPTIONS}
+use Rattle.ucspi_tools.specs.declared.tool.TheConstants.{CHECK_WORDS, FILTER_WORDS, PROGRAM_WORDS, RULES_WORDS, SCRIPT_WORDS}
 use Rattle.ucspi_tools.specs.declared.tool.Tool.{Tool}
 use Rattle.ucspi_tools.specs.declared.tool.Tool.TheVariants.{Tcpserver, Rulesim, Tcprules, Tcprulescheck, Addcr, Delcr, Fixcrio, Recordio}
 
--- a run of `tcpserver` with its words, and how its connections are passed where these don't say it; of `rulesim`; of `tcprules`, whether it is to
--- tell causes, and the paths of the rules file and of the scratch file; of `tcprules` over a text alone, and whether a warning makes it fail; of
--- `tcprulescheck`, whether it is to tell causes, and the path of the rules file; of `addcr`; of `delcr`; of `fixcrio` and of `recordio` with a program and its arguments; the version of the program; a line for each
--- tool; the usage line of a tool; or that of `ucspi`
+-- a run of `tcpserver` in this voice with its words; of `rulesim`; of `tcprules` with the paths of the rules file and of the scratch file; of `tcprules`
+-- over a text alone, and whether a warning makes it fail; of `tcprulescheck` with the path of the rules file; of `addcr`; of `delcr`; of `fixcrio` and of
+-- `recordio` with a program and its arguments; the version of the program; a line for each tool; the words of a tool, a line each; the usage line of a
+-- tool; or that of `ucspi`. A detail says what is told behind the line of a fault
 pub data Wanted : Type 0 where
-  serves : Mode → List (List ℕ) → Wanted
+  serves : Voice → List (List ℕ) → Wanted
   simulates : Wanted
-  installs : Bool → List ℕ → List ℕ → Wanted
-  reviews : Bool → Wanted
-  checks : Bool → List ℕ → Wanted
+  installs : Detail → List ℕ → List ℕ → Wanted
+  reviews : Detail → Bool → Wanted
+  checks : Detail → List ℕ → Wanted
   adds : Wanted
   deletes : Wanted
-  fixes : List (List ℕ) → Wanted
-  records : List (List ℕ) → Wanted
+  fixes : Detail → List (List ℕ) → Wanted
+  records : Detail → List (List ℕ) → Wanted
   version : Wanted
   help : Wanted
-  usage_of : Tool → Wanted
+  help_of : Tool → Wanted
+  usage_of : Detail → Tool → Wanted
   usage : Wanted
 
 -- what a choice that was read is
 abbrev pub wanted : ToolChoice → Wanted
-wanted (choice.Tcpserver mode words) = serves mode (texts_of words.now)
+wanted (choice.Tcpserver voice words) = serves voice (texts_of words.now)
 wanted choice.Rulesim = simulates
-wanted (choice.Tcprules cdb tmp verbose) = installs verbose cdb.now tmp.now
-wanted (choice.Review strict) = reviews strict
-wanted (choice.Tcprulescheck cdb verbose) = checks verbose cdb.now
+wanted (choice.Tcprules cdb tmp detail) = installs detail cdb.now tmp.now
+wanted (choice.Review strict detail) = reviews detail strict
+wanted (choice.Tcprulescheck cdb detail) = checks detail cdb.now
 wanted choice.Addcr = adds
 wanted choice.Delcr = deletes
-wanted (choice.Fixcrio words) = fixes (texts_of words.now)
-wanted (choice.Recordio words) = records (texts_of words.now)
+wanted (choice.Fixcrio words detail) = fixes detail (texts_of words.now)
+wanted (choice.Recordio words detail) = records detail (texts_of words.now)
 wanted choice.Version = version
 wanted choice.Help = help
-wanted (choice.UsageOf tool) = usage_of tool
+wanted (choice.HelpOf tool) = help_of tool
+wanted (choice.UsageOf tool detail) = usage_of detail tool
 wanted choice.Usage = usage
 
--- a tool that has no words of its own
-abbrev pub alone : Wanted → Tool → List (List ℕ) → Wanted
-alone run tool [] = run
-alone run tool (word ∷ words) = usage_of tool
+-- what is told behind the line of a fault where the words say nothing of it, and where they ask for causes
+abbrev pub plain_detail : Voice → Detail
+plain_detail voice = detail_of voice Errors
 
--- the words of `tcpserver` are text; what they have to be beside that `read_server_words` tells
-abbrev pub tcpserver_by : Mode → List (List ℕ) → Wanted
-tcpserver_by mode words = if list_all is_utf8 words then serves mode words else usage_of Tcpserver
+abbrev pub detail_by : Voice → Bool → Detail
+detail_by voice true = detail_of voice All
+detail_by voice false = plain_detail voice
+
+-- a tool that has no words of its own
+abbrev pub alone : Voice → Wanted → Tool → List (List ℕ) → Wanted
+alone voice run tool [] = run
+alone voice run tool (word ∷ words) = usage_of (plain_detail voice) tool
+
+-- the words of `tcpserver` are text; what they have to be beside that `read_server_words` tells. Whether others ask for quiet is not known
+abbrev pub tcpserver_by : Voice → List (List ℕ) → Wanted
+tcpserver_by voice words = if list_all is_utf8 words then serves voice words else usage_of Line Tcpserver
 
 -- a first word `-v` asks for causes
 abbrev pub is_verbose : List (List ℕ) → Bool
@@ -69,9 +85,10 @@ abbrev pub operands : List (List ℕ) → List (List ℕ)
 operands words = operands_by (is_verbose words) words
 
 -- `tcprules` has two paths, which are text
-abbrev pub tcprules_at : Bool → List (List ℕ) → Wanted
-tcprules_at verbose (cdb ∷ tmp ∷ []) = if is_utf8 cdb && is_utf8 tmp then installs verbose cdb tmp else usage_of Tcprules
-tcprules_at verbose words = usage_of Tcprules
+abbrev pub tcprules_at : Voice → Bool → List (List ℕ) → Wanted
+tcprules_at voice verbose (cdb ∷ tmp ∷ []) =
+    if is_utf8 cdb && is_utf8 tmp then installs (detail_by voice verbose) cdb tmp else usage_of (plain_detail voice) Tcprules
+tcprules_at voice verbose words = usage_of (plain_detail voice) Tcprules
 
 -- a first word `-n` or `-N` asks for the warnings of a text alone; by the second a warning makes it fail
 abbrev pub strictness : List (List ℕ) → Option Bool
@@ -79,36 +96,36 @@ strictness [] = None
 strictness (word ∷ words) = if bytes_eq word (codes "-n") then Some false else (if bytes_eq word (codes "-N") then Some true else None)
 
 -- no other word goes with it
-abbrev pub tcprules_under : Option Bool → List (List ℕ) → Wanted
-tcprules_under (Some strict) words = alone (reviews strict) Tcprules (drop 1 words)
-tcprules_under None words = tcprules_at (is_verbose words) (operands words)
+abbrev pub tcprules_under : Voice → Option Bool → List (List ℕ) → Wanted
+tcprules_under voice (Some strict) words = alone voice (reviews (plain_detail voice) strict) Tcprules (drop 1 words)
+tcprules_under voice None words = tcprules_at voice (is_verbose words) (operands words)
 
-abbrev pub tcprules_by : List (List ℕ) → Wanted
-tcprules_by words = tcprules_under (strictness words) words
+abbrev pub tcprules_by : Voice → List (List ℕ) → Wanted
+tcprules_by voice words = tcprules_under voice (strictness words) words
 
 -- `tcprulescheck` has one
-abbrev pub tcprulescheck_at : Bool → List (List ℕ) → Wanted
-tcprulescheck_at verbose (cdb ∷ []) = if is_utf8 cdb then checks verbose cdb else usage_of Tcprulescheck
-tcprulescheck_at verbose words = usage_of Tcprulescheck
+abbrev pub tcprulescheck_at : Voice → Bool → List (List ℕ) → Wanted
+tcprulescheck_at voice verbose (cdb ∷ []) = if is_utf8 cdb then checks (detail_by voice verbose) cdb else usage_of (plain_detail voice) Tcprulescheck
+tcprulescheck_at voice verbose words = usage_of (plain_detail voice) Tcprulescheck
 
-abbrev pub tcprulescheck_by : List (List ℕ) → Wanted
-tcprulescheck_by words = tcprulescheck_at (is_verbose words) (operands words)
+abbrev pub tcprulescheck_by : Voice → List (List ℕ) → Wanted
+tcprulescheck_by voice words = tcprulescheck_at voice (is_verbose words) (operands words)
 
 -- a tool whose words are a program and its arguments, which are text
-abbrev pub with_program : Wanted → Tool → List (List ℕ) → Wanted
-with_program run tool [] = usage_of tool
-with_program run tool (word ∷ words) = if list_all is_utf8 (word ∷ words) then run else usage_of tool
+abbrev pub with_program : Voice → Wanted → Tool → List (List ℕ) → Wanted
+with_program voice run tool [] = usage_of (plain_detail voice) tool
+with_program voice run tool (word ∷ words) = if list_all is_utf8 (word ∷ words) then run else usage_of (plain_detail voice) tool
 
--- the mode is that of a server whose words don't say it
-abbrev pub run_of : Mode → Tool → List (List ℕ) → Wanted
-run_of mode Tcpserver words = tcpserver_by mode words
-run_of mode Rulesim words = alone simulates Rulesim words
-run_of mode Tcprules words = tcprules_by words
-run_of mode Tcprulescheck words = tcprulescheck_by words
-run_of mode Addcr words = alone adds Addcr words
-run_of mode Delcr words = alone deletes Delcr words
-run_of mode Fixcrio words = with_program (fixes words) Fixcrio words
-run_of mode Recordio words = with_program (records words) Recordio words
+-- in this voice
+abbrev pub run_of : Voice → Tool → List (List ℕ) → Wanted
+run_of voice Tcpserver words = tcpserver_by voice words
+run_of voice Rulesim words = alone voice simulates Rulesim words
+run_of voice Tcprules words = tcprules_by voice words
+run_of voice Tcprulescheck words = tcprulescheck_by voice words
+run_of voice Addcr words = alone voice adds Addcr words
+run_of voice Delcr words = alone voice deletes Delcr words
+run_of voice Fixcrio words = with_program voice (fixes (plain_detail voice) words) Fixcrio words
+run_of voice Recordio words = with_program voice (records (plain_detail voice) words) Recordio words
 
 -- the name of a tool
 abbrev pub name_of : Tool → List ℕ
@@ -143,6 +160,17 @@ purpose_text Delcr = codes "takes carriage returns at ends of lines away"
 purpose_text Fixcrio = codes "runs a program and puts missing carriage returns into its streams"
 purpose_text Recordio = codes "runs a program and records what it reads and writes"
 
+-- what its words are, a line each
+abbrev pub words_text : Tool → List ℕ
+words_text Tcpserver = OPTIONS.now
+words_text Rulesim = SCRIPT_WORDS.now
+words_text Tcprules = RULES_WORDS.now
+words_text Tcprulescheck = CHECK_WORDS.now
+words_text Addcr = FILTER_WORDS.now
+words_text Delcr = FILTER_WORDS.now
+words_text Fixcrio = PROGRAM_WORDS.now
+words_text Recordio = PROGRAM_WORDS.now
+
 -- the tool with a name
 abbrev pub tool_of : List ℕ → Option Tool
 tool_of name =
@@ -160,9 +188,9 @@ abbrev pub asked_by : List ℕ → List (List ℕ) → Wanted
 asked_by word [] = if bytes_eq word (codes "--version") then version else (if bytes_eq word (codes "--help") then help else usage)
 asked_by word (other ∷ words) = usage
 
--- the first word names the tool; `tcpserver` as a word of `ucspi` pumps its connections
+-- the first word names the tool, which is then `ucspi`'s
 abbrev pub run_by : Option Tool → List ℕ → List (List ℕ) → Wanted
-run_by (Some tool) word words = run_of Pumped tool words
+run_by (Some tool) word words = run_of Plain tool words
 run_by None word words = asked_by word words
 
 -- with no words it is `rulesim`
@@ -170,10 +198,16 @@ abbrev pub choice_by_word : List (List ℕ) → Wanted
 choice_by_word [] = simulates
 choice_by_word (tool ∷ words) = run_by (tool_of tool) tool words
 
--- the tool by whose name the program was called, with all words; else the one that the first word names. `tcpserver` by its own name hands its
--- connections over
+-- a tool by its own name: a word that stands alone may ask for the version or for help
+abbrev pub run_by_name : Tool → List (List ℕ) → Wanted
+run_by_name tool (word ∷ []) =
+    if bytes_eq word (codes "--version") then version
+    else (if bytes_eq word (codes "--help") then help_of tool else run_of Helpful tool (word ∷ []))
+run_by_name tool words = run_of Helpful tool words
+
+-- the tool by whose name the program was called, with all words; else the one that the first word names
 abbrev pub choice_called : Option Tool → List (List ℕ) → Wanted
-choice_called (Some tool) words = run_of HandedOver tool words
+choice_called (Some tool) words = run_by_name tool words
 choice_called None words = choice_by_word words
 
 -- what stands after a slash of a path
@@ -195,16 +229,17 @@ pub record CallsFor (path : List ℕ) (words : List (List ℕ)) (asked : Wanted)
 
 -- the tool that is asked for, if it is one
 abbrev pub tool_in : Wanted → Option Tool
-tool_in (serves mode words) = Some Tcpserver
+tool_in (serves voice words) = Some Tcpserver
 tool_in simulates = Some Rulesim
-tool_in (installs verbose cdb tmp) = Some Tcprules
-tool_in (reviews strict) = Some Tcprules
-tool_in (checks verbose cdb) = Some Tcprulescheck
+tool_in (installs detail cdb tmp) = Some Tcprules
+tool_in (reviews detail strict) = Some Tcprules
+tool_in (checks detail cdb) = Some Tcprulescheck
 tool_in adds = Some Addcr
 tool_in deletes = Some Delcr
-tool_in (fixes words) = Some Fixcrio
-tool_in (records words) = Some Recordio
+tool_in (fixes detail words) = Some Fixcrio
+tool_in (records detail words) = Some Recordio
 tool_in version = None
 tool_in help = None
-tool_in (usage_of tool) = Some tool
+tool_in (help_of tool) = Some tool
+tool_in (usage_of detail tool) = Some tool
 tool_in usage = None

@@ -54,7 +54,7 @@ server_exit fault = 111
 
 -- 100 for wrong words; a stream or standard output that fails, a program that can't be run, and want of memory are faults of the system
 abbrev pub exit_of : ToolFault → ℕ
-exit_of (tool.UsageOf tool) = 100
+exit_of (tool.UsageOf tool detail) = 100
 exit_of tool.Usage = 100
 exit_of (tool.Server fault) = server_exit fault
 exit_of (tool.Script fault) = script_exit fault

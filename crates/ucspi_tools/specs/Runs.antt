@@ -21,7 +21,7 @@ Tells T = List ℕ → ToolFault → T → T → Type 0
 
 -- what was asked for was run, and nothing else; wrong words run nothing
 abbrev pub Ran : {T : Type 0} → Does T → Wanted → T → T → Answer → Type 0
-Ran does (usage_of tool) old new answer = (new ≡ old) × (answer ≡ Err (fault.UsageOf tool))
+Ran does (usage_of detail tool) old new answer = (new ≡ old) × (answer ≡ Err (fault.UsageOf tool detail))
 Ran does usage old new answer = (new ≡ old) × (answer ≡ Err fault.Usage)
 Ran does asked old new answer = does asked old new answer
 

@@ -7,15 +7,19 @@ use Rattle.rules_tools.specs.declared.tcprules.RulesFailure.{RulesFailure}
 use Rattle.rules_tools.specs.declared.tcprulescheck.CheckFailure.{CheckFailure}
 use Rattle.script_tool.specs.declared.sim.SimFault.{SimFault}
 use Rattle.server_parts.specs.declared.fault.ServerFault.{ServerFault}
-use Rattle.server_words.specs.declared.mode.Mode.{Mode}
+use Rattle.fault_hints.specs.declared.voice.Detail.{Detail}
+use Rattle.fault_hints.specs.declared.voice.Voice.{Voice}
 use Rattle.stream_tools.specs.Filters.{Came}
 use Rattle.stream_tools.specs.declared.between.BetweenFault.{BetweenFault}
 use Rattle.stream_tools.specs.declared.filter.FilterFault.{FilterFault}
+use Rattle.ucspi_tools.specs.Causes.{help_text}
 use Rattle.ucspi_tools.specs.Choices as asked
+use Rattle.ucspi_tools.specs.Choices.{usage_text, words_text}
 use Rattle.ucspi_tools.specs.Exits.{status_exit, warned_exit}
 use Rattle.ucspi_tools.specs.Runs.{Answer, Does}
 use Rattle.ucspi_tools.specs.declared.fault.ToolFault.{ToolFault}
 use Rattle.ucspi_tools.specs.declared.fault.ToolFault.TheVariants as kind
+use Rattle.ucspi_tools.specs.declared.tool.Tool.{Tool}
 
 -- what is left of a call that answers nothing but its fault: exit code 0, or that fault
 abbrev pub answered : {F : Type 0} → (F → ToolFault) → Result (Unit {0}) F → Answer
@@ -39,7 +43,7 @@ Filtered made read left written holds own =
 
 -- what is known of the answers of calls that are lent, each with the words that it was given
 pub record Answers (C : Type 0) : Type 1 where
-  pub serves : C → Mode → List (List ℕ) → Result (Unit {0}) ServerFault → Type 0
+  pub serves : C → Voice → List (List ℕ) → Result (Unit {0}) ServerFault → Type 0
   pub simulates : C → Result (Unit {0}) SimFault → Type 0
   pub installs : C → List ℕ → List ℕ → Result (Unit {0}) RulesFailure → Type 0
   pub reviews : C → Result Bool ReviewFault → Type 0
@@ -51,7 +55,7 @@ pub record Answers (C : Type 0) : Type 1 where
 abbrev pub anything : {C : Type 0} → Answers C
 anything =
     record {
-      serves = λ calls mode words own. Unit {0};
+      serves = λ calls voice words own. Unit {0};
       simulates = λ calls own. Unit {0};
       installs = λ calls cdb tmp own. Unit {0};
       reviews = λ calls own. Unit {0};
@@ -62,15 +66,16 @@ anything =
 
 -- what each tool does: how the tools stand before and after, and its own answer
 pub record Parts (T : Type 0) : Type 1 where
-  pub serves : Mode → List (List ℕ) → T → T → Result (Unit {0}) ServerFault → Type 0
+  pub serves : Voice → List (List ℕ) → T → T → Result (Unit {0}) ServerFault → Type 0
   pub simulates : T → T → Result (Unit {0}) SimFault → Type 0
-  pub installs : Bool → List ℕ → List ℕ → T → T → Result (Unit {0}) RulesFailure → Type 0
-  pub reviews : T → T → Result Bool ReviewFault → Type 0
-  pub checks : Bool → List ℕ → T → T → Result (Unit {0}) CheckFailure → Type 0
+  pub installs : Detail → List ℕ → List ℕ → T → T → Result (Unit {0}) RulesFailure → Type 0
+  pub reviews : Detail → T → T → Result Bool ReviewFault → Type 0
+  pub checks : Detail → List ℕ → T → T → Result (Unit {0}) CheckFailure → Type 0
   pub adds : T → T → Result (Unit {0}) FilterFault → Type 0
   pub deletes : T → T → Result (Unit {0}) FilterFault → Type 0
-  pub fixes : List (List ℕ) → T → T → Result Status BetweenFault → Type 0
-  pub records : List (List ℕ) → T → T → Result Status BetweenFault → Type 0
+  pub fixes : Detail → List (List ℕ) → T → T → Result Status BetweenFault → Type 0
+  pub records : Detail → List (List ℕ) → T → T → Result Status BetweenFault → Type 0
+  pub helps : Tool → T → T → Answer → Type 0
 
 -- a tool did its part, and the program's answer is what that answer makes
 abbrev pub By : {A : Type 0} → (A → Type 0) → (A → Answer) → Answer → Type 0
@@ -80,17 +85,23 @@ By {A} part told answer = (own : A) × part own × (answer ≡ told own)
 abbrev pub IsWritten : Answer → Type 0
 IsWritten answer = (answer ≡ Ok 0) ⊎ (answer ≡ Err kind.WriteFault)
 
+-- the words of a tool are written, or a write fault is told
+abbrev pub HelpIsWritten : Tool → Option (List ℕ) → Option (List ℕ) → Answer → Type 0
+HelpIsWritten tool before now answer =
+    ((answer ≡ Ok 0) × Appends before now (help_text (usage_text tool) (words_text tool))) ⊎ (answer ≡ Err kind.WriteFault)
+
 -- what was asked for is done by the part of its tool
 abbrev pub does_by : {T : Type 0} → Parts T → Does T
-does_by parts (asked.serves mode words) old new answer = By (parts.serves mode words old new) (answered kind.Server) answer
+does_by parts (asked.serves voice words) old new answer = By (parts.serves voice words old new) (answered kind.Server) answer
 does_by parts asked.simulates old new answer = By (parts.simulates old new) (answered kind.Script) answer
-does_by parts (asked.installs verbose cdb tmp) old new answer =
-    By (parts.installs verbose cdb tmp old new) (answered (λ (failure : RulesFailure). kind.Rules failure.fault)) answer
-does_by parts (asked.reviews strict) old new answer = By (parts.reviews old new) (answered_review strict) answer
-does_by parts (asked.checks verbose cdb) old new answer =
-    By (parts.checks verbose cdb old new) (answered (λ (failure : CheckFailure). kind.Check failure.fault)) answer
+does_by parts (asked.installs detail cdb tmp) old new answer =
+    By (parts.installs detail cdb tmp old new) (answered (λ (failure : RulesFailure). kind.Rules failure.fault)) answer
+does_by parts (asked.reviews detail strict) old new answer = By (parts.reviews detail old new) (answered_review strict) answer
+does_by parts (asked.checks detail cdb) old new answer =
+    By (parts.checks detail cdb old new) (answered (λ (failure : CheckFailure). kind.Check failure.fault)) answer
 does_by parts asked.adds old new answer = By (parts.adds old new) (answered kind.Filter) answer
 does_by parts asked.deletes old new answer = By (parts.deletes old new) (answered kind.Filter) answer
-does_by parts (asked.fixes words) old new answer = By (parts.fixes words old new) answered_status answer
-does_by parts (asked.records words) old new answer = By (parts.records words old new) answered_status answer
+does_by parts (asked.fixes detail words) old new answer = By (parts.fixes detail words old new) answered_status answer
+does_by parts (asked.records detail words) old new answer = By (parts.records detail words old new) answered_status answer
+does_by parts (asked.help_of tool) old new answer = parts.helps tool old new answer
 does_by parts asked old new answer = IsWritten answer

@@ -3,19 +3,20 @@ ghost use Rattle.std.specs.Prelude.{◌≡◌, drop};
 ghost use Rattle.std.specs.List.{list_all};
 ghost use Rattle.std.specs.Str.{is_utf8};
 ghost use Rattle.stream_tools.specs.Programs.{texts_of};
-ghost use Rattle.ucspi_tools.specs.Choices.{CallsFor, IsLastPart, alone, asked_by, choice_by_word, is_verbose, operands, reviews, run_of, strictness, tcprules_by, tcprules_at, tcprulescheck_by, tcprulescheck_at, tcpserver_by, tool_in, wanted, with_program};
+ghost use Rattle.ucspi_tools.specs.Choices.{CallsFor, Wanted, IsLastPart, alone, asked_by, choice_by_word, detail_by, is_verbose, operands, plain_detail, reviews, run_by_name, run_of, strictness, tcprules_by, tcprules_at, tcprulescheck_by, tcprulescheck_at, tcpserver_by, tool_in, wanted, with_program};
 
 use crate::tool::Tool;
+use fault_hints::{Detail, Voice};
 use memchr::memrchr;
-use server_words::Mode;
+use server_words::Level;
 
 /// What words ask for.
 #[derive(Clone, Copy)]
 pub enum ToolChoice<'a> {
     /// A run of `tcpserver`.
     Tcpserver {
-        /// How connections are passed to programs where the words don't say it.
-        by_name: Mode,
+        /// Whom it speaks to.
+        voice: Voice,
         /// Its words, each UTF-8.
         words: &'a [Vec<u8>],
     },
@@ -27,17 +28,22 @@ pub enum ToolChoice<'a> {
         cdb: &'a str,
         /// The path of the scratch file.
         tmp: &'a str,
-        /// Whether the cause of a fault of the system is told.
-        verbose: bool,
+        /// What is told behind the line of a fault.
+        detail: Detail,
     },
-    /// A run of `tcprules` over a text alone, and whether a warning makes it fail.
-    Review(bool),
+    /// A run of `tcprules` over a text alone.
+    Review {
+        /// Whether a warning makes it fail.
+        strict: bool,
+        /// What is told behind the line of a fault.
+        detail: Detail,
+    },
     /// A run of `tcprulescheck` with the path of the rules file.
     Tcprulescheck {
         /// That path.
         cdb: &'a str,
-        /// Whether the cause of a fault of the system is told.
-        verbose: bool,
+        /// What is told behind the line of a fault.
+        detail: Detail,
     },
     /// A run of `addcr`.
     Addcr,
@@ -47,18 +53,29 @@ pub enum ToolChoice<'a> {
     Fixcrio {
         /// Its path and arguments: at least the path, and each is UTF-8.
         words: &'a [Vec<u8>],
+        /// What is told behind the line of a fault.
+        detail: Detail,
     },
     /// A run of `recordio` with a program.
     Recordio {
         /// Its path and arguments: at least the path, and each is UTF-8.
         words: &'a [Vec<u8>],
+        /// What is told behind the line of a fault.
+        detail: Detail,
     },
     /// The version of the program.
     Version,
     /// A line for each tool.
     Help,
+    /// The words of a tool, a line each.
+    HelpOf(Tool),
     /// The usage line of a tool.
-    UsageOf(Tool),
+    UsageOf {
+        /// The tool.
+        tool: Tool,
+        /// What is told behind it.
+        detail: Detail,
+    },
     /// The usage line of `ucspi`.
     Usage,
 }
@@ -72,26 +89,26 @@ impl ToolChoice<'_> {
             ToolChoice::Tcpserver { .. } => Some(Tool::Tcpserver),
             ToolChoice::Rulesim => Some(Tool::Rulesim),
             ToolChoice::Tcprules { .. } => Some(Tool::Tcprules),
-            ToolChoice::Review(_) => Some(Tool::Tcprules),
+            ToolChoice::Review { .. } => Some(Tool::Tcprules),
             ToolChoice::Tcprulescheck { .. } => Some(Tool::Tcprulescheck),
             ToolChoice::Addcr => Some(Tool::Addcr),
             ToolChoice::Delcr => Some(Tool::Delcr),
             ToolChoice::Fixcrio { .. } => Some(Tool::Fixcrio),
             ToolChoice::Recordio { .. } => Some(Tool::Recordio),
-            ToolChoice::UsageOf(tool) => Some(*tool),
+            ToolChoice::HelpOf(tool) => Some(*tool),
+            ToolChoice::UsageOf { tool, .. } => Some(*tool),
             ToolChoice::Version | ToolChoice::Help | ToolChoice::Usage => None,
         }
     }
 }
 
 /// What a command line asks for: the path by which the program was called, and the words after it. Where the last part of that path is a
-/// tool's name, that is the tool, and all words are its own; else the first word names the tool. `tcpserver` hands connections over by its own
-/// name, and pumps them as a word of `ucspi`, where its words don't say it.
+/// tool's name, that is the tool, which speaks to a person, and all words are its own; else the first word names the tool.
 pub fn choose<'a>(path: &[u8], words: &'a [Vec<u8>]) -> ToolChoice<'a>
     ensures { CallsFor path.now (texts_of words.now) (wanted result) }
 {
     match Tool::named(last_part(path)) {
-        Some(tool) => choose_tool(tool, words, Mode::HandedOver),
+        Some(tool) => choose_by_name(tool, words),
         None => choose_by_word(words),
     }
 }
@@ -106,6 +123,17 @@ fn last_part(path: &[u8]) -> &[u8]
     }
 }
 
+/// What the words of a tool ask for that was called by its own name.
+fn choose_by_name(tool: Tool, words: &[Vec<u8>]) -> ToolChoice<'_>
+    ensures { wanted result ≡ run_by_name tool (texts_of words.now) }
+{
+    match words {
+        [word] if word.as_slice() == VERSION.as_bytes() => ToolChoice::Version,
+        [word] if word.as_slice() == HELP.as_bytes() => ToolChoice::HelpOf(tool),
+        _ => choose_tool(tool, words, Voice::Helpful),
+    }
+}
+
 /// What words ask for of which the first names the tool.
 fn choose_by_word(words: &[Vec<u8>]) -> ToolChoice<'_>
     ensures { wanted result ≡ choice_by_word (texts_of words.now) }
@@ -114,7 +142,7 @@ fn choose_by_word(words: &[Vec<u8>]) -> ToolChoice<'_>
         return ToolChoice::Rulesim;
     };
     match Tool::named(tool) {
-        Some(tool) => choose_tool(tool, words, Mode::Pumped),
+        Some(tool) => choose_tool(tool, words, Voice::Plain),
         None => choose_about(tool, words),
     }
 }
@@ -139,52 +167,97 @@ fn choose_about<'a>(word: &[u8], words: &'a [Vec<u8>]) -> ToolChoice<'a>
     }
 }
 
-/// What the words of a tool ask for, of a server in this mode where they don't say it.
-fn choose_tool(tool: Tool, words: &[Vec<u8>], by_name: Mode) -> ToolChoice<'_>
-    ensures { wanted result ≡ run_of by_name tool (texts_of words.now) }
+/// What the words of a tool ask for, which speaks in this voice.
+fn choose_tool(tool: Tool, words: &[Vec<u8>], voice: Voice) -> ToolChoice<'_>
+    ensures { wanted result ≡ run_of voice tool (texts_of words.now) }
 {
+    let detail = plain_detail(voice);
     match tool {
-        Tool::Tcpserver => choose_texts(words, by_name),
-        Tool::Rulesim => choose_alone(ToolChoice::Rulesim, tool, words),
-        Tool::Addcr => choose_alone(ToolChoice::Addcr, tool, words),
-        Tool::Delcr => choose_alone(ToolChoice::Delcr, tool, words),
-        Tool::Tcprules => choose_tcprules(words),
-        Tool::Tcprulescheck => choose_tcprulescheck(words),
-        Tool::Fixcrio => choose_program(ToolChoice::Fixcrio { words }, tool, words),
-        Tool::Recordio => choose_program(ToolChoice::Recordio { words }, tool, words),
+        Tool::Tcpserver => choose_texts(words, voice),
+        Tool::Rulesim => choose_alone(ToolChoice::Rulesim, voice, tool, words),
+        Tool::Addcr => choose_alone(ToolChoice::Addcr, voice, tool, words),
+        Tool::Delcr => choose_alone(ToolChoice::Delcr, voice, tool, words),
+        Tool::Tcprules => choose_tcprules(voice, words),
+        Tool::Tcprulescheck => choose_tcprulescheck(voice, words),
+        Tool::Fixcrio => choose_program(ToolChoice::Fixcrio { words, detail }, voice, tool, words),
+        Tool::Recordio => choose_program(
+            ToolChoice::Recordio { words, detail },
+            voice,
+            tool,
+            words,
+        ),
     }
 }
 
+/// What is told behind the line of a fault where the words say nothing of it.
+fn plain_detail(voice: Voice) -> Detail
+    ensures { result ≡ plain_detail voice }
+{
+    voice.detail(Level::Errors)
+}
+
+/// The same, where they may ask for causes.
+fn detail_by(voice: Voice, verbose: bool) -> Detail
+    ensures { result ≡ detail_by voice verbose }
+{
+    if verbose {
+        voice.detail(Level::All)
+    } else {
+        plain_detail(voice)
+    }
+}
+
+/// The usage line of a tool.
+fn usage_of<'a>(voice: Voice, tool: Tool) -> ToolChoice<'a>
+    ensures { wanted result ≡ Wanted.usage_of (plain_detail voice) tool }
+{
+    let detail = plain_detail(voice);
+    ToolChoice::UsageOf { tool, detail }
+}
+
 /// The run of a tool that has no words of its own.
-fn choose_alone<'a>(run: ToolChoice<'a>, tool: Tool, words: &[Vec<u8>]) -> ToolChoice<'a>
-    ensures { wanted result ≡ alone (wanted run.entry) tool (texts_of words.now) }
+fn choose_alone<'a>(
+    run: ToolChoice<'a>,
+    voice: Voice,
+    tool: Tool,
+    words: &[Vec<u8>],
+) -> ToolChoice<'a>
+    ensures { wanted result ≡ alone voice (wanted run.entry) tool (texts_of words.now) }
 {
     if words.is_empty() {
         run
     } else {
-        ToolChoice::UsageOf(tool)
+        usage_of(voice, tool)
     }
 }
 
 /// The run of `tcpserver`, whose words have to be text.
-fn choose_texts(words: &[Vec<u8>], by_name: Mode) -> ToolChoice<'_>
-    ensures { wanted result ≡ tcpserver_by by_name (texts_of words.now) }
+fn choose_texts(words: &[Vec<u8>], voice: Voice) -> ToolChoice<'_>
+    ensures { wanted result ≡ tcpserver_by voice (texts_of words.now) }
 {
     if are_texts(words) {
-        ToolChoice::Tcpserver { by_name, words }
+        ToolChoice::Tcpserver { voice, words }
     } else {
-        ToolChoice::UsageOf(Tool::Tcpserver)
+        ToolChoice::UsageOf {
+            tool: Tool::Tcpserver,
+            detail: Detail::Line,
+        }
     }
 }
 
 /// The run of a tool whose words are a program's.
-fn choose_program<'a>(run: ToolChoice<'a>, tool: Tool, words: &[Vec<u8>]) -> ToolChoice<'a>
-    ensures { wanted result ≡ with_program (wanted run.entry) tool (texts_of words.now) }
+fn choose_program<'a>(
+    run: ToolChoice<'a>,
+    voice: Voice,
+    tool: Tool,
+    words: &[Vec<u8>],
+) -> ToolChoice<'a>
+    ensures { wanted result ≡ with_program voice (wanted run.entry) tool (texts_of words.now) }
 {
     if !words.is_empty() && are_texts(words) {
         run
     } else {
-        ToolChoice::UsageOf(tool)
+        usage_of(voice, tool)
     }
 }
 
@@ -211,14 +284,14 @@ fn is_text(word: &[u8]) -> bool
 }
 
 /// The run of `tcprules`.
-fn choose_tcprules(words: &[Vec<u8>]) -> ToolChoice<'_>
-    ensures { wanted result ≡ tcprules_by (texts_of words.now) }
+fn choose_tcprules(voice: Voice, words: &[Vec<u8>]) -> ToolChoice<'_>
+    ensures { wanted result ≡ tcprules_by voice (texts_of words.now) }
 {
     match strictness(words) {
-        Some(strict) => choose_review(strict, words),
+        Some(strict) => choose_review(voice, strict, words),
         None => {
             let (verbose, paths) = split_verbose(words);
-            choose_installation(verbose, paths)
+            choose_installation(voice, verbose, paths)
         }
     }
 }
@@ -241,22 +314,24 @@ fn strictness(words: &[Vec<u8>]) -> Option<bool>
 }
 
 /// The run over a text alone, for which the first of the words asks.
-fn choose_review(strict: bool, words: &[Vec<u8>]) -> ToolChoice<'_>
-    ensures { wanted result ≡ alone (reviews strict) Tool.Tcprules (drop 1 (texts_of words.now)) }
+fn choose_review(voice: Voice, strict: bool, words: &[Vec<u8>]) -> ToolChoice<'_>
+    ensures { wanted result
+        ≡ alone voice (reviews (plain_detail voice) strict) Tool.Tcprules (drop 1 (texts_of words.now)) }
 {
     if words.len() > 1 {
-        ToolChoice::UsageOf(Tool::Tcprules)
+        usage_of(voice, Tool::Tcprules)
     } else {
-        ToolChoice::Review(strict)
+        let detail = plain_detail(voice);
+        ToolChoice::Review { strict, detail }
     }
 }
 
 /// The run of `tcprulescheck`.
-fn choose_tcprulescheck(words: &[Vec<u8>]) -> ToolChoice<'_>
-    ensures { wanted result ≡ tcprulescheck_by (texts_of words.now) }
+fn choose_tcprulescheck(voice: Voice, words: &[Vec<u8>]) -> ToolChoice<'_>
+    ensures { wanted result ≡ tcprulescheck_by voice (texts_of words.now) }
 {
     let (verbose, paths) = split_verbose(words);
-    choose_check(verbose, paths)
+    choose_check(voice, verbose, paths)
 }
 
 /// The word that asks for causes, where it stands first.
@@ -274,27 +349,29 @@ fn split_verbose(words: &[Vec<u8>]) -> (bool, &[Vec<u8>])
 }
 
 /// The run of `tcprules` for these paths.
-fn choose_installation(verbose: bool, paths: &[Vec<u8>]) -> ToolChoice<'_>
-    ensures { wanted result ≡ tcprules_at verbose (texts_of paths.now) }
+fn choose_installation(voice: Voice, verbose: bool, paths: &[Vec<u8>]) -> ToolChoice<'_>
+    ensures { wanted result ≡ tcprules_at voice verbose (texts_of paths.now) }
 {
+    let detail = detail_by(voice, verbose);
     match paths {
         [cdb, tmp] => match (str::from_utf8(cdb), str::from_utf8(tmp)) {
-            (Ok(cdb), Ok(tmp)) => ToolChoice::Tcprules { cdb, tmp, verbose },
-            _ => ToolChoice::UsageOf(Tool::Tcprules),
+            (Ok(cdb), Ok(tmp)) => ToolChoice::Tcprules { cdb, tmp, detail },
+            _ => usage_of(voice, Tool::Tcprules),
         },
-        _ => ToolChoice::UsageOf(Tool::Tcprules),
+        _ => usage_of(voice, Tool::Tcprules),
     }
 }
 
 /// The run of `tcprulescheck` for this path.
-fn choose_check(verbose: bool, paths: &[Vec<u8>]) -> ToolChoice<'_>
-    ensures { wanted result ≡ tcprulescheck_at verbose (texts_of paths.now) }
+fn choose_check(voice: Voice, verbose: bool, paths: &[Vec<u8>]) -> ToolChoice<'_>
+    ensures { wanted result ≡ tcprulescheck_at voice verbose (texts_of paths.now) }
 {
+    let detail = detail_by(voice, verbose);
     match paths {
         [cdb] => match str::from_utf8(cdb) {
-            Ok(cdb) => ToolChoice::Tcprulescheck { cdb, verbose },
-            Err(_) => ToolChoice::UsageOf(Tool::Tcprulescheck),
+            Ok(cdb) => ToolChoice::Tcprulescheck { cdb, detail },
+            Err(_) => usage_of(voice, Tool::Tcprulescheck),
         },
-        _ => ToolChoice::UsageOf(Tool::Tcprulescheck),
+        _ => usage_of(voice, Tool::Tcprulescheck),
     }
 }

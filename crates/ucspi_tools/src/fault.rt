@@ -4,6 +4,7 @@ ghost use Rattle.ucspi_tools.specs.Exits.{check_exit, end_code, exit_of, review_
 
 use crate::tool::Tool;
 use connection_facts::Status;
+use fault_hints::Detail;
 use rules_tools::{CheckFault, ReviewFault, TcprulesFault};
 use script_tool::SimFault;
 use server_parts::ServerFault;
@@ -28,7 +29,7 @@ const LINE: usize = 512;
 pub enum ToolFault {
     /// The words are not those of this tool.
     #[error("usage: {usage}", usage = .0.usage())]
-    UsageOf(Tool),
+    UsageOf(Tool, Detail),
     /// The words ask for no tool.
     #[error("usage: ucspi TOOL ...")]
     Usage,
@@ -67,7 +68,7 @@ impl ToolFault {
         ensures { result ≡ exit_of self }
     {
         match self {
-            ToolFault::UsageOf(_) | ToolFault::Usage => BAD_INPUT,
+            ToolFault::UsageOf(..) | ToolFault::Usage => BAD_INPUT,
             ToolFault::Server(fault) => server_code(fault),
             ToolFault::Script(fault) => script_code(fault),
             ToolFault::Rules(fault) => rules_code(fault),

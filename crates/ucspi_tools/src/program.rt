@@ -82,18 +82,19 @@ fn run<T: Tools>(tools: &mut T, choice: ToolChoice<'_>) -> Result<u8, ToolFault>
     ensures { Ran T.does (wanted choice.entry) tools.old tools.new result }
 {
     match choice {
-        ToolChoice::Tcpserver { by_name, words } => tools.tcpserver(by_name, words),
+        ToolChoice::Tcpserver { voice, words } => tools.tcpserver(voice, words),
         ToolChoice::Rulesim => tools.rulesim(),
-        ToolChoice::Tcprules { cdb, tmp, verbose } => tools.tcprules(verbose, cdb, tmp),
-        ToolChoice::Review(strict) => tools.review(strict),
-        ToolChoice::Tcprulescheck { cdb, verbose } => tools.tcprulescheck(verbose, cdb),
+        ToolChoice::Tcprules { cdb, tmp, detail } => tools.tcprules(detail, cdb, tmp),
+        ToolChoice::Review { strict, detail } => tools.review(detail, strict),
+        ToolChoice::Tcprulescheck { cdb, detail } => tools.tcprulescheck(detail, cdb),
         ToolChoice::Addcr => tools.addcr(),
         ToolChoice::Delcr => tools.delcr(),
-        ToolChoice::Fixcrio { words } => tools.fixcrio(words),
-        ToolChoice::Recordio { words } => tools.recordio(words),
+        ToolChoice::Fixcrio { words, detail } => tools.fixcrio(detail, words),
+        ToolChoice::Recordio { words, detail } => tools.recordio(detail, words),
         ToolChoice::Version => tools.version(),
         ToolChoice::Help => tools.help(),
-        ToolChoice::UsageOf(tool) => Err(ToolFault::UsageOf(tool)),
+        ToolChoice::HelpOf(tool) => tools.help_of(tool),
+        ToolChoice::UsageOf { tool, detail } => Err(ToolFault::UsageOf(tool, detail)),
         ToolChoice::Usage => Err(ToolFault::Usage),
     }
 }

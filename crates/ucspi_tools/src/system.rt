@@ -2,18 +2,22 @@
 ghost use Rattle.std.specs.Prelude.{◌≡◌, ◌⊎◌, Ok, false};
 ghost use Rattle.stream_tools.specs.Programs.{texts_of};
 ghost use Rattle.byte_streams.specs.Wrapped.{added, deleted};
-ghost use Rattle.ucspi_tools.specs.Systems.{Answers, Filtered, does_by};
+ghost use Rattle.std.specs.Prelude.{◌++◌, OnOk, codes};
+ghost use Rattle.std.specs.Io.KnownBytes.{Appends};
+ghost use Rattle.ucspi_tools.specs.Causes.{MayTellStart, TellsCause, TellsInstalling, TellsLines, TellsReview, check_cause_of, hint_of, usage_hint};
+ghost use Rattle.ucspi_tools.specs.Systems.{Answers, Filtered, HelpIsWritten, does_by};
+ghost use Rattle.ucspi_tools.specs.Spared.{SparesAll};
 
-use crate::about::{tell_tools, tell_version};
-use crate::causes::append_cause;
+use crate::about::{tell_tools, tell_version, tell_words};
+use crate::causes::{append_cause, append_faulty, append_rules, append_start};
 use crate::fault::{FaultLine, ToolFault, status_code, warned_code};
 use crate::tool::Tool;
 use crate::tools::Tools;
 use connection_facts::Status;
+use fault_hints::{Detail, Voice};
 use rules_tools::{CheckFailure, ReviewFault, RulesFailure};
 use script_tool::SimFault;
 use server_parts::ServerFault;
-use server_words::Mode;
 use std::alloc::Global;
 use std::io;
 use std::io::{Read, Write};
@@ -27,18 +31,18 @@ pub trait Calls {
     /// What each of the calls does: how these words are answered.
     ghost parts: { Answers Self };
 
-    /// `tcpserver`, by a mode and its words; the lines of causes that its words ask for are appended.
+    /// `tcpserver`, by a voice and its words; what is told behind the line of its fault is appended to `causes`.
     ///
     /// # Errors
     /// The server could not be started, or it ended by itself.
     fn serve(
         &self,
-        by_name: Mode,
+        voice: Voice,
         words: &[Vec<u8>],
         causes: &mut Vec<u8>,
     ) -> Result<(), ServerFault>
         requires { ready self.now }
-        ensures { parts.serves self.now by_name (texts_of words.now) result };
+        ensures { parts.serves self.now voice (texts_of words.now) result };
 
     /// `rulesim`.
     ///
@@ -48,19 +52,19 @@ pub trait Calls {
         requires { ready self.now }
         ensures { parts.simulates self.now result };
 
-    /// `tcprules`, by the paths of the rules file and of the scratch file.
+    /// `tcprules`, by the paths of the rules file and of the scratch file. A faulty line of the text is left in `faulty`, where it was kept.
     ///
     /// # Errors
     /// Rules were not installed.
-    fn install(&self, cdb: &str, tmp: &str) -> Result<(), RulesFailure>
+    fn install(&self, cdb: &str, tmp: &str, faulty: &mut Vec<u8>) -> Result<(), RulesFailure>
         requires { ready self.now }
         ensures { parts.installs self.now cdb.now tmp.now result };
 
-    /// `tcprules` over a text alone, which answers whether there was a warning.
+    /// `tcprules` over a text alone, which answers whether there was a warning; `faulty` as for `install`.
     ///
     /// # Errors
     /// The text was not looked over to its end.
-    fn review(&self) -> Result<bool, ReviewFault>
+    fn review(&self, faulty: &mut Vec<u8>) -> Result<bool, ReviewFault>
         requires { ready self.now }
         ensures { parts.reviews self.now result };
 
@@ -72,19 +76,19 @@ pub trait Calls {
         requires { ready self.now }
         ensures { parts.checks self.now cdb.now result };
 
-    /// `fixcrio`, by the words of its program.
+    /// `fixcrio`, by the words of its program. The number of the system's error is left in `error` where it did not start it.
     ///
     /// # Errors
     /// The program could not be run between the two streams.
-    fn fix(&self, words: &[Vec<u8>]) -> Result<Status, BetweenFault>
+    fn fix(&self, words: &[Vec<u8>], error: &mut Option<i32>) -> Result<Status, BetweenFault>
         requires { ready self.now }
         ensures { parts.fixes self.now (texts_of words.now) result };
 
-    /// `recordio`, by the words of its program.
+    /// `recordio`, by the words of its program; `error` as for `fix`.
     ///
     /// # Errors
     /// The program could not be run between the two streams.
-    fn record(&self, words: &[Vec<u8>]) -> Result<Status, BetweenFault>
+    fn record(&self, words: &[Vec<u8>], error: &mut Option<i32>) -> Result<Status, BetweenFault>
         requires { ready self.now }
         ensures { parts.records self.now (texts_of words.now) result };
 }
@@ -108,23 +112,30 @@ pub struct SystemTools<I, O, E, C> {
 
 impl<I: Read, O: Write, E: Write, C: Calls> Tools for SystemTools<I, O, E, C> {
     ghost does = { does_by (record {
-      serves = λ mode words s t own. C.parts.serves s.calls mode words own;
+      serves = λ voice words s t own. C.parts.serves s.calls voice words own;
       simulates = λ s t own. C.parts.simulates s.calls own × (t ≡ s);
-      installs = λ verbose cdb tmp s t own. C.parts.installs s.calls cdb tmp own × (verbose ≡ false → t ≡ s);
-      reviews = λ s t own. C.parts.reviews s.calls own × (t ≡ s);
-      checks = λ verbose cdb s t own. C.parts.checks s.calls cdb own × (verbose ≡ false → t ≡ s);
+      installs = λ detail cdb tmp s t own. C.parts.installs s.calls cdb tmp own × SparesAll s t
+          × TellsInstalling detail cdb tmp own s.causes.items t.causes.items;
+      reviews = λ detail s t own. C.parts.reviews s.calls own × SparesAll s t
+          × TellsReview detail own s.causes.items t.causes.items;
+      checks = λ detail cdb s t own. C.parts.checks s.calls cdb own × SparesAll s t
+          × TellsCause detail (codes "tcprulescheck") cdb cdb (check_cause_of own) s.causes.items t.causes.items;
       adds = λ s t own. Filtered added (I.remaining s.input) (I.remaining t.input) (O.contents s.output) (O.contents t.output) own;
       deletes = λ s t own. Filtered deleted (I.remaining s.input) (I.remaining t.input) (O.contents s.output) (O.contents t.output) own;
-      fixes = λ words s t own. C.parts.fixes s.calls words own × (t ≡ s);
-      records = λ words s t own. C.parts.records s.calls words own × (t ≡ s);
+      fixes = λ detail words s t own. C.parts.fixes s.calls words own × SparesAll s t
+          × MayTellStart detail (codes "fixcrio") words s.causes.items t.causes.items;
+      records = λ detail words s t own. C.parts.records s.calls words own × SparesAll s t
+          × MayTellStart detail (codes "recordio") words s.causes.items t.causes.items;
+      helps = λ tool s t answer. HelpIsWritten tool (O.contents s.output) (O.contents t.output) answer;
     }) };
 
-    ghost tells = { λ name fault s t. (t.input ≡ s.input) × (t.output ≡ s.output) };
+    ghost tells = { λ name fault s t. (t.input ≡ s.input) × (t.output ≡ s.output)
+        × TellsLines fault s.causes.items (E.contents s.errors) (E.contents t.errors) };
 
     ghost ready = { λ s. C.ready s.calls };
 
-    fn tcpserver(&mut self, by_name: Mode, words: &[Vec<u8>]) -> Result<u8, ToolFault> {
-        match self.calls.serve(by_name, words, &mut self.causes) {
+    fn tcpserver(&mut self, voice: Voice, words: &[Vec<u8>]) -> Result<u8, ToolFault> {
+        match self.calls.serve(voice, words, &mut self.causes) {
             Ok(()) => Ok(0),
             Err(fault) => Err(ToolFault::Server(fault)),
         }
@@ -137,44 +148,49 @@ impl<I: Read, O: Write, E: Write, C: Calls> Tools for SystemTools<I, O, E, C> {
         }
     }
 
-    fn tcprules(&mut self, verbose: bool, cdb: &str, tmp: &str) -> Result<u8, ToolFault> {
-        match self.calls.install(cdb, tmp) {
+    fn tcprules(&mut self, detail: Detail, cdb: &str, tmp: &str) -> Result<u8, ToolFault> {
+        let mut faulty = Vec::new(self.alloc);
+        match self.calls.install(cdb, tmp, &mut faulty) {
             Ok(()) => Ok(0),
             Err(failure) => {
-                if verbose {
-                    append_cause(
-                        &mut self.causes,
-                        self.alloc,
-                        Tool::Tcprules,
-                        failure.cause,
-                        (cdb, tmp),
-                    );
-                }
+                append_rules(
+                    &mut self.causes,
+                    self.alloc,
+                    detail,
+                    failure,
+                    &faulty,
+                    (cdb, tmp),
+                );
                 Err(ToolFault::Rules(failure.fault))
             }
         }
     }
 
-    fn review(&mut self, strict: bool) -> Result<u8, ToolFault> {
-        match self.calls.review() {
+    fn review(&mut self, detail: Detail, strict: bool) -> Result<u8, ToolFault> {
+        let mut faulty = Vec::new(self.alloc);
+        match self.calls.review(&mut faulty) {
             Ok(warned) => Ok(warned_code(strict, warned)),
-            Err(fault) => Err(ToolFault::Review(fault)),
+            Err(fault) => {
+                if let ReviewFault::Text(line) = fault {
+                    append_faulty(&mut self.causes, detail, line.kind, &faulty);
+                }
+                Err(ToolFault::Review(fault))
+            }
         }
     }
 
-    fn tcprulescheck(&mut self, verbose: bool, cdb: &str) -> Result<u8, ToolFault> {
+    fn tcprulescheck(&mut self, detail: Detail, cdb: &str) -> Result<u8, ToolFault> {
         match self.calls.check(cdb) {
             Ok(()) => Ok(0),
             Err(failure) => {
-                if verbose {
-                    append_cause(
-                        &mut self.causes,
-                        self.alloc,
-                        Tool::Tcprulescheck,
-                        failure.cause,
-                        (cdb, cdb),
-                    );
-                }
+                append_cause(
+                    &mut self.causes,
+                    self.alloc,
+                    detail,
+                    Tool::Tcprulescheck,
+                    failure.cause,
+                    (cdb, cdb),
+                );
                 Err(ToolFault::Check(failure.fault))
             }
         }
@@ -194,17 +210,39 @@ impl<I: Read, O: Write, E: Write, C: Calls> Tools for SystemTools<I, O, E, C> {
         }
     }
 
-    fn fixcrio(&mut self, words: &[Vec<u8>]) -> Result<u8, ToolFault> {
-        match self.calls.fix(words) {
+    fn fixcrio(&mut self, detail: Detail, words: &[Vec<u8>]) -> Result<u8, ToolFault> {
+        let mut error = None;
+        match self.calls.fix(words, &mut error) {
             Ok(status) => Ok(status_code(status)),
-            Err(fault) => Err(ToolFault::Between(fault)),
+            Err(fault) => {
+                append_start(
+                    &mut self.causes,
+                    self.alloc,
+                    detail,
+                    Tool::Fixcrio,
+                    words,
+                    error,
+                );
+                Err(ToolFault::Between(fault))
+            }
         }
     }
 
-    fn recordio(&mut self, words: &[Vec<u8>]) -> Result<u8, ToolFault> {
-        match self.calls.record(words) {
+    fn recordio(&mut self, detail: Detail, words: &[Vec<u8>]) -> Result<u8, ToolFault> {
+        let mut error = None;
+        match self.calls.record(words, &mut error) {
             Ok(status) => Ok(status_code(status)),
-            Err(fault) => Err(ToolFault::Between(fault)),
+            Err(fault) => {
+                append_start(
+                    &mut self.causes,
+                    self.alloc,
+                    detail,
+                    Tool::Recordio,
+                    words,
+                    error,
+                );
+                Err(ToolFault::Between(fault))
+            }
         }
     }
 
@@ -216,10 +254,51 @@ impl<I: Read, O: Write, E: Write, C: Calls> Tools for SystemTools<I, O, E, C> {
         written(tell_tools(&mut self.output))
     }
 
+    fn help_of(&mut self, tool: Tool) -> Result<u8, ToolFault> {
+        match tell_words(&mut self.output, tool) {
+            Ok(()) => Ok(0),
+            Err(_) => Err(ToolFault::WriteFault),
+        }
+    }
+
     fn tell(&mut self, name: &str, fault: ToolFault) {
         let line = FaultLine::of(name, fault);
-        let _ = self.errors.write_all(line.as_bytes());
-        let _ = self.errors.write_all(self.causes.as_slice());
+        let _ = write_lines(&mut self.errors, line.as_bytes(), &self.causes, fault);
+    }
+}
+
+/// Writes the line of a fault, and behind it its causes and its hint.
+fn write_lines<E: Write>(
+    errors: &mut E,
+    line: &[u8],
+    causes: &[u8],
+    fault: ToolFault,
+) -> io::Result<()>
+    ensures { OnOk result (Appends (E.contents errors.old) (E.contents errors.new)
+        (line.now ++ causes.now ++ hint_of fault)) }
+{
+    errors.write_all(line)?;
+    errors.write_all(causes)?;
+    errors.write_all(hint_of(fault).as_bytes())
+}
+
+/// What is told behind the line of a fault beside its causes.
+fn hint_of(fault: ToolFault) -> &'static str
+    ensures { result.now ≡ hint_of fault }
+{
+    match fault {
+        ToolFault::UsageOf(tool, detail) => usage_hint(tool, detail),
+        _ => "",
+    }
+}
+
+/// What is told behind the usage line of a tool.
+fn usage_hint(tool: Tool, detail: Detail) -> &'static str
+    ensures { result.now ≡ usage_hint tool detail }
+{
+    match detail {
+        Detail::Hint => tool.words(),
+        Detail::Line | Detail::Cause => "",
     }
 }
 

@@ -1,6 +1,32 @@
 //! The tools: their names, and the words that they take.
 ghost use Rattle.std.specs.Prelude.{◌≡◌, bytes_eq};
-ghost use Rattle.ucspi_tools.specs.Choices.{name_of, purpose_text, tool_of, usage_text};
+ghost use Rattle.ucspi_tools.specs.Choices.{name_of, purpose_text, tool_of, usage_text, words_text};
+
+use fault_hints::OPTIONS;
+
+/// The words of `tcprules`, a line each.
+pub const RULES_WORDS: &str = "\
+cdb  the path of the rules file\n\
+tmp  the path of a file in the same folder, which is written first\n\
+-v   in front of them: name the cause of a fault; by its own name the tool always does\n\
+-n   alone: install nothing, and warn of lines that say less than they seem to\n\
+-N   alone: the same, and exit 1 where there is a warning\n";
+
+/// The words of `tcprulescheck`.
+pub const CHECK_WORDS: &str = "\
+cdb  the path of a rules file; TCPREMOTEIP, TCPREMOTEHOST and TCPREMOTEINFO say who connects\n\
+-v   in front of it: name the cause of a fault; by its own name the tool always does\n";
+
+/// The words of `fixcrio` and of `recordio`.
+pub const PROGRAM_WORDS: &str = "\
+prog  a program: a path, or a name that is looked for along PATH\n\
+args  its arguments\n";
+
+/// Those of `addcr` and of `delcr`, which have none.
+pub const FILTER_WORDS: &str = "no words: standard input goes to standard output\n";
+
+/// Those of `rulesim`, which has none.
+pub const SCRIPT_WORDS: &str = "no words: commands come from standard input\n";
 
 /// A tool.
 #[derive(Clone, Copy, Debug)]
@@ -101,6 +127,20 @@ impl Tool {
             Tool::Delcr => "delcr",
             Tool::Fixcrio => "fixcrio prog [args]",
             Tool::Recordio => "recordio prog [args]",
+        }
+    }
+
+    /// What its words are, a line each.
+    pub fn words(self) -> &'static str
+        ensures { result.now ≡ words_text self }
+    {
+        match self {
+            Tool::Tcpserver => OPTIONS,
+            Tool::Rulesim => SCRIPT_WORDS,
+            Tool::Tcprules => RULES_WORDS,
+            Tool::Tcprulescheck => CHECK_WORDS,
+            Tool::Addcr | Tool::Delcr => FILTER_WORDS,
+            Tool::Fixcrio | Tool::Recordio => PROGRAM_WORDS,
         }
     }
 }

@@ -5,7 +5,7 @@ use std::alloc::Global;
 use std::env::Args;
 use test_parts::Answer;
 
-/// The hash of the key that is the next word.
+/// Adds the hash of the key in the next word.
 pub fn append_hash(words: &mut Args, out: &mut Answer) {
     match words.next() {
         Some(key) => out.number_line(hash(key.as_str().as_bytes()) as u64),
@@ -13,7 +13,7 @@ pub fn append_hash(words: &mut Args, out: &mut Answer) {
     }
 }
 
-/// The record of the key that is the next word and a value.
+/// Adds the record of the key in the next word and a value.
 pub fn append_record(alloc: Global, words: &mut Args, value: &[u8], out: &mut Answer) {
     match words.next() {
         Some(key) => append_record_of(alloc, key.as_str(), value, out),
@@ -28,7 +28,7 @@ fn append_record_of(alloc: Global, key: &str, value: &[u8], out: &mut Answer) {
     out.made(record_piece(alloc, key.as_bytes(), value));
 }
 
-/// The slots of a table of one record, whose place and hash are the words, or of none.
+/// Adds the slots of a table of one record, whose place and hash are the words, or of none.
 pub fn append_table(alloc: Global, words: &mut Args, out: &mut Answer) {
     match next_short(words) {
         Some(place) => append_slots(alloc, place, next_short(words), out),
@@ -36,7 +36,7 @@ pub fn append_table(alloc: Global, words: &mut Args, out: &mut Answer) {
     }
 }
 
-/// The slots of a table of one record with a place and a hash.
+/// Adds the slots of a table of one record with a place and a hash.
 fn append_slots(alloc: Global, place: u32, hash: Option<u32>, out: &mut Answer) {
     match hash {
         Some(hash) => out.made(table_piece(alloc, &[(hash, place)])),
@@ -44,7 +44,7 @@ fn append_slots(alloc: Global, place: u32, hash: Option<u32>, out: &mut Answer) 
     }
 }
 
-/// The header of 256 tables with one place and one number of slots.
+/// Adds the header of 256 tables with one place and one number of slots.
 pub fn append_header(alloc: Global, words: &mut Args, out: &mut Answer) {
     match (next_short(words), next_short(words)) {
         (Some(place), Some(slots)) => out.made(header(alloc, &[(place, slots); 256])),
@@ -52,7 +52,7 @@ pub fn append_header(alloc: Global, words: &mut Args, out: &mut Answer) {
     }
 }
 
-/// The file of some pairs, after a line for each pair that is refused.
+/// Adds the file of some pairs, behind a line for each pair that is refused.
 pub fn append_pairs(alloc: Global, limit: Option<u64>, given: &[u8], out: &mut Answer) {
     match (limit, str::from_utf8(given)) {
         (Some(limit), Ok(text)) => append_file(alloc, limit, text, out),

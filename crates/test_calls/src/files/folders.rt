@@ -18,7 +18,7 @@ const STEPS: usize = 20;
 
 const RULES: &[u8] = b"rules";
 
-/// The names that two words make, or why they make none.
+/// The names of an installation from two words, or why they can't be.
 pub fn append_names(alloc: Global, words: &mut Args, out: &mut Answer) {
     let (Some(cdb), Some(tmp)) = (next_name(alloc, words), next_name(alloc, words)) else {
         return out.fail();
@@ -35,7 +35,7 @@ fn append_both(names: &FileNames, out: &mut Answer) {
     out.line(names.tmp().as_str());
 }
 
-/// Runs the commands that are left among the words on an empty directory, of which one call fails.
+/// Runs the commands that are left among the words on an empty directory with one call that fails.
 pub fn append_answers(alloc: Global, words: &mut Args, out: &mut Answer) {
     match next_number(words) {
         Some(call) => {
@@ -90,7 +90,7 @@ fn append_for(alloc: Global, dir: &mut FuseDir<MemDir>, word: &str, next: &str, 
     }
 }
 
-/// Installs a text under a limit of the file, which are the next words, and adds the answer.
+/// Installs a text under a limit of the file, both in the next words, and adds the answer.
 fn append_limited(alloc: Global, dir: &mut FuseDir<MemDir>, words: &mut Args, out: &mut Answer) {
     let (Some(file), Some(text)) = (next_number(words), words.next()) else {
         return out.fail();
@@ -103,7 +103,7 @@ fn append_limited(alloc: Global, dir: &mut FuseDir<MemDir>, words: &mut Args, ou
     append_whole(alloc, dir, &limits, text.as_str().as_bytes(), out);
 }
 
-/// Adds the rules file that a stop leaves, by the choice that a word names.
+/// Adds the rules file that a stop leaves, by the choice with this name.
 fn append_chosen(alloc: Global, dir: &FuseDir<MemDir>, word: &str, out: &mut Answer) {
     match word {
         "kept" => append_left(alloc, dir, Choice::Kept, out),
@@ -113,7 +113,7 @@ fn append_chosen(alloc: Global, dir: &FuseDir<MemDir>, word: &str, out: &mut Ans
     }
 }
 
-/// The name that is the next word.
+/// The next word, as a name.
 fn next_name(alloc: Global, words: &mut Args) -> Option<Name> {
     Name::new(alloc, words.next()?.as_str().as_bytes()).ok()
 }
@@ -154,8 +154,10 @@ fn append_fault(fault: &InstallFault, out: &mut Answer) {
     }
 }
 
-/// Installs a text step by step, and makes one step more. Adds the answers, with what stops then leave, and whether a step is said to
-/// have been made, before and after.
+/// Installs a text step by step, and makes one step more.
+///
+/// It adds each answer with what stops then leave, and whether the installation says that a step was made, before and
+/// after.
 fn append_all_steps(alloc: Global, dir: &mut FuseDir<MemDir>, text: &[u8], out: &mut Answer) {
     let Some(names) = names(alloc) else {
         return out.fail();
@@ -183,7 +185,7 @@ fn append_steps(alloc: Global, dir: &mut FuseDir<MemDir>, install: &mut Install,
     append_stepped(install, out);
 }
 
-/// Adds whether a step is said to have been made.
+/// Adds whether an installation says that a step was made.
 fn append_stepped(install: &Install, out: &mut Answer) {
     out.line(if install.stepped() {
         "stepped"

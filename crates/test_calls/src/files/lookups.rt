@@ -10,7 +10,7 @@ use std::cell::Cell;
 use std::env::Args;
 use test_parts::Answer;
 
-/// What a file was asked, and gave.
+/// What a file was asked for, and what it gave.
 #[derive(Drop)]
 struct Log {
     reads: Cell<u64>,
@@ -26,7 +26,8 @@ impl Log {
     }
 }
 
-/// A file in memory that notes what it gives: at most so many bytes at a time, and a fault at the read with this number, counted from 1.
+/// A file in memory that notes what it gives. A read gives at most `most` bytes, and the read with one number, from 1,
+/// fails.
 #[derive(Drop)]
 struct NotedFile<'a> {
     file: MemFile,
@@ -93,14 +94,14 @@ fn append_value(found: Result<Option<Vec<u8>>, FindFault>, out: &mut Answer) {
     }
 }
 
-/// How many bytes a read gives at most, and which one fails, as the next words say.
+/// The greatest length of a read, and the number of the read that fails, in the next words.
 fn next_limits(words: &mut Args) -> Option<(usize, u64)> {
     let most = next_number(words)?;
     let failing = next_number(words)?;
     Some((usize::try_from(most).unwrap_or(usize::MAX), failing))
 }
 
-/// What is found under a key, by reads of at most so many bytes, of which one may fail.
+/// What is found under a key if reads are short and one of them may fail.
 pub fn append_found(alloc: Global, words: &mut Args, given: &[u8], out: &mut Answer) {
     match (words.next(), next_limits(words)) {
         (Some(key), Some((most, failing))) => {
@@ -123,7 +124,7 @@ pub fn append_reads(alloc: Global, words: &mut Args, given: &[u8], out: &mut Ans
     out.line(" bytes");
 }
 
-/// What is found under a key in each file that has only the first bytes of this one, from none on.
+/// What is found under a key in each front of this file, from the empty one on.
 pub fn append_cuts(alloc: Global, words: &mut Args, given: &[u8], out: &mut Answer) {
     match words.next() {
         Some(key) => append_all_cuts(alloc, key.as_str(), given, out),

@@ -1,7 +1,7 @@
 //! The words of a call.
 use std::env::Args;
 
-/// The next word, a number of 32 bits.
+/// The next word, as a number of 32 bits.
 pub fn next_short(words: &mut Args) -> Option<u32> {
     words.next()?.as_str().parse().ok()
 }

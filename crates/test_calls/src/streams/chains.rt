@@ -1,8 +1,10 @@
-//! Calls of one chain: a number feeds so many of the next bytes; `finish`, `renew` and `is_empty` are the chain's own; `show` adds what was
-//! written; `back` goes back to the text's beginning, with nothing written; and `pump` is of the module `pumps`.
+//! Calls of one chain.
+//!
+//! A number feeds that many of the next bytes. `finish`, `renew` and `is_empty` are the chain's own. `show` adds what
+//! was written. `back` goes back to the beginning of the text, with nothing written. `pump` is of the module `pumps`.
 use crate::streams::pumps::pump_next;
 use crate::streams::words::next_size;
-use byte_streams::{AddCr, BoxedStage, Chain, ChainFault, DelCr, FixCr};
+use byte_streams::{AddCr, BoxedWrapper, Chain, ChainFault, DelCr, FixCr};
 use std::alloc::Global;
 use std::env::Args;
 use std::io;
@@ -12,13 +14,13 @@ use test_parts::Answer;
 /// A chain, a text, what is left of it, and what was written.
 #[derive(Drop)]
 pub struct Stream<'a> {
-    pub chain: Chain<BoxedStage>,
+    pub chain: Chain<BoxedWrapper>,
     text: &'a [u8],
     pub left: &'a [u8],
     pub out: Vec<u8>,
 }
 
-/// A kind of stage.
+/// A kind of line wrapper.
 #[derive(Clone, Copy)]
 enum Kind {
     AddCr,
@@ -26,30 +28,31 @@ enum Kind {
     FixCr,
 }
 
-/// A word is missing, or none of those that may stand there.
+/// The error of a word that is missing or may not stand there.
 fn bad_word() -> Error {
     Error::from(ErrorKind::InvalidInput)
 }
 
-/// Makes all calls, on a chain of so many stages as the next word says, which the words after it name.
+/// Makes all calls on a chain. The next words say how many line wrappers it has, and which.
 pub fn run_calls(alloc: Global, text: &[u8], words: &mut Args, out: &mut Answer) {
     if call_chain(alloc, text, words, out).is_err() {
         out.fail();
     }
 }
 
-/// Makes the chain, and all calls on it. It hands no boxed stage out, so that its contract holds whatever a stage is.
+/// Makes the chain, and all calls on it. It hands no boxed wrapper out, so that its contract holds whatever a wrapper
+/// is.
 fn call_chain(alloc: Global, text: &[u8], words: &mut Args, out: &mut Answer) -> io::Result<()> {
-    let mut stages: Vec<BoxedStage> = Vec::new(alloc);
+    let mut wrappers: Vec<BoxedWrapper> = Vec::new(alloc);
     for _ in 0..next_size(words).ok_or(bad_word())? {
         match next_kind(words).ok_or(bad_word())? {
-            Kind::AddCr => stages.push(Box::new(alloc, AddCr)?)?,
-            Kind::DelCr => stages.push(Box::new(alloc, DelCr::new())?)?,
-            Kind::FixCr => stages.push(Box::new(alloc, FixCr::new())?)?,
+            Kind::AddCr => wrappers.push(Box::new(alloc, AddCr)?)?,
+            Kind::DelCr => wrappers.push(Box::new(alloc, DelCr::new())?)?,
+            Kind::FixCr => wrappers.push(Box::new(alloc, FixCr::new())?)?,
         }
     }
     let mut stream = Stream {
-        chain: Chain::new(alloc, stages),
+        chain: Chain::new(alloc, wrappers),
         text,
         left: text,
         out: Vec::new(alloc),
@@ -58,7 +61,7 @@ fn call_chain(alloc: Global, text: &[u8], words: &mut Args, out: &mut Answer) ->
     Ok(())
 }
 
-/// The kind of stage that the next word names.
+/// The kind of line wrapper that the next word names.
 fn next_kind(words: &mut Args) -> Option<Kind> {
     match words.next()?.as_str() {
         "addcr" => Some(Kind::AddCr),
@@ -68,7 +71,7 @@ fn next_kind(words: &mut Args) -> Option<Kind> {
     }
 }
 
-/// Makes the calls that the words that are left ask for, up to one that fails.
+/// Makes the calls that the other words ask for, up to one that fails.
 fn call_all(alloc: Global, stream: &mut Stream<'_>, words: &mut Args, out: &mut Answer) {
     for _ in 0..u64::MAX {
         let Some(word) = words.next() else {
@@ -105,7 +108,7 @@ fn call(alloc: Global, stream: &mut Stream<'_>, word: &str, words: &mut Args, ou
     }
 }
 
-/// Feeds so many of the bytes that are left.
+/// Feeds a number of the bytes that are left.
 fn feed(stream: &mut Stream<'_>, size: &str, out: &mut Answer) {
     let Ok(size) = size.parse::<usize>() else {
         return out.fail();

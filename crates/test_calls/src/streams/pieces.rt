@@ -1,4 +1,4 @@
-//! A reader and a writer that give and take pieces of a size, and stop at a call.
+//! A reader and a writer that move pieces of a size, and stop at a call.
 ghost use Rattle.std.specs.Prelude.{◌≤◌, IfOk};
 
 use crate::streams::words::next_size;
@@ -6,7 +6,8 @@ use std::env::Args;
 use std::io;
 use std::io::{Error, ErrorKind, Read, Write};
 
-/// At most so many bytes are moved by a call. The call of a number, from 1 on, stops instead: it fails, or moves nothing.
+/// How a reader or a writer moves bytes: at most a number of them by each call, up to the call that stops. That one
+/// fails, or moves nothing.
 #[derive(Drop)]
 pub struct GivenPieces {
     most: usize,
@@ -15,7 +16,7 @@ pub struct GivenPieces {
     stop_at: usize,
 }
 
-/// The next words: how many bytes, how a call stops, and which one.
+/// The next words: the number of bytes, how a call stops, and which call it is.
 pub fn next_pieces(words: &mut Args) -> Option<GivenPieces> {
     let most = next_size(words)?;
     let stop = next_stop(words)?;
@@ -28,7 +29,7 @@ pub fn next_pieces(words: &mut Args) -> Option<GivenPieces> {
     })
 }
 
-/// The next word, how a call stops.
+/// The next word: how a call stops.
 fn next_stop(words: &mut Args) -> Option<Option<ErrorKind>> {
     match words.next()?.as_str() {
         "fails" => Some(Some(ErrorKind::Other)),
@@ -54,7 +55,7 @@ impl GivenPieces {
     }
 }
 
-/// Gives a text.
+/// A reader of a text.
 #[derive(Drop)]
 pub struct Source<'a> {
     pub text: &'a [u8],
@@ -68,7 +69,7 @@ impl Read for Source<'_> {
     }
 }
 
-/// Keeps what it takes.
+/// A writer that keeps what it takes.
 #[derive(Drop)]
 pub struct Target {
     pub bytes: Vec<u8>,

@@ -1,5 +1,7 @@
-//! `pump TURNS READER WRITER TAP`: a pump of what is left of the text. The reader and the writer are each a number of bytes, how a call stops
-//! (`fails`, `interrupted` or `nothing`) and which one; the tap is `none`, `keeper WAY`, or `recorder WAY NUMBER WRITER`.
+//! `pump MOST READER WRITER TAP`: a pump of the rest of the text.
+//!
+//! The reader and the writer are each a number of bytes, how a call stops (`fails`, `interrupted` or `nothing`), and
+//! which call it is. The tap is `none`, `keeper WAY`, or `recorder WAY NUMBER WRITER`.
 ghost use Rattle.std.specs.Prelude.{⊤};
 
 use crate::streams::chains::Stream;
@@ -11,7 +13,7 @@ use std::alloc::Global;
 use std::env::Args;
 use test_parts::Answer;
 
-/// A tap that keeps what it is told: each piece with a bar behind it, and a point at the end.
+/// A tap that keeps what it is told: each piece with a bar behind it, and a point for the end.
 #[derive(Drop)]
 struct Keeper {
     way: Way,
@@ -39,10 +41,10 @@ impl Tap for Keeper {
     }
 }
 
-/// How many turns a pump has, what it reads, and where it writes.
+/// How often a pump reads at most, what it reads, and where it writes.
 #[derive(Drop)]
 struct Run<'a> {
-    turns: u64,
+    most_reads: u64,
     source: Source<'a>,
     target: Target,
 }
@@ -58,13 +60,13 @@ pub fn pump_next(alloc: Global, stream: &mut Stream<'_>, words: &mut Args, out: 
     }
 }
 
-/// The turns, the reader and the writer that the next words describe.
+/// The greatest number of reads, the reader and the writer that the next words describe.
 fn next_run<'a>(alloc: Global, text: &'a [u8], words: &mut Args) -> Option<Run<'a>> {
-    let turns = next_number(words)?;
+    let most_reads = next_number(words)?;
     let pieces = next_pieces(words)?;
     let target = next_target(alloc, words)?;
     Some(Run {
-        turns,
+        most_reads,
         source: Source { text, pieces },
         target,
     })
@@ -79,7 +81,7 @@ fn next_target(alloc: Global, words: &mut Args) -> Option<Target> {
     })
 }
 
-/// Runs a pump with the tap that a word and those after it describe.
+/// Runs a pump with the tap that a word and those behind it describe.
 fn pump_tapped<'a>(
     alloc: Global,
     stream: &mut Stream<'a>,
@@ -99,7 +101,7 @@ fn pump_tapped<'a>(
     }
 }
 
-/// Runs a pump with a tap that keeps what it is told, of the way that the next word says.
+/// Runs a pump with a tap that keeps what it is told. The next word says which way it watches.
 fn pump_kept<'a>(
     alloc: Global,
     stream: &mut Stream<'a>,
@@ -119,7 +121,7 @@ fn pump_kept<'a>(
     out.debug_line(&tap.log);
 }
 
-/// Runs a pump with a recorder, of the way, with the number and to the writer that the next words describe.
+/// Runs a pump with a recorder. The next words describe its way, its number and its writer.
 fn pump_recorded<'a>(
     alloc: Global,
     stream: &mut Stream<'a>,
@@ -161,7 +163,7 @@ fn pump_with<'a, T: Tap>(
         &mut run.target,
         chain,
         tap,
-        run.turns,
+        run.most_reads,
     );
     stream.left = run.source.text;
     out.note(stream.out.extend_from_slice(&run.target.bytes));
@@ -169,7 +171,7 @@ fn pump_with<'a, T: Tap>(
     add_counts(run, out);
 }
 
-/// Adds what a pump that has ended read, left and wrote.
+/// Adds what a pump read, left and wrote.
 fn add_counts(run: &Run<'_>, out: &mut Answer) {
     out.count(", ", run.source.pieces.calls as u64);
     out.count(" reads, ", run.source.text.len() as u64);

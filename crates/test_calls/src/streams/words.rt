@@ -2,12 +2,12 @@
 use byte_streams::Way;
 use std::env::Args;
 
-/// The next word, a number.
+/// The next word, as a number.
 pub fn next_size(words: &mut Args) -> Option<usize> {
     words.next()?.as_str().parse().ok()
 }
 
-/// The next word, a way.
+/// The next word, as a way.
 pub fn next_way(words: &mut Args) -> Option<Way> {
     match words.next()?.as_str() {
         "input" => Some(Way::Input),

@@ -3,7 +3,7 @@
 //! `live_at LAST` ask for a number.
 ghost use Rattle.std.specs.Prelude.{◌≡◌};
 
-use child_jobs::{Place, Table, TableFault};
+use child_jobs::{Place, PlaceTable, TableFault};
 use connection_facts::Peer;
 use std::alloc::Global;
 use std::io::BufRead;
@@ -40,20 +40,20 @@ fn table_of<L: Ledger>(
     blank: Blank,
     limit: u64,
     per_address: Option<u64>,
-) -> Result<Table<L>, TableFault>
+) -> Result<PlaceTable<L>, TableFault>
     requires name { blank.name ≡ L.name }
     requires parts { (blank.parts ≡ L.parts) × (blank.parts ≡ limit) }
 {
     match per_address {
-        None => Table::new(alloc, blank, limit),
-        Some(per_address) => Table::with_address_limit(alloc, blank, limit, per_address),
+        None => PlaceTable::new(alloc, blank, limit),
+        Some(per_address) => PlaceTable::with_address_limit(alloc, blank, limit, per_address),
     }
 }
 
 /// Runs all commands, up to one that fails.
 fn obey_all<L: Ledger>(
     alloc: Global,
-    table: &mut Table<L>,
+    table: &mut PlaceTable<L>,
     places: &mut Places<L>,
     given: &[u8],
     out: &mut Answer,
@@ -72,7 +72,7 @@ fn obey_all<L: Ledger>(
 /// Runs the command of a line.
 fn obey_line<L: Ledger>(
     alloc: Global,
-    table: &mut Table<L>,
+    table: &mut PlaceTable<L>,
     places: &mut Places<L>,
     line: &str,
     out: &mut Answer,
@@ -87,7 +87,7 @@ fn obey_line<L: Ledger>(
 /// Runs a command, and adds its answer.
 fn obey<L: Ledger>(
     alloc: Global,
-    table: &mut Table<L>,
+    table: &mut PlaceTable<L>,
     places: &mut Places<L>,
     name: &str,
     number: usize,
@@ -101,7 +101,7 @@ fn obey<L: Ledger>(
 }
 
 /// Adds the number that a command asks for.
-fn ask<L: Ledger>(table: &Table<L>, name: &str, number: usize, out: &mut Answer) {
+fn ask<L: Ledger>(table: &PlaceTable<L>, name: &str, number: usize, out: &mut Answer) {
     match name {
         "live" => out.number_line(table.live()),
         "retired" => out.number_line(table.retired()),
@@ -119,7 +119,7 @@ fn address(number: usize) -> [u8; 4] {
 /// Lets a peer in, and adds the index of its place, or why it gets none.
 fn admit<L: Ledger>(
     alloc: Global,
-    table: &mut Table<L>,
+    table: &mut PlaceTable<L>,
     places: &mut Places<L>,
     number: usize,
     out: &mut Answer,
@@ -144,7 +144,7 @@ fn keep<L: Ledger>(places: &mut Places<L>, place: Place<L>, out: &mut Answer) {
 
 /// Ends a place that is out.
 fn end<L: Ledger>(
-    table: &mut Table<L>,
+    table: &mut PlaceTable<L>,
     places: &mut Places<L>,
     name: &str,
     number: usize,
@@ -157,7 +157,7 @@ fn end<L: Ledger>(
 }
 
 /// Ends a place.
-fn end_place<L: Ledger>(table: &mut Table<L>, name: &str, place: Place<L>, out: &mut Answer) {
+fn end_place<L: Ledger>(table: &mut PlaceTable<L>, name: &str, place: Place<L>, out: &mut Answer) {
     if !table.is_used(place.index()) {
         place.strand();
         return out.line("its index is not in use");

@@ -4,6 +4,6 @@ use Rattle.byte_streams.proofs.chain.feed_all.Given as goal
 
 abbrev pub invariant-loop-place : goal.invariant-loop-place
 invariant-loop-place g l = record {
-  flows : Flows g.S.LineStage.rest l.fn.stages l.stages l.place l.fn.piece l.from.items;
-  wholes : map g.S.LineStage.whole l.stages ≡ map g.S.LineStage.whole l.fn.stages;
+  flows : Flows g.S.LineWrapper.rest l.fn.wrappers l.wrappers l.place l.fn.piece l.from.items;
+  wholes : map g.S.LineWrapper.whole l.wrappers ≡ map g.S.LineWrapper.whole l.fn.wrappers;
 }

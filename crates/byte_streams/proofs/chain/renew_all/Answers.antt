@@ -4,17 +4,17 @@ use Rattle.byte_streams.proofs.chain.renew_all.Goals as goal
 
 pub loop-place-preserved : goal.loop-place-preserved
 loop-place-preserved g c = record {
-  renewed = renewed_more c.args.stages.now c.loop-place.stages c.loop-place.place c.index-stages-place.result c.renew.new.self
-      g.S.LineStage.rest g.S.LineStage.whole
+  renewed = renewed_more c.args.wrappers.now c.loop-place.wrappers c.loop-place.place c.index-wrappers-place.result c.renew.new.self
+      g.S.LineWrapper.rest g.S.LineWrapper.whole
       (omega arith) c.renew.ensures.renewed c.loop-place.invariant.renewed;
-  wholes = wholes_more c.args.stages.now c.loop-place.stages c.loop-place.place c.index-stages-place.result c.renew.new.self
-      g.S.LineStage.whole c.renew.ensures.same c.loop-place.invariant.wholes;
+  wholes = wholes_more c.args.wrappers.now c.loop-place.wrappers c.loop-place.place c.index-wrappers-place.result c.renew.new.self
+      g.S.LineWrapper.whole c.renew.ensures.same c.loop-place.invariant.wholes;
 }
 
 pub returns-clause-renewed : goal.returns-clause-renewed
 returns-clause-renewed g c =
-    renewed_end c.args.stages.now c.loop-place.stages c.loop-place.place
-    g.S.LineStage.rest g.S.LineStage.whole
+    renewed_end c.args.wrappers.now c.loop-place.wrappers c.loop-place.place
+    g.S.LineWrapper.rest g.S.LineWrapper.whole
     (omega arith) c.loop-place.invariant.renewed
 
 pub returns-clause-wholes : goal.returns-clause-wholes

@@ -3,6 +3,6 @@ use Rattle.byte_streams.proofs.chain.renew_all.Given as goal
 
 abbrev pub invariant-loop-place : goal.invariant-loop-place
 invariant-loop-place g l = record {
-  renewed : map g.S.LineStage.rest (take l.place l.stages) ++ map g.S.LineStage.whole (drop l.place l.stages) ≡ map g.S.LineStage.whole l.fn.stages;
-  wholes : map g.S.LineStage.whole l.stages ≡ map g.S.LineStage.whole l.fn.stages;
+  renewed : map g.S.LineWrapper.rest (take l.place l.wrappers) ++ map g.S.LineWrapper.whole (drop l.place l.wrappers) ≡ map g.S.LineWrapper.whole l.fn.wrappers;
+  wholes : map g.S.LineWrapper.whole l.wrappers ≡ map g.S.LineWrapper.whole l.fn.wrappers;
 }

@@ -1,5 +1,5 @@
 use Rattle.std.proofs.Common.{arith}
-use Rattle.byte_streams.proofs.TurnLemmas.{pumped_within}
+use Rattle.byte_streams.proofs.PieceLemmas.{pumped_within}
 use Rattle.byte_streams.proofs.pumping.pump_from.Goals as goal
 
 pub returns-clause-pumped : goal.returns-clause-pumped

@@ -31,14 +31,14 @@ within ip s count rest fits kept = omega (arith, count_by-le-length (λ x. bytes
 
 pub loop-other-init : goal.loop-other-init
 loop-other-init c =
-    let left : c.into_iter-other-iterator.result ≡ entries c.args.seats.now = c.into_iter-other-iterator.ensures.into_iter_gives ∙ c.iter-other-items.ensures.rest in
-    let all : counted c.args.ip c.into_iter-other-iterator.result ≡ count_by (λ x. bytes_eq x c.args.ip) (values c.args.seats.now) = ap (counted c.args.ip) left ∙ ap (count_by (λ x. bytes_eq x c.args.ip)) (values-entries c.args.seats.now) in
+    let left : c.into_iter-other-iterator.result ≡ entries c.args.addresses.now = c.into_iter-other-iterator.ensures.into_iter_gives ∙ c.iter-other-items.ensures.rest in
+    let all : counted c.args.ip c.into_iter-other-iterator.result ≡ count_by (λ x. bytes_eq x c.args.ip) (values c.args.addresses.now) = ap (counted c.args.ip) left ∙ ap (count_by (λ x. bytes_eq x c.args.ip)) (values-entries c.args.addresses.now) in
     (tt, tt, omega arith)
 
 pub overflow_add-count : goal.overflow_add-count
 overflow_add-count c =
     let kept = more_yes c.args.ip c.in-Some.other.now c.in-Some.field-0-0 c.loop-other.other-iterator c.next.new.self c.loop-other.count _ c.in-Some.ensures.steps (sym c.eq.ensures ∙ c.if-eq.true) c.loop-other.invariant.2 in
-    record { fits = within c.args.ip c.args.seats.now c.loop-other.count _ c.requires kept }
+    record { fits = within c.args.ip c.args.addresses.now c.loop-other.count _ c.requires kept }
 
 pub loop-other-preserved-then-eq : goal.loop-other-preserved-then-eq
 loop-other-preserved-then-eq c = (tt, tt, more_yes c.args.ip c.in-Some.other.now c.in-Some.field-0-0 c.loop-other.other-iterator c.next.new.self c.loop-other.count _ c.in-Some.ensures.steps (sym c.eq.ensures ∙ c.if-eq.true) c.loop-other.invariant.2)

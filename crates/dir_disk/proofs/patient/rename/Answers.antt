@@ -4,7 +4,7 @@ use Rattle.std.specs.IoError.{error_kind}
 use Rattle.std.specs.declared.io.ErrorKind.TheVariants.{Interrupted, NotFound}
 use Rattle.dir_calls.specs.Directory.{Directory, number_of}
 use Rattle.dir_calls.specs.Calls.{renames, after}
-use Rattle.dir_disk.specs.DiskSteps.{AllOrNone}
+use Rattle.dir_disk.specs.DiskSteps.{AllOrNone, MovesNoOther}
 use Rattle.dir_disk.proofs.Steps.{step_same}
 use Rattle.dir_disk.proofs.Told.{if_err_at}
 use Rattle.dir_disk.proofs.patient.rename.Goals as goal
@@ -20,6 +20,10 @@ returns-then-not-was_interrupted-clause-failed g c = λ honest.
 pub returns-then-not-was_interrupted-clause-own : goal.returns-then-not-was_interrupted-clause-own
 returns-then-not-was_interrupted-clause-own g c = λ honest.
     subst (λ (d : Directory). OnOk c.rename-outcome.result (number_of d (g.D.Disk.named c.args.from.now) ≡ Some (g.D.Disk.number c.args.file.now))) (c.loop.invariant.same honest) (c.rename-outcome.ensures.own honest)
+
+pub returns-then-not-was_interrupted-clause-own_if_moved : goal.returns-then-not-was_interrupted-clause-own_if_moved
+returns-then-not-was_interrupted-clause-own_if_moved g c = λ honest.
+    subst (λ (d : Directory). OnErr c.rename-outcome.result (MovesNoOther (Some (g.D.Disk.number c.args.file.now)) (g.D.Disk.named c.args.from.now) d (g.D.Disk.state c.rename-outcome.new.self))) (c.loop.invariant.same honest) (c.rename-outcome.ensures.own_if_moved honest)
 
 pub returns-then-not-was_interrupted-clause-absent : goal.returns-then-not-was_interrupted-clause-absent
 returns-then-not-was_interrupted-clause-absent g c = λ honest.

@@ -1,20 +1,28 @@
--- Each piece is read as the definition reads it.
-use Rattle.std.proofs.Common.{sym, ap, ◌∙◌, ◌<◌, ◌++◌, length, arith}
-use Rattle.std.specs.Prelude.{option_map}
-use Rattle.rule_lines.proofs.DecodeLemmas.{with_rest-next, settings_in-refused, settings_in-unended}
+-- The settings that were added are those of all codes, where none are left.
+use Rattle.std.proofs.Common.{◌<◌, Result, Ok, Err, ap, length, arith}
+use Rattle.std.proofs.lemmas.List.{nil_from_length}
+use Rattle.std.proofs.lemmas.Result.{err_from_is_err_and}
+use Rattle.rule_lines.proofs.DecodeLemmas.{ReadsOn-all, settings_in-none, settings_in-part, settings_in-read}
 use Rattle.rule_lines.proofs.code.decode_settings.Goals as goal
 
-pub loop-rest-preserved : goal.loop-rest-preserved
-loop-rest-preserved c =
-    let parts = c.in-Some.ensures in
-    rw c.in_ok-push.ensures.ok (with_rest-next c.loop-rest.settings _ _ _ _ parts.0 parts.1 c.in-Some-read_setting.ensures ∙ c.loop-rest.invariant)
+-- the same fault in the place of another answer
+fault_of : {A B E : Type 0} → E → Result A E → Result B E
+fault_of other (Ok x) = Err other
+fault_of other (Err fault) = Err fault
 
-pub returns-in_default-clause-refused : goal.returns-in_default-clause-refused
-returns-in_default-clause-refused c = λ fault _.
-    let some : 0 < length c.loop-rest.rest.now = grind arith in
-    sym c.loop-rest.invariant ∙ ap (option_map (λ later. c.loop-rest.settings ++ later)) (settings_in-unended _ c.in_default.ensures some)
+pub returns-clause-found : goal.returns-clause-found
+returns-clause-found c =
+    let added = ReadsOn-all c.push_settings.new.settings c.args.codes.now c.in_ok-rest.rest.now (rw c.new-settings.ensures at c.in_ok-rest.ensures.added) in
+    settings_in-read c.push_settings.new.settings c.in_ok-rest.rest.now c.args.codes.now added (nil_from_length c.in_ok-rest.rest.now (grind arith))
 
-pub returns-in_default-read_setting-clause-refused : goal.returns-in_default-read_setting-clause-refused
-returns-in_default-read_setting-clause-refused c = λ fault _.
-    let parts = c.in-Some.ensures in
-    sym c.loop-rest.invariant ∙ ap (option_map (λ later. c.loop-rest.settings ++ later)) (settings_in-refused _ _ _ parts.0 parts.1 c.in_default-read_setting.ensures)
+pub returns-in_err-rest-clause-refused : goal.returns-in_err-rest-clause-refused
+unfolding fault_of
+returns-in_err-rest-clause-refused c = λ fault is.
+    let returned = err_from_is_err_and c.from_residual.result c.from_residual.ensures.1 in
+    settings_in-none c.args.codes.now (c.in_err-rest.ensures.refused fault (ap (fault_of c.in_err-rest.field-0.0) (rw (returned.1, returned.2) at is)))
+
+pub returns-then-not-is_empty-clause-refused : goal.returns-then-not-is_empty-clause-refused
+returns-then-not-is_empty-clause-refused c = λ fault _.
+    let added = ReadsOn-all c.push_settings.new.settings c.args.codes.now c.in_ok-rest.rest.now (rw c.new-settings.ensures at c.in_ok-rest.ensures.added) in
+    let some : 0 < length c.in_ok-rest.rest.now = grind arith in
+    settings_in-part c.push_settings.new.settings c.in_ok-rest.rest.now c.args.codes.now added c.in_ok-rest.ensures.part some

@@ -1,4 +1,5 @@
 use Rattle.std.proofs.Common.{◌≡◌, List, ℕ, true, sym, subst, ◌∙◌, arith}
+use Rattle.dir_calls.specs.Clearing.{SparesOthers}
 use Rattle.rules_install.specs.Installs.{installing}
 use Rattle.rules_tools.specs.FolderParts.{folder_dir, folder_left}
 use Rattle.rules_tools.specs.Disks.{fails_on_disk}
@@ -17,7 +18,7 @@ returns-then-is_of_disk g c =
     record {
       ends = c.make_steps-outcome.ensures.ends;
       series = λ honest. then_series s (g.D.Dir.state old) (g.D.Dir.state mid) (g.D.Dir.state new)
-          (λ name differ contents lasts. (c.remove_scratch.ensures.stays honest name (λ same. differ (sym c.requires.scratch ∙ same)) contents lasts).lasts) result failed
+          (subst (λ (name : List ℕ). SparesOthers name (g.D.Dir.state mid) (g.D.Dir.state new)) c.requires.scratch (c.remove_scratch.ensures.others honest)) result failed
           (c.make_steps-outcome.ensures.series honest);
       any_moment = λ honest. then_keeps g.D.Dir s old mid new result (c.make_steps-outcome.ensures.any_moment honest) (c.make_steps-outcome.ensures.lasts honest)
           (c.remove_scratch.ensures.stays honest s.names.cdb (λ same. c.consistent.ensures.names (sym same ∙ c.requires.scratch)));

@@ -1,10 +1,11 @@
 use Rattle.std.proofs.Common.{sym, ◌∙◌, arith}
 use Rattle.std.proofs.lemmas.Result.{err_from_is_err_and}
 use Rattle.dir_calls.specs.Calls.{settles}
+use Rattle.dir_calls.proofs.Clearing.{stays_on as then_stays}
 use Rattle.dir_calls.proofs.Lasting.{settles_keeps}
 use Rattle.dir_calls.proofs.Replacing.{stays_on}
 use Rattle.rules_install.specs.Installs.{installing}
-use Rattle.rules_tools.proofs.BeginLemmas.{blames_settling, counts_on, first_at, first_begins, first_begun, first_fails, first_stays, fits_settled, fits_unbegun}
+use Rattle.rules_tools.proofs.BeginLemmas.{blames_settling, counts_on, first_at, first_begins, first_begun, first_fails, first_spares, first_stays, fits_settled, fits_unbegun, settled_stays}
 use Rattle.rules_tools.proofs.steps.begin.Goals as goal
 
 pub step-requires : goal.step-requires
@@ -22,6 +23,25 @@ returns-in_err-step-clause-faults g c =
     let p = err_from_is_err_and c.from_residual.result c.from_residual.ensures.1 in
     rw (p.1, p.2)
     (first_at (installing c.args.install.now) (installing c.step.new.self) c.in_err-step.field-0.0 c.requires.unbegun (c.in_err-step.ensures.goes c.requires.is_open))
+
+pub returns-in_err-step-clause-others : goal.returns-in_err-step-clause-others
+returns-in_err-step-clause-others g c = λ honest.
+    first_spares (installing c.args.install.now) (g.D.Dir.state c.args.dir.now) (g.D.Dir.state c.step.new.dir) c.step.result c.requires.unbegun (c.step.ensures.device honest)
+    (c.step.ensures.changes honest c.requires.is_open (λ done. (let no = sym c.requires.unbegun ∙ done in absurd (cc))))
+
+pub returns-in-Ok-clause-others : goal.returns-in-Ok-clause-others
+returns-in-Ok-clause-others g c = λ honest other differ.
+    let spares = first_spares (installing c.args.install.now) (g.D.Dir.state c.args.dir.now) (g.D.Dir.state c.step.new.dir) c.step.result c.requires.unbegun (c.step.ensures.device honest)
+    (c.step.ensures.changes honest c.requires.is_open (λ done. (let no = sym c.requires.unbegun ∙ done in absurd (cc)))) in
+    then_stays other (g.D.Dir.state c.args.dir.now) (g.D.Dir.state c.step.new.dir) (g.D.Dir.state c.settle.new.self) (spares other differ)
+    (settled_stays other (g.D.Dir.state c.step.new.dir) (g.D.Dir.state c.settle.new.self) c.settle.result (c.settle.ensures.does honest))
+
+pub returns-in-Err-clause-others : goal.returns-in-Err-clause-others
+returns-in-Err-clause-others g c = λ honest other differ.
+    let spares = first_spares (installing c.args.install.now) (g.D.Dir.state c.args.dir.now) (g.D.Dir.state c.step.new.dir) c.step.result c.requires.unbegun (c.step.ensures.device honest)
+    (c.step.ensures.changes honest c.requires.is_open (λ done. (let no = sym c.requires.unbegun ∙ done in absurd (cc)))) in
+    then_stays other (g.D.Dir.state c.args.dir.now) (g.D.Dir.state c.step.new.dir) (g.D.Dir.state c.settle.new.self) (spares other differ)
+    (settled_stays other (g.D.Dir.state c.step.new.dir) (g.D.Dir.state c.settle.new.self) c.settle.result (c.settle.ensures.does honest))
 
 pub returns-in_err-step-clause-stays : goal.returns-in_err-step-clause-stays
 returns-in_err-step-clause-stays g c = λ honest name differ.

@@ -18,7 +18,7 @@ returns-in_err-begin-clause-series g c = λ honest.
     let p = err_from_is_err_and c.from_residual.result c.from_residual.ensures.1 in
     rw (p.1, p.2)
     (unbegun_series (installing c.args.install.now) (installing c.begin.new.install) (g.D.Dir.state c.args.dir.now) (g.D.Dir.state c.begin.new.dir) c.in_err-begin.field-0.0 c.in_err-begin.ensures.faults
-    (c.in_err-begin.ensures.begins honest) (λ name differ contents lasts. (c.begin.ensures.stays honest name differ contents lasts).lasts))
+    (c.in_err-begin.ensures.begins honest) (c.begin.ensures.others honest))
 
 pub returns-in_err-begin-clause-any_moment : goal.returns-in_err-begin-clause-any_moment
 returns-in_err-begin-clause-any_moment g c = λ honest.

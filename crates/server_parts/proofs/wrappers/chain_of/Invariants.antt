@@ -1,6 +1,6 @@
 use Rattle.std.proofs.Common.{◌≡◌, map, take}
 use Rattle.server_parts.specs.Wrappers.{changed_by}
-use Rattle.server_parts.proofs.Stages.{rest_of, whole_of}
+use Rattle.server_parts.proofs.LineWrappers.{rest_of, whole_of}
 use Rattle.server_parts.proofs.wrappers.chain_of.Given as goal
 
 abbrev pub invariant-loop-name : goal.invariant-loop-name

@@ -32,7 +32,8 @@ pub loop-passed-preserved-then-slot_hash-key_hash :
 loop-passed-preserved-then-slot_hash-key_hash g c = record {
   left = λ honest.
       found-other_hash (next g (goal.at.loop-passed-preserved-then-slot_hash-key_hash g c).In_ok-slot_hash honest) c.if-place-eq0.false (λ same. c.if-slot_hash-key_hash.true (same ∙ sym c.hash-key_hash.ensures));
-  read = c.in_ok-slot_hash.ensures.read;
+  slots = c.in_ok-slot_hash.ensures.read;
+  records = c.loop-passed.invariant.records;
 }
 
 pub returns-in_err-stored-clause-fault : goal.returns-in_err-stored-clause-fault
@@ -51,7 +52,8 @@ loop-passed-preserved g c = record {
   left = λ honest.
       let absent = rw c.in_default.is at (c.in_ok-stored.ensures.found honest) in
       found-other_key (next g (goal.at.loop-passed-preserved g c).In_ok-slot_hash honest) c.if-place-eq0.false absent;
-  read = c.in_ok-slot_hash.ensures.read;
+  slots = c.in_ok-slot_hash.ensures.read;
+  records = c.in_ok-stored.ensures.read;
 }
 
 pub returns-clause-found : goal.returns-clause-found

@@ -10,5 +10,6 @@ invariant-loop-passed g l = record {
       IsTrue g.F.RulesFile.honest
       → found_in_probe (g.F.RulesFile.bytes l.self) l.key (drop l.passed (probe (hash_of l.key) (slots_from (g.F.RulesFile.bytes l.self) (l.table, l.slots))))
       ≡ found_in_slots (g.F.RulesFile.bytes l.self) l.key (l.table, l.slots);
-  read : IsTrue g.F.RulesFile.honest → IsWindowOf (g.F.RulesFile.bytes l.self) l.window;
+  slots : IsTrue g.F.RulesFile.honest → IsWindowOf (g.F.RulesFile.bytes l.self) l.slot_window;
+  records : IsTrue g.F.RulesFile.honest → IsWindowOf (g.F.RulesFile.bytes l.self) l.record_window;
 }

@@ -1,5 +1,12 @@
+use Rattle.std.proofs.Common.{refl}
+use Rattle.dir_calls.proofs.Clearing.{same_stays}
 use Rattle.dir_calls.proofs.Removals.{idle_stays}
 use Rattle.dir_calls.proofs.fuse_dir.FuseDirClearableDir.take_away.Goals as goal
+
+pub returns-then-burns-clause-others : goal.returns-then-burns-clause-others
+returns-then-burns-clause-others g c = λ honest other differ.
+    let d = g.D.Dir.state c.args.self.now.inner in
+    same_stays other d d refl
 
 pub returns-then-burns-clause-stays : goal.returns-then-burns-clause-stays
 returns-then-burns-clause-stays g c = λ honest other differ contents lasts.

@@ -5,10 +5,26 @@ use Rattle.dir_calls.specs.Directory.{Directory, number_of}
 use Rattle.dir_calls.specs.Folder.{directory_of}
 use Rattle.dir_calls.specs.Lasting.{LastsAmong}
 use Rattle.dir_calls.specs.Past.{LeftSince, left_now, past_call}
+use Rattle.dir_calls.proofs.Clearing.{fails_spares, same_stays}
 use Rattle.dir_calls.proofs.History.{elapses_taken}
 use Rattle.dir_calls.proofs.Lasting.{image_has}
 use Rattle.dir_calls.proofs.Removals.{gone, removal_stays, taken_fails}
 use Rattle.dir_calls.proofs.mem_dir.MemDirClearableDir.take_away.Goals as goal
+
+pub returns-in_err-take-clause-others : goal.returns-in_err-take-clause-others
+returns-in_err-take-clause-others c = λ other differ.
+    let d = directory_of c.args.self.now.folder in
+    let same : directory_of c.take.new.self ≡ d = search rules in
+    same_stays other d (directory_of c.take.new.self) same
+
+pub returns-clause-others : goal.returns-clause-others
+returns-clause-others c =
+    let m = c.args.self.now in
+    let name = c.args.name.now in
+    let d = directory_of m.folder in
+    let e = directory_of c.leave.new.self in
+    let does : e ≡ closed (without d name) = search rules in
+    fails_spares name d e (taken_fails d e name does)
 
 pub returns-in_err-take-clause-stays : goal.returns-in_err-take-clause-stays
 returns-in_err-take-clause-stays c = λ other differ contents lasts.

@@ -4,12 +4,13 @@ use Rattle.dir_calls.specs.Directory.{Directory, number_of}
 use Rattle.dir_calls.specs.Images.{IsImage}
 use Rattle.dir_calls.specs.Calls.{makes, closed, without}
 use Rattle.dir_calls.specs.Outcomes.{Fails}
-use Rattle.dir_disk.specs.OsDir.{SparesOthers, kept_back}
+use Rattle.dir_disk.specs.OsDir.{kept_back}
 use Rattle.dir_disk.specs.DiskSteps.{AllOrNone, StepElapses}
 use Rattle.dir_disk.specs.KeptImages.{kept_image}
+use Rattle.dir_calls.proofs.Clearing.{fails_spares}
 use Rattle.dir_calls.proofs.Removals.{gone, removal_stays}
 use Rattle.dir_disk.proofs.KeptWrites.{closed_from, kept_nowhere}
-use Rattle.dir_disk.proofs.Removals.{removal_closed, removal_fails, removal_spares, unlinked}
+use Rattle.dir_disk.proofs.Removals.{removal_closed, removal_fails, unlinked}
 use Rattle.dir_disk.proofs.Steps.{step_after}
 use Rattle.dir_disk.proofs.Told.{on_ok_then, told_ok, call_elapses}
 use Rattle.dir_disk.proofs.os_dir.DiskDir.remove.Goals as goal
@@ -43,9 +44,25 @@ returns-clause-others g c = λ honest.
     let path = g.D.Disk.named c.put_path.new.path in
     let how : AllOrNone (closed d) (without (closed d) name) f =
     unlinked c.remove_name-outcome.result m (closed d) f path name (c.give_up.ensures.done honest) (c.put_path.ensures honest) (c.remove_name-outcome.ensures.done honest) (c.remove_name-outcome.ensures.failed honest) in
-    subst (λ (x : Directory). SparesOthers name (kept_back p d) x)
+    fails_spares name (kept_back p d) (kept_back q f)
+    (subst (λ (x : Directory). Fails (makes name) (kept_back p d) x)
     (sym (kept_nowhere f q (removal_closed g.D.Disk.number d f s.scratch s.written p name (s.holds honest) how)))
-    (removal_spares g.D.Disk.number d f s.scratch s.written p name (s.holds honest) how)
+    (removal_fails g.D.Disk.number d f s.scratch s.written p name (s.holds honest) how))
+
+pub returns-clause-closed : goal.returns-clause-closed
+returns-clause-closed g c = λ honest.
+    let s = c.args.self.now in
+    let d = g.D.Disk.state s.disk in
+    let m = g.D.Disk.state c.give_up.new.disk in
+    let f = g.D.Disk.state c.remove_name-outcome.new.disk in
+    let p = s.pending.items in
+    let q = c.clear.new.self.items in
+    let name = c.args.name.now in
+    let path = g.D.Disk.named c.put_path.new.path in
+    let how : AllOrNone (closed d) (without (closed d) name) f =
+    unlinked c.remove_name-outcome.result m (closed d) f path name (c.give_up.ensures.done honest) (c.put_path.ensures honest) (c.remove_name-outcome.ensures.done honest) (c.remove_name-outcome.ensures.failed honest) in
+    let shut = removal_closed g.D.Disk.number d f s.scratch s.written p name (s.holds honest) how in
+    ap (λ (x : Directory). x.scratch) (kept_nowhere f q shut) ∙ shut
 
 pub returns-clause-stays : goal.returns-clause-stays
 returns-clause-stays g c = λ honest other differ contents lasts.

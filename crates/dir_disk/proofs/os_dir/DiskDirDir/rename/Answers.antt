@@ -1,5 +1,6 @@
 use Rattle.std.proofs.Common.{rules, ◌≡◌, inl, inr, ⊎_elim, List, ℕ, sym, ◌∙◌, subst, ap}
 use Rattle.std.specs.Prelude.{None}
+use Rattle.std.specs.Option.{option_map}
 use Rattle.std.specs.IoError.{error_kind}
 use Rattle.std.specs.declared.io.ErrorKind.TheVariants.{NotFound}
 use Rattle.dir_calls.specs.Directory.{number_of}
@@ -7,7 +8,7 @@ use Rattle.dir_calls.specs.Calls.{renames, after, longer}
 use Rattle.dir_calls.specs.Outcomes.{Does, Fails, LeftBy}
 use Rattle.dir_calls.specs.Moments.{Includes}
 use Rattle.dir_disk.specs.OsDir.{Holds, kept_back}
-use Rattle.dir_disk.specs.DiskSteps.{AllOrNone}
+use Rattle.dir_disk.specs.DiskSteps.{AllOrNone, MovesNoOther}
 use Rattle.dir_disk.specs.KeptImages.{kept_image, disk_image}
 use Rattle.dir_disk.proofs.OsCalls.{fails_renamed, kept_renamed, number_with}
 use Rattle.dir_disk.proofs.Told.{on_ok_then, on_err_then, if_err_then, told_ok, told_err, does_move, absent_told, no_memory_told, among_renames, call_elapses, call_includes}
@@ -31,6 +32,19 @@ returns-clause-does g c = λ honest.
     (on_err_then c.move_name-outcome.result (AllOrNone d (after (renames from to) d) e) (Fails (renames from to) (kept_back p d) (kept_back p e))
     (λ left. fails_renamed d e from to p left) (c.move_name-outcome.ensures.failed honest)))
     (if_err_then c.move_name-outcome.result _ _ (λ x absent kind. ap (kept_back p) (absent kind).1) (c.move_name-outcome.ensures.absent honest))))
+
+pub returns-clause-own_if_moved : goal.returns-clause-own_if_moved
+returns-clause-own_if_moved g c = λ honest.
+    let s = c.args.self.now in
+    let d = g.D.Disk.state s.disk in
+    let e = g.D.Disk.state c.move_name-outcome.new.disk in
+    let p = s.pending.items in
+    let made = option_map g.D.Disk.number s.made in
+    told_err c.move_name-outcome.result c.told_move.result (MovesNoOther made c.args.from.now (kept_back p d) (kept_back p e)) c.told_move.ensures.failed
+    (on_err_then c.move_name-outcome.result (MovesNoOther made (g.D.Disk.named c.put_path.new.path) d e) (MovesNoOther made c.args.from.now (kept_back p d) (kept_back p e))
+    (λ how. ⊎_elim (λ same. inl (ap (kept_back p) same))
+    (λ own. inr (number_with (longer p) d.scratch d c.args.from.now ∙ subst (λ (n : List ℕ). number_of d n ≡ made) (c.put_path.ensures honest) own)) how)
+    (c.move_name-outcome.ensures.own_if_moved honest))
 
 pub returns-clause-no_name : goal.returns-clause-no_name
 returns-clause-no_name g c = λ honest is.

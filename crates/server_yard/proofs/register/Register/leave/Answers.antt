@@ -2,7 +2,7 @@ use Rattle.std.proofs.Common.{◌≡◌, ◌<◌, ◌+◌, ◌^◌, ℕ, length,
 use Rattle.std.specs.Prelude.{is_some}
 use Rattle.std.specs.BTreeMap.{get}
 use Rattle.std.specs.Ordering.{nat_cmp}
-use Rattle.child_jobs.specs.Seats.{Seats, without_place}
+use Rattle.child_jobs.specs.PlacesOut.{PlacesOut, without_place}
 use Rattle.event_journals.specs.Journals.{Books}
 use Rattle.event_journals.proofs.Countings.{length-without-some, retired_in, retired_in-without}
 use Rattle.server_events.specs.ServerState.{ServerState, count_from, stage_of, without}
@@ -68,10 +68,10 @@ invariant_of-self g c =
       at_each_address =
           λ ip. left_at ip n its.0 old.state old.table c.leave.new.self fewer (old.at_each_address ip) its.1
           ∙ sym (ap (λ (u : ServerState). count_from ip u.connections) now);
-      retired = ap (λ (t : Seats). t.retired) table ∙ omega (arith, old.retired, marks, marked, none);
-      limit = ap (λ (t : Seats). t.limit) table ∙ old.limit ∙ sym (ap (λ (u : ServerState). u.limit) now);
-      per_address = ap (λ (t : Seats). t.per_address) table ∙ old.per_address ∙ sym (ap (λ (u : ServerState). u.per_address) now);
-      seated = subst (λ (t : Seats). HasSeats (get nat_cmp old.seats) t c.apply.new.self) (sym table) (subst (λ (u : ServerState). HasSeats (get nat_cmp old.seats) (without_place place old.table) u) (sym now) (seats_go (get nat_cmp old.seats) old.table old.state n place apart c.requires.seat old.seated));
+      retired = ap (λ (t : PlacesOut). t.retired) table ∙ omega (arith, old.retired, marks, marked, none);
+      limit = ap (λ (t : PlacesOut). t.limit) table ∙ old.limit ∙ sym (ap (λ (u : ServerState). u.limit) now);
+      per_address = ap (λ (t : PlacesOut). t.per_address) table ∙ old.per_address ∙ sym (ap (λ (u : ServerState). u.per_address) now);
+      seated = subst (λ (t : PlacesOut). HasSeats (get nat_cmp old.seats) t c.apply.new.self) (sym table) (subst (λ (u : ServerState). HasSeats (get nat_cmp old.seats) (without_place place old.table) u) (sym now) (seats_go (get nat_cmp old.seats) old.table old.state n place apart c.requires.seat old.seated));
       room =
           c.release.ensures.room (room_needed c.apply.new.self.connections)
           ∙ c.note.ensures.room (room_needed c.apply.new.self.connections + c.spare-spare.result)

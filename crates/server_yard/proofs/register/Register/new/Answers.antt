@@ -3,8 +3,8 @@ use Rattle.std.specs.FinMap as map
 use Rattle.std.specs.BTreeMap.{is_at}
 use Rattle.std.specs.Map.{lookup}
 use Rattle.std.specs.Ordering.{nat_cmp}
-use Rattle.child_jobs.specs.Seats.{Seats, live_at, live_of}
-use Rattle.child_jobs.proofs.SeatLemmas.{live_at-le-live_of}
+use Rattle.child_jobs.specs.PlacesOut.{PlacesOut, live_at, live_of}
+use Rattle.child_jobs.proofs.PlacesOutLemmas.{live_at-le-live_of}
 use Rattle.server_events.specs.ServerState.{ServerState, count_from}
 use Rattle.server_events.specs.declared.state.Connection.{Connection}
 use Rattle.event_journals.proofs.Countings.{retired_in}
@@ -25,9 +25,9 @@ invariant_of-result g c =
       small = subst (λ (n : ℕ). n < 2 ^ 64) (sym (ap (λ (u : ServerState). u.limit) empty)) c.ranges.limit.fits;
       live = live ∙ sym (ap (λ (cs : List Connection). length cs) none);
       at_each_address = λ ip. (let few = live_at-le-live_of t ip in let zero : live_at ip t ≡ 0 = omega (arith, few, live) in zero ∙ sym (ap (λ (cs : List Connection). count_from ip cs) none));
-      retired = ap (λ (x : Seats). x.retired) made ∙ sym (ap retired_in none);
-      limit = ap (λ (x : Seats). x.limit) made ∙ sym (ap (λ (u : ServerState). u.limit) empty);
-      per_address = ap (λ (x : Seats). x.per_address) made ∙ sym (ap (λ (u : ServerState). u.per_address) empty);
+      retired = ap (λ (x : PlacesOut). x.retired) made ∙ sym (ap retired_in none);
+      limit = ap (λ (x : PlacesOut). x.limit) made ∙ sym (ap (λ (u : ServerState). u.limit) empty);
+      per_address = ap (λ (x : PlacesOut). x.per_address) made ∙ sym (ap (λ (u : ServerState). u.per_address) empty);
       seated = record {
         up_to_last = λ i n is. absurd (let gone = ap (λ es. lookup (is_at (nat_cmp i)) es) c.new-2.ensures.empty in cc);
         for_its_peer = λ i n p is its. absurd (let gone = ap (λ es. lookup (is_at (nat_cmp i)) es) c.new-2.ensures.empty in cc);

@@ -3,7 +3,7 @@ use Rattle.std.specs.Prelude.{is_some}
 use Rattle.std.specs.BTreeMap.{get}
 use Rattle.std.specs.Ordering.{nat_cmp}
 use Rattle.child_jobs.specs.Runs.{place_of}
-use Rattle.child_jobs.specs.Seats.{Seats, live_at, live_of}
+use Rattle.child_jobs.specs.PlacesOut.{PlacesOut, live_at, live_of}
 use Rattle.event_journals.proofs.Countings.{moves, retired_in}
 use Rattle.server_events.specs.ServerState.{ServerState, is_started, stage_of}
 use Rattle.server_events.specs.declared.event.Event.TheVariants as event
@@ -51,10 +51,10 @@ invariant_of-self g c =
       small = subst (λ (k : ℕ). k < 2 ^ 64) (sym stays.limit) old.small;
       live = ap live_of table ∙ old.live ∙ sym stays.live;
       at_each_address = λ ip. ap (live_at ip) table ∙ old.at_each_address ip ∙ sym (stays.from ip);
-      retired = ap (λ (t : Seats). t.retired) table ∙ ap (λ (k : ℕ). k + 1) old.retired ∙ sym marks;
-      limit = ap (λ (t : Seats). t.limit) table ∙ old.limit ∙ sym stays.limit;
-      per_address = ap (λ (t : Seats). t.per_address) table ∙ old.per_address ∙ sym stays.per_address;
-      seated = seats_same (get nat_cmp old.seats) (get nat_cmp old.seats) old.table c.retire.new.table s (λ i. refl) (ap (λ (t : Seats). t.places) table) (seats_stay (get nat_cmp old.seats) old.table old.state s stays old.seated);
+      retired = ap (λ (t : PlacesOut). t.retired) table ∙ ap (λ (k : ℕ). k + 1) old.retired ∙ sym marks;
+      limit = ap (λ (t : PlacesOut). t.limit) table ∙ old.limit ∙ sym stays.limit;
+      per_address = ap (λ (t : PlacesOut). t.per_address) table ∙ old.per_address ∙ sym stays.per_address;
+      seated = seats_same (get nat_cmp old.seats) (get nat_cmp old.seats) old.table c.retire.new.table s (λ i. refl) (ap (λ (t : PlacesOut). t.places) table) (seats_stay (get nat_cmp old.seats) old.table old.state s stays old.seated);
       room = c.note.ensures.room (room_needed s.connections) ∙ subst (λ (k : ℕ). g.J.Journal.has_room old.journal k ≡ true) (sym less) old.room;
     }
 

@@ -1,7 +1,7 @@
 use Rattle.std.proofs.Common.{◌≡◌, ◌<◌, ◌+◌, ◌^◌, ◌++◌, ◌∷◌, [], ℕ, length, true, refl, sym, ap, subst, ◌∙◌, arith}
 use Rattle.std.specs.BTreeMap.{get}
 use Rattle.std.specs.Ordering.{nat_cmp}
-use Rattle.child_jobs.specs.Seats.{Seats, live_at, live_of, with_place}
+use Rattle.child_jobs.specs.PlacesOut.{PlacesOut, live_at, live_of, with_place}
 use Rattle.std.specs.Prelude.{option_map}
 use Rattle.event_journals.specs.Journals.{Books, next_report, one_more}
 use Rattle.event_journals.proofs.Countings.{moves, retired_in}
@@ -75,10 +75,10 @@ invariant_of-self-in-Ok g c =
       at_each_address =
           λ ip. joined_at ip n peer old.state old.table c.give_place.new.table more (old.at_each_address ip)
           ∙ sym (ap (λ (u : ServerState). count_from ip u.connections) now);
-      retired = ap (λ (t : Seats). t.retired) table ∙ old.retired ∙ sym marks;
-      limit = ap (λ (t : Seats). t.limit) table ∙ old.limit ∙ sym (ap (λ (u : ServerState). u.limit) now);
-      per_address = ap (λ (t : Seats). t.per_address) table ∙ old.per_address ∙ sym (ap (λ (u : ServerState). u.per_address) now);
-      seated = subst (λ (t : Seats). HasSeats (get nat_cmp c.give_place.new.seats) t s) (sym table) (subst (λ (u : ServerState). HasSeats (get nat_cmp c.give_place.new.seats) (with_place c.in-Ok.place peer.ip old.table) u) (sym now) (seats_come (get nat_cmp old.seats) (get nat_cmp c.give_place.new.seats) old.table old.state n c.in-Ok.place peer room.next apart c.in-Ok.ensures.seated old.seated));
+      retired = ap (λ (t : PlacesOut). t.retired) table ∙ old.retired ∙ sym marks;
+      limit = ap (λ (t : PlacesOut). t.limit) table ∙ old.limit ∙ sym (ap (λ (u : ServerState). u.limit) now);
+      per_address = ap (λ (t : PlacesOut). t.per_address) table ∙ old.per_address ∙ sym (ap (λ (u : ServerState). u.per_address) now);
+      seated = subst (λ (t : PlacesOut). HasSeats (get nat_cmp c.give_place.new.seats) t s) (sym table) (subst (λ (u : ServerState). HasSeats (get nat_cmp c.give_place.new.seats) (with_place c.in-Ok.place peer.ip old.table) u) (sym now) (seats_come (get nat_cmp old.seats) (get nat_cmp c.give_place.new.seats) old.table old.state n c.in-Ok.place peer room.next apart c.in-Ok.ensures.seated old.seated));
       room =
           c.note.ensures.room (room_needed s.connections)
           ∙ subst (λ (k : ℕ). g.J.Journal.has_room c.reserve.new.self k ≡ true) (omega (arith, needed)) taken;
@@ -97,10 +97,10 @@ invariant_of-self-in-Err g c =
       small = subst (λ (k : ℕ). k < 2 ^ 64) (sym (ap (λ (u : ServerState). u.limit) err.1)) old.small;
       live = ap live_of err.0 ∙ old.live ∙ sym (ap (λ (u : ServerState). length u.connections) err.1);
       at_each_address = λ ip. ap (live_at ip) err.0 ∙ old.at_each_address ip ∙ sym (ap (λ (u : ServerState). count_from ip u.connections) err.1);
-      retired = ap (λ (t : Seats). t.retired) err.0 ∙ old.retired ∙ sym (ap (λ (u : ServerState). retired_in u.connections) err.1);
-      limit = ap (λ (t : Seats). t.limit) err.0 ∙ old.limit ∙ sym (ap (λ (u : ServerState). u.limit) err.1);
-      per_address = ap (λ (t : Seats). t.per_address) err.0 ∙ old.per_address ∙ sym (ap (λ (u : ServerState). u.per_address) err.1);
-      seated = subst (λ (t : Seats). HasSeats (get nat_cmp c.give_place.new.seats) t s) (sym err.0) (subst (λ (u : ServerState). HasSeats (get nat_cmp c.give_place.new.seats) old.table u) (sym err.1) (seats_lost (get nat_cmp old.seats) (get nat_cmp c.give_place.new.seats) old.table old.state c.in-Err.ensures.err_seats old.seated));
+      retired = ap (λ (t : PlacesOut). t.retired) err.0 ∙ old.retired ∙ sym (ap (λ (u : ServerState). retired_in u.connections) err.1);
+      limit = ap (λ (t : PlacesOut). t.limit) err.0 ∙ old.limit ∙ sym (ap (λ (u : ServerState). u.limit) err.1);
+      per_address = ap (λ (t : PlacesOut). t.per_address) err.0 ∙ old.per_address ∙ sym (ap (λ (u : ServerState). u.per_address) err.1);
+      seated = subst (λ (t : PlacesOut). HasSeats (get nat_cmp c.give_place.new.seats) t s) (sym err.0) (subst (λ (u : ServerState). HasSeats (get nat_cmp c.give_place.new.seats) old.table u) (sym err.1) (seats_lost (get nat_cmp old.seats) (get nat_cmp c.give_place.new.seats) old.table old.state c.in-Err.ensures.err_seats old.seated));
       room = subst (λ (u : ServerState). g.J.Journal.has_room c.release.new.self (room_needed u.connections) ≡ true) (sym err.1) (c.release.ensures.room (room_needed old.state.connections) ∙ taken);
     }
 

@@ -1,0 +1,4 @@
+-- Whom a tool speaks to, and what it tells behind the line of a fault.
+pub mod Lines
+pub mod Voices
+pub mod Words

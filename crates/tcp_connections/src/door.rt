@@ -1,0 +1,187 @@
+//! What is under the lock of the socket.
+ghost use Rattle.std.specs.Option.{ForSome};
+ghost use Rattle.std.specs.Prelude.{◌≡◌, ◌≢◌, Some};
+ghost use Rattle.tcp_connections.specs.Admissions.{IsServed};
+ghost use Rattle.tcp_connections.specs.declared.admission.ServeEnd.TheVariants.{Count};
+
+use crate::accepting::AcceptFault;
+use crate::admission::{Admission, AdmitOutcome, ServeEnd};
+use std::time::Duration;
+
+/// So many faults of accepting in succession end a server.
+const FAULTS: u32 = 100;
+
+/// For so many milliseconds a server without descriptors or memory for a connection waits before it tries again: at first, and at most. Each
+/// pause is twice the one before it, so a hundred in succession take over a minute.
+const FIRST_PAUSE: u64 = 10;
+
+const LONGEST_PAUSE: u64 = 1_000;
+
+/// A pause before something is tried again, in milliseconds: each is twice the one before it.
+#[derive(Clone, Copy)]
+pub(crate) struct Pause {
+    milliseconds: u64,
+}
+
+impl Pause {
+    pub fn first() -> Pause {
+        Pause {
+            milliseconds: FIRST_PAUSE,
+        }
+    }
+
+    /// The pause of now; the next one is twice as long.
+    pub fn next(&mut self) -> Duration {
+        let pause = self.milliseconds.min(LONGEST_PAUSE);
+        self.milliseconds = pause.saturating_mul(2);
+        Duration::from_millis(pause)
+    }
+}
+
+// Where connections come in, with how many were let in, as far as that can be counted.
+#[derive(Drop)]
+struct Entrance<Q: Admission> {
+    admission: Q,
+    let_in: Option<u32>,
+    ghost counted: { ForSome let_in (λ n. Q.let_in admission ≡ n) },
+}
+
+impl<Q: Admission> Entrance<Q> {
+    fn new(admission: Q) -> Entrance<Q>
+        requires nobody { Q.let_in admission ≡ 0 }
+    {
+        Entrance {
+            admission,
+            let_in: Some(0),
+        }
+    }
+
+    // Waits for the next connection, and lets it in; one that is refused is closed.
+    fn next(&mut self) -> Result<AdmitOutcome<Q::Work>, AcceptFault> {
+        let outcome = self.admission.next();
+        match &outcome {
+            Ok(AdmitOutcome::In(_)) => {
+                self.let_in = self.let_in.and_then(|count| count.checked_add(1));
+            }
+            Ok(AdmitOutcome::Spent) => self.let_in = None,
+            Ok(AdmitOutcome::Refused) | Err(_) => {}
+        }
+        outcome
+    }
+
+    // Lets nobody in any more.
+    fn close(&mut self) {
+        self.admission.close();
+    }
+}
+
+/// The place where one connection after another is let in, by whoever has its lock.
+#[derive(Drop)]
+pub(crate) struct Door<Q: Admission> {
+    entrance: Entrance<Q>,
+    // how many connections are let in before the server ends
+    count: Option<u32>,
+    // how it ended, where not by that
+    end: Option<ServeEnd>,
+    // how many faults of accepting came in succession, and the pause after the next one for want of room
+    faults: u32,
+    pause: Pause,
+    ghost otherwise: { end ≢ Some Count },
+}
+
+impl<Q: Admission> Door<Q> {
+    /// One through which nobody came yet.
+    pub fn new(admission: Q, count: Option<u32>) -> Door<Q>
+        requires nobody { Q.let_in admission ≡ 0 }
+    {
+        Door {
+            entrance: Entrance::new(admission),
+            count,
+            end: None,
+            faults: 0,
+            pause: Pause::first(),
+        }
+    }
+
+    /// Whether nobody is let in any more.
+    pub fn is_over(&self) -> bool {
+        self.end.is_some() || self.is_served()
+    }
+
+    // Whether as many were let in as were to be.
+    fn is_served(&self) -> bool {
+        self.count.is_some() && self.count == self.entrance.let_in
+    }
+
+    /// Waits until fewer connections are alive than may be; whether that comes.
+    pub fn wait_for_room(&mut self) -> bool {
+        let is_room = self.entrance.admission.wait_for_room();
+        if !is_room {
+            self.close(ServeEnd::NoPlaces);
+        }
+        is_room
+    }
+
+    /// Waits for the next connection, and lets it in where it is not refused. After the last one the door is closed.
+    ///
+    /// # Errors
+    /// No connection came.
+    pub fn next(&mut self) -> Result<Option<Q::Work>, AcceptFault> {
+        match self.entrance.next()? {
+            AdmitOutcome::In(work) => {
+                self.forget_faults();
+                if self.is_served() {
+                    self.entrance.close();
+                }
+                Ok(Some(work))
+            }
+            AdmitOutcome::Refused => {
+                self.forget_faults();
+                Ok(None)
+            }
+            AdmitOutcome::Spent => {
+                self.close(ServeEnd::Spent);
+                Ok(None)
+            }
+        }
+    }
+
+    // No fault is the last one any more.
+    fn forget_faults(&mut self) {
+        self.faults = 0;
+        self.pause = Pause::first();
+    }
+
+    /// The pause after a fault for want of room.
+    pub fn next_pause(&mut self) -> Duration {
+        self.pause.next()
+    }
+
+    /// Counts a fault of accepting: the last of a hundred closes the door.
+    pub fn count_fault(&mut self) {
+        self.faults = self.faults.saturating_add(1);
+        if self.faults >= FAULTS {
+            self.close(ServeEnd::AcceptFaults);
+        }
+    }
+
+    /// Lets nobody in any more, for another reason than the count.
+    pub fn close(&mut self, end: ServeEnd)
+        requires other { end ≢ Count }
+    {
+        self.end = Some(end);
+        self.entrance.close();
+    }
+
+    /// How it ended, and where connections came in.
+    pub fn into_end(self, count: Option<u32>) -> (ServeEnd, Q)
+        ensures served { IsServed result.0 count 0 (Q.let_in result.1) }
+    {
+        let Door { entrance, end, .. } = self;
+        let Entrance { admission, let_in } = entrance;
+        if count.is_some() && count == let_in {
+            return (ServeEnd::Count, admission);
+        }
+        (end.unwrap_or(ServeEnd::OutOfMemory), admission)
+    }
+}

@@ -1,0 +1,35 @@
+//! What is left of a connection whose program runs.
+use crate::admission::Serving;
+use crate::helpers::{Helper, Helpers};
+use crate::supply::Means;
+use std::sync::Wait;
+
+/// A connection whose program runs, with the second thread that passes on what its client sends. Whoever lets it go goes
+/// on with it to its end, so that none is lost on the way from one thread to another.
+pub(crate) struct GoingOn<'a, R: Wait, V: Serving<T, Upward = U>, T, U: Drop> {
+    pub rt: &'a R,
+    pub server: &'a V,
+    pub means: &'a Means,
+    pub seconds: &'a Helpers<U>,
+    pub talk: V::Talk,
+    pub second: Option<Helper<U>>,
+}
+
+impl<R: Wait, V: Serving<T, Upward = U>, T, U: Drop> Drop for GoingOn<'_, R, V, T, U> {
+    fn drop(self) {
+        let GoingOn {
+            rt,
+            server,
+            means,
+            seconds,
+            talk,
+            second,
+        } = self;
+        let _over = server.pass_down(talk);
+        if let Some(second) = second {
+            second.wait_for_finish(rt);
+            seconds.give_back(rt, &second);
+        }
+        means.ended(rt);
+    }
+}

@@ -1,0 +1,59 @@
+/* A library to load before the C library: time passes FAST_TIMES times as fast for a program, on the clock that only goes forward, in its sleeps, and in
+   the times after which a write to a socket is given up. Programs that are started meet none of this. */
+#define _GNU_SOURCE
+#include <dlfcn.h>
+#include <stdlib.h>
+#include <sys/socket.h>
+#include <sys/syscall.h>
+#include <sys/time.h>
+#include <time.h>
+#include <unistd.h>
+
+static const long long second = 1000000000;
+static long long times = 1, began;
+
+static long long now(void)
+{
+    struct timespec time;
+    syscall(SYS_clock_gettime, CLOCK_MONOTONIC, &time);
+    return time.tv_sec * second + time.tv_nsec;
+}
+
+__attribute__((constructor)) static void begin(void)
+{
+    const char *value = getenv("FAST_TIMES");
+    times = value ? atoll(value) : 1;
+    began = now();
+    unsetenv("FAST_TIMES");
+    unsetenv("LD_PRELOAD");
+}
+
+int clock_gettime(clockid_t clock, struct timespec *time)
+{
+    if (clock != CLOCK_MONOTONIC)
+        return (int)syscall(SYS_clock_gettime, clock, time);
+    long long passed = began + (now() - began) * times;
+    time->tv_sec = passed / second;
+    time->tv_nsec = passed % second;
+    return 0;
+}
+
+int nanosleep(const struct timespec *time, struct timespec *left)
+{
+    long long all = (time->tv_sec * second + time->tv_nsec) / times;
+    struct timespec shorter = {all / second, all % second};
+    return (int)syscall(SYS_nanosleep, &shorter, left);
+}
+
+int setsockopt(int a, int level, int name, const void *value, socklen_t size)
+{
+    static int (*next)(int, int, int, const void *, socklen_t);
+    if (!next)
+        next = (int (*)(int, int, int, const void *, socklen_t))dlsym(RTLD_NEXT, "setsockopt");
+    if (level != SOL_SOCKET || name != SO_SNDTIMEO || size != sizeof(struct timeval))
+        return next(a, level, name, value, size);
+    const struct timeval *time = value;
+    long long all = (time->tv_sec * 1000000LL + time->tv_usec) / times;
+    struct timeval shorter = {all / 1000000, all % 1000000};
+    return next(a, level, name, &shorter, size);
+}
