@@ -31,7 +31,7 @@ LOOPS, KINDS = 2, 4
 MARK = b"%08d"
 RULES_NAME, SCRATCH = "rules", "tmp"
 WAITING = "tcprules: waiting for another installation\n"
-MOVED_HERE = 0x80
+MOVED_AWAY, MOVED_HERE = 0x40, 0x80
 EVENT = struct.Struct("iIII")
 # what a run tells whose scratch file somebody has taken away, or that may not replace the rules
 MAY_FAIL = "tcprules: device fault at named\n"
@@ -112,13 +112,16 @@ def rules_for(program, folder):
 
 
 class Renames:
-    """The renames onto a name of a folder since this began, as the system tells them."""
+    """The renames onto a name of a folder since this began, as the system tells them.
+
+    It asks for both events of a rename, and counts the second. The system makes one event of two that are alike and follow each other unread.
+    """
 
     def __init__(self, path):
         self.folder, self.name = os.path.split(path)
         library = ctypes.CDLL(None, use_errno=True)
         self.descriptor = library.inotify_init1(os.O_CLOEXEC | os.O_NONBLOCK)
-        if self.descriptor < 0 or library.inotify_add_watch(self.descriptor, os.fsencode(self.folder), MOVED_HERE) < 0:
+        if self.descriptor < 0 or library.inotify_add_watch(self.descriptor, os.fsencode(self.folder), MOVED_AWAY | MOVED_HERE) < 0:
             raise OSError(ctypes.get_errno(), "inotify")
         self.count = 0
 
@@ -128,8 +131,9 @@ class Renames:
             return
         events = os.read(self.descriptor, 65536)
         while events:
-            length = EVENT.unpack_from(events)[3]
-            self.count += events[EVENT.size:EVENT.size + length].rstrip(b"\0") == self.name.encode()
+            _, what, _, length = EVENT.unpack_from(events)
+            name = events[EVENT.size:EVENT.size + length].rstrip(b"\0")
+            self.count += what == MOVED_HERE and name == self.name.encode()
             events = events[EVENT.size + length:]
 
 
