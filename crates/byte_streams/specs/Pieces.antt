@@ -83,12 +83,12 @@ pub record Moment : Type 0 where
   pub taken : ℕ
   pub given : ℕ
 
--- that of these four; the functions are those of `ends_of`
+-- a moment of a pump that works on these four; the functions are those of `ends_of`
 abbrev pub moment_of : {R W S : Type 0} → KnownBytes R → KnownBytes W → Writing S → R → W → Chain S → PumpState → Moment
 moment_of remaining contents rest reader writer chain work =
     record { ends = ends_of remaining contents rest reader writer chain; taken = work.taken; given = work.given }
 
--- the same of a reader that has this left
+-- the same for a reader that has this left
 abbrev pub moment_with : {W S : Type 0} → Option (List ℕ) → KnownBytes W → Writing S → W → Chain S → PumpState → Moment
 moment_with left contents rest writer chain work = moment_of (λ known. known) contents rest left writer chain work
 

@@ -2,7 +2,7 @@
 //!
 //! The crates above use `pump` and `pump_counted`: what was written is what the chain makes of what was read, as far as
 //! the end says. By the contract of `LineWrapper` what a wrapper writes doesn't depend on how the input is cut. A chain
-//! is generic over its kind of wrapper. A `Recorder` is the tap of `recordio`. It is tested only that a fault is one of
+//! is generic over its kind of wrapper. A `Recorder` is the tap of `recordio`. Only tests show that a fault is one of
 //! the reader or the writer, and that a `Patient` stream waits as long as it should. Only tests ask a `Recorder` for
 //! its writer.
 #![tactic(auto)]

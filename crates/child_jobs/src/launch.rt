@@ -1,4 +1,4 @@
-//! Programs, and jobs that run them.
+//! Programs, the jobs that run them, and what starts a job.
 ghost use Rattle.std.specs.Prelude.{◌≡◌, true, false, Bool, Result, map, string_bytes, IfOk, IfErr, OnOk};
 ghost use Rattle.connection_facts.specs.declared.outcome.StartFault.{StartFault as Fault};
 ghost use Rattle.connection_facts.specs.declared.outcome.Status.{Status as StatusOf};
@@ -55,7 +55,7 @@ impl Program {
     }
 }
 
-/// Why a job can't be waited for or killed.
+/// Why a job could not be waited for or killed.
 #[derive(Clone, Copy, Debug, Error)]
 pub enum WaitFault {
     /// The system refused it.
@@ -91,11 +91,12 @@ pub trait Job {
     /// Whether its pipe ends can still be given.
     ghost has_ends: { Self → Bool };
 
-    /// What a kill may answer, with the job before it and after it. For a job of which nothing is known that is
+    /// What a kill may answer, with the job before it and after it. If nothing is known of a job, it may answer
     /// anything.
     ghost killed: { Self → Self → Result (Unit {0}) WaitFault → Type 0 };
 
-    /// How its program may have ended, if a wait for it succeeds. For a job of which nothing is known that is anyhow.
+    /// How its program may have ended, if a wait for it succeeds. If nothing is known of a job, it may have ended in
+    /// any way.
     ghost ended: { Self → StatusOf → Type 0 };
 
     /// Gives the two ends of its pipes, once. It takes no memory.

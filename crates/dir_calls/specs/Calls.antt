@@ -3,8 +3,8 @@ use Rattle.std.specs.Prelude.{ℕ, zero, suc, ◌+◌, ◌==◌, Bool, true, fal
 use Rattle.dir_calls.specs.NameTable.{NameTable, takes, puts, moves, push, all_settled}
 use Rattle.dir_calls.specs.Directory.{Directory, FileState, number_of}
 
--- the one call that no directory makes as one is `renews`: a name is taken away, all changes of names are made lasting, and then a new
--- file is made under the name
+-- No directory has a call `renews`: a name is taken away, all changes of names are made lasting, and then a new file is
+-- made under the name.
 pub data Call : Type 0 where
   makes : List ℕ → Call
   renews : List ℕ → Call
@@ -18,24 +18,24 @@ pub data Call : Type 0 where
 abbrev pub rewritten : FileState → List ℕ → FileState
 rewritten file bytes = record { bytes = if file.synced then file.bytes else bytes; synced = file.synced }
 
--- with bytes at its end
+-- the file with bytes at its end
 abbrev pub longer : List ℕ → FileState → FileState
 longer piece file = rewritten file (file.bytes ++ piece)
 
--- with bytes in place of those from a place on
+-- the file with bytes in place of those from a place on
 abbrev pub patched : ℕ → List ℕ → FileState → FileState
 patched place bytes file = rewritten file (take place file.bytes ++ bytes ++ drop (place + length bytes) file.bytes)
 
 abbrev pub lasting : FileState → FileState
 lasting file = record { bytes = file.bytes; synced = true }
 
--- the files with the one of this number changed
+-- the files, after a change of the one with this number
 abbrev pub with_file : (FileState → FileState) → ℕ → List FileState → List FileState
 with_file change number [] = []
 with_file change zero (file ∷ files) = change file ∷ files
 with_file change (suc number) (file ∷ files) = file ∷ with_file change number files
 
--- the directory with the scratch file changed, if there is one
+-- the directory after a change of the scratch file, if there is one
 abbrev pub with_scratch : (FileState → FileState) → Option ℕ → Directory → Directory
 with_scratch change None d = d
 with_scratch change (Some number) d = record { names = d.names; files = with_file change number d.files; scratch = d.scratch }
@@ -46,16 +46,16 @@ with_names d names = record { names = names; files = d.files; scratch = d.scratc
 abbrev pub closed : Directory → Directory
 closed d = record { names = d.names; files = d.files; scratch = None }
 
--- the names without a name that stands for this number
+-- the names after a name was taken away that stood for this number, if it did
 abbrev pub taken_from : NameTable → List ℕ → Option ℕ → NameTable
 taken_from names name None = names
 taken_from names name (Some number) = push names (takes name)
 
--- the directory without a name
+-- the directory after a name was taken away, if it stood
 abbrev pub without : Directory → List ℕ → Directory
 without d name = with_names d (taken_from d.names name (number_of d name))
 
--- and with all changes of names lasting
+-- the same, and then all changes of names are settled
 abbrev pub cleared : Directory → List ℕ → Directory
 cleared d name = with_names d (all_settled (without d name).names)
 
@@ -67,7 +67,7 @@ made d name = record {
   scratch = Some (length d.files);
 }
 
--- the number at a name is this one
+-- the name stands for the file with this number
 abbrev pub is_number : ℕ → Option ℕ → Bool
 is_number number None = false
 is_number number (Some there) = there == number

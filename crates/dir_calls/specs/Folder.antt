@@ -7,7 +7,7 @@ use Rattle.dir_calls.specs.Entries.{names_in, change_of}
 use Rattle.dir_calls.specs.Stored.{file_of}
 use Rattle.dir_calls.specs.declared.folder.Folder.{Folder}
 
--- the names after so many of the changes, and the other changes
+-- the names after this many of the changes, and the other changes
 abbrev pub table_of : Names → ℕ → List NameChange → NameTable
 table_of origin settled changes = record { settled = after_changes origin (take settled changes); pending = drop settled changes }
 
@@ -18,7 +18,7 @@ directory_of f = record {
   scratch = f.scratch;
 }
 
--- with these names, all of them settled, and no scratch file
+-- the directory with these names, all of them settled, and no scratch file
 abbrev pub settled_directory : Names → List FileState → Directory
 settled_directory names files = record { names = record { settled = names; pending = [] }; files = files; scratch = None }
 

@@ -7,7 +7,7 @@ use Rattle.dir_calls.specs.declared.fault.DirFault.TheVariants.{Device}
 abbrev pub one_more : ℕ → ℕ
 one_more failures = min (failures + 1) (2 ^ 64 - 1)
 
--- with the failure of the call that was made to fail, once it was, as far as a u64 counts
+-- the failures of the directory inside, and the one that was made once it was, as far as a u64 counts
 abbrev pub failures_with : Bool → ℕ → ℕ
 failures_with burnt failures = min (failures + (if burnt then 1 else 0)) (2 ^ 64 - 1)
 

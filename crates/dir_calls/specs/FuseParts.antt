@@ -1,4 +1,4 @@
--- What a directory of which one call fails is made of.
+-- What a directory one of whose calls fails is made of.
 use Rattle.std.specs.Prelude.{◌≡◌, ◌≢◌, ℕ, Bool, Result}
 use Rattle.dir_calls.specs.Calls.{Call}
 use Rattle.dir_calls.specs.Directory.{Directory}
@@ -28,7 +28,7 @@ module _ {D F : Type 0} {d : dir.Ghosts D F} {f : file.Ghosts F} where
   abbrev pub fuse_state : FuseDir D F d f → Directory
   fuse_state fuse = d.state (fuse_inner fuse)
 
-  -- how often its device has failed, the call that was made to fail among them
+  -- how often its device has failed, including the call that was made to fail
   abbrev pub fuse_failed : FuseDir D F d f → ℕ
   fuse_failed fuse = failures_with (fuse_burnt fuse) (d.failed (fuse_inner fuse))
 
@@ -36,7 +36,7 @@ module _ {D F : Type 0} {d : dir.Ghosts D F} {f : file.Ghosts F} where
   abbrev pub FuseBurns : {T : Type 0} → (old new : FuseDir D F d f) → Result T DirFault → Type 0
   FuseBurns old new result = fuse_left old ≡ 1 → Burns (fuse_inner old) (fuse_inner new) (fuse_failed old) (fuse_failed new) result
 
-  -- any other call fails only where the directory inside does
+  -- any other call fails only if that of the directory inside does
   abbrev pub FusePasses : {T : Type 0} → (old new : FuseDir D F d f) → Result T DirFault → Type 0
   FusePasses old new result = fuse_left old ≢ 1 → CountsFault (d.failed (fuse_inner old)) (d.failed (fuse_inner new)) result
 
@@ -44,7 +44,7 @@ module _ {D F : Type 0} {d : dir.Ghosts D F} {f : file.Ghosts F} where
   abbrev pub FuseElapses : Call → (old new : FuseDir D F d f) → Type 0
   FuseElapses call old new = CallElapses d.state d.moment d.left_since call (fuse_inner old) (fuse_inner new)
 
-  -- a stop may have left all that a stop within the call or right after it leaves of the directory inside
+  -- a stop may have left whatever a stop within the call or right after it leaves of the directory inside
   abbrev pub FuseIncludes : Call → (old new : FuseDir D F d f) → Type 0
   FuseIncludes call old new = CallIncludes d.state d.moment d.left_since call (fuse_inner old) (fuse_inner new)
 

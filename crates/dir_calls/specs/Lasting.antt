@@ -8,13 +8,13 @@ abbrev pub IsAmong : {X : Type 0} → List X → X → Type 0
 IsAmong [] x = ⊥
 IsAmong (y ∷ ys) x = (x ≡ y) ⊎ IsAmong ys x
 
--- the number at a name stands for a synced file with one of these contents, or is missing where None is one of them
+-- the name stands for a synced file with one of these contents, or for nothing if None is among them
 abbrev pub StandsFor : List FileState → List (Option (List ℕ)) → Option ℕ → Type 0
 StandsFor files contents None = IsAmong contents None
 StandsFor files contents (Some number) = (bytes : List ℕ) × IsAmong contents (Some bytes)
     × (slice_get files number ≡ Some (record { bytes = bytes; synced = true }))
 
--- whatever names a stop leaves, one of these contents stands under this one, synced
+-- whatever names a stop leaves, one of these contents stands under this name, synced
 pub record LastsAmong (d : Directory) (name : List ℕ) (contents : List (Option (List ℕ))) : Type 0 where
   pub each : (names : Names) → CanBeLeft d.names names → StandsFor d.files contents (get names name)
 

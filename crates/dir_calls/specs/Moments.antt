@@ -8,7 +8,7 @@ use Rattle.dir_calls.specs.declared.fault.DirFault.TheVariants.{Device}
 abbrev pub ImagesSince : Type 1
 ImagesSince = ℕ → Directory → Type 0
 
--- Of a stop since a moment up to this one the images are those that there were before, and these.
+-- The images of stops since an earlier moment are those that there were before, and these.
 abbrev pub AddsOnly : (before : ℕ) → (past since : ImagesSince) → (Left : Directory → Type 0) → Type 0
 AddsOnly before past since Left =
     (moment : ℕ) (image : Directory) → moment ≤ before → since moment image → past moment image ⊎ Left image
@@ -23,14 +23,14 @@ pub record Elapses (before now : ℕ) (past since : ImagesSince) (Left : Directo
 abbrev pub Includes : ℕ → ImagesSince → (Directory → Type 0) → Type 0
 Includes before since Left = (moment : ℕ) (image : Directory) → moment ≤ before → Left image → since moment image
 
--- A stop since the old directory's moment leaves only directories that have P.
+-- A stop since the moment of the old directory leaves only directories with the property P.
 pub record LeavesOnly {D : Type 0} (moment : D → ℕ) (left_since : D → ImagesSince) (old new : D) (P : Directory → Type 0) : Type 0 where
   pub later : moment old ≤ moment new
   pub each : (image : Directory) → left_since new (moment old) image → P image
-  -- for a run that began earlier
+  -- the same for a run that began before the old directory's moment
   pub before : AddsOnly (moment old) (left_since old) (left_since new) P
 
--- One failure more is counted where `Device` is answered, unless the count is at its end, and else none.
+-- One failure more is counted if `Device` is answered, unless the count is at its end; otherwise none.
 abbrev pub CountsFault : {T : Type 0} → ℕ → ℕ → Result T DirFault → Type 0
 CountsFault before now (Err Device) = (now ≡ before + 1) ⊎ ((now ≡ before) × (before ≡ 2 ^ 64 - 1))
 CountsFault before now result = now ≡ before

@@ -7,8 +7,8 @@ use Rattle.dir_calls.specs.Calls.{Call, makes, renews, settles, without, cleared
 use Rattle.dir_calls.specs.declared.fault.DirFault.{DirFault}
 use Rattle.dir_calls.specs.declared.fault.DirFault.TheVariants.{Device}
 
--- a state within a call: the one before it, the one after it, and of a file that is made the one without its name, where all changes are made
--- lasting then also the one in which they are
+-- a state within a call: the one before it or after it; for a file that is made also the one without its name; and for
+-- `renews` the one in which that is settled
 abbrev pub Passes : Call → Directory → Directory → Type 0
 Passes (makes name) d state = (state ≡ d) ⊎ ((state ≡ without d name) ⊎ (state ≡ after (makes name) d))
 Passes (renews name) d state =
@@ -19,13 +19,14 @@ Passes call d state = (state ≡ d) ⊎ (state ≡ after call d)
 abbrev pub PassesNames : Call → Directory → NameTable → Type 0
 PassesNames call d names = (state : Directory) × Passes call d state × (names ≡ state.names)
 
--- the names after a call whose device failed: those of a state within it, and of a settling those with some changes settled
+-- the names after a call whose device failed: those of a state within the call; of a settling, those with some changes
+-- settled
 abbrev pub LeavesNames : Call → Directory → NameTable → Type 0
 LeavesNames settles d names = SettlesSome d.names names
 LeavesNames (renews name) d names = PassesNames (renews name) d names ⊎ SettlesSome (without d name).names names
 LeavesNames call d names = PassesNames call d names
 
--- what a call leaves whose device failed
+-- what a call leaves if its device failed
 pub record Fails (call : Call) (old new : Directory) : Type 0 where
   pub names : LeavesNames call old new.names
   pub files : KeepsSynced old.files new.files

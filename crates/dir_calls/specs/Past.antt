@@ -16,16 +16,18 @@ pub record PastCall : Type 0 where
 abbrev pub past_call : Folder × Option (List ℕ) → PastCall
 past_call entry = record { before = directory_of entry.0; made = entry.1 }
 
--- a stop within it may have left an image of the directory before it, or, where a file was made, of that without the name
+-- a stop within the call may have left an image of the directory before it, or, if it made a file, of that directory
+-- without the name
 abbrev pub LeftIn : PastCall → Directory → Type 0
 LeftIn call image = IsImage call.before image ⊎ ((name : List ℕ) × (call.made ≡ Some name) × IsImage (without call.before name) image)
 
--- a stop now, or within one of these calls from the one on whose number the moment is
+-- what a stop since a moment may have left: an image of the directory now, or what a stop left within a call that was
+-- made since that moment
 abbrev pub LeftSince : List PastCall → Directory → ℕ → Directory → Type 0
 LeftSince calls now moment image = IsImage now image
     ⊎ ((place : ℕ) × (moment ≤ place) × (call : PastCall) × (slice_get calls place ≡ Some call) × LeftIn call image)
 
--- since the last of them there is only now
+-- since the moment after the last call, a stop can leave only an image of the directory now
 pub left_now : (calls : List PastCall) (now image : Directory) → LeftSince calls now (length calls) image → IsImage now image
 left_now calls now image (inl is) = is
 left_now calls now image (inr (place, late, call, there, left)) = absurd (omega (arith, late, slice_get_within calls place call there))

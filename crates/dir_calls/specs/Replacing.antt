@@ -1,12 +1,12 @@
--- What a run of calls leaves under a name.
+-- What a series of calls leaves under a name.
 use Rattle.std.specs.Prelude.{◌≡◌, ℕ, true, List, ◌∷◌, Option, Some}
 use Rattle.dir_calls.specs.Directory.{Directory, file_at}
 use Rattle.dir_calls.specs.Lasting.{LastsAmong, HasAmong}
 use Rattle.dir_calls.specs.Moments.{LeavesOnly}
 use Rattle.dir_calls.specs.declared.dir.Dir.{Ghosts}
 
--- From the old directory to the new one, one of these contents stands under the name: for good at the end, and whenever the machine
--- stops since the old one's moment.
+-- From the old directory to the new one, one of these contents stands under the name: for good at the end, and whenever
+-- the machine stops meanwhile.
 pub record Stays {D F : Type 0} (tells : Ghosts D F) (name : List ℕ) (contents : List (Option (List ℕ))) (old new : D) : Type 0 where
   pub lasts : LastsAmong (tells.state new) name contents
   pub any_moment : LeavesOnly tells.moment tells.left_since old new (HasAmong name contents)

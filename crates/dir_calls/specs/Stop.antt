@@ -26,7 +26,7 @@ stopped_names choice names = record { settled = after_changes names.settled (cho
 abbrev pub stopped : Choice → Directory → Directory
 stopped choice d = record { names = stopped_names choice d.names; files = map (stopped_file choice) d.files; scratch = None }
 
--- what the changes put, without what they take away
+-- the names after what the changes put, without what they take away
 abbrev pub puts_of : List NameChange → List NameChange
 puts_of [] = []
 puts_of (takes name ∷ changes) = puts_of changes
@@ -36,6 +36,6 @@ puts_of (moves from to number ∷ changes) = puts to number ∷ puts_of changes
 abbrev pub torn_names : NameTable → NameTable
 torn_names names = record { settled = after_changes names.settled (puts_of names.pending); pending = [] }
 
--- what a stop leaves that tears changes of names: each name that was put stands, and none is taken away
+-- what a stop leaves if it tears changes of names: each name that was put stands, and none is taken away
 abbrev pub torn : Directory → Directory
 torn d = record { names = torn_names d.names; files = map (stopped_file Junk) d.files; scratch = None }

@@ -9,7 +9,7 @@ abbrev pub file_of : Stored → FileState
 file_of (Open bytes) = record { bytes = bytes.items; synced = false }
 file_of (Synced bytes) = record { bytes = (arc_value bytes).items; synced = true }
 
--- how many bytes a file has that is not synced
+-- how many bytes a file has, if it is not synced
 abbrev pub open_length : Option FileState → Option ℕ
 open_length None = None
 open_length (Some file) = if file.synced then None else Some (length file.bytes)

@@ -6,7 +6,7 @@ use Rattle.dir_calls.specs.Directory.{Directory, FileState, number_of}
 use Rattle.dir_calls.specs.Images.{IsImage, MayHaveName}
 use Rattle.dir_calls.specs.Lasting.{IsAmong}
 
--- a change puts this under a name: a file, or nothing where it takes the name away
+-- a change puts this under a name: a file, or nothing if it takes the name away
 abbrev pub PutsThere : NameChange → List ℕ → Option ℕ → Type 0
 PutsThere (takes other) name number = (other ≡ name) × (number ≡ None)
 PutsThere (puts other n) name number = (other ≡ name) × (number ≡ Some n)
@@ -18,7 +18,7 @@ abbrev pub MayStand : NameTable → List ℕ → Option ℕ → Type 0
 MayStand table name number =
     (number ≡ get table.settled name) ⊎ ((change : NameChange) × IsAmong table.pending change × PutsThere change name number)
 
--- under a name stood this at some moment since names were last settled
+-- this stood under a name at some moment since names were last settled
 abbrev pub StoodThere : NameTable → List ℕ → Option ℕ → Type 0
 StoodThere table name number = (names : Names) × CanBeLeft table names × (number ≡ get names name)
 
@@ -27,15 +27,15 @@ pub record MayBeTorn (d : Directory) (from to : List ℕ) (number : ℕ) : Type 
   pub stands : number_of d from ≡ Some number
   pub other : number_of d to ≢ Some number
 
--- a stop may leave a directory that has P
+-- a stop may leave a directory with the property P
 abbrev pub HasImage : Directory → (Directory → Type 0) → Type 0
 HasImage d P = (image : Directory) × IsImage d image × P image
 
--- the names stand for these
+-- the names stand for these files
 abbrev pub StandFor : List ℕ → Option ℕ → List ℕ → Option ℕ → Directory → Type 0
 StandFor from first to second d = (number_of d from ≡ first) × (number_of d to ≡ second)
 
--- the file of this number, which no stop leaves a name
+-- the file with this number; no stop leaves it a name
 pub record IsNameless (d : Directory) (number : ℕ) (file : FileState) : Type 0 where
   pub there : slice_get d.files number ≡ Some file
   pub never_named : MayHaveName d.names number → ⊥

@@ -1,4 +1,4 @@
-//! Copies of a directory in memory as a stop leaves it.
+//! Copies of a directory in memory, as a stop leaves it.
 ghost use Rattle.std.specs.Prelude.{◌≡◌, ◌≤◌, map, length, take, drop, IfOk};
 ghost use Rattle.dir_calls.specs.Entries.{change_of, names_in};
 ghost use Rattle.dir_calls.specs.Folder.{directory_of, settled_directory};
@@ -88,7 +88,7 @@ pub fn stopped_folder(alloc: Global, folder: &Folder, choice: Choice) -> Result<
     settled_folder(alloc, names, files)
 }
 
-/// The directory as a stop leaves it that tears changes of names. Synced files share their bytes.
+/// The directory as a stop leaves it if it tears changes of names. Synced files share their bytes.
 pub fn torn_folder(alloc: Global, folder: &Folder) -> Result<Folder, AllocError>
     ensures { IfOk result (λ left. directory_of left ≡ torn (directory_of folder.now)) }
 {

@@ -10,27 +10,27 @@ ghost use Rattle.dir_calls.specs.Moments.{CountsFault};
 use crate::{DirFault, Name, RulesFile};
 use std::alloc::Global;
 
-/// A directory: names, and the files that they stand for. One file at most is the scratch file, which can be written; once
-/// synced it is never written again. A change of names is lasting only once it is settled.
+/// A directory: names, and the files for which they stand. At most one file is the scratch file: it can be written
+/// until it is synced. A change of names lasts only once it is settled.
 ///
 /// After want of memory nothing has changed, and each fault says what it leaves behind.
 pub trait Dir {
-    /// Its files, once opened.
+    /// An opened file.
     type File: RulesFile + Drop;
 
-    /// What stands in it.
+    /// What stands in the directory.
     ghost state: { Self → Directory };
 
-    /// Whether its calls are known to do what they should, and stops to leave images of it.
+    /// Whether its calls are known to do what they should, and stops to leave images of the directory.
     ghost honest: { Bool };
 
-    /// The moment, as a number that never falls.
+    /// The directory's moment, a number that never falls.
     ghost moment: { Self → ℕ };
 
-    /// What a stop at some moment from this one on may have left, within a call or between two.
+    /// What a stop since this moment may have left, within a call or between two.
     ghost left_since: { Self → ℕ → Directory → Type 0 };
 
-    /// How often its device has failed, as far as it counts.
+    /// How often its device has failed, as far as the directory counts.
     ghost failed: { Self → ℕ };
 
     /// Takes away what stands under a name, and makes a new empty file there, the scratch file. The scratch file before it, if
@@ -44,7 +44,7 @@ pub trait Dir {
         ensures within { IsTrue honest → OnOk result
             (CallIncludes state moment left_since (makes name.now) self.old self.new) };
 
-    /// Puts bytes at the end of the scratch file, and answers how many: of a piece that is not empty at least one.
+    /// Puts bytes at the end of the scratch file, and answers how many: at least one of a piece that is not empty.
     fn append(&mut self, alloc: Global, piece: &[u8]) -> Result<usize, DirFault>
         ensures taken { IfOk result (λ count. count ≤ length piece.now) }
         ensures some { IfOk result (λ count. 0 < length piece.now → 0 < count) }
@@ -59,8 +59,8 @@ pub trait Dir {
         ensures within { IsTrue honest → OnOk result
             (CallIncludes state moment left_since (appends piece.now) self.old self.new) };
 
-    /// Overwrites bytes of the scratch file from a place on, all of them. They have to lie inside it. After a device fault the
-    /// scratch file may hold any bytes.
+    /// Overwrites bytes of the scratch file from a place on, all of them. They have to lie inside the file. After a
+    /// device fault it may hold any bytes.
     fn patch(&mut self, alloc: Global, place: u64, bytes: &[u8]) -> Result<(), DirFault>
         requires inside { IsTrue honest → IsInside place bytes.now (scratch_of (state self.old)) }
         ensures does { IsTrue honest → DoesCall state (patches place bytes.now) self.old self.new result }
@@ -87,7 +87,8 @@ pub trait Dir {
         ensures within { IsTrue honest → OnOk result
             (CallIncludes state moment left_since syncs self.old self.new) };
 
-    /// Moves one name onto another. Where both stand for one file nothing changes, as for a name moved onto itself.
+    /// Moves one name onto another. If both stand for one file nothing changes, even for a name that is moved onto
+    /// itself.
     fn rename(&mut self, alloc: Global, from: &Name, to: &Name) -> Result<(), DirFault>
         ensures does { IsTrue honest → DoesCall state (renames from.now to.now) self.old self.new result }
         ensures found { IsTrue honest → OnOk result (IsSome (number_of (state self.old) from.now)) }
@@ -101,8 +102,8 @@ pub trait Dir {
         ensures within { IsTrue honest → OnOk result
             (CallIncludes state moment left_since (renames from.now to.now) self.old self.new) };
 
-    /// Makes all changes of names so far lasting. A settling that fails keeps the names, and the first of the changes may have
-    /// become lasting.
+    /// Makes all changes of names so far lasting. If that fails the names are kept, and some of the first changes may
+    /// last.
     fn settle(&mut self) -> Result<(), DirFault>
         ensures does { IsTrue honest → DoesCall state settles self.old self.new result }
         ensures faults { IfErr result (λ fault. fault ≡ DirFault.Device) }
@@ -112,8 +113,8 @@ pub trait Dir {
         ensures within { IsTrue honest → OnOk result
             (CallIncludes state moment left_since settles self.old self.new) };
 
-    /// The file that stands under a name, or `None` where there is no such name. It keeps its bytes, whatever becomes of the name.
-    /// The directory stays as it is, whatever is answered.
+    /// The file that stands under a name, or `None` if there is no such name. It keeps its bytes, whatever becomes of
+    /// the name. The directory stays as it is, whatever the answer is.
     fn open(&mut self, alloc: Global, name: &Name) -> Result<Option<Self::File>, DirFault>
         ensures opened { IsTrue honest → IfOk result (λ found.
             option_map Self.File.bytes found ≡ content (state self.old) name.now) }
@@ -123,15 +124,15 @@ pub trait Dir {
 
         ensures time { IsTrue honest → OpenElapses state moment left_since self.old self.new };
 
-    /// How often its device has failed. Where that is 2^64 - 1 it may be more.
+    /// How often its device has failed. If the answer is 2^64 - 1, it may be more often.
     fn failures(&self) -> u64
         ensures { result ≡ failed self.now };
 
-    /// A stop now is one of those since any earlier moment.
+    /// A stop now is among the stops since any earlier moment.
     ghost counts_now: { (dir : Self) (earlier : ℕ) (image : Directory) → IsTrue honest → earlier ≤ moment dir
         → IsImage (state dir) image → left_since dir earlier image };
 
-    /// Since the moment of now there is no other stop.
+    /// It is the only stop since the present moment.
     ghost only_now: { (dir : Self) (image : Directory) → IsTrue honest
         → left_since dir (moment dir) image → IsImage (state dir) image };
 

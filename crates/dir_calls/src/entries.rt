@@ -34,7 +34,7 @@ pub fn number_at(names: &[Entry], name: &[u8]) -> Option<usize>
     None
 }
 
-// It has neither of these names.
+// Whether it has neither of these names.
 fn is_other(entry: &Entry, from: &[u8], to: &[u8]) -> bool
     ensures { result ≡ not (same_name from.now entry.now.name.items || same_name to.now entry.now.name.items) }
 {

@@ -14,9 +14,9 @@ pub enum DirFault {
     /// There is no such name. Nothing changed.
     #[error("no such name")]
     NoName,
-    /// The device failed. The names are those before the call or those after it, or of a file that was to be made those
-    /// without its name; a failed settling keeps them, and has settled the first of the pending changes, some or all or none.
-    /// Synced files are as before, and of others nothing is known.
+    /// The device failed. The names are those before the call or those after it. After a `fresh` they may also lack its
+    /// name. A failed settling keeps the names, and may have settled some of the first pending changes. Synced files
+    /// are as before, and nothing is known of others.
     #[error("device fault")]
     Device,
     /// There was no memory. Nothing changed.

@@ -12,7 +12,7 @@ use crate::stored::{Stored, close};
 use std::alloc::{AllocError, Global};
 use std::sync::Arc;
 
-/// A directory in memory. The names are those of `origin` after the edits, of which the first `settled` are settled.
+/// A directory in memory. The names are those of `origin` after the edits; the first `settled` edits are settled.
 #[derive(Drop)]
 pub struct Folder {
     pub(crate) origin: Vec<Entry>,
@@ -27,7 +27,7 @@ pub struct Folder {
     ghost in_range: { ForSome scratch (λ number. number < length files.items) },
 }
 
-// Puts an edit at the end, after another if there is one.
+// Appends an edit, and before it another one if there is one.
 fn keep_both(edits: &mut Vec<NameEdit>, first: Option<NameEdit>, last: NameEdit)
     requires { vec_len edits.old + 2 ≤ vec_capacity edits.old }
     ensures { map change_of edits.new.items
@@ -99,7 +99,7 @@ impl Folder {
         }
     }
 
-    /// Takes a name away, if it stands, and tells whether it did.
+    /// Takes a name away, if it stands. Whether it stood.
     ///
     /// # Errors
     /// Want of memory. Nothing has changed.
@@ -124,7 +124,7 @@ impl Folder {
         self.scratch
     }
 
-    /// How many bytes the file of a number has.
+    /// How many bytes the file with this number has.
     pub fn length(&self, number: usize) -> Option<usize>
         ensures { result ≡ option_map (λ file. length file.bytes) (slice_get (directory_of self.now).files number) }
     {
@@ -134,7 +134,7 @@ impl Folder {
         }
     }
 
-    /// How many bytes the file of a number has, where it is not synced.
+    /// How many bytes the file with this number has, if it is not synced.
     pub fn open_length(&self, number: usize) -> Option<usize>
         ensures { result ≡ open_length (slice_get (directory_of self.now).files number) }
     {
@@ -147,7 +147,7 @@ impl Folder {
     /// The file that stands under a name, if any.
     ///
     /// # Errors
-    /// Want of memory for a copy of its bytes, where they are not synced.
+    /// Want of memory for a copy of its bytes, if they are not synced.
     pub fn open(&self, alloc: Global, name: &[u8]) -> Result<Option<MemFile>, AllocError>
         ensures { IfOk result (λ found. found ≡ content (directory_of self.now) name.now) }
     {
@@ -187,7 +187,7 @@ impl Folder {
         }
     }
 
-    /// Makes the scratch file lasting. It stays the scratch file.
+    /// Syncs the scratch file, which stays the scratch file.
     ///
     /// # Errors
     /// Want of memory. Nothing has changed.
@@ -202,7 +202,7 @@ impl Folder {
         Ok(())
     }
 
-    /// There is no scratch file any more.
+    /// Lets the scratch file go: there is none afterwards.
     pub fn leave(&mut self)
         ensures { directory_of self.new ≡ closed (directory_of self.old) }
     {
@@ -230,7 +230,7 @@ impl Folder {
         self.settled = self.edits.len();
     }
 
-    /// Moves a name that stands for this number onto another, unless that stands for it too.
+    /// Moves a name that stands for the file with this number onto another, unless that stands for it too.
     ///
     /// # Errors
     /// Want of memory. Nothing has changed.

@@ -1,4 +1,4 @@
-//! Directories of which one call fails.
+//! Directories one of whose calls fails.
 ghost use Rattle.std.specs.Prelude.{◌≡◌, ◌≢◌, ◌≤◌, ◌<◌, ◌-◌, [], ◌∷◌, List, ℕ, IsTrue, None, IsSome, Contains, length, true, false, IfOk, IfErr, OnOk};
 ghost use Rattle.std.specs.Option.{option_map};
 ghost use Rattle.dir_calls.specs.Clearing.{SparesOthers};
@@ -12,7 +12,8 @@ ghost use Rattle.dir_calls.specs.Replacing.{KeepsWhatLasts};
 use crate::{ClearableDir, Dir, DirFault, Name};
 use std::alloc::Global;
 
-/// A directory of which one call fails: it answers `Device` and does not reach the directory inside, and all others pass.
+/// A directory one of whose calls fails. That call answers `Device`, and does not reach the directory inside; all
+/// others do.
 #[derive(Drop)]
 pub struct FuseDir<D: Dir> {
     inner: D,
@@ -21,7 +22,7 @@ pub struct FuseDir<D: Dir> {
     ghost not_yet: { 0 < left → burnt ≡ false },
 }
 
-// Counts a call down, and tells whether it is the one that fails.
+// Counts a call. Whether it is the one that fails.
 fn burns(left: &mut u64, burnt: &mut bool) -> bool
     requires { 0 < left.old → burnt.old ≡ false }
     ensures not_yet { 0 < left.new → burnt.new ≡ false }
@@ -43,7 +44,7 @@ fn burns(left: &mut u64, burnt: &mut bool) -> bool
 impl<D: Dir> FuseDir<D> {
     ghost use Rattle.dir_calls.specs.FuseParts.{fuse_inner, fuse_left, fuse_burnt};
 
-    /// Call number `call` fails, counted from 1, of the calls to come other than `failures`. With 0 none does.
+    /// A directory whose call number `call` fails, counted from 1 without calls of `failures`. With 0 none fails.
     pub fn new(inner: D, call: u64) -> Self
         ensures inner { fuse_inner result ≡ inner }
         ensures left { fuse_left result ≡ call }

@@ -3,7 +3,7 @@ ghost use Rattle.std.specs.Prelude.{◌≡◌};
 
 use std::sync::Arc;
 
-/// Its own bytes, or bytes that it shares.
+/// The bytes of a file: its own, or shared ones.
 #[derive(Drop)]
 pub enum Held {
     Own(Vec<u8>),

@@ -20,8 +20,8 @@ use std::alloc::{AllocError, Global};
 
 /// A directory in memory. Its calls do what they should, its device never fails, and `append` takes the whole piece.
 ///
-/// What a stop at any moment since it was made may have left is known of it. When it runs that costs a copy of the name of each file
-/// that is made.
+/// It is known what a stop at any moment since it was made may have left. Of the past, the running program keeps only
+/// the name of each file that was made.
 #[derive(Drop)]
 pub struct MemDir {
     folder: Folder,
@@ -42,7 +42,7 @@ impl MemDir {
         }
     }
 
-    /// The directory that a stop now leaves, by a choice. Files that are synced are shared and not copied.
+    /// The directory that a stop now leaves, by a choice. Synced files are shared and not copied.
     pub fn crash(&self, alloc: Global, choice: Choice) -> Result<MemDir, AllocError>
         ensures chosen { IfOk result (λ left. mem_state left ≡ stopped choice (mem_state self.now)) }
         ensures image { IfOk result (λ left. IsImage (mem_state self.now) (mem_state left)) }
@@ -53,8 +53,8 @@ impl MemDir {
         })
     }
 
-    /// The directory that a stop now leaves which tears changes of names: each name that was put stands, and none is taken away, so that
-    /// after a rename both names stand for the file. Files that are not synced hold 255 in each byte.
+    /// The directory that a stop now leaves if it tears changes of names. Each name that was put stands, and none is
+    /// taken away: after a rename both names stand for the file. In files that are not synced each byte is 255.
     pub fn crash_torn(&self, alloc: Global) -> Result<MemDir, AllocError>
         ensures chosen { IfOk result (λ left. mem_state left ≡ torn (mem_state self.now)) }
         ensures image { IfOk result (λ left. IsImage (mem_state self.now) (mem_state left)) }
@@ -174,7 +174,7 @@ impl ClearableDir for MemDir {
     ghost use Rattle.dir_calls.specs.MemDir.{mem_state};
 
     fn take_away(&mut self, alloc: Global, name: &Name) -> Result<(), DirFault>
-        // a change of names as the others, which is pending until it is settled
+        // a change of names like the others: pending until it is settled
         ensures does { OnOk result (mem_state self.new ≡ closed (without (mem_state self.old) name.now)) }
         ensures untouched { OnErr result (mem_state self.new ≡ mem_state self.old) }
         ensures gone { OnOk result (number_of (mem_state self.new) name.now ≡ None) }

@@ -27,7 +27,7 @@ pub enum NameFault {
     /// They are not UTF-8.
     #[error("the name is not UTF-8")]
     NotText,
-    /// They may be a name, but there was no memory to keep it.
+    /// There was no memory to keep the name, if they are one.
     #[error("out of memory")]
     OutOfMemory,
 }
@@ -50,7 +50,7 @@ impl Model for Name {
     ghost invariant = { λ name. IsTrue (is_none (name_fault (string_bytes name.text))) };
 }
 
-// Tells whether they are `.` or `..`.
+// Whether they are `.` or `..`.
 fn is_dots(bytes: &[u8]) -> bool
     ensures { result ≡ dots_test bytes.now }
 {
@@ -88,7 +88,7 @@ impl Name {
         }
     }
 
-    /// Its text, which breaks no rule for names.
+    /// Its text, which keeps the rules for names.
     pub fn as_str(&self) -> &str
         ensures same { result.now ≡ self.now }
         ensures allowed { IsTrue (is_none (name_fault result.now)) }

@@ -1,4 +1,4 @@
-//! A file put whole in the place of another.
+//! Replaces a file by another as a whole.
 ghost use Rattle.std.specs.Prelude.{◌≡◌, ◌≢◌, List, [], ◌∷◌, ℕ, IsTrue, Some, OnOk};
 ghost use Rattle.dir_calls.specs.Calls.{appends, after};
 ghost use Rattle.dir_calls.specs.Lasting.{LastsAmong};
@@ -43,10 +43,11 @@ fn write_scratch<D: Dir>(
     dir.sync(alloc)
 }
 
-/// Puts a file with these bytes in the place of the one under `name`, whole: it is made under the name `scratch`, filled, made
-/// lasting, moved onto `name`, and that is settled. Whenever the machine stops, the old file stands under `name` or the new one.
+/// Replaces the file under `name` by one with these bytes, as a whole. The new file is made under `scratch`, filled,
+/// synced, and moved onto `name`, and that is settled. Whenever the machine stops, the old file or the new one stands
+/// under `name`.
 ///
-/// After a fault the old file stands under `name`, or possibly the new one, and `scratch` may name an unfinished file.
+/// After a fault the old file or the new one stands under `name`, and `scratch` may stand for an unfinished file.
 pub fn replace_file<D: Dir>(
     alloc: Global,
     dir: &mut D,
@@ -55,8 +56,8 @@ pub fn replace_file<D: Dir>(
     bytes: &[u8],
 ) -> Result<(), DirFault>
     requires differ { scratch.now ≢ name.now }
-    // whenever the machine stops since the call began, what stood there stands under the name, or the new file, whole, and so it is
-    // afterwards, also after a fault
+    // whenever the machine stops since the call began, what stood under the name stands there, or the whole new file;
+    // and so it is afterwards, even after a fault
     ensures stays { IsTrue D.honest
         → KeepsOrPuts D.Dir name.now bytes.now dir.old dir.new }
     // at the end the new file stands there for good

@@ -18,7 +18,7 @@ pub trait RulesFile {
     /// Its bytes.
     ghost bytes: { Self → List ℕ };
 
-    /// Whether reads are known to give these bytes alone, and never nothing where there are some.
+    /// Whether reads are known to give only these bytes, and at least one if there are some.
     ghost honest: { Bool };
 
     /// Whether it is known to be honest and that no read fails.
@@ -28,9 +28,8 @@ pub trait RulesFile {
     fn len(&self) -> u64
         ensures { IsTrue honest → result ≡ length (bytes self.now) };
 
-    /// Reads bytes from a place on into the front of `buf`, and answers how many: at most as many as `buf` has room for, and 0
-    /// only behind the file's end, or for an empty `buf`. Fewer than there are may be read. After a fault `buf` may hold
-    /// anything.
+    /// Reads bytes from a place on into the front of `buf`, and answers how many. It is 0 only behind the file's end or
+    /// for an empty `buf`, and may be fewer than there are. After a fault `buf` may hold anything.
     fn read_at(&self, place: u64, buf: &mut [u8]) -> Result<usize, DeviceFault>
         ensures room { IfOk result (λ n. n ≤ length buf.old) }
         ensures same_length { length buf.new ≡ length buf.old }

@@ -1,5 +1,5 @@
--- What the calls of a disk do. Its state is a directory: the names, the files with all that was written to them and whether that was synced
--- since, and the file that may be written: the last one that was made.
+-- What the calls of a disk do. Its state is a directory: the names; the files, with all that was written to them and
+-- whether that was synced since; and the file that may be written, which is the last one that was made.
 use Rattle.std.specs.Prelude.{◌≡◌, ◌⊎◌, ◌≤◌, ◌+◌, ℕ, false, List, [], ◌∷◌, ◌++◌, length, take, drop, Option, None, Some}
 use Rattle.std.specs.Option.{ForSome}
 use Rattle.dir_calls.specs.NameTable.{SettlesSome, puts, push}
@@ -12,15 +12,15 @@ use Rattle.dir_calls.specs.Moments.{Elapses}
 abbrev pub rewritten_at : ℕ → List ℕ → FileState → FileState
 rewritten_at place piece file = record { bytes = take place file.bytes ++ (piece ++ drop (place + length piece) file.bytes); synced = false }
 
--- after a write of the file that may be written
+-- the disk after a write of the file that may be written
 abbrev pub after_write : ℕ → List ℕ → Directory → Directory
 after_write place piece d = with_scratch (rewritten_at place piece) d.scratch d
 
--- after a sync of it
+-- the disk after a sync of it
 abbrev pub after_sync : Directory → Directory
 after_sync d = with_scratch lasting d.scratch d
 
--- with a new empty file under a name, the one that may be written
+-- the disk with a new empty file under a name, the one that may be written
 abbrev pub created : Directory → List ℕ → Directory
 created d name = record {
   names = push d.names (puts name (length d.files));
@@ -28,13 +28,13 @@ created d name = record {
   scratch = Some (length d.files);
 }
 
--- a write or a sync has failed: the names and the synced files are as before, and of other files nothing is known
+-- a write or a sync has failed: the names and the synced files are as before, and nothing is known of other files
 pub record Spoils (old new : Directory) : Type 0 where
   pub names : new.names ≡ old.names
   pub files : KeepsSynced old.files new.files
   pub scratch : new.scratch ≡ old.scratch
 
--- a sync of the folder has failed: the first of the pending changes are settled, some or all or none
+-- a sync of the folder has failed: some, all or none of the first pending changes are settled
 pub record SettlesPart (old new : Directory) : Type 0 where
   pub names : SettlesSome old.names new.names
   pub files : new.files ≡ old.files
@@ -60,7 +60,7 @@ MovesNoOther number from old new = (new ≡ old) ⊎ (number_of old from ≡ num
 abbrev pub FindsNone : List ℕ → Directory → Directory → Type 0
 FindsNone name old new = (number_of old name ≡ None) × (new ≡ old)
 
--- the file of this number is the one that may be written, and the place is inside it or at its end
+-- the file with this number is the one that may be written, and the place is inside it or at its end
 pub record MayWrite (d : Directory) (number place : ℕ) : Type 0 where
   pub last : d.scratch ≡ Some number
   pub inside : ForSome (scratch_of d) (λ file. place ≤ length file.bytes)

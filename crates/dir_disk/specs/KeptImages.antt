@@ -1,5 +1,5 @@
--- What a stop leaves of a disk it leaves of the directory over it, and the other way round: kept back bytes are of a file that is not synced. Two
--- laws of that directory say so, and a law is proved where it stands.
+-- A stop leaves the same of a disk and of the directory over it: bytes are kept back only of a file that is not synced.
+-- Two laws of that directory say so, and laws are proved beside their definitions.
 use Rattle.std.proofs.Common.{◌≡◌, ℕ, Bool, false, List, length, refl, sym, ◌∙◌, subst, ap}
 use Rattle.std.specs.Prelude.{slice_get, Option, Some, None}
 use Rattle.std.specs.Option.{option_map}
@@ -9,7 +9,7 @@ use Rattle.dir_calls.specs.Calls.{with_scratch, longer}
 use Rattle.dir_calls.proofs.ChangedFiles.{KeepsOpen, image_with, image_without}
 use Rattle.dir_disk.specs.OsDir.{kept_back, shape, Holds}
 
--- what a file is whose shape is known
+-- what a file of this shape is
 pub shape_of : (files : List FileState) (number count : ℕ) (file : FileState)
     → option_map shape (slice_get files number) ≡ Some (count, false) → slice_get files number ≡ Some file
     → (file.synced ≡ false) × (length file.bytes ≡ count)

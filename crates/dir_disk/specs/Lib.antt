@@ -1,4 +1,4 @@
--- A directory over a disk: what the disk gives, and what is kept back of it.
+-- A directory over a disk: what the disk promises, and which bytes are kept back.
 pub mod DiskFaults
 pub mod DiskSteps
 pub mod KeptImages

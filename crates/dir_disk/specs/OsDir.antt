@@ -14,11 +14,11 @@ kept_back pending d = with_scratch (longer pending) d.scratch d
 abbrev pub shape : FileState → ℕ × Bool
 shape file = (length file.bytes, file.synced)
 
--- the file of this number may be written, has so many bytes, and is not synced
+-- the file with this number may be written, has this many bytes, and is not synced
 abbrev pub IsWritable : Directory → ℕ → ℕ → Type 0
 IsWritable d number count = (d.scratch ≡ Some number) × (option_map shape (slice_get d.files number) ≡ Some (count, false))
 
--- the file that may be written is the one that is held, if one is, and it has so many bytes
+-- the file that may be written is the one that is held, if there is one, and it has this many bytes
 abbrev pub Holds : {H : Type 0} → (number : H → ℕ) → Directory → Option H → ℕ → Type 0
 Holds number d scratch written = (d.scratch ≡ option_map number scratch) × ForSome scratch (λ file. IsWritable d (number file) written)
 
@@ -30,20 +30,20 @@ pub Holds_honest-prop : {H : Type 0} (honest : Bool) (number : H → ℕ) (d : D
     → IsProp (IsTrue honest → Holds number d scratch written)
 Holds_honest-prop honest number d scratch written = hlevel (props, Holds-prop)
 
--- time goes on by one call over a disk of whose bytes the last are kept back until then: a stop since an earlier moment may have left what it
--- may have left before, or what a stop within the call or right after it leaves, and nothing else
+-- time goes on by one call over a disk, whose last bytes are kept back until then: a stop since an earlier moment may
+-- have left what it may have left before, or what a stop within the call or right after it leaves, and nothing else
 abbrev pub KeptElapses : {D : Type 0} → (state : D → Directory) → (moment : D → ℕ) → (left_since : D → ImagesSince)
     → Call → List ℕ → (old new : D) → Type 0
 KeptElapses state moment left_since call pending old new =
     Elapses (moment old) (moment new) (left_since old) (left_since new) (LeftBy call (kept_back pending (state old)) (state new))
 
--- a stop since an earlier moment may have left all that a stop within such a call or right after it leaves
+-- a stop since an earlier moment may have left whatever a stop within such a call or right after it leaves
 abbrev pub KeptIncludes : {D : Type 0} → (state : D → Directory) → (moment : D → ℕ) → (left_since : D → ImagesSince)
     → Call → List ℕ → (old new : D) → Type 0
 KeptIncludes state moment left_since call pending old new =
     Includes (moment old) (left_since new) (LeftBy call (kept_back pending (state old)) (state new))
 
--- a file that was to be written is given up: the names and the synced files are as before, and no file may be written
+-- the file that may be written is given up: the names and the synced files are as before, and no file may be written
 pub record GivesUp (old new : Directory) : Type 0 where
   pub names : new.names ≡ old.names
   pub files : KeepsSynced old.files new.files

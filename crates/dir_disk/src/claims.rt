@@ -1,14 +1,15 @@
-//! How a disk of the system makes files beside other processes that would make one under the same name.
+//! How a disk of the system makes files beside other processes that make one under the same name.
 ghost use Rattle.std.specs.Prelude.{◌≡◌};
 
 use std::fs::{Files, OpenOptions};
 use std::io;
 use std::os::unix::fs::OpenOptionsExt;
 
-/// How files are made and taken away. Where another process has the name, a call answers `WouldBlock`, and has done nothing.
+/// How files are made and taken away. If another process has the name, a call answers `WouldBlock`, and has done
+/// nothing.
 pub trait Claims<R: Files> {
-    /// Makes a new file at a path, to be written, which others take for this process's until it is closed. It gets these permissions, less those
-    /// that the process masks, once it is complete at the latest.
+    /// Makes a new file at a path, open to be written. Others see that this process has it, until it is closed. Once it
+    /// is complete, at the latest, it gets these permissions, less those that the process masks.
     ///
     /// # Errors
     /// `WouldBlock`; others of the system.
@@ -23,7 +24,7 @@ pub trait Claims<R: Files> {
     /// Takes away what stands at a path.
     ///
     /// # Errors
-    /// `NotFound` where nothing stands there; `WouldBlock`; others of the system.
+    /// `NotFound` if nothing stands there; `WouldBlock`; others of the system.
     fn take_away(&mut self, files: &R, path: &str) -> io::Result<()>;
 
     /// Waits a little for the process that has the name, and answers whether to try again.

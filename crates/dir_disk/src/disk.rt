@@ -1,4 +1,4 @@
-//! What a file system gives, call by call.
+//! What a file system promises, call by call.
 ghost use Rattle.std.specs.Prelude.{◌≡◌, ◌≢◌, ◌≤◌, ◌<◌, ◌+◌, ◌^◌, List, ℕ, Bool, true, IsTrue, None, Some, IsSome, length, take, slice_get, IfOk, OnOk, OnErr};
 ghost use Rattle.std.specs.Option.{option_map, ForSome};
 ghost use Rattle.dir_calls.specs.Directory.{Directory, number_of};
@@ -15,13 +15,13 @@ use std::io::{self, ErrorKind};
 /// What an opened file is.
 #[derive(Clone, Copy)]
 pub struct Look {
-    /// Whether it is a file, and no folder, pipe or device.
+    /// Whether it is a file, and not a folder, pipe or device.
     pub is_file: bool,
     /// How many bytes it has.
     pub len: u64,
     /// The number of its device.
     pub device: u64,
-    /// Its number on the device: two files of one device have two numbers.
+    /// Its number on the device: no two files of one device have the same.
     pub inode: u64,
 }
 
@@ -36,7 +36,7 @@ pub trait DiskFile {
     /// Reads bytes from a place on into the front of `buf`, and answers how many. Fewer than there are may be read.
     ///
     /// # Errors
-    /// Those of the system. Where a signal interrupted the read nothing was read.
+    /// Those of the system. If a signal interrupted the read, nothing was read.
     fn read_at(&self, place: u64, buf: &mut [u8]) -> io::Result<usize>
         ensures room { IfOk result (λ n. n ≤ length buf.old) }
         ensures same_length { length buf.new ≡ length buf.old }
@@ -44,8 +44,8 @@ pub trait DiskFile {
         ensures interrupted { IsTrue honest → OnInterrupted result (buf.new ≡ buf.old) };
 }
 
-/// A folder of a file system, call by call: what POSIX and Linux promise of each, where only this process changes the names. A call that a
-/// signal interrupts has done nothing.
+/// A folder of a file system. Each call does what POSIX and Linux promise, if only this process changes the names. A
+/// call that a signal interrupts has done nothing.
 pub trait Disk {
     /// The path of a name in the folder.
     type Path: Drop;
@@ -62,22 +62,22 @@ pub trait Disk {
     /// What stands in the folder.
     ghost state: { Self → Directory };
 
-    /// Whether its calls are known to do what is said of them, and stops to leave images of it.
+    /// Whether its calls are known to do what their clauses say, and stops to leave images of it.
     ghost honest: { Bool };
 
-    /// The moment, as a number that never falls.
+    /// Its moment, a number that never falls.
     ghost moment: { Self → ℕ };
 
-    /// What a stop at some moment from this one on may have left.
+    /// What a stop since this moment may have left.
     ghost left_since: { Self → ℕ → Directory → Type 0 };
 
-    /// The name of a path.
+    /// The name that a path leads to.
     ghost named: { Self.Path → List ℕ };
 
-    /// The number of the file that a handle is of.
+    /// The number of a handle's file.
     ghost number: { Self.Handle → ℕ };
 
-    /// Whether it is a file, and no folder, pipe or device.
+    /// Whether it is a file, and not a folder, pipe or device.
     ghost regular: { Self.Handle → Bool };
 
     /// Whether a handle is of a file of this disk as it stands now, opened to be read.
@@ -115,7 +115,7 @@ pub trait Disk {
     /// Takes a name away (unlink).
     ///
     /// # Errors
-    /// `NotFound` where there is no such name; others of the system, and then the name may be taken away.
+    /// `NotFound` if there is no such name; others of the system, and then the name may be taken away.
     fn unlink(&mut self, folder: &Self::Folder, path: &Self::Path) -> io::Result<()>
         ensures done { IsTrue honest → OnOk result (state self.new ≡ without (state self.old) (named path.now)) }
         ensures absent { IsTrue honest → OnNotFound result
@@ -125,8 +125,8 @@ pub trait Disk {
             (RemovesOrNot (named path.now) (state self.old) (state self.new)) }
         ensures time { IsTrue honest → StepElapses state moment left_since self.old self.new };
 
-    /// Makes a new empty file under a name that must be free (open with `O_CREAT` and `O_EXCL`), to be written, with these permissions
-    /// less those that the process masks.
+    /// Makes a new empty file under a name that must be free (open with `O_CREAT` and `O_EXCL`), to be written. It gets
+    /// these permissions, less those that the process masks.
     ///
     /// # Errors
     /// Those of the system, and then the file may be made.
@@ -143,10 +143,11 @@ pub trait Disk {
             (AllOrNone (state self.old) (closed (created (state self.old) (named path.now))) (state self.new)) }
         ensures time { IsTrue honest → StepElapses state moment left_since self.old self.new };
 
-    /// Writes bytes from a place on, and answers how many: perhaps not all (pwrite).
+    /// Writes bytes from a place on, perhaps not all, and answers how many (pwrite).
     ///
     /// # Errors
-    /// Those of the system. Where it was no interruption, the file may hold any bytes, and what is synced later is not known to last.
+    /// Those of the system. After any but an interruption the file may hold any bytes, and it is not known that a later
+    /// sync makes them last.
     fn write_at(&mut self, file: &Self::Handle, place: u64, bytes: &[u8]) -> io::Result<usize>
         requires may { IsTrue honest → MayWrite (state self.old) (number file.now) place }
         ensures count { IfOk result (λ n. n ≤ length bytes.now) }
@@ -160,7 +161,8 @@ pub trait Disk {
     /// Makes all that was written to the file lasting (fsync).
     ///
     /// # Errors
-    /// Those of the system. Where it was no interruption, the file may hold any bytes, and what is synced later is not known to last.
+    /// Those of the system. After any but an interruption the file may hold any bytes, and it is not known that a later
+    /// sync makes them last.
     fn sync(&mut self, file: &Self::Handle) -> io::Result<()>
         requires may { IsTrue honest → (state self.old).scratch ≡ Some (number file.now) }
         ensures done { IsTrue honest → OnOk result (state self.new ≡ after_sync (state self.old)) }
@@ -168,16 +170,18 @@ pub trait Disk {
         ensures failed { IsTrue honest → OnErr result (Spoils (state self.old) (state self.new)) }
         ensures time { IsTrue honest → StepElapses state moment left_since self.old self.new };
 
-    /// Promises that the file that was made last is written no more. It may stay open, so that others see that this process has it.
+    /// Promises that this process writes no more to the file that was made last. It may stay open, so that others see
+    /// that this process has it.
     fn close(&mut self, file: &Self::Handle)
         requires may { IsTrue honest → (state self.old).scratch ≡ Some (number file.now) }
         ensures done { IsTrue honest → state self.new ≡ closed (state self.old) }
         ensures time { IsTrue honest → StepElapses state moment left_since self.old self.new };
 
-    /// Moves one name onto another as one step (rename), where it stands for this file. Another file is never moved, whoever has made it.
+    /// Moves one name onto another in one step (rename), if it stands for this file. No other file is ever moved,
+    /// whoever has made it.
     ///
     /// # Errors
-    /// `NotFound` where there is no such name; others of the system, and then the name may be moved.
+    /// `NotFound` if there is no such name; others of the system, and then the name may be moved.
     fn rename(
         &mut self,
         folder: &Self::Folder,
@@ -198,10 +202,10 @@ pub trait Disk {
             (MovesOrNot (named from.now) (named to.now) (state self.old) (state self.new)) }
         ensures time { IsTrue honest → StepElapses state moment left_since self.old self.new };
 
-    /// Whether what stands under a name is a file, and no folder, pipe or device (stat). It is not opened.
+    /// Whether what stands under a name is a file, and not a folder, pipe or device (stat). It is not opened.
     ///
     /// # Errors
-    /// `NotFound` where there is no such name; others of the system.
+    /// `NotFound` if there is no such name; others of the system.
     fn is_file(&self, path: &Self::Path) -> io::Result<bool>
         ensures absent { IsTrue honest → OnNotFound result
             (number_of (state self.now) (named path.now) ≡ None) };
@@ -209,7 +213,7 @@ pub trait Disk {
     /// Opens what stands under a name to read it (open).
     ///
     /// # Errors
-    /// `NotFound` where there is no such name; others of the system.
+    /// `NotFound` if there is no such name; others of the system.
     fn open(&self, path: &Self::Path) -> io::Result<Self::Handle>
         ensures opened { IsTrue honest → IfOk result (λ file.
             number_of (state self.now) (named path.now) ≡ Some (number file)) }
@@ -237,14 +241,14 @@ pub trait Disk {
         ensures { IsTrue honest → option_map (λ stands. stands.bytes) (slice_get (state self.now).files (number file))
             ≡ Some (Self.File.bytes result) };
 
-    /// A stop now is one of those since any earlier moment.
+    /// A stop now is among the stops since any earlier moment.
     ghost counts_now: { (disk : Self) (earlier : ℕ) (image : Directory) → IsTrue honest → earlier ≤ moment disk
         → IsImage (state disk) image → left_since disk earlier image };
 
-    /// Since the moment of now there is no other stop.
+    /// It is the only stop since the present moment.
     ghost only_now: { (disk : Self) (image : Directory) → IsTrue honest
         → left_since disk (moment disk) image → IsImage (state disk) image };
 
-    /// Its files are honest where it is.
+    /// Its files are honest if it is.
     ghost honest_files: { Self.File.honest ≡ honest };
 }

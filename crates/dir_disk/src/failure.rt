@@ -1,4 +1,4 @@
-//! What failed last on a disk of the system.
+//! Which call of a disk of the system failed last.
 ghost use Rattle.std.specs.Prelude.{◌≡◌};
 
 use std::alloc::{AllocError, Global};
@@ -7,10 +7,10 @@ use std::io;
 use std::sync::Arc;
 use std::sync::atomic::{AtomicU32, Ordering};
 
-/// What a call was about that failed.
+/// What a failed call was about.
 #[derive(Clone, Copy)]
 pub enum FailedOn {
-    /// The folder itself, or who has its scratch file.
+    /// The folder itself, or the process that has its scratch file.
     Folder,
     /// The name that the call was given, or the file that stands there.
     Name,
@@ -27,7 +27,8 @@ pub struct DiskFailure {
     pub error: i32,
 }
 
-/// Notes of how the last call of a disk ended, its reads of opened files among them. The number of an error is 0 where none was told.
+/// Notes of how the last call of a disk ended, reads of opened files included. The number of an error is 0 if it is not
+/// known.
 #[derive(Drop)]
 pub(crate) struct Notes {
     on: Cell<FailedOn>,
@@ -52,7 +53,7 @@ impl Notes {
         outcome
     }
 
-    /// The same, where no failure is noted yet.
+    /// The same, unless a failure is noted already.
     pub(crate) fn note_first<T>(&self, on: FailedOn, outcome: io::Result<T>) -> io::Result<T>
         ensures { result ≡ outcome }
     {
@@ -62,14 +63,14 @@ impl Notes {
         self.note(on, outcome)
     }
 
-    /// Notes of the reads of a file that is opened, or `None` where there are too many files already.
+    /// Notes for the reads of a file that is opened; `None` if too many files have them already.
     pub(crate) fn of_file(&self) -> Option<FileNotes> {
         self.on.set(FailedOn::Name);
         let error = Arc::try_clone(&self.error).ok()?;
         Some(FileNotes { error })
     }
 
-    /// The last call, where it failed by an error of the system.
+    /// The last call, if it failed by an error of the system.
     pub(crate) fn last(&self) -> Option<DiskFailure> {
         match self.error.load(Ordering::SeqCst) {
             0 => None,
@@ -81,7 +82,7 @@ impl Notes {
     }
 }
 
-/// Notes of the reads of an opened file, which are those of its disk.
+/// Notes of the reads of an opened file, shared with its disk.
 #[derive(Drop)]
 pub(crate) struct FileNotes {
     error: Arc<AtomicU32, Global>,

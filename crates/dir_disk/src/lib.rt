@@ -2,9 +2,9 @@
 //!
 //! `DiskDir` is an honest directory if its disk keeps the clauses of `Disk`, which say what POSIX and Linux promise of
 //! each call. `MemDisk` keeps them, so they don't contradict one another. `OsDir`, which the tools use, is a `DiskDir`
-//! over `SystemDisk`. Each method of `SystemDisk` is one call of the system, and nothing is proved of it but safety:
-//! that it keeps the clauses is the premise. Tested only: that one process at a time installs, that another folder at
-//! the path is refused, and which error is noted.
+//! over `SystemDisk`. Each method of `SystemDisk` is one call of the system, and only its safety is proved: that it
+//! keeps the clauses is the premise. Only tests show that one process at a time installs, that another folder at the
+//! path is refused, and which error is noted.
 #![tactic(auto)]
 
 pub mod claims;

@@ -1,4 +1,5 @@
-//! Files that are claimed by a lock: of several processes that make a file under one name one has it, and the others wait.
+//! Files that are claimed by a lock. Of several processes that make a file under one name one has it, and the others
+//! wait.
 use crate::claims::Claims;
 use crate::system_disk::is_same;
 use os::RangeLock;
@@ -7,10 +8,11 @@ use std::io::{self, ErrorKind, Read};
 use std::os::fd::AsRawFd;
 use std::os::unix::fs::{MetadataExt, OpenOptionsExt, PermissionsExt};
 
-/// The permissions of a file that is not complete: nobody else can open it, and so nobody can lock it who may not write in its folder.
+/// The permissions of a file that is not complete: no other user can open it, and so lock it.
 const HIDDEN: u32 = 0o600;
 
-/// The system's errors for a file that another process has, for a folder, for a link, and for what else is no file.
+/// The system's errors for a file that another process has, for a folder, for a link, and for anything else that is no
+/// file.
 const TAKEN: i32 = 11;
 
 const IS_FOLDER: i32 = 21;
@@ -19,29 +21,30 @@ const IS_LINK: i32 = 40;
 
 const INVALID: i32 = 22;
 
-/// Where the system tells which permissions the process masks, in one of the first lines.
+/// The file in which the system says which permissions the process masks, in one of the first lines.
 const STATUS: &str = "/proc/self/status";
 
 const MASK: &str = "Umask:\t";
 
-/// How long one waits for a file that another process has.
+/// How long to wait for a file that another process has.
 pub trait Waits {
     /// Waits a little, and answers whether to try again.
     fn wait(&mut self) -> bool;
 }
 
-/// A file is claimed by an exclusive lock of its first byte, which lasts until it is closed: by this process, or by the system where that was
-/// killed. A free one is what a killed process has left, and is taken away while its lock is held. Only who may write a file can have such a lock.
+/// A file is claimed by an exclusive lock of its first byte. The lock lasts until the file is closed, by this process
+/// or, if that is killed, by the system. A file without a lock was left by a killed process, and is taken away while
+/// this process locks it. Only who may write a file can have such a lock.
 #[derive(Drop)]
 pub struct Locked<W> {
     waits: W,
-    // the permissions of a file that is complete, where it was made with others
+    // the permissions that a complete file gets, if it was made with others
     mode: Option<u32>,
     made: bool,
 }
 
 impl<W> Locked<W> {
-    /// Files for which others are waited for in this way.
+    /// Claims that wait for other processes in this way.
     pub fn new(waits: W) -> Locked<W> {
         Locked {
             waits,
@@ -81,7 +84,8 @@ impl<R: Files<File = File>, W: Waits> Claims<R> for Locked<W> {
         take_free(files, path)
     }
 
-    // (what is taken away after a file was made is that file: where another process has the name by then, nothing is left to be done)
+    // (after a file was made, only that file is taken away; if another process has the name by then, nothing is left to
+    // be done)
     fn wait(&mut self) -> bool {
         !self.made && self.waits.wait()
     }
@@ -101,7 +105,7 @@ fn is_taken(error: &io::Error) -> bool {
     error.kind() == ErrorKind::WouldBlock
 }
 
-// Makes a new file at a path, and locks it. Another process may have found it before it was locked, and taken it away.
+// Makes a new file at a path, and locks it. Another process may have found and taken it away before it was locked.
 fn make_held<R: Files<File = File>>(files: &R, path: &str, mode: u32) -> io::Result<File> {
     let made = OpenOptions::new()
         .read(true)
@@ -117,7 +121,7 @@ fn make_held<R: Files<File = File>>(files: &R, path: &str, mode: u32) -> io::Res
         Ok(true) => Ok(file),
         Ok(false) => Err(taken()),
         Err(error) => {
-            // no process can lock it, so it is of no use
+            // no process can lock such a file, so it is of no use
             if matches!(is_at(files, &file, path), Ok(true)) {
                 let _ = files.remove_file(path);
             }
@@ -126,8 +130,8 @@ fn make_held<R: Files<File = File>>(files: &R, path: &str, mode: u32) -> io::Res
     }
 }
 
-// Takes away what stands at a path, where it is a file that no process has. What is no file is left there: it has no lock by which two processes
-// could agree which of them takes it away, and so one might take away the other's new file.
+// Takes away what stands at a path, if it is a file that no process has. Anything but a file is left there. It has no
+// lock by which two processes could agree which of them takes it away, so one might take away the other's new file.
 fn take_free<R: Files<File = File>>(files: &R, path: &str) -> io::Result<()> {
     let found = files.symlink_metadata(path)?;
     if !found.is_file() {
@@ -138,7 +142,7 @@ fn take_free<R: Files<File = File>>(files: &R, path: &str) -> io::Result<()> {
         };
         return Err(io::Error::from_raw_os_error(error));
     }
-    // (a pipe that is put there meanwhile does not block an opening to read and write)
+    // (if a pipe was put there meanwhile, opening it to read and write does not wait)
     let opened = OpenOptions::new().read(true).write(true).open(files, path);
     let file = match opened {
         Err(error) if error.kind() == ErrorKind::PermissionDenied => return Err(taken()),
@@ -155,9 +159,10 @@ fn hold<R: Files<File = File>>(files: &R, file: &File, path: &str) -> io::Result
     Ok(lock(file, RangeLock::Exclusive)? && is_at(files, file, path)?)
 }
 
-// Whether a file is locked by readers alone, and still stands at its path. Who may read a file can have a lock together with others, which keeps
-// nobody from sharing it; whoever has made a file shares its lock with nobody. (Two that find it so at one moment may both take it away, and the
-// second may take away what the first has made since: its look before the rename then fails.)
+// Whether a file is locked only by readers, if at all, and still stands at its path. Whoever may read a file can have a
+// shared lock, beside which others can share it too. A process that made a file shares its lock with nobody. (Two
+// processes that find a file so at one moment may both take it away. The second may then take away the new file of the
+// first, whose look before the rename fails.)
 fn is_read_alone<R: Files<File = File>>(files: &R, file: &File, path: &str) -> io::Result<bool> {
     Ok(lock(file, RangeLock::Shared)? && is_at(files, file, path)?)
 }
@@ -183,7 +188,7 @@ fn is_at<R: Files<File = File>>(files: &R, file: &File, path: &str) -> io::Resul
     }
 }
 
-// The permissions that the process masks, where the system tells them.
+// The permissions that the process masks, if the system says so.
 fn read_mask<R: Files<File = File>>(files: &R) -> Option<u32> {
     let mut start = [0; 256];
     let mut file = OpenOptions::new().read(true).open(files, STATUS).ok()?;

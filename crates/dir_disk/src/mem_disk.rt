@@ -18,13 +18,13 @@ use std::io::{self, ErrorKind};
 /// How many bytes a name has at most.
 const LONGEST: usize = 255;
 
-/// A disk in memory, for tests. Each call does what is said of it, and succeeds where one of a real disk would, but for want of memory; a file that
-/// was synced is written no more. So it is a witness that all that is said of a disk can be true of one.
+/// A disk in memory, for tests. Each call does what its clauses say, and succeeds if one of a real disk would, unless
+/// there is no memory. A synced file is written no more. So it is a witness that a disk can keep all clauses.
 #[derive(Drop)]
 pub struct MemDisk {
     alloc: Global,
     folder: Folder,
-    // what stood there before each call that did something; none of them passes through another state
+    // what stood there before each call that did something; no call passes through another state
     past: Log<Folder, Option<Name>>,
 }
 
@@ -43,11 +43,11 @@ pub struct MemFolder;
 #[derive(Drop)]
 pub struct MemHandle {
     number: usize,
-    // its bytes, where it was opened to be read
+    // its bytes, if it was opened to be read
     content: Option<MemFile>,
 }
 
-/// A file of a disk in memory that is read.
+/// A file of a disk in memory, opened to be read.
 #[derive(Drop)]
 pub struct MemDiskFile {
     file: MemFile,
@@ -82,7 +82,8 @@ fn no_memory(_: AllocError) -> io::Error
     io::Error::from(ErrorKind::OutOfMemory)
 }
 
-// Writes bytes into the scratch file from a place on, over those that stand there, or at its end: how many of them.
+// Writes bytes into the scratch file from a place on, over those that stand there or at its end. The answer is how
+// many.
 fn write(
     folder: &mut Folder,
     number: usize,

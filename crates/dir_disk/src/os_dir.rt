@@ -31,10 +31,11 @@ use thiserror::Error;
 /// Why a folder can't be used.
 #[derive(Clone, Copy, Debug, Error)]
 pub enum FolderFault {
-    /// Nothing stands at the path, or no folder.
+    /// There is nothing at the path, or something other than a folder.
     #[error("no such folder")]
     NoFolder,
-    /// The system does not say what stands at the path, as where a folder on the way may not be searched. So there may be a folder.
+    /// The system does not say what stands at the path, for instance because a folder on the way may not be searched.
+    /// So there may be a folder.
     #[error("device fault")]
     Device,
     /// There was no memory.
@@ -48,7 +49,7 @@ impl From<AllocError> for FolderFault {
     }
 }
 
-/// Why a folder can't be used, with the system's number of its error (`errno`), where it has told one.
+/// Why a folder can't be used, with the number of the system's error (`errno`), if there was one.
 #[derive(Clone, Copy)]
 pub struct FolderError {
     /// Why.
@@ -66,21 +67,22 @@ impl From<AllocError> for FolderError {
     }
 }
 
-/// A folder of a disk, which is a directory. It is honest where its disk is.
+/// A folder of a disk, which is a directory. It is honest if its disk is.
 ///
-/// `fresh` removes the name and creates a file that must be new; `append` keeps bytes back until there are 65,536 or the file is
-/// patched, synced or let go, so a fault of the device may come at a later call; `sync` writes the rest, then has the system sync the
-/// file (fsync) and closes it; `settle` syncs the folder. The scratch file itself can't be opened: that is a device fault.
+/// `fresh` removes the name and creates a file that must be new. `append` keeps bytes back until there are 65,536, or
+/// the file is patched, synced or let go, so a fault of the device may come at a later call. `sync` writes the rest,
+/// has the system sync the file (fsync), and closes it. `settle` syncs the folder. The scratch file itself can't be
+/// opened: that is a device fault.
 ///
-/// The folder is opened once, before the first change of a name: where it can't be opened for reading nothing has changed, and what
-/// `settle` syncs is the folder whose names were changed.
+/// The folder is opened once, before the first change of a name. If it can't be opened for reading, nothing has
+/// changed. So `settle` syncs the folder whose names were changed.
 ///
-/// After a device fault of `fresh`, `append`, `patch` or `sync` there is no scratch file: what was kept back or written may be lost, and
-/// the system tells of a failed write once alone, so a later `sync` must not succeed.
+/// After a device fault of `fresh`, `append`, `patch` or `sync` there is no scratch file. What was kept back or written
+/// may be lost, and the system reports a failed write only once, so a later `sync` must not succeed.
 ///
-/// `rename` moves no file but the one that `fresh` made last and `sync` made lasting: where a name stands for another one, as where another process
-/// has put it there meanwhile, that is a device fault, and nothing is moved. That file stays open until the next `fresh` or `remove`, so that
-/// others see that it is this process's.
+/// `rename` moves no file but the one that `fresh` made last and `sync` made lasting. If a name stands for another
+/// file, which another process may have put there, that is a device fault, and nothing is moved. The file stays open
+/// until the next `fresh` or `remove`, so that others see that this process has it.
 #[derive(Drop)]
 pub struct DiskDir<D: Disk + Drop> {
     disk: D,
@@ -91,7 +93,7 @@ pub struct DiskDir<D: Disk + Drop> {
     written: u64,
     // what is still to be written at its end
     pending: Vec<u8>,
-    // the last scratch file, once it is closed
+    // the last scratch file, after its sync
     made: Option<D::Handle>,
     failures: u64,
     // room for the paths of a call, so that it takes no memory
@@ -103,13 +105,14 @@ pub struct DiskDir<D: Disk + Drop> {
 /// A folder of the system, in which no other process is known to make files.
 pub type OsDir<R> = DiskDir<SystemDisk<R>>;
 
-/// A folder of the system in which several processes make files under one name: one has it, and the others wait for it.
+/// A folder of the system in which several processes make files under one name. One process has the name, and the
+/// others wait.
 pub type LockedDir<R, W> = DiskDir<ClaimedDisk<R, Locked<W>>>;
 
 impl<D: Disk + Drop> DiskDir<D> {
     ghost use Rattle.dir_disk.specs.OsParts.{os_disk, os_failed, os_made, os_state};
 
-    /// The folder of a disk. None of its files may be open to be written.
+    /// The directory of a disk. None of its files may be open to be written.
     ///
     /// # Errors
     /// Want of memory.
@@ -139,12 +142,12 @@ impl<D: Disk + Drop> DiskDir<D> {
         &self.disk
     }
 
-    /// Takes a name away, if it stands, as an unfinished file's. The scratch file is given up: there is none afterwards. Every other
-    /// name stands for the file that it stood for, synced files keep their bytes, and so it is where the machine stops meanwhile. Where the
-    /// name is taken away, that is a pending change.
+    /// Takes a name away, if it stands, such as that of an unfinished file. The scratch file is given up: there is none
+    /// afterwards. Every other name stands for the same file as before, and synced files keep their bytes, even if the
+    /// machine stops meanwhile. If the name is taken away, that is a pending change.
     ///
     /// # Errors
-    /// `Device`, and then the name may stand still; of all the rest the same is true.
+    /// `Device`: the name may still stand. All else is as without the fault.
     pub fn remove(&mut self, name: &Name) -> Result<(), DirFault>
         ensures removed { IsTrue D.honest → OnOk result (number_of (os_state D.state self.new) name.now ≡ None) }
         ensures others { IsTrue D.honest
@@ -176,16 +179,17 @@ impl<R: Files + Drop> DiskDir<SystemDisk<R>>
 where
     R::File: FileExt,
 {
-    /// The folder of the system at a path, such as `/etc/tcprules` or `.`. An empty path is none. It is looked at, and not opened yet.
+    /// The folder of the system at a path, such as `/etc/tcprules` or `.`. An empty path leads to none. The folder is
+    /// looked at, and not opened yet.
     ///
     /// # Errors
-    /// `NoFolder` where nothing stands there, or no folder; `Device` where the system does not say what stands there, as where it may
-    /// not be looked at; `OutOfMemory`.
+    /// `NoFolder` if there is nothing or no folder; `Device` if the system does not say what stands there, for instance
+    /// because it may not be looked at; `OutOfMemory`.
     pub fn new(alloc: Global, files: R, folder: &str) -> Result<Self, FolderFault> {
         DiskDir::find(alloc, files, folder).map_err(|error| error.fault)
     }
 
-    /// The same, with the system's error where it fails.
+    /// The same, with the system's error if it fails.
     ///
     /// # Errors
     /// As of `new`.
@@ -194,7 +198,7 @@ where
         Ok(DiskDir::at(alloc, files, folder)?)
     }
 
-    /// The same, without a look at what stands there: the calls that follow tell.
+    /// The same, without a look at what stands there: later calls will find out.
     ///
     /// # Errors
     /// Want of memory.
@@ -204,13 +208,13 @@ where
     }
 }
 
-/// The system's error for a path on which something is no folder.
+/// The system's error for a path that leads through something other than a folder.
 const NO_FOLDER: i32 = 20;
 
-/// Sees that a folder stands at a path.
+/// Checks that a folder stands at a path.
 ///
 /// # Errors
-/// `NoFolder` where nothing stands there, or no folder; `Device` where the system does not say what stands there.
+/// `NoFolder` if there is nothing or no folder; `Device` if the system does not say what stands there.
 pub fn find_folder<R: Files>(files: &R, folder: &str) -> Result<(), FolderError> {
     for _ in 0..TRIES {
         match files.metadata(folder) {
@@ -223,7 +227,7 @@ pub fn find_folder<R: Files>(files: &R, folder: &str) -> Result<(), FolderError>
     Err(unusable(&io::Error::from(ErrorKind::Interrupted)))
 }
 
-// What an error of the look at a folder means.
+// The fault for an error of the look at a folder.
 fn unusable(error: &io::Error) -> FolderError {
     let fault = match error.kind() {
         ErrorKind::NotFound | ErrorKind::NotADirectory => FolderFault::NoFolder,
@@ -236,7 +240,8 @@ fn unusable(error: &io::Error) -> FolderError {
 }
 
 impl<R: Files<File = File> + Drop, W: Waits + Drop> DiskDir<ClaimedDisk<R, Locked<W>>> {
-    /// The folder of the system at a path, without a look at what stands there, in which others are waited for in this way.
+    /// The folder of the system at a path, without a look at what stands there. It waits for other processes in this
+    /// way.
     ///
     /// # Errors
     /// Want of memory.
@@ -246,7 +251,7 @@ impl<R: Files<File = File> + Drop, W: Waits + Drop> DiskDir<ClaimedDisk<R, Locke
     }
 }
 
-// What the disk answered, where its faults are the device's, which are counted.
+// The answer of the disk, with its faults counted as the device's.
 fn told<T>(failures: &mut u64, answer: io::Result<T>) -> Result<T, DirFault>
     ensures passed { IfOk result (λ value. answer ≡ Ok value) }
     ensures failed { OnErr result (IsErr answer) }
@@ -268,7 +273,7 @@ fn rooms<D: Disk>(alloc: Global, disk: &D) -> Result<(D::Path, D::Path), AllocEr
     Ok((path, disk.room(alloc)?))
 }
 
-// What the disk answered of a name that is moved: that no such name stands is no fault of the device.
+// The answer of the disk for a name that is moved. A missing name is no fault of the device.
 fn told_move(failures: &mut u64, answer: io::Result<()>) -> Result<(), DirFault>
     ensures passed { IfOk result (λ value. answer ≡ Ok value) }
     ensures failed { OnErr result (IsErr answer) }
@@ -282,7 +287,7 @@ fn told_move(failures: &mut u64, answer: io::Result<()>) -> Result<(), DirFault>
     }
 }
 
-// The folder itself, which is opened if it is not open yet. That it can't be is a fault of the device.
+// The folder itself, which is opened if it is not open yet. If that fails, it is a fault of the device.
 fn folder_of<'a, D: Disk>(
     disk: &D,
     folder: &'a mut Option<D::Folder>,
@@ -308,8 +313,8 @@ fn is_scratch<D: Disk>(disk: &D, file: &D::Handle, scratch: &Option<D::Handle>) 
     Ok(found.device == written.device && found.inode == written.inode)
 }
 
-// Opens a file to read it. What is no file, such as a folder or a named pipe, is not opened, nor is the scratch file. Its kind is looked at
-// once more after it was opened, with its length, since another thing may stand there by then.
+// Opens a file to read it. Neither the scratch file is opened, nor what is no file, such as a folder or a named pipe.
+// After it was opened its kind is looked at once more, with its length, since another thing may stand there by then.
 fn open_file<D: Disk>(
     disk: &D,
     path: &D::Path,
@@ -430,7 +435,8 @@ impl<D: Disk + Drop> Dir for DiskDir<D> {
     }
 
     fn rename(&mut self, alloc: Global, from: &Name, to: &Name) -> Result<(), DirFault>
-        // nothing is moved but the file that was made last, whatever was done to names beside it, and whatever is answered
+        // only the file that was made last is ever moved, whatever was done to names meanwhile, and whatever is
+        // answered
         ensures own { IsTrue D.honest → OnOk result
             (number_of (os_state D.state self.old) from.now ≡ os_made D.number self.old) }
         ensures own_if_moved { IsTrue D.honest → OnErr result (MovesNoOther (os_made D.number self.old) from.now

@@ -6,7 +6,7 @@ use crate::patient::TRIES;
 use dir_calls::{DeviceFault, RulesFile};
 use std::io::ErrorKind;
 
-/// An opened file of a disk. It is closed where it is dropped. It is honest where its disk's files are.
+/// An opened file of a disk. Dropping it closes it. It is honest if its disk's files are.
 #[derive(Drop)]
 pub struct OsFile<F: DiskFile + Drop> {
     file: F,
@@ -17,7 +17,7 @@ pub struct OsFile<F: DiskFile + Drop> {
 impl<F: DiskFile + Drop> OsFile<F> {
     ghost use Rattle.dir_disk.specs.OsFile.{os_bytes};
 
-    /// An open file that has so many bytes.
+    /// An open file that has this many bytes.
     pub(crate) fn new(file: F, len: u64) -> OsFile<F>
         requires { IsTrue F.honest → len ≡ length (F.bytes file) }
         ensures { os_bytes F.bytes result ≡ F.bytes file }

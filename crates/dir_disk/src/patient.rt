@@ -1,4 +1,4 @@
-//! Calls of a disk, tried again where a signal interrupts them.
+//! Calls of a disk, tried again if a signal interrupts them.
 ghost use Rattle.std.specs.Prelude.{◌≡◌, ◌<◌, ◌+◌, ◌^◌, false, IsTrue, None, Some, IsSome, IsErr, IsErrAnd, length, IfErr, OnOk, OnErr};
 ghost use Rattle.std.specs.Option.{ForSome, option_map};
 ghost use Rattle.std.specs.IoError.{error_kind};
@@ -10,10 +10,10 @@ ghost use Rattle.dir_disk.specs.DiskSteps.{FindsNone, MayWrite, MovesNoOther, Mo
 use crate::disk::Disk;
 use std::io::{self, ErrorKind};
 
-/// How often a call is tried again that a signal interrupts.
+/// How often a call is tried again if signals interrupt it.
 pub(crate) const TRIES: u32 = 1_000;
 
-// The fault of a call that was interrupted each time.
+// The fault of a call that was interrupted at each try.
 fn interrupted() -> io::Error
     ensures { error_kind result ≡ ErrorKind.Interrupted }
 {
@@ -30,7 +30,7 @@ fn was_interrupted<T>(outcome: &io::Result<T>) -> bool
     }
 }
 
-// What is answered of a name that is taken away: that it does not stand is no fault.
+// The answer for a name that is taken away. A missing name is no fault.
 fn unless_absent(outcome: io::Result<()>) -> io::Result<()>
     ensures gone { OnOk result (IfErr outcome (λ e. error_kind e ≡ ErrorKind.NotFound)) }
     ensures failed { OnErr result (IsErr outcome) }
@@ -136,7 +136,7 @@ pub(crate) fn remove_name<D: Disk>(
     }
 }
 
-// What is answered where a name is to be moved for which no file was made.
+// The answer if a name is to be moved and no file was made.
 fn not_made<D: Disk>(disk: &D, path: &D::Path) -> io::Result<()>
     ensures failed { IsErr result }
     ensures absent { IsTrue D.honest → OnNotFound result
@@ -148,7 +148,8 @@ fn not_made<D: Disk>(disk: &D, path: &D::Path) -> io::Result<()>
     }
 }
 
-/// Moves one name onto another, where it stands for the file that was made, in a folder that is opened if it is not open yet.
+/// Moves one name onto another, if it stands for the file that was made, in a folder that is opened if it is not open
+/// yet.
 pub(crate) fn move_name<D: Disk>(
     disk: &mut D,
     folder: &mut Option<D::Folder>,

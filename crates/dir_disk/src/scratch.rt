@@ -1,4 +1,4 @@
-//! The scratch file of a disk, of whose bytes the last are kept back.
+//! The scratch file of a disk. Its last bytes are kept back before they are written.
 ghost use Rattle.std.specs.Prelude.{◌≡◌, ◌≤◌, ◌<◌, ◌+◌, [], None, Some, IsTrue, length, IfOk, OnOk, OnErr, vec_len};
 ghost use Rattle.std.specs.Option.{option_map};
 ghost use Rattle.dir_calls.specs.Calls.{makes, patches, syncs, after, closed};
@@ -11,14 +11,15 @@ use crate::disk::Disk;
 use crate::patient::{sync, unlink, write_all};
 use std::io;
 
-/// How many bytes are kept back until they are written: a write takes so many, but for the last one.
+/// How many bytes are kept back until they are written. Each write but the last has this many.
 pub(crate) const BUFFER: usize = 65_536;
 
-/// Files are made with these permissions, less those that the process masks: all may read them, as the ones of `tcprules`.
+/// Files are made with these permissions, less those that the process masks: all may read them, as they may those of
+/// `tcprules`.
 const MODE: u32 = 0o644;
 
-/// Writes the bytes that are kept back at the end of the scratch file, which has so many, and answers the file with how many it has then.
-/// Where that fails the file is closed.
+/// Writes the bytes that are kept back at the end of the scratch file, which has `written` bytes. The answer is the
+/// file and its new length. If the write fails, the file is closed.
 pub(crate) fn write_kept<D: Disk>(
     disk: &mut D,
     file: D::Handle,
@@ -48,8 +49,8 @@ pub(crate) fn write_kept<D: Disk>(
     }
 }
 
-/// Writes the bytes that are kept back where there are as many as may be, and answers the file with how many it has then. Where that fails
-/// the file is closed.
+/// Writes the bytes that are kept back if there are as many as may be. The answer is the file and its length. If the
+/// write fails, the file is closed.
 pub(crate) fn make_room<D: Disk>(
     disk: &mut D,
     file: D::Handle,
@@ -98,7 +99,8 @@ pub(crate) fn overwrite<D: Disk>(
     }
 }
 
-/// Writes the bytes that are kept back, then has the file made lasting, and closes it. It is the one that was made then.
+/// Writes the bytes that are kept back, has the file synced, and closes it. From then on it is the file that was made
+/// last.
 pub(crate) fn sync_kept<D: Disk>(
     disk: &mut D,
     file: D::Handle,
@@ -155,7 +157,7 @@ pub(crate) fn give_up<D: Disk>(disk: &mut D, scratch: Option<D::Handle>)
     }
 }
 
-/// Makes a new file, in the place of what stood there.
+/// Makes a new file in the place of what stood there.
 pub(crate) fn make_file<D: Disk>(
     disk: &mut D,
     folder: &D::Folder,

@@ -14,11 +14,11 @@ use std::os::unix::fs::{FileExt, MetadataExt};
 /// How many bytes a slash and a name have at most.
 const LONGEST: usize = 256;
 
-/// How often a name that another process has is tried for: more often than there is time for.
+/// How often a name is tried for that another process has: more often than there is time for.
 const TRIES: u32 = 1_000_000;
 
-/// The system's errors for a file of a folder that is gone, for what is no folder, for a folder in the place of a file, and for what a call can't
-/// be made of.
+/// The system's errors: for a file of a folder that is gone, for what is no folder, for a folder in the place of a
+/// file, and for arguments of which a call can't be made.
 const STALE: i32 = 116;
 
 const NO_FOLDER: i32 = 20;
@@ -27,14 +27,15 @@ const IS_FOLDER: i32 = 21;
 
 const INVALID: i32 = 22;
 
-/// A folder of the system. Each call is one of std's, which makes one of the system's, and passes on what it answers. Nothing is known
-/// of the system: that it does what `Disk` says is the premise of all that stands on it.
+/// A folder of the system. Each call is one of std's, which makes one of the system's and passes on its answer. Nothing
+/// is known of the system: that it does what `Disk` says is the premise of all that stands on it.
 ///
-/// Before each change of a name, and before the folder is synced, the folder that was opened is compared with what stands at its path now: where
-/// that is another folder, as where a link on the way was turned, nothing is changed, and the call fails. So it is of the file that is to be
-/// renamed: where another one stands under its name, nothing is moved. Between such a look and the call itself the path may still be turned.
+/// Before each change of a name, and before the folder is synced, the folder that was opened is compared with what
+/// stands at its path now. If that is another folder, because a link on the way was changed, the call fails and nothing
+/// changes. A file that is to be renamed is compared in the same way with what stands under its name. Between such a
+/// look and the call itself the path may still be changed.
 ///
-/// Files are made and taken away as its `Claims` do that: where another process has the name, these are asked whether to wait for it.
+/// Its `Claims` make files and take them away. If another process has the name, they say whether to wait for it.
 #[derive(Drop)]
 pub struct ClaimedDisk<R: Files + Drop, C: Drop> {
     files: R,
@@ -50,7 +51,7 @@ pub type SystemDisk<R> = ClaimedDisk<R, Alone>;
 #[derive(Drop)]
 pub struct SystemPath {
     text: String,
-    // whether there was room for it, as there is for each name
+    // whether there was room for it; there is for each name
     whole: bool,
 }
 
@@ -72,12 +73,12 @@ impl SystemPath {
     }
 }
 
-// What a call answers whose path there was no room for.
+// The error of a call for whose path there was no room.
 fn no_room() -> io::Error {
     io::Error::from(ErrorKind::OutOfMemory)
 }
 
-/// A file of the system that is read.
+/// A file of the system, opened to be read.
 #[derive(Drop)]
 pub struct SystemFile<F: FileExt + Drop> {
     file: F,
@@ -100,13 +101,13 @@ impl<R: Files + Drop, C: Drop> ClaimedDisk<R, C> {
         })
     }
 
-    /// The call that failed, where the last call of the system did, a read of an opened file too: so the cause of a fault can be told. A file that
-    /// is taken away after a failure leaves it noted.
+    /// The last call of the system, if it failed; a read of an opened file counts too. From it the cause of a fault is
+    /// told. Taking a file away after a failure leaves that failure noted.
     pub fn failure(&self) -> Option<DiskFailure> {
         self.notes.last()
     }
 
-    // Notes what stands in the place of a file, as an error that the system has for such a thing.
+    // Notes what stands in the place of a file, by the system's error for such a thing.
     fn note_kind(&self, found: &Metadata) {
         if !found.is_file() {
             let error = if found.is_dir() { IS_FOLDER } else { INVALID };
@@ -114,24 +115,24 @@ impl<R: Files + Drop, C: Drop> ClaimedDisk<R, C> {
         }
     }
 
-    // Notes how a call ended, and passes it on.
+    // Notes how a call ended, and passes its answer on.
     fn note<T>(&self, on: FailedOn, outcome: io::Result<T>) -> io::Result<T>
         ensures { result ≡ outcome }
     {
         self.notes.note(on, outcome)
     }
 
-    // Whether the folder that was opened stands at its path still.
+    // Whether the folder that was opened still stands at its path.
     fn same_folder(&self, folder: &R::File) -> io::Result<()> {
         is_same(folder.metadata(), self.files.metadata(self.folder.as_str())).and_then(unless_other)
     }
 
-    // Sees that it does.
+    // Checks that it does.
     fn sees_same(&self, folder: &R::File) -> io::Result<()> {
         self.note(FailedOn::Folder, self.same_folder(folder))
     }
 
-    // Sees that an opened file is what stands at a path.
+    // Checks that an opened file is what stands at a path.
     fn sees_file(&self, file: &R::File, path: &str) -> io::Result<()> {
         let same = is_same(file.metadata(), self.files.symlink_metadata(path));
         self.note(FailedOn::Name, same.and_then(unless_other))
@@ -139,7 +140,7 @@ impl<R: Files + Drop, C: Drop> ClaimedDisk<R, C> {
 }
 
 impl<R: Files + Drop, C: Claims<R> + Drop> ClaimedDisk<R, C> {
-    // Whether to try a call again that found the name with another process.
+    // Whether to try a call again after it found that another process has the name.
     fn waits<T>(&mut self, outcome: &io::Result<T>) -> bool {
         match outcome {
             Err(error) => error.kind() == ErrorKind::WouldBlock && self.claims.wait(),
@@ -148,7 +149,7 @@ impl<R: Files + Drop, C: Claims<R> + Drop> ClaimedDisk<R, C> {
     }
 }
 
-// What a call was about that made a file or took one away.
+// What a call that makes a file or takes one away is about.
 fn about<T>(outcome: &io::Result<T>) -> FailedOn {
     match outcome {
         Err(error) if error.kind() == ErrorKind::WouldBlock => FailedOn::Folder,
@@ -156,7 +157,7 @@ fn about<T>(outcome: &io::Result<T>) -> FailedOn {
     }
 }
 
-/// Whether what was opened is what stands at a path, by their looks.
+/// Whether what was opened is what stands at a path, by device and number.
 pub(crate) fn is_same(
     opened: io::Result<Metadata>,
     stands: io::Result<Metadata>,
@@ -165,7 +166,7 @@ pub(crate) fn is_same(
     Ok(opened.dev() == stands.dev() && opened.ino() == stands.ino())
 }
 
-// That another folder stands at the path is told as an error that the system has for such a thing.
+// Another folder at the path is reported by the system's error for a folder that is gone.
 fn unless_other(same: bool) -> io::Result<()> {
     if same {
         Ok(())

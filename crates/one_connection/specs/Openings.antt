@@ -18,7 +18,7 @@ use Rattle.connection_facts.specs.declared.outcome.DropCause.TheVariants as caus
 use Rattle.server_yard.specs.Passes.{pass_bytes, pass_missing, trust_in}
 use Rattle.server_yard.specs.declared.pass.Pass.{Pass}
 
--- the bytes of the rules file, or that there is none, and what is decided then
+-- the bytes of the rules file, or that there is none, and what is decided without one
 pub record Opening : Type 0 where
   pub bytes : Option (List ℕ)
   pub missing : Missing
@@ -27,11 +27,11 @@ pub record Opening : Type 0 where
 abbrev pub opening_of : {L F : Type 0} {p : _} {l : _} {f : _} → (F → List ℕ) → Pass L F p l f → Opening
 opening_of bytes pass = record { bytes = pass_bytes bytes pass; missing = pass_missing pass }
 
--- what was found, as an agent keeps it by a snapshot of its pass
+-- what was found, as a snapshot of a pass has it
 abbrev pub kept_opening : {L F : Type 0} {p : _} {l : _} {f : _} → (F → List ℕ) → Option (Snapshot (Pass L F p l f)) → Option Opening
 kept_opening bytes kept = option_map (λ s. opening_of bytes s.value) kept
 
--- this was found when a connection opened the rules, where such a thing may be found
+-- a connection found this when it opened the rules, and such a thing may be found
 pub record WasFound (kept : Option Opening) (finds : Opening → Type 0) (found : Opening) : Type 0 where
   pub its : kept ≡ Some found
   pub may_be : finds found
@@ -40,12 +40,12 @@ pub record WasFound (kept : Option Opening) (finds : Opening → Type 0) (found 
 abbrev pub decides : Opening → Client → Result Decision DecideFault
 decides found peer = decision_from (option_map reading found.bytes) found.missing peer
 
--- it decides so, as far as what its file holds is known
+-- it decides so, as far as the bytes of its file are known
 abbrev pub Decides : (honest sound : Bool) → Opening → Client → Decision → Type 0
 Decides honest sound found peer decision =
     WhereKnown (trust_in honest sound found.bytes) (decides found peer ≡ Ok decision)
 
--- the decision by it fails so
+-- the decision by it fails with this fault
 abbrev pub FailsToDecide : (honest sound : Bool) → Opening → Client → DecideFault → Type 0
 FailsToDecide honest sound found peer fault =
     DecisionFails (trust_in honest sound found.bytes) (decides found peer) fault
@@ -58,24 +58,25 @@ IsUndamaged (Find find.OutOfMemory) = ⊤
 IsUndamaged (Code fault) = ⊥
 IsUndamaged decide.OutOfMemory = ⊤
 
--- the cause of a drop where a fault of the directory kept the rules from being opened
+-- the cause of a drop if a fault of the directory kept the rules from being opened
 abbrev pub cause_of_open : DirFault → DropCause
 cause_of_open directory.OutOfMemory = cause.Memory
 cause_of_open directory.Device = cause.Directory
 cause_of_open directory.NoScratch = cause.Directory
 cause_of_open directory.NoName = cause.Directory
 
--- a call of the directory failed only where a failure was counted since, or where no more can be
+-- a call of the directory failed only if a failure was counted since, or no more can be counted
 abbrev pub CountsFailure : (before now : ℕ) → Type 0
 CountsFailure before now = (before < now) ⊎ (now ≡ 2 ^ 64 - 1)
 
--- the rules may be unopened for this cause: `Directory` only so, or where others may call too, so that a call is out of turn; or want of memory
+-- the rules may stay unopened for this cause: want of memory, or `Directory` if a call failed or others may make a call
+-- out of turn
 abbrev pub FailsToOpen : (is_shared : Bool) → (before now : ℕ) → DropCause → Type 0
 FailsToOpen is_shared before now cause.Directory = CountsFailure before now ⊎ IsTrue is_shared
 FailsToOpen is_shared before now cause.Memory = ⊤
 FailsToOpen is_shared before now other = ⊥
 
--- an agent that others use too may refuse a decision for this cause: it is out of turn, or there is no memory
+-- an agent that others use too may refuse to note a decision for this cause: it is out of turn, or there is no memory
 abbrev pub RefusesDecision : (is_shared : Bool) → DropCause → Type 0
 RefusesDecision is_shared cause.Directory = IsTrue is_shared
 RefusesDecision is_shared cause.Memory = IsTrue is_shared

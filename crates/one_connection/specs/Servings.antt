@@ -25,7 +25,7 @@ use Rattle.one_connection.specs.Openings.{CountsFailure, Decides, FailsToDecide,
 use Rattle.one_connection.specs.declared.serving.Served.{Served}
 use Rattle.one_connection.specs.Unstarted.{IsUndenied}
 
--- the decision of a connection by something that it may find when it opens the rules
+-- the decision for a connection by something that it may find when it opens the rules
 pub record IsDecision (finds : Opening → Type 0) (honest sound : Bool) (peer : Client) (decision : Decision) : Type 0 where
   pub found : Opening
   pub was_found : finds found
@@ -45,20 +45,21 @@ pub record IsPrepared (finds : Opening → Type 0) (honest sound : Bool) (peer :
   pub same : verdict ≡ decision.verdict
   pub given : environment ≡ environment_of plan.inherited local peer decision
 
--- A child of an allowed connection: its program is the plan's, and its environment is that of the decision.
+-- a child of an allowed connection: its program is the plan's, and its environment is that of the decision
 pub record IsChild (finds : Opening → Type 0) (honest sound : Bool) (peer : Client) (local : LocalEnd) (plan : PlanText)
     (program : ProgramText) (environment : Variables) : Type 0 where
   pub allowed : IsPrepared finds honest sound peer local plan Allow environment
   pub planned : program ≡ plan.program
 
--- A child of an allowed connection was to be started, and the launcher refused the plan's program with the variables of the decision.
+-- a child of an allowed connection was to be started, and the launcher refused the plan's program with the variables of
+-- the decision
 pub record IsRefused (finds : Opening → Type 0) (honest sound : Bool) (peer : Client) (local : LocalEnd) (plan : PlanText)
     (refuses : ProgramText → Variables → StartFault → Type 0) (fault : StartFault) : Type 0 where
   pub environment : Variables
   pub allowed : IsPrepared finds honest sound peer local plan Allow environment
   pub refused : refuses plan.program environment fault
 
--- the cause of a drop where a decision fails
+-- the cause of a drop if a decision fails
 abbrev pub cause_of : DecideFault → DropCause
 cause_of (Find find.Short) = cause.Damaged
 cause_of (Find find.Device) = cause.ReadFault
@@ -74,8 +75,8 @@ pub record FailsFor (finds : Opening → Type 0) (honest sound : Bool) (peer : C
   pub fails : FailsToDecide honest sound found peer fault
   pub for_it : cause_of fault ≡ why
 
--- a connection was dropped for a cause: a banner that there is; a failure of the directory, or an agent that others use; a file that is
--- damaged or could not be read; want of memory
+-- a connection was dropped for a cause, and each needs a reason: there is a banner; the directory failed, or others use
+-- the agent; the file is damaged or could not be read; want of memory
 abbrev pub Drops : (decides : DropCause → Type 0) → (is_shared : Bool) → (before now : ℕ) → (banner : List ℕ) → DropCause → Type 0
 Drops fails is_shared before now banner cause.Denied = ⊥
 Drops fails is_shared before now banner cause.Banner = banner ≢ []
@@ -85,12 +86,12 @@ Drops fails is_shared before now banner cause.Damaged = fails cause.Damaged
 Drops fails is_shared before now banner cause.Memory = ⊤
 Drops fails is_shared before now banner cause.NoThread = ⊥
 
--- a writer took a front of these bytes, and not all of them
+-- a writer took the first of these bytes, and not all of them
 abbrev pub AppendsFront : (old new : Option (List ℕ)) → List ℕ → Type 0
 AppendsFront old new bytes =
     (written : List ℕ) × (left : ℕ) × (more : List ℕ) × (bytes ≡ written ++ left ∷ more) × Appends old new written
 
--- a writer took the whole banner; or, where it failed, not all of it
+-- a writer took the whole banner; or, if it failed, not all of it
 abbrev pub Greets : (old new : Option (List ℕ)) → (banner : List ℕ) → (is_cut : Bool) → Type 0
 Greets old new banner false = Appends old new banner
 Greets old new banner true = AppendsFront old new banner
@@ -125,30 +126,30 @@ abbrev pub UnlessRunning : {L : _} {J : Type 0} {I O : _} → Served L J I O →
 UnlessRunning (Served.Running child) P = ⊤
 UnlessRunning _ P = P
 
--- the event that its serving ends with, by its answer
+-- the event with which the serving ends, by its answer
 abbrev pub last_event : {L : _} {J : Type 0} {I O : _} → ℕ → Served L J I O → Event
 last_event n (Served.Running child) = Started n
 last_event n Served.Denied = Dropped n cause.Denied
 last_event n (Served.StartFailed fault) = StartFailed n fault
 last_event n (Served.Dropped why) = Dropped n why
 
--- the stage in which that comes: a denial where it was decided to deny, and no other drop there
+-- the stage in which it comes: a denial comes after the decision to deny, and no other drop does
 abbrev pub ComesAt : {L : _} {J : Type 0} {I O : _} → Served L J I O → Stage → Type 0
 ComesAt (Served.Running child) at = at ≡ stage.Decided Allow
 ComesAt Served.Denied at = at ≡ stage.Decided Deny
 ComesAt (Served.StartFailed fault) at = at ≡ stage.Decided Allow
 ComesAt (Served.Dropped why) at = IsUndenied at
 
--- an agent told no event from one state to the next: it is the same one, or a call of it was refused
+-- an agent told no event from one state to the next: it is as before, or a call of it was refused
 abbrev pub IsStill : {D : Type 0} → (still : D → D → Type 0) → (old new : D) → Type 0
 IsStill still old new = (new ≡ old) ⊎ still old new
 
--- by what a connection found when it opened the rules, its agent tells an event, from one state to the next
+-- an event that depends on what a connection found when it opened the rules was told between these states
 abbrev pub TellsBy : Type 0 → Type 1
 TellsBy D = D → Opening → Event → D → Type 0
 
--- The events that an agent told of a connection before its last one: none; or that it opened the rules; or that, and that it was decided by what
--- it found there.
+-- the events that an agent told of a connection before its last one: none; or that it opened the rules; or that, and
+-- its decision by what it found there
 pub data ComesBy {D : Type 0} (still : D → D → Type 0) (tells_by : TellsBy D) (n : ℕ) : D → List Event → D → Type 0 where
   unopened : {old new : D} → IsStill still old new → ComesBy still tells_by n old [] new
   opened : {old mid new : D} {it : Opening} → tells_by old it (Opened n (is_some it.bytes)) mid → IsStill still mid new
@@ -156,12 +157,12 @@ pub data ComesBy {D : Type 0} (still : D → D → Type 0) (tells_by : TellsBy D
   decided : {old mid new : D} {it : Opening} {decision : Decision} → tells_by old it (Opened n (is_some it.bytes)) mid
       → tells_by mid it (Decided n decision) new → ComesBy still tells_by n old (Opened n (is_some it.bytes) ∷ Decided n decision ∷ []) new
 
--- it told such events, whichever
+-- it told some such events
 pub record HasCome {D : Type 0} (still : D → D → Type 0) (tells_by : TellsBy D) (n : ℕ) (old new : D) : Type 0 where
   pub events : List Event
   pub came : ComesBy still tells_by n old events new
 
--- An agent has told this event last. Before it came such events, by which it had come that far, and it came in such a stage.
+-- an agent told this event last; before it came such events, by which the connection had come to this stage
 pub record IsLastTold {D : Type 0}
     (comes_by : D → Type 0) (tells : D → Event → D → Type 0) (stands : D → Stage → Type 0) (comes_at : Stage → Type 0)
     (event : Event) (agent : D) : Type 0 where

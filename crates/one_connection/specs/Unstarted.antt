@@ -5,7 +5,7 @@ use Rattle.server_events.specs.ServerState.{is_unstarted}
 use Rattle.server_events.specs.declared.event.Stage.{Stage}
 use Rattle.server_events.specs.declared.event.Stage.TheVariants as stage
 
--- it stands in one of the stages before the start
+-- the connection is in one of the stages before the start
 pub record IsUnstarted (stands : Stage → Type 0) : Type 0 where
   pub stage : Stage
   pub there : stands stage
@@ -16,7 +16,7 @@ pub record IsUndenied (at : Stage) : Type 0 where
   pub before_start : is_unstarted (Some at) ≡ true
   pub other : at ≢ stage.Decided Deny
 
--- it stands in one of these
+-- the connection is in one of these
 pub record StandsUndenied (stands : Stage → Type 0) : Type 0 where
   pub stage : Stage
   pub there : stands stage

@@ -18,10 +18,10 @@ use rule_lookup::{DecideFault, Decision};
 use server_yard::Assumptions;
 use std::alloc::Global;
 
-/// Why a connection is dropped where a fault of the directory kept the rules from being opened.
+/// Why a connection is dropped if a fault of the directory keeps the rules from being opened.
 pub fn cause_of_open(fault: DirFault) -> DropCause
     ensures cause { result ≡ cause_of_open fault }
-    // whichever it is, an agent that others use too may answer it
+    // an agent that others use too may answer any of them
     ensures shared { (before now : ℕ) → FailsToOpen true before now result }
 {
     match fault {
@@ -30,16 +30,18 @@ pub fn cause_of_open(fault: DirFault) -> DropCause
     }
 }
 
-/// The agent of one connection, where its events are made after it was let in: by a yard, or by one caller's part of a yard that several share.
+/// The agent of one connection: it makes the events of the connection after its admission. It is a yard, or one
+/// caller's part of a yard that several share.
 ///
-/// `stands` is what is known of where the connection stands, `found` what it found when it opened the rules, and `tells` the event that a call
-/// made. Where others use the yard too a call may be out of turn: its event was asked for then, and did not happen. A call that fails says for
-/// which cause the connection is to be dropped: out of turn counts as a fault of the directory.
+/// `stands` is what is known of where the connection stands. `found` is what it found when it opened the rules. `tells`
+/// is the event that a call made. If others use the yard too, a call may be out of turn: its event was asked for, and
+/// did not happen. A call that fails answers the cause for which the connection is to be dropped. Out of turn counts as
+/// a fault of the directory.
 pub trait Agent<L: Assumptions> {
-    /// The right to one child, as `start_failed` and `dropped` take it back: a `Place<L>`.
+    /// The right to one child, which `start_failed` and `dropped` take back: a `Place<L>`.
     type Place;
 
-    /// What a connection has that opened the rules.
+    /// What a connection has once it opened the rules.
     type Pass: Drop;
 
     /// The index of a place.
@@ -48,33 +50,33 @@ pub trait Agent<L: Assumptions> {
     /// What a pass found.
     ghost opening: { Self.Pass → Opening };
 
-    /// The serial of its connection.
+    /// The serial of the pass's connection.
     ghost serial: { Self.Pass → ℕ };
 
-    /// Whether what an opened file holds is known, and whether no read of it fails.
+    /// Whether the bytes of an opened file are known, and no read of it fails.
     ghost honest: { Bool };
 
     ghost sound: { Bool };
 
-    /// The place is that of the connection with this serial and this peer, which has this stage.
+    /// The place belongs to the connection with this serial and this peer, which is in this stage.
     ghost stands: { Self → (place serial : ℕ) → Client → StageOf → Type 0 };
 
     /// The connection with this serial is not alive.
     ghost is_gone: { Self → ℕ → Type 0 };
 
-    /// What may be found when the rules are opened now.
+    /// What an opening of the rules may find now.
     ghost finds: { Self → Opening → Type 0 };
 
-    /// What was found when the connection opened them.
+    /// What the connection found when it opened them.
     ghost found: { Self → Option Opening };
 
     /// Between these two states of the agent it told this event, and no other.
     ghost tells: { Self → EventOf → Self → Type 0 };
 
-    /// The same of an event that is by what was found: that the connection opened the rules, or was decided.
+    /// The same of an event that depends on what was found: that the connection opened the rules, or was decided.
     ghost tells_by: { Self → Opening → EventOf → Self → Type 0 };
 
-    /// Between these two it told none.
+    /// Between these two states it told no event.
     ghost still: { Self → Self → Type 0 };
 
     /// What is decided of a connection without a rules file.
@@ -83,13 +85,14 @@ pub trait Agent<L: Assumptions> {
     /// How many failures its directory counted.
     ghost failures: { Self → ℕ };
 
-    /// Whether others use the yard too, so that a call may be out of turn or want memory.
+    /// Whether others use the yard too, so that a call may be out of turn or find no memory.
     ghost is_shared: { Bool };
 
     /// Opens the rules for a connection that was let in.
     ///
     /// # Errors
-    /// `Directory` where a call of the directory failed, or where the agent does not have the connection so; `Memory`. The connection is as before.
+    /// `Directory` if a call of the directory failed, or if the agent does not have the connection in this stage;
+    /// `Memory`. The connection is as before.
     fn open(
         &mut self,
         alloc: Global,
@@ -109,8 +112,8 @@ pub trait Agent<L: Assumptions> {
         ensures quiet { OnErr result (still self.old self.new) }
         ensures cause { IfErr result (FailsToOpen is_shared (failures self.old) (failures self.new)) };
 
-    /// The decision for a peer by what its connection found: as `decide` decides by the bytes of that file, whatever stands under its name
-    /// by now, or without one. The agent is not changed, and nobody waits.
+    /// The decision for a peer by what its connection found. It is that of `decide` by the bytes of the opened file,
+    /// whatever stands under its name by now, or that without a file. The agent is not changed, and nobody waits.
     ///
     /// # Errors
     /// Those of `decide`.
@@ -118,10 +121,10 @@ pub trait Agent<L: Assumptions> {
         ensures decided { IfOk result (Decides honest sound (opening pass.now) peer.now) }
         ensures refused { IfErr result (FailsToDecide honest sound (opening pass.now) peer.now) };
 
-    /// The connection is decided as `decide` decided by its pass.
+    /// Notes that the connection was decided, as `decide` decides by its pass.
     ///
     /// # Errors
-    /// `Directory` where the agent does not have the connection so; `Memory`. The connection is as before.
+    /// `Directory` if the agent does not have the connection in this stage; `Memory`. The connection is as before.
     fn decided(
         &mut self,
         alloc: Global,
@@ -143,21 +146,21 @@ pub trait Agent<L: Assumptions> {
         ensures keeps { found self.new ≡ found self.old }
         ensures failures { failures self.new ≡ failures self.old };
 
-    /// The child of a connection that was allowed runs.
+    /// Notes that the child of an allowed connection runs.
     fn started<C: Job>(&mut self, running: &Running<L, C>, number: u64, peer: &Peer)
         requires stands { stands self.old (place_of running.now) number peer.now (stage.Decided Allow) }
         ensures told { tells self.old (Started number) self.new }
         ensures started { is_shared ≡ false → stands self.new (place_of running.now) number peer.now stage.Started }
         ensures keeps { found self.new ≡ found self.old };
 
-    /// The child of a connection that was allowed could not be started, by this fault: the connection is gone.
+    /// Notes that the child of an allowed connection could not be started, for this fault. The connection is gone.
     fn start_failed(&mut self, place: Self::Place, number: u64, peer: &Peer, fault: StartFault)
         requires stands { stands self.old (index place) number peer.now (stage.Decided Allow) }
         ensures told { tells self.old (StartFailed number fault) self.new }
         ensures gone { is_gone self.new number }
         ensures keeps { found self.new ≡ found self.old };
 
-    /// A connection is given up before a child was started, for this cause: it is gone.
+    /// Notes that a connection is given up before a child was started, for this cause. It is gone.
     fn dropped(&mut self, place: Self::Place, number: u64, peer: &Peer, cause: DropCause)
         requires stands { IsUnstarted (stands self.old (index place) number peer.now) }
         ensures told { tells self.old (Dropped number cause) self.new }

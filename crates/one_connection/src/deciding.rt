@@ -8,8 +8,8 @@ use rule_lookup::{DecideFault, Decision, decide};
 use server_yard::{Assumptions, Pass};
 use std::alloc::Global;
 
-/// The decision for a peer by the rules file that its connection opened, or by what is decided without one: as `decide` decides by the bytes
-/// of that file, whatever stands under its name by now.
+/// The decision for a peer by the rules file that its connection opened, or what is decided without a file. It is that
+/// of `decide` by the bytes of that file, whatever stands under its name by now.
 ///
 /// # Errors
 /// Those of `decide`.
@@ -20,7 +20,7 @@ pub fn decide_by_pass<L: Assumptions, F: RulesFile + Drop>(
 ) -> Result<Decision, DecideFault>
     ensures decided { IfOk result (Decides F.honest F.sound (opening_of F.bytes pass.now) peer.now) }
     ensures refused { IfErr result (FailsToDecide F.honest F.sound (opening_of F.bytes pass.now) peer.now) }
-    // where the yard's assumptions were met the file is compiled of rules, so that nothing in it is damaged
+    // if the yard's assumptions were met, the file is compiled of rules, so that nothing in it is damaged
     ensures undamaged { IsTrue L.met → IsTrue F.honest → IfErr result IsUndamaged }
 {
     decide(alloc, pass.source(), pass.missing(), peer)

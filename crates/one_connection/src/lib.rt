@@ -1,10 +1,10 @@
 //! One connection, from its admission to the start of its child.
 //!
 //! The server uses `serve_one`, over the agent of the connection. A child runs only if the decision by the file that
-//! was found is to allow, with its environment. What may have been found is the agent's to say: see `LoggedAgent` of
-//! `tcp_service`, and `YardAgent` here, which tests use alone (`serve_by_yard`). No clause joins `serve_one` with what
-//! an installed text decides: `rules_install::laws::decides` does that. A denial that is called want of memory before
-//! the decision breaks no clause.
+//! was found is to allow, and with its environment. The agent says what an opening may find: see `LoggedAgent` of
+//! `tcp_service`, and `YardAgent` here, which only tests use (`serve_by_yard`). No clause joins `serve_one` with what
+//! an installed text decides: `rules_install::laws::decides` does that. No clause refuses a body that drops a denied
+//! connection and calls it want of memory before the decision.
 #![tactic(auto)]
 
 pub mod agent;

@@ -23,13 +23,13 @@ use ucspi_env::{Environment, Local, build};
 
 /// How a connection was served.
 pub enum Served<L: Ledger, C: Job> {
-    /// It was allowed, and its child runs.
+    /// A rule or the default allowed it, and its child runs.
     Running(Running<L, C>),
     /// A rule denied it.
     Denied,
     /// It was allowed, and its child could not be started.
     StartFailed(StartFault),
-    /// It was given up before it was decided, or before its child was started.
+    /// It was given up before it was decided, or after that and before its child was started.
     Dropped(DropCause),
 }
 
@@ -40,7 +40,7 @@ struct Prepared {
     verdict: Verdict,
 }
 
-// Why a connection is dropped whose decision fails.
+// The cause with which a connection is dropped if its decision fails.
 fn cause_of(fault: DecideFault) -> DropCause
     ensures { result ≡ cause_of fault }
 {
@@ -63,7 +63,7 @@ fn greet<W: Write>(writer: &mut W, banner: &[u8]) -> Result<(), DropCause>
     }
 }
 
-// Opens the rules for a connection, decides it, and makes the environment of that decision.
+// Opens the rules for a connection, decides it, and makes the environment for its child.
 fn prepare<L: Assumptions, D: Agent<L, Place = Place<L>>>(
     alloc: Global,
     agent: &mut D,
@@ -169,15 +169,17 @@ fn run<L: Assumptions, D: Agent<L, Place = Place<L>>, S: Launcher>(
     }
 }
 
-/// Serves a connection that was let in, up to the start of its child (UCSPI-1996; the page of `tcpserver`): it writes the plan's banner, opens
-/// the rules, decides, and starts the plan's program with the environment of that decision. The plan is shared by all connections; `peer` and
-/// `local` are the two ends of this one. The agent is that of this connection, and keeps what was found when the rules were opened.
+/// Serves a connection that was let in, up to the start of its child (UCSPI-1996; the page of `tcpserver`). It writes
+/// the plan's banner, opens the rules, decides, and starts the plan's program with the environment of that decision.
+/// All connections share the plan. `peer` and `local` are the two ends of this one. The agent is that of this
+/// connection, and keeps what an opening of the rules found.
 ///
-/// The answer says how it went, and is the last that the agent told. `Running` only where the decision by what was found is to allow: the
-/// child's program is the plan's, and its environment is that of this decision. `Denied` only where that decision is to deny. `StartFailed` with
-/// the launcher's own fault, where it is to allow: nothing runs. `Dropped` with the cause: the banner could not be written, the rules file could
-/// not be opened or read or is damaged, or there was no memory; not once it was decided to deny. Unless the child runs the connection is gone,
-/// and its place is free.
+/// The answer says how it went, and is the last event that the agent told. `Running` only if the decision by what was
+/// found is to allow: the child's program is the plan's, and its environment that of the decision. `Denied` only if
+/// that decision is to deny. `StartFailed`, with the launcher's own fault, only if it is to allow: nothing runs.
+/// `Dropped` with the cause: the banner could not be written, the rules file could not be opened or read or is damaged,
+/// or there was no memory. A connection that was decided to be denied is never dropped so. Unless the child runs, the
+/// connection is gone, and its place is free.
 pub fn serve_one<L: Assumptions, D: Agent<L, Place = Place<L>>, S: Launcher + Drop, W: Write>(
     alloc: Global,
     agent: &mut D,
@@ -202,11 +204,11 @@ pub fn serve_one<L: Assumptions, D: Agent<L, Place = Place<L>>, S: Launcher + Dr
         peer.now local.now plan.now (S.refuses launcher)) }
     ensures dropped { IfDropped result (Drops (FailsFor (WasFound (D.found agent.new) (D.finds agent.old)) D.honest D.sound peer.now)
         D.is_shared (D.failures agent.old) (D.failures agent.new) plan.now.banner) }
-    // the events that were told, in order, the last of which is the answer, and the stage in which that came
+    // the events that were told, in order; the last one is the answer, and the stage in which it came
     ensures told { IsLastTold (HasCome D.still D.tells_by serial agent.old) D.tells
         (λ d. D.stands d place serial peer.now) (ComesAt result) (last_event serial result) agent.new }
     ensures gone { UnlessRunning result (D.is_gone agent.new serial) }
-    // the banner alone is written, and before all else
+    // only the banner is written, and before all else
     ensures greeted { Greets (W.contents writer.old) (W.contents writer.new) plan.now.banner (is_cut_short result) }
 {
     if let Err(cause) = greet(writer, plan.banner()) {

@@ -16,8 +16,8 @@ use server_yard::{Assumptions, Pass, Yard};
 use std::alloc::Global;
 use std::snapshot::Snapshot;
 
-/// Whether a place is that of a connection with this serial and this peer, which was let in and no more: what `serve_one` asks for, over a
-/// yard. It takes no memory.
+/// Whether a place belongs to a connection with this serial and this peer, which was let in and has no later event.
+/// `serve_one` over a yard requires this. It takes no memory.
 pub fn is_admitted<L: Assumptions, D: Dir + Drop, J: Journal>(
     yard: &Yard<L, D, J>,
     place: &Place<L>,
@@ -31,7 +31,7 @@ pub fn is_admitted<L: Assumptions, D: Dir + Drop, J: Journal>(
         && yard.is_peer(serial, peer)
 }
 
-// Whether a place is that of a connection with this serial that is alive.
+// Whether a place belongs to the connection with this serial, and that is alive.
 fn has_serial<L: Assumptions, D: Dir + Drop, J: Journal>(
     yard: &Yard<L, D, J>,
     place: &Place<L>,
@@ -42,7 +42,7 @@ fn has_serial<L: Assumptions, D: Dir + Drop, J: Journal>(
     yard.serial_of(place) == Some(serial)
 }
 
-/// A yard that nobody else uses, as the agent of one connection: it keeps what the connection found.
+/// A yard that nobody else uses, as the agent of one connection. It keeps what the connection found.
 #[derive(Drop)]
 pub struct YardAgent<L: Assumptions, D: Dir + Drop, J: Journal> {
     /// The yard.
@@ -51,7 +51,7 @@ pub struct YardAgent<L: Assumptions, D: Dir + Drop, J: Journal> {
 }
 
 impl<L: Assumptions, D: Dir + Drop, J: Journal> YardAgent<L, D, J> {
-    /// The agent of a connection that this yard let in, and that has not opened the rules.
+    /// The agent of a connection that this yard let in and that has not opened the rules.
     pub fn new(yard: Yard<L, D, J>) -> YardAgent<L, D, J>
         ensures { result.yard ≡ yard }
     {

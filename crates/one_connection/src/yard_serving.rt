@@ -20,9 +20,9 @@ use std::alloc::Global;
 use std::io::Write;
 use ucspi_env::Local;
 
-/// Serves a connection that a yard let in, up to the start of its child, as `serve_one` does. Over an honest directory its calls are those that
-/// serve one connection (`server_yard::laws::served`), the last of which is the answer: so whatever history of the headline led to the yard, with
-/// their events it is one that leads to the yard as it is then.
+/// Serves a connection that a yard let in, up to the start of its child, as `serve_one` does. Over an honest directory
+/// its calls are those that serve one connection (`server_yard::laws::served`), and the last of them is the answer. So
+/// their events prolong each history of the headline that led to the yard before, and it leads to the yard afterwards.
 pub fn serve_by_yard<L: Assumptions, D: Dir + Drop, J: Journal, S: Launcher + Drop, W: Write>(
     alloc: Global,
     agent: &mut YardAgent<L, D, J>,

@@ -7,7 +7,7 @@ use Rattle.rule_lookup.specs.declared.decision.Decision.{Decision}
 use Rattle.rule_lookup.specs.declared.decision.Found.{Found}
 use Rattle.rule_lookup.specs.declared.decision.Found.TheVariants.{Address, Default, NoFile}
 
--- by what was decided
+-- what decided
 abbrev pub found_line : Found → List ℕ
 found_line (Address address) = codes "rule " ++ address ++ codes ":\n"
 found_line Default = codes "default:\n"

@@ -21,16 +21,16 @@ use Rattle.rule_lookup.specs.declared.decision.Missing.TheVariants as missing
 use Rattle.rule_lookup.specs.Forms.{forms_of}
 use Rattle.connection_facts.specs.Peers.{Client}
 
--- the verdict where there is no rules file
+-- the verdict if there is no rules file
 abbrev pub verdict_without : Missing → Verdict
 verdict_without missing.Drop = Deny
 verdict_without missing.Allow = Allow
 
--- the decision where there is no rules file
+-- the decision if there is no rules file
 abbrev pub without_file : Missing → Decision
 without_file kind = record { found = found.NoFile; verdict = verdict_without kind; settings = [] }
 
--- the decision where no form has a rule
+-- the decision if no form has a rule
 abbrev pub by_default : Decision
 by_default = record { found = found.Default; verdict = Allow; settings = [] }
 
@@ -65,7 +65,7 @@ by_first finds (Some form) = by_finding form (finds form)
 abbrev pub decision_by : (List ℕ → Finding) → Client → Result Decision DecideFault
 decision_by finds peer = by_first finds (find (λ form. is_there (finds form)) (forms_of peer))
 
--- the same where there may be no file
+-- the same if there may be no file
 abbrev pub decision_from : Option (List ℕ → Finding) → Missing → Client → Result Decision DecideFault
 decision_from None kind peer = Ok (without_file kind)
 decision_from (Some finds) kind peer = decision_by finds peer
@@ -79,12 +79,12 @@ abbrev pub trust_of : {S : Type 0} → (S → Trust) → Option (Bor S) → Trus
 trust_of trust None = Sound
 trust_of trust (Some s) = trust s.now
 
--- the forms that are looked up: up to the first under which a source has something
+-- the forms that are looked up: all up to the first under which a source has something
 abbrev pub asked : (List ℕ → Finding) → List (List ℕ) → List (List ℕ)
 asked finds [] = []
 asked finds (form ∷ forms) = form ∷ (if is_there (finds form) then [] else asked finds forms)
 
--- a look-up under one of them may fail
+-- a lookup under one of them may fail
 abbrev pub MayFail : (List ℕ → Type 0) → (List ℕ → Finding) → Client → Type 0
 MayFail may_fail finds peer = Any may_fail (asked finds (forms_of peer))
 
@@ -93,7 +93,7 @@ abbrev pub MayFailFrom : {S : Type 0} → (S → List ℕ → Type 0) → (S →
 MayFailFrom may_fail finds None peer = ⊥
 MayFailFrom may_fail finds (Some s) peer = MayFail (may_fail s.now) (finds s.now) peer
 
--- a decision fails where it does by its definition; for a device fault only where the source is not sound
+-- a decision fails if it does by its definition; it fails with a device fault only if the source is not sound
 abbrev pub DecisionFails : Trust → Result Decision DecideFault → DecideFault → Type 0
 DecisionFails trust expected (Find Short) = WhereKnown trust (expected ≡ Err (Find Short))
 DecisionFails trust expected (Find Device) = trust ≢ Sound
@@ -138,7 +138,7 @@ instr_in Absent = Ok None
 instr_in (Has code) = instr_by (decoded code)
 instr_in Broken = Err (Find Short)
 
--- a look-up fails where it does by its definition; for a device fault only where the source is not sound
+-- a lookup fails if it does by its definition; it fails with a device fault only if the source is not sound
 abbrev pub LookupFails : Trust → Result (Option Instr) DecideFault → DecideFault → Type 0
 LookupFails trust expected (Find Short) = WhereKnown trust (expected ≡ Err (Find Short))
 LookupFails trust expected (Find Device) = trust ≢ Sound
@@ -146,13 +146,13 @@ LookupFails trust expected (Find NoMemoryToFind) = ⊥
 LookupFails trust expected (Code fault) = WhereKnown trust (expected ≡ Err (Code fault))
 LookupFails trust expected OutOfMemory = Unit {0}
 
--- what a look-up that failed is for a decision
+-- the fault of a decision whose lookup failed
 abbrev pub of_look_up : FindFault → DecideFault
 of_look_up Short = Find Short
 of_look_up Device = Find Device
 of_look_up NoMemoryToFind = OutOfMemory
 
--- and a value that was not decoded
+-- the fault of a decision whose value was not decoded
 abbrev pub of_code : DecodeFault → DecideFault
 of_code (NoCode fault) = Code fault
 of_code NoMemoryToDecode = OutOfMemory

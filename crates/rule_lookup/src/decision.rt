@@ -12,7 +12,7 @@ use std::alloc::{AllocError, AllocFailed, Global};
 use std::marker::Model;
 use thiserror::Error;
 
-/// What a missing rules file means.
+/// What is decided if there is no rules file.
 #[derive(Clone, Copy)]
 pub enum Missing {
     /// A connection is denied.
@@ -62,14 +62,14 @@ impl Address {
     }
 }
 
-/// By what a decision was made.
+/// What made a decision.
 #[derive(Drop)]
 pub enum Found {
-    /// By the first rule with this address.
+    /// The first rule with this address.
     Address(Address),
-    /// No lookup form has a rule.
+    /// The default: no lookup form has a rule.
     Default,
-    /// There is no rules file.
+    /// The lack of a rules file.
     NoFile,
 }
 
@@ -85,14 +85,14 @@ impl Found {
     }
 }
 
-/// What was decided of a connection.
+/// A decision about a connection.
 #[derive(Drop)]
 pub struct Decision {
-    /// By what it was decided.
+    /// What made it.
     pub found: Found,
     /// Whether the connection may be made.
     pub verdict: Verdict,
-    /// The settings of the rule alone that decided.
+    /// The settings of the rule that decided, and no others.
     pub settings: Settings,
 }
 
@@ -136,10 +136,10 @@ impl Decision {
 /// Why there is no decision.
 #[derive(Clone, Copy, Debug, Error)]
 pub enum DecideFault {
-    /// A look-up failed.
+    /// A lookup failed.
     #[error("{0}")]
     Find(FindFault),
-    /// The value that was found is no code.
+    /// The value that was found is not the code of an instruction.
     #[error("{0}")]
     Code(CodeFault),
     /// There was no memory for the decision.
@@ -164,7 +164,7 @@ impl<T: Drop> From<AllocFailed<T>> for DecideFault {
 }
 
 impl DecideFault {
-    /// What a look-up that failed is for a decision.
+    /// The fault of a decision whose lookup failed.
     pub fn of_look_up(fault: FindFault) -> DecideFault
         ensures { result ≡ of_look_up fault }
     {
@@ -175,7 +175,7 @@ impl DecideFault {
         }
     }
 
-    /// What a value that was not decoded is for a decision.
+    /// The fault of a decision whose value could not be decoded.
     pub fn of_code(fault: DecodeFault) -> DecideFault
         ensures { result ≡ of_code fault }
     {
@@ -186,9 +186,9 @@ impl DecideFault {
     }
 }
 
-/// The decision for a peer: by the first of its lookup forms under which the source has something. Without a source it is
-/// that of a missing rules file, which takes no memory. A fault is that of this form, or of a device that failed under one of
-/// those before it; want of memory is always `OutOfMemory` itself.
+/// The decision for a peer: by the first of its lookup forms under which the source has something. Without a source,
+/// `missing` decides, which takes no memory. A fault is that of the deciding form, or of a device that failed under a
+/// form before it. Want of memory is always `OutOfMemory` itself.
 pub fn decide<S: RuleSource>(
     alloc: Global,
     source: Option<&S>,
@@ -200,7 +200,7 @@ pub fn decide<S: RuleSource>(
         (decision_from (finds_of S.finds source.entry) missing peer.now ≡ Ok decision)) }
     ensures refused { IfErr result (DecisionFails (trust_of S.trust source.entry)
         (decision_from (finds_of S.finds source.entry) missing peer.now)) }
-    // a device fault is that of a form up to the one that decides, and of no other
+    // a device fault comes from a form up to the one that decides, and from no other
     ensures device { result ≡ Err (DecideFault.Find FindFault.Device) → WhereKnown (trust_of S.trust source.entry)
         (MayFailFrom S.may_fail S.finds source.entry peer.now) }
 {

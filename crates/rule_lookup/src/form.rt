@@ -7,9 +7,9 @@ use connection_facts::Peer;
 use std::alloc::{AllocError, Global};
 use std::net::Ipv4Addr;
 
-/// The addresses under which a peer's rule is looked up, in the order of `docs/RULES.md`: the user at the address and at
-/// the host, the address, the host, the prefixes of the address, the suffixes of the host, any host, and the empty one. ASCII
-/// letters from the first `=` of a form on are in lower case.
+/// The addresses under which a peer's rule is looked up, in the order of `docs/RULES.md`: the user at the address and
+/// at the host, the address, the host, the prefixes of the address, the suffixes of the host, any host, and the empty
+/// one. ASCII letters from the first `=` of a form on are made lower case.
 pub fn forms(alloc: Global, peer: &Peer) -> Result<Vec<String>, AllocError>
     ensures { IfOk result (λ forms. map string_bytes forms.items ≡ forms_of peer.now) }
 {
@@ -115,7 +115,7 @@ fn text_of(alloc: Global, front: &str, back: &str) -> Result<String, AllocError>
     Ok(text)
 }
 
-/// A text with its ASCII letters from the first `=` on in lower case.
+/// A text whose ASCII letters from the first `=` on are made lower case.
 fn fold(alloc: Global, text: &str) -> Result<String, AllocError>
     ensures { IfOk result (λ own. string_bytes own ≡ folded text.now) }
 {

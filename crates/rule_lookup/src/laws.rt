@@ -14,7 +14,7 @@ pub fn listed()
         → decision_by (found_among rules) peer ≡ Ok (decision_in rules peer) }
 {}
 
-/// What is decided from the list of an accepted text's rules is the decision of the text, for every peer.
+/// The list of an accepted text's rules decides every peer as the text does.
 pub fn accepted()
     ensures { (limits : Limits) (text : List ℕ) (peer : Client) → IsAccepted limits text
         → decision_by (found_among (pairs_of text)) peer ≡ Ok (decision_of text peer) }

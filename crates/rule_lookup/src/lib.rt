@@ -2,9 +2,9 @@
 //! ucspi-tcp; `docs/RULES.md`).
 //!
 //! The crates above use `decide`, over any source of pairs. What it promises depends on what is known of the source
-//! (`Trust`): of a source about which nothing is known only safety is proved. By `laws::listed` the decision over a
-//! list is that of the first form with a rule, and of the first rule with that form. `cdb_read` has a source for files,
-//! where a file's honest reads are a premise.
+//! (`Trust`): if nothing is known, only safety is proved. By `laws::listed` the decision over a list is that of the
+//! first form with a rule, and of the first rule with that form. `cdb_read` has a source for files, whose honest reads
+//! are a premise.
 #![tactic(auto)]
 
 pub mod address;

@@ -9,10 +9,12 @@ use std::alloc::Global;
 
 /// A source of pairs that reads a value as the code of an instruction.
 pub trait RuleSource: PairSource {
-    /// The instruction of the first pair with this key, or `None` where there is none. A look-up changes nothing, and may be made again.
+    /// The instruction of the first pair with this key, or `None` if there is none. A lookup changes nothing, and may
+    /// be made again.
     ///
     /// # Errors
-    /// `Find` where the source is damaged or could not be read; `Code` where the value is no code; `OutOfMemory`.
+    /// `Find` if the source is damaged or could not be read; `Code` if the value is not the code of an instruction;
+    /// `OutOfMemory`.
     fn find_instr(&self, alloc: Global, key: &[u8]) -> Result<Option<Instr>, DecideFault>
         ensures found { IfOk result (λ found. WhereKnown (Self.trust self.now)
             (instr_in (Self.finds self.now key.now) ≡ Ok found)) }
@@ -26,7 +28,7 @@ impl RuleSource for ListPairs<'_> {
     }
 }
 
-/// What a source has under a key, decoded once the whole value is there.
+/// What a source has under a key: the whole value is read and then decoded.
 pub fn find_and_decode<S: PairSource>(
     alloc: Global,
     source: &S,

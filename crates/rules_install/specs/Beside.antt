@@ -1,5 +1,5 @@
--- Installations of one rules file, beside each other and beside others who change their folder as they like: any number of them, each of which
--- begins, ends or is killed at any moment.
+-- Installations of one rules file, beside each other and beside others who change their folder as they like. There is
+-- any number of them, and each may begin, end or be killed at any moment.
 use Rattle.std.specs.Prelude.{◌≡◌, ◌≢◌, ◌⊎◌, ⊤, ℕ, true, false, List, slice_get, Option, None, Some, Result, Ok}
 use Rattle.dir_calls.specs.NameTable.{NameTable}
 use Rattle.dir_calls.specs.Directory.{Directory, FileState, number_of, scratch_of}
@@ -35,7 +35,7 @@ view w i = record { names = w.names; files = w.files; scratch = (w.run i).scratc
 abbrev pub SparesFile : Run → List FileState → List FileState → Type 0
 SparesFile r old new = (number : ℕ) → r.made ≡ Some number → slice_get new number ≡ slice_get old number
 
--- the run, ended: by a fault, or killed
+-- the run once it has ended, by a fault or a kill
 abbrev pub ended : Run → Run
 ended r = record { install = record r.install { over = true }; scratch = r.scratch; made = r.made }
 
@@ -43,8 +43,9 @@ ended r = record { install = record r.install { over = true }; scratch = r.scrat
 abbrev pub IsLeftAlone : Run → Run → List FileState → List FileState → Type 0
 IsLeftAlone r s old new = ((s ≡ r) × SparesFile r old new) ⊎ (s ≡ ended r)
 
--- what others do between two calls of the runs: they change names and files as they like, but write to no file of a run that goes on. A file that
--- may stand under the rules name stood there before, and is as it was: they put none there.
+-- what others do between two calls of the runs: they change names and files as they like, but write to no file of a run
+-- that goes on, and put none under the rules name; so a file that may stand there now stood there before, and is as it
+-- was
 pub record OthersChange (name : List ℕ) (w v : Shared) : Type 0 where
   pub runs : (i : ℕ) → IsLeftAlone (w.run i) (v.run i) w.files v.files
   pub puts_none : (number : ℕ) → StoodThere v.names name (Some number)
@@ -69,7 +70,8 @@ run_after r s e result = record { install = s; scratch = e.scratch; made = made_
 abbrev pub MovesOwn : Run → Directory → Directory → Type 0
 MovesOwn r d e = next_phase r.install ≡ Named → (number_of d r.install.names.tmp ≡ r.made) ⊎ (e.names ≡ d.names)
 
--- A run makes its next step, in the folder as others left it. It fills the file that it made, and its rename moves that file or none.
+-- A run makes its next step, in the folder as others left it. It fills the file that it made, and its rename moves only
+-- that file.
 pub record MakesOwn (r s : Run) (d e : Directory) (result : Result Phase InstallFault) : Type 0 where
   pub may : MayStepFrom r.install
   pub same : IsSame r.install s.install
@@ -92,7 +94,7 @@ pub data Beside (name : List ℕ) : Shared → Shared → Type 0 where
   run : {u v w : Shared} {i : ℕ} → Beside name u v → RunSteps name i v w → Beside name u w
   others : {u v w : Shared} → Beside name u v → OthersChange name v w → Beside name u w
 
--- no run has made a step
+-- no run has made a step yet
 pub record AreBegun (w : Shared) : Type 0 where
   pub each : (i : ℕ) → ((w.run i).install.reached ≡ None) × ((w.run i).made ≡ None)
 
@@ -104,7 +106,7 @@ IsCompiledOf rules content = AreOfText rules × IsWritten rules × (content ≡ 
 abbrev pub IsWhole : List (Option (List ℕ)) → Shared → Option (List ℕ) → Type 0
 IsWhole olds w content = (content ≡ None) ⊎ (IsAmong olds content ⊎ ((i : ℕ) × IsCompiledOf (w.run i).install.rules content))
 
--- the file of this number is the one that a run made, and it is whole and synced
+-- the file with this number is the one that a run made, and it is whole and synced
 pub record IsItsFile (r : Run) (files : List FileState) (number : ℕ) : Type 0 where
   pub made : r.made ≡ Some number
   pub file : slice_get files number ≡ Some (synced_file r.install.rules)

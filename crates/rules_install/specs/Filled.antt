@@ -10,15 +10,16 @@ use Rattle.rule_lines.specs.Pairs.{Rule}
 abbrev pub whole_file : List Rule → List ℕ
 whole_file rules = image_of (stored rules)
 
--- the same before its pointers, which come last: until then they lead outside of the file, so that no part of it decides
+-- the same without its pointers, which come last: until then they lead outside of the file, so that no part of it
+-- decides
 abbrev pub blank_file : List Rule → List ℕ
 blank_file rules = replicate 2048 255 ++ records_of (stored rules) ++ tables_of (stored rules)
 
--- what stands in the scratch file once so many bytes were appended, and the pointers were put in place or not
+-- what stands in the scratch file once this many bytes were appended, and the pointers were put in place or not
 abbrev pub filled_file : List Rule → ℕ → Bool → List ℕ
 filled_file rules filled patched = if patched then whole_file rules else take filled (blank_file rules)
 
--- how often it can still be filled: with each byte, and with the pointers
+-- in how many steps it can still be filled at most: one for each byte, and one for the pointers
 abbrev pub fillings_left : List Rule → ℕ → Bool → ℕ
 fillings_left rules filled patched = (length (blank_file rules) - filled) + (if patched then 0 else 1)
 

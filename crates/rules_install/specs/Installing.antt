@@ -22,11 +22,11 @@ pub record Installing : Type 0 where
   -- whether a step answered a fault of the directory
   pub over : Bool
 
--- no step was made
+-- the installation before its first step
 abbrev pub begun : List Rule → NamePair → Installing
 begun rules names = record { rules = rules; names = names; filled = 0; patched = false; reached = None; over = false }
 
--- the phase to be reached next, where the file has or has not its pointers
+-- the phase to be reached next; the file has its pointers or not
 abbrev pub after_filling : Bool → Phase
 after_filling true = Synced
 after_filling false = Filling
@@ -45,12 +45,12 @@ next_phase s = next_of s.reached s.patched
 abbrev pub synced_file : List Rule → FileState
 synced_file rules = record { bytes = whole_file rules; synced = true }
 
--- the scratch file stands under its name, filled so far
+-- the scratch file stands under its name, filled as far as this
 abbrev pub HasScratch : Installing → Directory → Type 0
 HasScratch s d = (number_of d s.names.tmp ≡ d.scratch)
     × (scratch_of d ≡ Some (record { bytes = filled_file s.rules s.filled s.patched; synced = false }))
 
--- the file that stands under a name, where these are the names
+-- the file that stands under a name of these names
 abbrev pub file_among : Names → List FileState → List ℕ → Option FileState
 file_among names files name = option_and_then (λ number. slice_get files number) (get names name)
 
@@ -71,18 +71,18 @@ Fits s d = s.over ≡ false → FitsPhase s d s.reached
 abbrev pub IsUnfilled : Installing → Type 0
 IsUnfilled s = (s.filled ≡ 0) × (s.patched ≡ false)
 
--- what is true of each installation, however far it has come: its rules are those of an accepted text, its names are two, its file is
--- compiled of its rules, and where the scratch file was just made, nothing was put into it
+-- what is true of each installation, however far it has come: its rules are those of an accepted text, its two names
+-- differ, its file is compiled of its rules, and nothing is filled right after the scratch file was made
 pub record IsConsistent (s : Installing) : Type 0 where
   pub of_text : AreOfText s.rules
   pub names : s.names.cdb ≢ s.names.tmp
   pub written : IsWritten s.rules
   pub unfilled : s.reached ≡ Some Fresh → IsUnfilled s
 
--- it was filled further
+-- the file was filled further
 abbrev pub FillsMore : Installing → Installing → Type 0
 FillsMore old new = fillings_left new.rules new.filled new.patched < fillings_left old.rules old.filled old.patched
 
--- the whole file stands under the name of the rules file, and there alone whenever the machine stops
+-- the whole file stands under the name of the rules file, and so it does whenever the machine stops
 abbrev pub HasForGood : Installing → Directory → Type 0
 HasForGood s d = LastsAmong d s.names.cdb (Some (whole_file s.rules) ∷ [])

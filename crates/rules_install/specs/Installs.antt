@@ -43,7 +43,7 @@ StepGoes i i' result = Goes (next_phase (installing i)) (installing i) (installi
 abbrev pub StepChanges : Install → Directory → Directory → Result Phase InstallFault → Type 0
 StepChanges i old new result = Changes (installing i) (next_phase (installing i)) old new result
 
--- all that a step to a phase promises, where the directory was as the steps before left it
+-- all that a step to a phase promises, if the directory was as the steps before left it
 abbrev pub Steps : {D F : Type 0} → Ghosts D F → Phase → Install → Install → D → D → Result Phase InstallFault → Type 0
 Steps tells next i i' old new result =
     StepsTo tells next (installing i) (installing i') old new result
@@ -52,6 +52,6 @@ Steps tells next i i' old new result =
 abbrev pub KeepsText : {D F : Type 0} → Ghosts D F → Install → D → D → Type 0
 KeepsText tells i old new = StepKeeps tells (next_phase (installing i)) (installing i) old new
 
--- and all that a stop since it began may have left
+-- all that a stop since it began may have left
 abbrev pub StopsWithin : {D F : Type 0} → Ghosts D F → Install → D → D → Type 0
 StopsWithin tells i old new = StepStops tells (next_phase (installing i)) (installing i) old new

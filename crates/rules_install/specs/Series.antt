@@ -27,7 +27,7 @@ pub data ComesTo : Installing → Directory → Installing → Directory → Typ
   none : {s : Installing} {d : Directory} → ComesTo s d s d
   further : {s t u : Installing} {d e f : Directory} {phase : Phase} → ComesTo s d t e → MakesStep t u e f (Ok phase) → ComesTo s d u f
 
--- All steps that a run made: each came to its phase, but for the last one where the run ended with a fault.
+-- All steps that a run made: each came to its phase, but for the last one if the run ended with a fault.
 abbrev pub IsSeries : Installing → Installing → Directory → Directory → Result (Unit {0}) InstallFault → Type 0
 IsSeries s t d e (Ok done) = ComesTo s d t e
 IsSeries s t d e (Err fault) = (u : Installing) × (f : Directory) × ComesTo s d u f × MakesStep u t f e (Err fault)

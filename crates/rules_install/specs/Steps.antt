@@ -23,13 +23,13 @@ IsCallOf s Synced call = call ≡ syncs
 IsCallOf s Named call = call ≡ renames s.names.tmp s.names.cdb
 IsCallOf s Done call = call ≡ settles
 
--- the directory after a step to a phase: after its call, or what that leaves where the device failed, or as before
+-- the directory after a step to a phase: after its call, or what that leaves if the device failed, or as before
 abbrev pub Changes : Installing → Phase → Directory → Directory → Result Phase InstallFault → Type 0
 Changes s next old new (Ok phase) = (call : Call) × IsCallOf s next call × (new ≡ after call old)
 Changes s next old new (Err (Disk Device phase)) = (call : Call) × IsCallOf s next call × Fails call old new
 Changes s next old new (Err fault) = new ≡ old
 
--- the same installation, further on
+-- the same installation, one step further
 pub record IsSame (old new : Installing) : Type 0 where
   pub rules : new.rules ≡ old.rules
   pub names : new.names ≡ old.names
@@ -46,28 +46,28 @@ Goes next old new (Err (Disk fault phase)) = (phase ≡ next) × (new.reached �
 Goes next old new (Err OutOfMemory) = new ≡ old
 Goes next old new (Err fault) = ⊥
 
--- what may stand under the name of the rules file in the step to a phase, where one of these stood
+-- what may stand under the name of the rules file during the step to a phase, if one of these stood there before
 abbrev pub may_stand : Phase → List ℕ → List (Option (List ℕ)) → List (Option (List ℕ))
 may_stand Named file olds = Some file ∷ olds
 may_stand phase file olds = olds
 
--- A step to a phase keeps what stood under the name of the rules file, or with its rename puts the whole file there: at its end, and
--- whenever the machine stops since it began.
+-- A step to a phase keeps what stood under the name of the rules file, or its rename puts the whole file there: at its
+-- end, and whenever the machine stops since it began.
 pub record StepKeeps {D F : Type 0} (tells : Ghosts D F) (next : Phase) (s : Installing) (old new : D) : Type 0 where
   pub lasts : (olds : List (Option (List ℕ))) → LastsAmong (tells.state old) s.names.cdb olds
       → LastsAmong (tells.state new) s.names.cdb (may_stand next (whole_file s.rules) olds)
   pub any_moment : (olds : List (Option (List ℕ))) → LastsAmong (tells.state old) s.names.cdb olds
       → LeavesOnly tells.moment tells.left_since old new (HasAmong s.names.cdb (may_stand next (whole_file s.rules) olds))
 
--- Whenever the machine stopped since a step to a phase began: what is left is what could be left before, or what a stop leaves
--- before, within or right after its one call.
+-- Whenever the machine stopped since a step to a phase began: it left what it could leave before, or what a stop leaves
+-- before, within or right after the step's one call.
 pub record StepStops {D F : Type 0} (tells : Ghosts D F) (next : Phase) (s : Installing) (old new : D) : Type 0 where
   pub call : Call
   pub is_call : IsCallOf s next call
   pub time : Elapses (tells.moment old) (tells.moment new) (tells.left_since old) (tells.left_since new)
       (LeftBy call (tells.state old) (tells.state new))
 
--- the answer to what a call of the directory answered, on the way to a phase
+-- the answer of a step to a phase, by that of its call of the directory
 abbrev pub answer_of : {T : Type 0} → Phase → Result T DirFault → Result Phase InstallFault
 answer_of next (Ok done) = Ok next
 answer_of next (Err NoMemory) = Err OutOfMemory
@@ -84,7 +84,7 @@ abbrev pub IsOfDevice : Result Phase InstallFault → Type 0
 IsOfDevice (Err (Disk fault phase)) = fault ≡ Device
 IsOfDevice result = ⊤
 
--- the device is blamed only where a failure was counted, or no more can be
+-- the device is blamed only if a failure was counted, or no more can be
 abbrev pub BlamesFault : ℕ → ℕ → InstallFault → Type 0
 BlamesFault before now (Disk Device phase) = (before < now) ⊎ (now ≡ 2 ^ 64 - 1)
 BlamesFault before now fault = ⊤
@@ -92,7 +92,7 @@ BlamesFault before now fault = ⊤
 abbrev pub BlamesDevice : ℕ → ℕ → Result Phase InstallFault → Type 0
 BlamesDevice before now result = IfErr result (BlamesFault before now)
 
--- all that a step to a phase promises, where the directory was as the steps before left it
+-- all that a step to a phase promises, if the directory was as the steps before left it
 pub record StepsTo {D F : Type 0} (tells : Ghosts D F)
     (next : Phase) (s s' : Installing) (old new : D) (result : Result Phase InstallFault) : Type 0 where
   pub same : IsSame s s'

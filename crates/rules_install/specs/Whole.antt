@@ -24,7 +24,7 @@ use Rattle.rules_install.specs.declared.Phase.TheVariants.{Named, Done}
 use Rattle.rules_install.specs.declared.fault.InstallFault.{InstallFault}
 use Rattle.rules_install.specs.declared.fault.InstallFault.TheVariants.{Line, TooLarge, Disk, Over, OutOfMemory}
 
--- the text is accepted, and its file keeps to the limit
+-- the text is accepted, and its file keeps the limit
 abbrev pub MayBeInstalled : Limits → List ℕ → Type 0
 MayBeInstalled limits text = IsAccepted limits text × (finished_length (stored (pairs_of text)) ≤ limit_of limits.file)
 
@@ -36,12 +36,12 @@ RefusesText limits text OutOfMemory = ⊤
 RefusesText limits text (Disk fault phase) = ⊥
 RefusesText limits text Over = ⊥
 
--- which answer comes of which text where its installation begins
+-- which text gets which answer when its installation begins
 abbrev pub Begins : {T : Type 0} → Limits → List ℕ → Result T InstallFault → Type 0
 Begins limits text (Ok install) = MayBeInstalled limits text
 Begins limits text (Err fault) = RefusesText limits text fault
 
--- and where it is installed: only a text that may be comes as far as a fault of the directory
+-- the same for a whole installation: only an installable text comes as far as a fault of the directory
 abbrev pub Ends : Limits → List ℕ → Result (Unit {0}) InstallFault → Type 0
 Ends limits text (Ok done) = MayBeInstalled limits text
 Ends limits text (Err (Disk fault phase)) = MayBeInstalled limits text
@@ -55,8 +55,8 @@ EndsRun s (Err (Disk fault phase)) = (next_phase s ≡ phase) × (s.over ≡ tru
 EndsRun s (Err OutOfMemory) = s.over ≡ false
 EndsRun s (Err fault) = ⊥
 
--- A directory after the call on the way to a phase failed: the steps before had left it as they do, or it was this one where no
--- step was made.
+-- A directory after the call on the way to a phase failed: the steps before had left it as they do, or it was this one
+-- if no step was made.
 pub record FailsAt (start : Installing) (phase : Phase) (old new : Directory) : Type 0 where
   pub under_way : Installing
   pub same : IsSame start under_way
@@ -67,17 +67,17 @@ pub record FailsAt (start : Installing) (phase : Phase) (old new : Directory) : 
   pub first : under_way.reached ≡ None → before ≡ old
   pub changes : Changes under_way phase before new (Err (Disk Device phase))
 
--- so a fault tells where its call failed
+-- a fault has the phase whose call failed
 abbrev pub TellsWhere : Installing → Directory → Directory → InstallFault → Type 0
 TellsWhere start old new (Disk fault phase) = FailsAt start phase old new
 TellsWhere start old new fault = ⊤
 
--- where it tells `Done`, the whole file stands under the name of the rules file
+-- if the answer is `Done`, the whole file stands under the name of the rules file
 abbrev pub StandsAtDone : Installing → Directory → InstallFault → Type 0
 StandsAtDone start new (Disk fault Done) = file_at new start.names.cdb ≡ Some (synced_file start.rules)
 StandsAtDone start new fault = ⊤
 
--- the installation of a text, begun
+-- the installation of a text, before its first step
 abbrev pub begun_of : List ℕ → NamePair → Installing
 begun_of text names = begun (pairs_of text) names
 
@@ -96,8 +96,8 @@ IsRefused (Err (Line fault)) = ⊤
 IsRefused (Err TooLarge) = ⊤
 IsRefused result = ⊥
 
--- what may stand under the name of the rules file afterwards, where one of these stood before: the new file too, but not after a fault on
--- the way to a phase before `Named`
+-- what may stand under the name of the rules file afterwards, if one of these stood there before: the new file too, but
+-- not after a fault on the way to a phase before `Named`
 abbrev pub may_have : Result (Unit {0}) InstallFault → List ℕ → List (Option (List ℕ)) → List (Option (List ℕ))
 may_have (Ok done) file olds = Some file ∷ olds
 may_have (Err (Disk fault Named)) file olds = Some file ∷ olds
@@ -111,7 +111,7 @@ RunKeeps tells s old new =
     (olds : List (Option (List ℕ))) → LastsAmong (tells.state old) s.names.cdb olds
     → LeavesOnly tells.moment tells.left_since old new (HasAmong s.names.cdb (Some (whole_file s.rules) ∷ olds))
 
--- and so at its end, by its answer
+-- the same at its end, by its answer
 abbrev pub RunLasts : Installing → Directory → Directory → Result (Unit {0}) InstallFault → Type 0
 RunLasts s old new result =
     (olds : List (Option (List ℕ))) → LastsAmong old s.names.cdb olds

@@ -18,16 +18,17 @@ pub enum InstallFault {
     /// The compiled file would pass its limit. The directory is as before.
     #[error("compiled file too large")]
     TooLarge,
-    /// A call of the directory failed, on the way to this phase. The rules file is the old one or, where the phase is `Named` or
-    /// `Done`, possibly the new one. With `Done` the new one stands there, but until the names are settled a stop may leave what
-    /// stood there at some moment since they last were. The installation is over.
+    /// A call of the directory failed, on the way to this phase. The rules file is the old one. If the phase is `Named`
+    /// or `Done`, it may be the new one. With `Done` the new one stands there, but until names are settled a stop may
+    /// bring back what stood there at some moment since they last were. The installation is over.
     #[error("{0}")]
     Disk(DirFault, Phase),
     /// An earlier step answered `Disk`. Nothing was done.
     #[error("the installation is over")]
     Over,
-    /// There was no memory, also for a call of the directory. A step has then changed nothing, and may be made again; after a whole
-    /// installation the rules file is the old one, and the scratch name may name an unfinished file.
+    /// There was no memory, possibly for a call of the directory. A step has changed nothing then, and may be made
+    /// again. After a whole installation the rules file is the old one, and the scratch name may stand for an
+    /// unfinished file.
     #[error("out of memory")]
     OutOfMemory,
 }

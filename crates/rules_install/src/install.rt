@@ -21,9 +21,9 @@ use std::alloc::{AllocError, Global};
 pub struct Install {
     pieces: Pieces,
     names: FileNames,
-    // the rule of the record under way
+    // the rule whose record is under way
     rule: StoredRule,
-    // the piece under way, how much of it was appended, and the place of the next
+    // the piece under way, how much of it was appended, and the place of the next piece
     rest: Vec<u8>,
     taken: usize,
     next: Piece,
@@ -44,10 +44,10 @@ pub struct Install {
 impl Install {
     ghost use Rattle.rules_install.specs.Installs.{installing, HasAllBytes, IsAtDone, IsOpen, IsOver, IsUndone, KeepsText, OnlyAnswers, StepChanges, StepGoes, Steps, StopsWithin};
 
-    /// An installation of which no step was made. It makes no call of a directory.
+    /// An installation, before its first step. It makes no call of a directory.
     ///
     /// # Errors
-    /// `TooLarge` where the compiled file would pass `limits.file`, `OutOfMemory` where there was no memory.
+    /// `TooLarge` if the compiled file would pass `limits.file`; `OutOfMemory` if there was no memory.
     pub fn begin(
         alloc: Global,
         list: RuleList,
@@ -88,14 +88,14 @@ impl Install {
         self.pieces.list()
     }
 
-    /// Whether a step answered a phase or a fault of the directory.
+    /// Whether a step was made: it answered a phase, or a fault of the directory.
     pub fn stepped(&self) -> bool
         ensures { result ≡ (is_some (installing self.now).reached || (installing self.now).over) }
     {
         self.reached.is_some() || self.over
     }
 
-    /// A law: what is true of each installation, however far it has come.
+    /// A law: what is true of each installation, however far it has come, so that callers need not prove it.
     pub fn consistent(&self)
         ensures { IsConsistent (installing self.now) }
     {
@@ -104,7 +104,7 @@ impl Install {
         self.list().of_text();
     }
 
-    // Takes note of what a call of the directory answered.
+    // Notes what a call of the directory answered.
     fn note(&mut self, outcome: Result<(), DirFault>, next: Phase) -> Result<Phase, InstallFault>
         requires unfilled { next ≡ Fresh → IsUnfilled (installing self.old) }
         ensures answer { result ≡ answer_of next outcome }
@@ -136,7 +136,7 @@ impl Install {
         self.note(outcome, Phase::Fresh)
     }
 
-    // Makes the next piece, where none is under way and one is left.
+    // Makes the next piece, if none is under way and one is left.
     fn make_piece(&mut self, alloc: Global) -> Result<(), AllocError>
         ensures same { installing self.new ≡ installing self.old }
         ensures left { OnOk result (length (self.new).rest.items ≡ (self.new).taken → HasAllBytes self.new) }
@@ -154,7 +154,7 @@ impl Install {
         Ok(())
     }
 
-    // Appends a piece, or the rest of one; once there is none, puts the pointers in their place.
+    // Appends a piece, or the rest of one. Once none is left, puts the pointers in their place.
     fn fill<D: Dir>(&mut self, alloc: Global, dir: &mut D) -> Result<Phase, InstallFault>
         requires is_open { (installing self.old).over ≡ false }
         requires next { next_phase (installing self.old) ≡ Phase.Filling }
@@ -217,7 +217,7 @@ impl Install {
         self.note(outcome, Phase::Synced)
     }
 
-    // Moves the scratch file onto the name of the rules file.
+    // Moves the scratch name onto the name of the rules file.
     fn put_in_place<D: Dir>(&mut self, alloc: Global, dir: &mut D) -> Result<Phase, InstallFault>
         requires is_open { (installing self.old).over ≡ false }
         requires next { next_phase (installing self.old) ≡ Phase.Named }
@@ -228,7 +228,7 @@ impl Install {
         self.note(outcome, Phase::Named)
     }
 
-    // Makes that lasting.
+    // Makes the new name lasting.
     fn settle_names<D: Dir>(&mut self, dir: &mut D) -> Result<Phase, InstallFault>
         requires is_open { (installing self.old).over ≡ false }
         requires reached { (installing self.old).reached ≡ Some Phase.Named }
@@ -239,14 +239,14 @@ impl Install {
         self.note(outcome, Phase::Done)
     }
 
-    /// Goes to the next of the phases `Fresh`, `Filling` (once for each piece, the rest of one that was not taken whole, and the
-    /// pointers), `Synced`, `Named` and `Done`, by one call of the directory, and answers the phase reached. A step after `Done`
-    /// answers `Done` and does nothing.
+    /// Goes to the next of the phases `Fresh`, `Filling`, `Synced`, `Named` and `Done` by one call of the directory,
+    /// and answers the phase. `Filling` comes once for each piece, for the rest of one that was not taken whole, and
+    /// for the pointers. A step after `Done` answers `Done` and does nothing.
     ///
-    /// All steps are made on one directory, and since the first of them only they and `open` are called there.
+    /// All steps are made on one directory. After the first step, no other call but `open` may be made there.
     ///
     /// # Errors
-    /// `Disk` with the phase that was to be reached; `Over` after that, where nothing is done; `OutOfMemory`, after which nothing has
+    /// `Disk` with the phase that was to be reached. After that `Over`: nothing is done. `OutOfMemory`: nothing has
     /// changed.
     pub fn step<D: Dir>(&mut self, alloc: Global, dir: &mut D) -> Result<Phase, InstallFault>
         requires fits { IsTrue D.honest → Fits (installing self.old) (D.state dir.old) }
@@ -264,12 +264,12 @@ impl Install {
         ensures changes { IsTrue D.honest → IsOpen self.old → IsUndone self.old
             → StepChanges self.old (D.state dir.old) (D.state dir.new) result }
         ensures fits { IsTrue D.honest → Fits (installing self.new) (D.state dir.new) }
-        // and what stops before, within or right after that call may leave, and nothing else
+        // what stops before, within or right after that call may leave, and nothing else
         ensures time { IsTrue D.honest → IsOpen self.old → IsUndone self.old
             → StopsWithin D.Dir self.old dir.old dir.new }
 
-        // whenever the machine stops since the step began, what stood under the name of the rules file stands there, or from the rename
-        // on the new file, whole
+        // whenever the machine stops since the step began, what stood under the name of the rules file stands there, or
+        // from the rename on the whole new file
         ensures old_or_new { IsTrue D.honest → KeepsText D.Dir self.old dir.old dir.new }
         // and once it is done, the new file alone
         ensures done { IsTrue D.honest → result ≡ Ok Done → HasForGood (installing self.old) (D.state dir.new) }

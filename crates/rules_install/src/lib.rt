@@ -1,10 +1,9 @@
-//! Installing a rule text: compiled into a scratch file, which takes the place of the rules file as a whole.
+//! Installs a rule text: it is compiled into a scratch file, which takes the place of the rules file as a whole.
 //!
 //! `tcprules` uses `whole::finish`, which makes all steps that are left and no other call of the directory (`series`).
-//! `prepare` and `finish` are the halves of `whole::install`: the text, and then the disk. Each `Install` is
-//! consistent, however far it has come (`Install::consistent`), so its caller proves nothing about it. By
-//! `laws::decides` an installed file decides as its text. That an installation gets done is not proved: it may end with
-//! a fault at each step.
+//! `whole::install` is `prepare`, for the text, and then `finish`, for the disk. Each `Install` is consistent, however
+//! far it has come (`Install::consistent`), so its caller proves nothing about it. By `laws::decides` an installed file
+//! decides as its text. No clause says that an installation gets done: each step may end in a fault.
 #![tactic(auto)]
 
 pub mod fault;
@@ -23,7 +22,7 @@ pub use install::Install;
 pub use names::{FileNames, SameName};
 use std::fmt;
 
-/// How far an installation has come.
+/// A phase: how far an installation has come.
 #[derive(Clone, Copy, PartialEq, Eq, Debug)]
 pub enum Phase {
     /// The scratch file was made, empty.

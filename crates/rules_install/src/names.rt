@@ -5,12 +5,12 @@ use dir_calls::Name;
 use std::marker::Model;
 use thiserror::Error;
 
-/// The rules file and the scratch file have one name.
+/// The two names are the same.
 #[derive(Clone, Copy, Debug, Error)]
 #[error("the rules file and the scratch file have one name")]
 pub struct SameName;
 
-/// The name of the rules file, and the other one under which a new file is made.
+/// The name of the rules file, and the scratch name, under which a new file is made.
 #[derive(Drop)]
 pub struct FileNames {
     cdb: Name,
@@ -32,7 +32,7 @@ impl FileNames {
     /// The two names, of the rules file and of the scratch file. It takes no memory.
     ///
     /// # Errors
-    /// They are one name.
+    /// The two names are the same.
     pub fn new(cdb: Name, tmp: Name) -> Result<FileNames, SameName>
         ensures names { IfOk result (λ names. names ≡ record { cdb = cdb; tmp = tmp }) }
         ensures same { (result ≡ Err record {}) ↔ (cdb ≡ tmp) }

@@ -16,8 +16,9 @@ use rule_lines::{RuleList, StoredRule};
 use std::alloc::{AllocError, Global};
 use std::marker::Model;
 
-/// What stands in the place of the pointers until they are put there. Pointers of such bytes lead outside of the file, so that a part of it is
-/// damaged for each lookup: one of zeros would have no rule for anybody, and let everybody in.
+/// The byte that stands in the place of the pointers until these are put there. Pointers of such bytes lead outside of
+/// the file. So each lookup finds a part of a file damaged. With zeros it would find no rule, and everybody would be
+/// let in.
 const UNSET: u8 = 255;
 
 /// A piece: the place of the pointers, the record of a rule, or a table.
@@ -28,7 +29,7 @@ pub enum Piece {
     Table(usize),
 }
 
-/// The pieces of the file of a list of rules. The list is kept, and the place of each record from when it is made.
+/// The pieces of the file of a list of rules. It keeps the list, and the place of each record once that is made.
 #[derive(Drop)]
 pub struct Pieces {
     list: RuleList,
@@ -47,7 +48,7 @@ impl Model for Pieces {
     ghost invariant = { λ p. ArePlaced p.list p.places };
 }
 
-/// Whether the finished file of a list keeps to the limit.
+/// Whether the finished file of a list keeps the limit.
 fn keeps_to(list: &RuleList, limit: u64) -> bool
     ensures { IsTrue result ↔ (finished_length (stored list.now) ≤ limit_of limit) }
 {
@@ -84,8 +85,8 @@ impl Pieces {
         &self.list
     }
 
-    /// Puts the piece at a place, if there is one, in place of the bytes of `piece`, and answers the place of the next. The bytes of `rule`
-    /// are overwritten.
+    /// Replaces the bytes of `piece` by those of the piece at a place, if there is one, and answers the place of the
+    /// next. The bytes of `rule` are overwritten.
     ///
     /// # Errors
     /// There was no memory. `piece` has no bytes then.
@@ -121,7 +122,7 @@ impl Pieces {
         }
     }
 
-    // The same of the first table from this one on that has records.
+    // The same for the first table from this one on that has records.
     fn table(
         &mut self,
         alloc: Global,
@@ -149,7 +150,8 @@ impl Pieces {
     }
 }
 
-/// The piece of the first table from this one on that has records, and the place of the next, where all rules have a place.
+/// The piece of the first table from this one on that has records, and the place of the next piece. All rules have a
+/// place by then.
 fn next_table(
     alloc: Global,
     tables: &Tables,
@@ -178,7 +180,7 @@ impl Pieces {
     pub fn written(&self)
         ensures { IsWritten self.now }
     {
-        // this tells the proof that the file has fewer than 2^32 bytes
+        // the call tells the proof that the file has fewer than 2^32 bytes
         let _ = &self.list;
         cdb_write::laws::pieces();
     }

@@ -16,10 +16,10 @@ use dir_calls::Dir;
 use rule_lines::{Limits, parse};
 use std::alloc::Global;
 
-/// Begins to install a rule text. It makes no call of a directory.
+/// Prepares the installation of a rule text. It makes no call of a directory.
 ///
 /// # Errors
-/// `Line` and `TooLarge` where the text is not accepted, or its compiled file would be too large; `OutOfMemory`.
+/// `Line` if the text is not accepted; `TooLarge` if its compiled file would be too large; `OutOfMemory`.
 pub fn prepare(
     alloc: Global,
     names: FileNames,
@@ -27,7 +27,7 @@ pub fn prepare(
     text: &[u8],
 ) -> Result<Install, InstallFault>
     ensures begun { IfOk result (λ install. installing install ≡ begun (pairs_of text.now) names) }
-    // which answer comes of which text
+    // which text gets which answer
     ensures ends { Begins limits.now text.now result }
 {
     Install::begin(alloc, parse(alloc, text, limits)?, names, limits)
@@ -36,19 +36,18 @@ pub fn prepare(
 /// Makes all steps of an installation that are left.
 ///
 /// # Errors
-/// `Disk` with the phase that was to be reached, after which the installation is over; `OutOfMemory`, after which it may be finished
-/// again.
+/// `Disk` with the phase that was to be reached: the installation is over. `OutOfMemory`: it may be finished later.
 pub fn finish<D: Dir>(alloc: Global, dir: &mut D, install: &mut Install) -> Result<(), InstallFault>
     requires is_open { (installing install.old).over ≡ false }
     requires fits { IsTrue D.honest → Fits (installing install.old) (D.state dir.old) }
-    // how far it has come then; after want of memory it may be finished again
+    // how far it has come then; after want of memory it may be finished later
     ensures same { IsSame (installing install.old) (installing install.new) }
     ensures ends { EndsRun (installing install.new) result }
     ensures fits { IsTrue D.honest → Fits (installing install.new) (D.state dir.new) }
-    // what it did is steps of this installation, one after another, and nothing else
+    // it made steps of this installation, one after another, and no other call
     ensures series { IsTrue D.honest → IsUndone install.old
         → IsSeries (installing install.old) (installing install.new) (D.state dir.old) (D.state dir.new) result }
-    // a fault of the directory tells on the way to which phase it came
+    // a fault of the directory has the phase that was to be reached
     ensures tells { IsTrue D.honest
         → IfErr result (TellsWhere (installing install.old) (D.state dir.old) (D.state dir.new)) }
     ensures stands { IsTrue D.honest → IfErr result (StandsAtDone (installing install.old) (D.state dir.new)) }
@@ -67,11 +66,13 @@ pub fn finish<D: Dir>(alloc: Global, dir: &mut D, install: &mut Install) -> Resu
     Ok(())
 }
 
-/// Installs a rule text: it is compiled into a file under the scratch name, and that takes the place of the rules file, whole.
+/// Installs a rule text: it is compiled into a file under the scratch name, which takes the place of the rules file as
+/// a whole.
 ///
 /// # Errors
-/// `Line` and `TooLarge` leave the directory as it was. After `OutOfMemory` and after `Disk` with a phase before `Named` the rules file is
-/// the old one, and the scratch name may name an unfinished file. After `Disk` with `Named` or `Done` the rules file is possibly the new one.
+/// `Line` and `TooLarge` leave the directory as it was. After `OutOfMemory`, and after `Disk` with a phase before
+/// `Named`, the rules file is the old one, and the scratch name may stand for an unfinished file. After `Disk` with
+/// `Named` or `Done` the rules file may be the new one.
 pub fn install<D: Dir>(
     alloc: Global,
     dir: &mut D,
@@ -79,21 +80,22 @@ pub fn install<D: Dir>(
     limits: &Limits,
     text: &[u8],
 ) -> Result<(), InstallFault>
-    // which answer comes of which text
+    // which text gets which answer
     ensures ends { Ends limits.now text.now result }
     ensures unchanged { IsRefused result → dir.new ≡ dir.old }
 
-    // a fault of the directory tells on the way to which phase it came
+    // a fault of the directory has the phase that was to be reached
     ensures tells { IsTrue D.honest
         → IfErr result (TellsWhere (begun_of text.now names) (D.state dir.old) (D.state dir.new)) }
     ensures stands { IsTrue D.honest → IfErr result (StandsAtDone (begun_of text.now names) (D.state dir.new)) }
 
-    // whenever the machine stops since the installation began, what stood under the name of the rules file stands there, or the new
-    // file, whole
+    // whenever the machine stops since the installation began, what stood under the name of the rules file stands
+    // there, or the whole new file
     ensures any_moment { IsTrue D.honest
         → RunKeeps D.Dir (begun_of text.now names) dir.old dir.new }
     ensures lasts { IsTrue D.honest → RunLasts (begun_of text.now names) (D.state dir.old) (D.state dir.new) result }
-    // and once it is done, the new file alone, which is compiled of the text, and decides each peer as it does
+    // once it is done, only the new file stands there; it is compiled of the text, and decides each peer as the text
+    // does
     ensures done { IsTrue D.honest → OnOk result (HasForGood (begun_of text.now names) (D.state dir.new)) }
     ensures compiled { OnOk result (Compiled (whole_file (pairs_of text.now)) text.now) }
     ensures decides { IsTrue D.honest → OnOk result (DecidesAs (content (D.state dir.new) names.cdb) text.now) }

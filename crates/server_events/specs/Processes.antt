@@ -25,22 +25,23 @@ of_installations _ = false
 abbrev pub is_installations : Event → Bool
 is_installations event = of_installations (effect event)
 
--- the world as a server has it that installs nothing: it knows of no text and of no installation, and sees the directory as others left it
+-- the world of a server that installs nothing: it knows of no text and of no installation, and sees the directory as
+-- others left it
 abbrev pub of_server : World → World
 of_server w = record w { server = record w.server { phase = None }; accepted = []; acknowledged = 0; under_way = None }
 
--- the world as installers have it, one after another: without limits, connections and what these keep
+-- the world of installers, one after another: without limits, connections and what these keep
 abbrev pub of_installers : World → World
 of_installers w = record w { server = record (start 0 0) { phase = w.server.phase }; kept = [] }
 
--- what installers have stays
+-- what installers have is as before
 pub record KeepsInstallers (w v : World) : Type 0 where
   pub phase : v.server.phase ≡ w.server.phase
   pub accepted : v.accepted ≡ w.accepted
   pub acknowledged : v.acknowledged ≡ w.acknowledged
   pub under_way : v.under_way ≡ w.under_way
 
--- what a server has stays
+-- what a server has is as before
 pub record KeepsServer (w v : World) : Type 0 where
   pub server : v.server ≡ record w.server { phase = v.server.phase }
   pub kept : v.kept ≡ w.kept

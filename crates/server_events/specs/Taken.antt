@@ -39,7 +39,7 @@ pub record IsOthers (w : World) (name : List ℕ) : Type 0 where
   pub not_rules : (r : RulesName) → w.rules ≡ Some r → r.name ≢ name
   pub not_scratch : (u : UnderWay) → w.under_way ≡ Some u → u.tmp ≢ name
 
--- with a file of others under a name
+-- a directory with a file of others under a name
 abbrev pub with_others : Directory → List ℕ → FileState → Directory
 with_others d name file = record { names = push d.names (puts name (length d.files)); files = d.files ++ file ∷ []; scratch = d.scratch }
 
@@ -72,7 +72,7 @@ is_there w = is_some (standing w)
 abbrev pub decided_by : World → Option (List ℕ) → Client → Result Decision DecideFault
 decided_by w bytes peer = decision_from (option_map reading bytes) (missing_in w) peer
 
--- what the connection with this serial opened decides so of its peer, and it is not decided yet
+-- what the connection with this serial opened makes this decision of its peer, and it is not decided yet
 pub record IsDue (w : World) (n : ℕ) (decision : Decision) : Type 0 where
   pub opened : HasStage w.server n stage.Opened
   pub bytes : Option (List ℕ)

@@ -7,7 +7,7 @@ use Rattle.server_events.specs.ServerState.{after}
 use Rattle.server_events.specs.Steps.{Outside}
 use Rattle.server_events.specs.Worlds.{World, standing}
 
--- others than the server go on, step by step: installers, and whoever leaves the two names alone
+-- all but the server go on, step by step: installers, and whoever leaves the two names alone
 pub data OthersGo : World → List Event → World → Type 0 where
   none : {w : World} → OthersGo w [] w
   installs : {u v w : World} {event : Event} {events : List Event} → InstallerSteps u event v → OthersGo v events w

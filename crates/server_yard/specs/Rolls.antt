@@ -1,4 +1,5 @@
--- What the events of a yard change: the state that they led to, the journal, and who speaks; and which place is whose.
+-- What the events of a yard change: the state that they led to, the journal, and the speaker, who is the caller for
+-- whom events are noted now; and which place is whose.
 use Rattle.std.specs.Prelude.{◌≡◌, ◌++◌, ◌∷◌, ◌-◌, ◌^◌, ℕ, Bool, true, List, [], Option, Some, None, IfSome, length, map, min, option_map, option_and_then}
 use Rattle.server_events.specs.Live.{KeepsAddressLimit, KeepsLimit}
 use Rattle.server_events.specs.ServerState.{ServerState, after, is_legal, may_happen, stage_of, start, state_after}
@@ -8,14 +9,14 @@ use Rattle.event_journals.specs.Journals.{Books, TellsOf, next_report, one_more}
 use Rattle.event_journals.specs.declared.journal.Noted.{Noted}
 
 -- the state that the events led to; what the journal that noted them tells, and whether it has room for a number of
--- events more; and who speaks
+-- events more; and the speaker
 pub record Roll : Type 0 where
   pub server : ServerState
   pub books : Books
   pub room : ℕ → Bool
   pub speaker : ℕ
 
--- an event that may happen does, and is noted with who speaks
+-- an event that may happen does, and is noted for the speaker
 pub record Notes (event : Event) (old new : Roll) : Type 0 where
   pub may : may_happen old.server event ≡ true
   pub happens : new.server ≡ after old.server event
@@ -24,7 +25,7 @@ pub record Notes (event : Event) (old new : Roll) : Type 0 where
   pub counts : new.books.count ≡ one_more old.books.count
   pub stores : new.books.notes ≡ option_map (λ notes. notes ++ record { event = event; caller = old.speaker } ∷ []) old.books.notes
 
--- no event: the journal tells the same, and stores the same events
+-- there is no event: the journal tells the same, and stores the same events
 pub record IsQuiet (old new : Roll) : Type 0 where
   pub stays : new.server ≡ old.server
   pub speaks : new.speaker ≡ old.speaker

@@ -15,7 +15,7 @@ note_at notes at = if at == 0 then None else slice_get notes (at - 1)
 abbrev pub StandsAtItsPlace : List Noted → Receipt → Type 0
 StandsAtItsPlace notes r = note_at notes r.at ≡ Some (note_of r)
 
--- its place is above those of its caller's earlier ones
+-- its place is above those of its caller's earlier receipts
 abbrev pub IsAbove : List Receipt → Receipt → Type 0
 IsAbove earlier r = All (λ (e : Receipt). e.caller ≡ r.caller → e.at < r.at) earlier
 
@@ -30,20 +30,20 @@ AreRightBefore notes receipts n = (i : ℕ) → i < n → IsRight notes receipts
 abbrev pub AreRight : List Noted → List Receipt → Type 0
 AreRight notes receipts = AreRightBefore notes receipts (length receipts)
 
--- the first of a list that is not
+-- the first receipt of a list that is wrong
 pub record IsFirstWrong (notes : List Noted) (receipts : List Receipt) (n : ℕ) : Type 0 where
   pub within : n < length receipts
   pub wrong : ¬ IsRight notes receipts n
   pub others : AreRightBefore notes receipts n
 
--- the places of each caller rise
+-- the places of each caller's receipts rise
 abbrev pub Rise : List Receipt → Type 0
 Rise receipts = (i : ℕ) → i < length receipts → IfSome (slice_get receipts i) (IsAbove (take i receipts))
 
--- an event is of none of the receipts' callers
+-- none of the receipts' callers made an event
 abbrev pub IsByAnother : List Receipt → Noted → Type 0
 IsByAnother receipts n = All (λ (r : Receipt). r.caller ≢ n.caller) receipts
 
--- none of the first events has the number of one of the receipts' callers
+-- none of the receipts' callers made one of the first events
 abbrev pub AreOthersUpTo : ℕ → List Noted → List Receipt → Type 0
 AreOthersUpTo count notes receipts = (i : ℕ) (n : Noted) → i < count → slice_get notes i ≡ Some n → IsByAnother receipts n

@@ -15,7 +15,8 @@ caller_share caller = caller.share.amount
 abbrev pub total_share : {N : Type 0} {l : _} → List (Caller N l) → ℕ
 total_share callers = sum_by caller_share callers
 
--- A turn answered its caller, by its number, after so many events, and the caller's share has grown by as many events as it made.
+-- a turn answered its caller after this many events, and the caller's share has grown by as many events as the turn
+-- made
 pub record CountsForIts {T N : Type 0} {l : _} (answers : ℕ → ℕ → T → ℕ → Type 0) (answer : T) (old new : Caller N l) : Type 0 where
   pub before : ℕ
   pub after : ℕ
@@ -23,12 +24,12 @@ pub record CountsForIts {T N : Type 0} {l : _} (answers : ℕ → ℕ → T → 
   pub counted : caller_share new + before ≡ caller_share old + after
   pub same_number : caller_number new ≡ caller_number old
 
--- the numbers from 1 on, so many
+-- this many numbers, from 1 on
 abbrev pub numbers_to : ℕ → List ℕ
 numbers_to zero = []
 numbers_to (suc n) = numbers_to n ++ suc n ∷ []
 
--- so many callers, numbered from 1, that made no event yet
+-- this many callers, numbered from 1, that made no event yet
 pub record AreNew {N : Type 0} {l : _} (count : ℕ) (callers : List (Caller N l)) : Type 0 where
   pub as_many : length callers ≡ count
   pub numbered : map caller_number callers ≡ numbers_to count

@@ -5,7 +5,7 @@ use Rattle.shared_site.specs.declared.closing.NotWhole.{NotWhole}
 use Rattle.shared_site.specs.Audits.{AreRight, IsFirstWrong}
 use Rattle.shared_site.specs.declared.receipt.Receipt.{Receipt}
 
--- the first that is wrong; or each is right, but they are not as many as the events
+-- the first receipt that is wrong; or each is right, but there are not as many as events
 abbrev pub IsNotWhole : List Noted → List Receipt → NotWhole → Type 0
 IsNotWhole notes receipts (NotWhole.Wrong mismatch) = IsFirstWrong notes receipts mismatch.0
 IsNotWhole notes receipts NotWhole.Missing = AreRight notes receipts × (length receipts ≢ length notes)

@@ -1,4 +1,4 @@
--- What a caller has of an event: that it made it, or found it out of turn; and the receipt.
+-- What a caller gets for an event: evidence that it made it, or that it was out of turn; and the receipt.
 use Rattle.std.specs.Prelude.{◌≡◌, ◌⊎◌, ℕ, Option, Some, None, Result, Ok, Err, IfOk, OnErr}
 use Rattle.connection_facts.specs.Peers.{Client}
 use Rattle.event_journals.specs.Journals.{one_more}
@@ -9,7 +9,7 @@ use Rattle.shared_site.specs.declared.receipt.Made.{Made}
 use Rattle.shared_site.specs.declared.receipt.OutOfTurn.{OutOfTurn}
 use Rattle.shared_site.specs.declared.receipt.Receipt.{Receipt}
 
--- the receipt of a caller's event at a place, and of one that follows so many events
+-- the receipt of a caller's event at a place, and of one that follows this many events
 abbrev pub receipt_at : ℕ → ℕ → Event → Receipt
 receipt_at at who event = record { caller = who; at = at; event = event; seal = tt }
 
@@ -33,21 +33,21 @@ receipt_of made = receipt_at made.at made.caller (made_event made)
 abbrev pub refused_event : OutOfTurn → Event
 refused_event refusal = shown_event refusal.asked
 
--- a turn makes one event more or none; a journal that only counts stays at its last number
+-- a turn makes one event or none; a journal that only counts stays at its last number
 abbrev pub CountsAtMostOne : (old new : ℕ) → Type 0
 CountsAtMostOne old new = (new ≡ old) ⊎ (new ≡ one_more old)
 
--- one more where an event was made, and else none
+-- one event more if one was made, and otherwise none
 abbrev pub CountsMade : Option Made → (before after : ℕ) → Type 0
 CountsMade None before after = after ≡ before
 CountsMade (Some made) before after = after ≡ one_more before
 
--- the caller with this number made this event, the next after so many; or it was out of turn, and no event was made
+-- the caller with this number made this event, the next after this many; or it was out of turn, and no event was made
 abbrev pub MakesOrNot : Event → (who before : ℕ) → Result Made OutOfTurn → (after : ℕ) → Type 0
 MakesOrNot event who before (Ok made) after = (receipt_of made ≡ receipt_after before who event) × (after ≡ one_more before)
 MakesOrNot event who before (Err refusal) after = (refused_event refusal ≡ event) × (after ≡ before)
 
--- the caller with this number let this client in, by the next event after so many; or no event was made
+-- the caller with this number let this client in, by the next event after this many; or no event was made
 abbrev pub AdmitsOrNot : {P F : Type 0} → Client → (who before : ℕ) → Result (ℕ × P × Made) F → (after : ℕ) → Type 0
 AdmitsOrNot client who before answer after =
     IfOk answer (λ r. (receipt_of r.2 ≡ receipt_after before who (Admitted r.0 client)) × (after ≡ one_more before))

@@ -1,4 +1,4 @@
-//! Receipts against the history.
+//! The audit: receipts compared with the history.
 ghost use Rattle.std.specs.Prelude.{◌≡◌, ◌↔◌, ◌<◌, IsTrue, IfErr, OnOk, length};
 ghost use Rattle.event_journals.specs.Full.{full_events, full_notes};
 ghost use Rattle.server_yard.specs.Yards.{yard_journal};
@@ -10,21 +10,22 @@ use event_journals::{Full, is_same_event};
 use server_yard::{Assumptions, Yard};
 use thiserror::Error;
 
-/// The first receipt that is wrong, counted from 0.
+/// The place in the list of the first receipt that is wrong, counted from 0.
 #[derive(Clone, Copy, PartialEq, Eq, Debug, Error)]
 #[error("receipt {0} is wrong")]
 pub struct Mismatch(pub usize);
 
-/// Whether each receipt is the event and the caller at its place in the history, and above its caller's earlier ones in the list. Then
-/// no place stands in the list twice.
+/// Compares receipts with the history. Each has to be the event and the caller at its place there, and that place has
+/// to be above those of its caller's earlier receipts in the list. Then no place stands in the list twice.
 ///
-/// It takes no memory. For each receipt it goes back in the list to its caller's last one before: at most as many steps as there are
-/// receipts for each caller, and few where each caller's stand together.
+/// It takes no memory. For each receipt it goes back in the list to the last one of the same caller. That takes at most
+/// as many steps as there are receipts for each caller, and few if the receipts of each caller stand together.
 ///
-/// The history is stored as it is counted, so that a number of events that is known, as `Site::close` tells it, is that of the notes.
+/// The history has as many notes as events are counted. So a number of events that is known, as by `Site::close`, is
+/// the number of notes.
 ///
 /// # Errors
-/// The first receipt that isn't.
+/// The first receipt that is wrong.
 pub fn audit<L: Assumptions, D: Dir + Drop>(
     yard: &Yard<L, D, Full>,
     receipts: &[Receipt],
@@ -34,7 +35,7 @@ pub fn audit<L: Assumptions, D: Dir + Drop>(
     ensures counted { full_events (yard_journal yard.now) ≡ length (full_notes (yard_journal yard.now)) }
 {
     yard.history();
-    // this tells the proof that they fit into 64 bits
+    // the call tells the proof that the number of notes fits into 64 bits
     let _ = yard.journal().stored();
     for i in 0..receipts.len() {
         if !is_right(yard.journal(), receipts, i) {
@@ -62,7 +63,8 @@ fn stands_at_its_place(journal: &Full, receipt: &Receipt) -> bool
     }
 }
 
-// Whether a place is above those of its caller's earlier ones, which rise: above the last of them is enough.
+// Whether a receipt's place is above those of its caller's earlier ones. Those rise, so it is enough to look at the
+// last.
 fn is_above(earlier: &[Receipt], receipt: &Receipt) -> bool
     requires { Rise earlier.now }
     ensures { IsTrue result ↔ IsAbove earlier.now receipt.now }

@@ -4,7 +4,7 @@ ghost use Rattle.std.specs.Prelude.{◌≡◌, ℕ};
 use std::marker::Brand;
 use std::sync::ledger::{Ledger, Share};
 
-/// The ledger of a site's events, which also says how many callers there are and how many events came before them.
+/// The ledger of a site's events. It also says how many callers there are, and how many events came before them.
 pub trait Callers: Ledger {
     /// How many callers there are.
     ghost all: { ℕ };
@@ -19,7 +19,7 @@ impl Callers for Brand {
     ghost before = { 0 };
 }
 
-/// Who makes events: a number from 1, and a share in the count of a site's events. An event adds one to its maker's share.
+/// A caller: a number from 1, and a share in the count of a site's events. Each event adds one to its maker's share.
 #[derive(Drop)]
 pub struct Caller<N: Callers> {
     pub(crate) number: u64,

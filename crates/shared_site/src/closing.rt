@@ -20,18 +20,18 @@ use thiserror::Error;
 /// Why receipts are not the whole history.
 #[derive(Clone, Copy, PartialEq, Eq, Debug, Error)]
 pub enum NotWhole {
-    /// One of them is wrong: the first that `audit` finds.
+    /// A receipt is wrong: the first one that `audit` finds.
     #[error("a receipt is wrong")]
     Wrong(Mismatch),
-    /// Each of them is right, but they are not as many as the events.
+    /// Each receipt is right, but some event has none.
     #[error("receipts are missing")]
     Missing,
 }
 
-/// Whether receipts are the whole history of a yard: each event with its caller, once. It takes no memory.
+/// Checks that receipts are the whole history of a yard: each event with its caller, once. It takes no memory.
 ///
 /// # Errors
-/// `Wrong` with the first that is wrong, else `Missing`.
+/// `Wrong` with the first receipt that is wrong, otherwise `Missing`.
 pub fn audit_whole<L: Assumptions, D: Dir + Drop>(
     yard: &Yard<L, D, Full>,
     receipts: &[Receipt],
@@ -50,11 +50,12 @@ pub fn audit_whole<L: Assumptions, D: Dir + Drop>(
     }
 }
 
-/// Closes a site whose callers are all back, and audits the receipts that they hand in. Where that is Ok they are the whole history of its yard:
-/// each event with its caller, once. None is missing where as many are handed in as the callers made events, and the yard had none before.
+/// Closes a site whose callers are all back, and audits their receipts. If the audit is Ok, they are the whole history
+/// of its yard: each event with its caller, once. None is missing if there are as many receipts as the callers made
+/// events, and the yard had no events before.
 ///
 /// # Errors
-/// They aren't all callers. The site and the callers are handed back.
+/// Some caller is lacking. The site and the callers are handed back.
 pub fn close_and_audit<L: Assumptions, N: Callers, D: Dir + Drop>(
     site: Site<L, N, D, Full>,
     callers: Vec<Caller<N>>,

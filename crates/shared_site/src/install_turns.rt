@@ -1,5 +1,5 @@
-//! What a caller does for an installation in its turn: to begin it, and to make its next step. Each says who calls, makes the yard's call of its name,
-//! and tells which event that was, if it was one.
+//! Turns of installations: to begin one, and to make its next step. Each notes its caller as the speaker, makes the
+//! yard's call of its name, and answers which event that was, if it was one.
 ghost use Rattle.std.specs.Prelude.{⊤, ◌≡◌, ◌≢◌, ◌+◌, ◌↔◌, Err, None, Some, IsTrue, IfOk, IfErr, IfSome, Ok, option_map, if◌then◌else◌};
 ghost use Rattle.rules_install.specs.Installs.{installing};
 ghost use Rattle.rules_install.specs.Steps.{BlamesDevice, BlamesFault, IsOfDevice};
@@ -23,8 +23,8 @@ use server_events::Event;
 use server_yard::{Assumptions, Yard};
 use std::alloc::Global;
 
-/// Begins an installation, as `Yard::install_begin` does, and answers what that does, and which event it was if it was one: at its first
-/// step, and at a fault of the directory.
+/// Begins an installation, as `Yard::install_begin` does. The answer also has the event, if it was one: a first step,
+/// or a fault of the directory.
 #[derive(Drop)]
 pub struct InstallBegin {
     /// What gives memory.
@@ -73,8 +73,8 @@ impl<L: Assumptions, D: Dir + Drop, J: Journal> Turn<L, D, J> for InstallBegin {
     }
 }
 
-/// Makes the next step of an installation, as `Yard::install_step` does, and answers what that does, and which event it was if it was
-/// one: at a step of one that is under way, and at a fault of the directory.
+/// Makes the next step of an installation, as `Yard::install_step` does. The answer also has the event, if it was one:
+/// a step of an installation under way, or a fault of the directory.
 #[derive(Drop)]
 pub struct InstallStep {
     /// What gives memory.
@@ -125,7 +125,7 @@ impl<L: Assumptions, D: Dir + Drop, J: Journal> Turn<L, D, J> for InstallStep {
     }
 }
 
-// That it made a first step, if that was an event.
+// Which event a first step was, if it was one.
 fn begin_made<L: Assumptions, D: Dir + Drop, J: Journal>(
     yard: &Yard<L, D, J>,
     caller: u64,
@@ -140,7 +140,7 @@ fn begin_made<L: Assumptions, D: Dir + Drop, J: Journal>(
     }
 }
 
-// That it made a step, if the installation was under way and it was an event.
+// Which event a step was, if the installation was under way and it was one.
 fn step_made<L: Assumptions, D: Dir + Drop, J: Journal>(
     yard: &Yard<L, D, J>,
     caller: u64,
@@ -159,7 +159,7 @@ fn step_made<L: Assumptions, D: Dir + Drop, J: Journal>(
     }
 }
 
-// That a caller made a step of an installation.
+// The event that a caller made a step of an installation.
 fn stepped<L: Assumptions, D: Dir + Drop, J: Journal>(
     yard: &Yard<L, D, J>,
     caller: u64,
@@ -172,7 +172,7 @@ fn stepped<L: Assumptions, D: Dir + Drop, J: Journal>(
     made(yard, caller, EventSnapshot::of(&Event::Stepped { phase }))
 }
 
-// That it failed at one, if it was the directory's fault.
+// The event that a step failed, if the fault was the directory's.
 fn fault_made<L: Assumptions, D: Dir + Drop, J: Journal>(
     yard: &Yard<L, D, J>,
     caller: u64,

@@ -1,10 +1,10 @@
-//! A yard that many callers share: what each does in its turn, one turn after another under one lock, and the audit of
-//! receipts for the events.
+//! A yard that many callers share, one turn after another under one lock, and the audit of receipts for the events.
 //!
 //! The server uses `Site::turn`, which runs any value that is a `Turn` and counts its event for its caller, and
-//! `Site::close`. A turn is the yard's call of its name if the table allows the event, and else an error that changes
-//! nothing. Receipts, `audit`, `close_and_audit` and the turns of installations are used by tests alone. Of the answers
-//! of `room` and `live` nothing is proved. That threads get the lock and go on is tested (`test_sites`).
+//! `Site::close`. A turn is the yard's call of its name if the table allows the event; otherwise it is an error that
+//! changes nothing but the speaker. Only tests use receipts, `audit`, `close_and_audit` and the turns of installations.
+//! Nothing is proved about the answers of `room` and `live`. That threads get the lock and go on is tested
+//! (`test_sites`).
 #![tactic(auto)]
 
 pub mod audit;

@@ -1,4 +1,4 @@
-//! What a caller has of an event that it asked for.
+//! What a caller gets for an event that it asked for.
 ghost use Rattle.std.specs.Prelude.{◌≡◌};
 
 use connection_facts::Peer;
@@ -6,21 +6,21 @@ use rule_lookup::Decision;
 use server_events::Event;
 use std::snapshot::Snapshot;
 
-/// An event as clauses see it, without what it owns: it takes no memory, and nothing is copied for it.
+/// A snapshot of an event, without what it owns. It takes no memory, and copies nothing.
 #[derive(Drop)]
 pub enum EventSnapshot {
     /// A connection with this serial and this peer was let in.
     Admitted(Snapshot<u64>, Snapshot<Peer>),
     /// The connection with this serial was decided so.
     Decided(Snapshot<u64>, Snapshot<Decision>),
-    /// Any event that owns nothing.
+    /// Any other event; it owns nothing.
     Other(Snapshot<Event>),
 }
 
 impl EventSnapshot {
     ghost use Rattle.shared_site.specs.Receipts.{shown_event};
 
-    /// An event that is at hand.
+    /// The snapshot of an event.
     pub(crate) fn of(event: &Event) -> EventSnapshot
         ensures { shown_event result ≡ event.now }
     {
@@ -28,7 +28,8 @@ impl EventSnapshot {
     }
 }
 
-/// That a caller made an event, at a place of the history. Only the calls of `turns` make one. Who audits makes its receipt of it.
+/// Evidence that a caller made an event, at a place of the history. Only the calls of `turns` make one. Whoever audits
+/// makes a receipt of it.
 #[derive(Drop)]
 pub struct Made {
     pub(crate) caller: u64,
@@ -53,7 +54,7 @@ impl Made {
         self.caller
     }
 
-    /// Its receipt, by the event itself.
+    /// Its receipt, with the event itself.
     pub fn receipt(self, event: Event) -> Receipt
         requires its_event { made_event self ≡ event }
         ensures { result ≡ receipt_of self }
@@ -67,7 +68,7 @@ impl Made {
     }
 }
 
-/// Which event a caller made, and where it stands in the history. It is made of what `turns` answered alone.
+/// Which event a caller made, and where it stands in the history. Only a `Made` becomes a receipt.
 #[derive(Drop)]
 pub struct Receipt {
     /// The caller's number, from 1.
@@ -76,11 +77,12 @@ pub struct Receipt {
     pub at: u64,
     /// What happened.
     pub event: Event,
-    // nobody else makes a receipt
+    // this field is private, so that nobody else makes a receipt
     pub(crate) seal: (),
 }
 
-/// That an event that a caller asked for was out of turn, and did not happen. Only the calls of `turns` make one.
+/// Evidence that an event was out of turn: a caller asked for it, and it did not happen. Only the calls of `turns` make
+/// one.
 #[derive(Drop)]
 pub struct OutOfTurn {
     asked: EventSnapshot,
@@ -89,7 +91,7 @@ pub struct OutOfTurn {
 impl OutOfTurn {
     ghost use Rattle.shared_site.specs.Receipts.{refused_event, shown_event};
 
-    /// That this event was.
+    /// Evidence that this event was out of turn.
     pub(crate) fn of(asked: EventSnapshot) -> OutOfTurn
         ensures { refused_event result ≡ shown_event asked }
     {

@@ -1,4 +1,4 @@
-//! A yard under one lock, for many threads.
+//! The site: a yard under one lock, for many threads.
 ghost use Rattle.std.specs.Prelude.{◌≡◌, ◌+◌, ◌<◌, ◌≤◌, ◌↔◌, IsOk, IsTrue, IfOk, IfErr, length, vec_len};
 ghost use Rattle.server_yard.specs.Yards.{yard_books, yard_server};
 ghost use Rattle.shared_site.specs.Callers.{AreNew, CountsForIts, total_share};
@@ -12,7 +12,7 @@ use std::alloc::{AllocError, Global};
 use std::sync::ledger::{Blank, Book, Share};
 use std::sync::{Condvar, Mutex, Wait};
 
-/// Why nobody has to wait for a place any longer.
+/// Why a wait for a place ended.
 #[derive(Clone, Copy, PartialEq, Eq, Debug)]
 pub enum Room {
     /// Fewer connections are alive than may be.
@@ -21,17 +21,17 @@ pub enum Room {
     AllRetired,
 }
 
-// A yard, and the count of the events since the site was made.
+// A yard, and how many events it had since the site was made.
 #[derive(Drop)]
 struct Guarded<L: Assumptions, N: Callers, D: Dir + Drop, J: Journal> {
     yard: Yard<L, D, J>,
     events: Book<N>,
-    // all shares together are the events since then
+    // the shares together are that number
     ghost counted: { N.before + events.total ≡ (yard_books yard).count },
 }
 
 impl<L: Assumptions, N: Callers, D: Dir + Drop, J: Journal> Guarded<L, N, D, J> {
-    // Runs a turn of a caller, and counts by the journal how many events it made.
+    // Runs a turn of a caller. The journal's number before and after it says how many events it made.
     fn turn<T: Turn<L, D, J>>(&mut self, caller: &mut Caller<N>, turn: T) -> T::Answer
         requires may { T.may turn }
         ensures counted { CountsForIts (T.answers turn) result caller.old caller.new }
@@ -43,7 +43,7 @@ impl<L: Assumptions, N: Callers, D: Dir + Drop, J: Journal> Guarded<L, N, D, J> 
         answer
     }
 
-    // Whether no place is free, but one may be yet.
+    // Whether no place is free, but one may become free.
     fn is_taken(&self) -> bool
         ensures { IsTrue result ↔ (((yard_server self.now.yard).limit ≤ length (yard_server self.now.yard).connections)
             × ((yard_books self.now.yard).report.retired < (yard_server self.now.yard).limit)) }
@@ -53,7 +53,8 @@ impl<L: Assumptions, N: Callers, D: Dir + Drop, J: Journal> Guarded<L, N, D, J> 
     }
 }
 
-/// A yard that many threads call, each with a caller of its own, one turn after another: each event is that of one turn.
+/// A yard that many threads call, one turn after another. Each thread has a caller of its own, and each event belongs
+/// to one turn.
 #[derive(Drop)]
 pub struct Site<L: Assumptions, N: Callers, D: Dir + Drop, J: Journal> {
     guarded: Mutex<Guarded<L, N, D, J>>,
@@ -64,7 +65,7 @@ pub struct Site<L: Assumptions, N: Callers, D: Dir + Drop, J: Journal> {
 }
 
 impl<L: Assumptions, N: Callers, D: Dir + Drop, J: Journal> Site<L, N, D, J> {
-    /// A site with so many callers, numbered from 1, each with a share of 0. `blank` has as many parts.
+    /// A site with this many callers, numbered from 1, each with a share of 0. `blank` has as many parts.
     ///
     /// # Errors
     /// There was no memory. The yard is handed back.
@@ -94,9 +95,9 @@ impl<L: Assumptions, N: Callers, D: Dir + Drop, J: Journal> Site<L, N, D, J> {
         Ok((site, made))
     }
 
-    /// A turn of a caller: waits for the lock, runs it on the yard with the caller's number, and lets go. The caller's share grows by its event, if
-    /// it makes one. Those who wait for room are woken where there is some since then; nobody waits for anything else under the lock than the
-    /// turn itself does.
+    /// Makes a turn for a caller. It waits for the lock, runs the turn on the yard with the caller's number, and lets
+    /// the lock go. If the turn made an event, the caller's share grows by it. If it made room, those who wait for room
+    /// are woken. Under the lock nobody waits for anything but what the turn itself waits for.
     pub fn turn<R: Wait, T: Turn<L, D, J>>(
         &self,
         rt: &R,
@@ -118,7 +119,7 @@ impl<L: Assumptions, N: Callers, D: Dir + Drop, J: Journal> Site<L, N, D, J> {
         self.guarded.lock(rt).yard.live()
     }
 
-    /// Waits until fewer connections are alive than may be, or all places are retired. It is no event.
+    /// Waits until a place is free or all places are retired. The wait is no event.
     pub fn room<R: Wait>(&self, rt: &R) -> Room {
         let guarded = self
             .freed
@@ -130,10 +131,11 @@ impl<L: Assumptions, N: Callers, D: Dir + Drop, J: Journal> Site<L, N, D, J> {
         }
     }
 
-    /// The yard, once all callers are back. Its history is then as long as it was when the site was made, and all shares together.
+    /// The yard, once all callers are back. Its history has as many events as when the site was made, and those of all
+    /// shares.
     ///
     /// # Errors
-    /// They aren't all of them. The site and the callers are handed back.
+    /// Some caller is lacking. The site and the callers are handed back.
     pub fn close(
         self,
         callers: Vec<Caller<N>>,
@@ -158,7 +160,7 @@ impl<L: Assumptions, N: Callers, D: Dir + Drop, J: Journal> Site<L, N, D, J> {
     }
 }
 
-// A turn, and whether it made room where there was none.
+// Runs a turn. Whether it made room when there was none.
 fn turn_under<L: Assumptions, N: Callers, D: Dir + Drop, J: Journal, T: Turn<L, D, J>>(
     guarded: &mut Guarded<L, N, D, J>,
     caller: &mut Caller<N>,
@@ -172,7 +174,7 @@ fn turn_under<L: Assumptions, N: Callers, D: Dir + Drop, J: Journal, T: Turn<L, 
     (answer, was_taken && !guarded.is_taken())
 }
 
-// So many callers, each with one part and a share of 0.
+// This many callers, each with one part and a share of 0.
 #[tactic(auto, using(crate::proofs::Counting::new_more))]
 fn make_callers<N: Callers>(
     alloc: Global,
@@ -193,7 +195,7 @@ fn make_callers<N: Callers>(
     Ok(callers)
 }
 
-// All callers' parts and amounts in one share.
+// Joins the parts and amounts of all callers in one share.
 fn merged<N: Callers>(callers: Vec<Caller<N>>) -> Share<N>
     requires { 0 < vec_len callers }
     ensures parts { result.parts ≡ vec_len callers }

@@ -1,4 +1,4 @@
-//! Turns as values: what a caller hands to its site, which runs it on the yard under its lock.
+//! Turns as values: a caller hands one to its site, which runs it on the yard under its lock.
 ghost use Rattle.std.specs.Prelude.{◌≡◌, ℕ};
 ghost use Rattle.server_yard.specs.Yards.{yard_books};
 ghost use Rattle.shared_site.specs.Receipts.{CountsAtMostOne, made_event, shown_event};
@@ -8,18 +8,19 @@ use dir_calls::Dir;
 use event_journals::Journal;
 use server_yard::{Assumptions, Yard};
 
-/// What a caller does with a yard in its turn: one event, or none.
+/// A turn: a value that asks a yard for one event, and makes one or none.
 pub trait Turn<L: Assumptions, D: Dir + Drop, J: Journal> {
     /// What it answers.
     type Answer;
 
-    /// Whether it may be run at all.
+    /// What a yard has to be like before the turn may run.
     ghost may: { Self → Type 0 };
 
-    /// After so many events, run for the caller with this number, it may give this answer, and there are so many events then.
+    /// After this many events, run for the caller with this number, the turn may give this answer, and this many events
+    /// have happened then.
     ghost answers: { Self → (who before : ℕ) → Self.Answer → (after : ℕ) → Type 0 };
 
-    /// Runs it on a yard, for the caller with this number.
+    /// Runs the turn on a yard, for the caller with this number.
     fn run(self, yard: &mut Yard<L, D, J>, caller: u64) -> Self::Answer
         requires may { may self }
         ensures answers { answers self caller
@@ -27,7 +28,7 @@ pub trait Turn<L: Assumptions, D: Dir + Drop, J: Journal> {
         ensures counts { CountsAtMostOne (yard_books yard.old).count (yard_books yard.new).count };
 }
 
-/// That a caller made a yard's last event.
+/// Evidence that a caller made a yard's last event.
 pub(crate) fn made<L: Assumptions, D: Dir + Drop, J: Journal>(
     yard: &Yard<L, D, J>,
     caller: u64,

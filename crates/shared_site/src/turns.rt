@@ -1,6 +1,7 @@
-//! What a caller does for a connection in its turn: a value for each event, which its site runs. A caller can't know whether it is its turn: each says
-//! who calls, tests whether the table of events allows the event, and either makes the yard's call of its name, and tells which event that was, or
-//! changes nothing but who speaks. None of them waits or takes memory of its own.
+//! Turns of connections: a type for each event. A caller can't know whether its event is allowed now. So a turn notes
+//! its caller as the speaker, and tests whether the table of events allows the event. If it does, the turn makes the
+//! yard's call of its name, and answers which event that was. Otherwise nothing changed but the speaker. No turn waits
+//! or takes memory of its own.
 ghost use Rattle.std.specs.Prelude.{⊤, ◌≡◌, ◌↔◌, true, false, Err, None, IsTrue, IsOk, IfOk, IfNone, IfSome, OnErr, OnOk, SomeIff, is_some, length};
 ghost use Rattle.child_jobs.specs.Runs.{place_of};
 ghost use Rattle.server_events.specs.ServerState.{is_admitted, is_allowed, is_started, is_unstarted, stage_of};
@@ -30,7 +31,7 @@ use std::alloc::Global;
 use std::snapshot::Snapshot;
 use thiserror::Error;
 
-/// Why the rules aren't opened. Nothing changed but who speaks.
+/// Why the rules aren't opened. Nothing changed but the speaker.
 #[derive(Clone, Copy, PartialEq, Eq, Debug, Error)]
 pub enum OpenFault {
     /// The connection isn't alive, or has opened them before.
@@ -50,7 +51,7 @@ pub enum OpenFault {
 /// Those of `Yard::admit`.
 #[derive(Drop)]
 pub struct Admit<'a> {
-    /// Who comes.
+    /// The client.
     pub peer: &'a Peer,
 }
 
@@ -90,8 +91,8 @@ impl<L: Assumptions, D: Dir + Drop, J: Journal> Turn<L, D, J> for Admit<'_> {
 /// Opens the rules for a connection, as `Yard::open` does.
 ///
 /// # Errors
-/// `OutOfTurn` exactly where no connection of this serial was let in and has not opened them; else those of `Yard::open`, which are `Device`,
-/// where its failure was counted, and `OutOfMemory`.
+/// `OutOfTurn` exactly if no connection with this serial is in the stage `Admitted`. Otherwise those of `Yard::open`:
+/// `Device`, if its failure was counted, and `OutOfMemory`.
 #[derive(Drop)]
 pub struct Open {
     /// What gives memory.
@@ -150,13 +151,13 @@ impl<L: Assumptions, D: Dir + Drop, J: Journal> Turn<L, D, J> for Open {
     }
 }
 
-/// A connection has opened the rules by a handle of its own, as by `Yard::opened`: where it was let in, and has not opened them before. Else
-/// nothing changes but who speaks, and what it found is let go.
+/// Notes that a connection opened the rules by a handle of its own, as `Yard::opened` does. It has to be let in, and
+/// must not have opened them before. Otherwise nothing changes but the speaker, and what it found is dropped.
 #[derive(Drop)]
 pub struct Opened<L: Assumptions, D: Dir + Drop> {
     /// The connection's serial.
     pub serial: u64,
-    /// What it found.
+    /// What the connection found.
     pub finding: Finding<L, D::File>,
 }
 
@@ -193,18 +194,18 @@ impl<L: Assumptions, D: Dir + Drop, J: Journal> Turn<L, D, J> for Opened<L, D> {
     }
 }
 
-/// A connection is decided, as by `Yard::decided`: where it opened the rules, this is its peer, and the pass has what the yard decides
-/// where no file stands.
+/// Notes that a connection was decided, as `Yard::decided` does. It has to be in the stage `Opened`, this has to be its
+/// peer, and the pass has to have what the yard decides without a file.
 ///
 /// # Errors
-/// It was not its turn. Nothing changed but who speaks.
+/// The event is out of turn. Nothing changed but the speaker.
 #[derive(Drop)]
 pub struct Decided<'a, L: Assumptions, D: Dir + Drop> {
-    /// What it opened.
+    /// What the connection opened.
     pub pass: Pass<L, D::File>,
-    /// Its client.
+    /// The connection's client.
     pub peer: &'a Peer,
-    /// The decision by what it opened.
+    /// The decision by what the connection opened.
     pub decision: Decision,
 }
 
@@ -245,10 +246,11 @@ impl<L: Assumptions, D: Dir + Drop, J: Journal> Turn<L, D, J> for Decided<'_, L,
     }
 }
 
-/// The child of the connection with this serial runs, as by `Yard::started`: where it has the child's place and was allowed.
+/// Notes that the child of the connection with this serial runs, as `Yard::started` does. The connection has to have
+/// the child's place, and to be allowed.
 ///
 /// # Errors
-/// It was not its turn. Nothing changed but who speaks.
+/// The event is out of turn. Nothing changed but the speaker.
 #[derive(Drop)]
 pub struct Started<'a, L: Assumptions, C: Job> {
     /// The connection's serial.
@@ -287,10 +289,11 @@ impl<L: Assumptions, D: Dir + Drop, J: Journal, C: Job> Turn<L, D, J> for Starte
     }
 }
 
-/// The child of the connection with this serial could not be started, as by `Yard::start_failed`: where it has this place and was allowed.
+/// Notes that the child of the connection with this serial could not be started, as `Yard::start_failed` does. The
+/// connection has to have this place, and to be allowed.
 ///
 /// # Errors
-/// It was not its turn: the place stays counted for good, and nothing changed but who speaks.
+/// The event is out of turn. The place stays counted for good, and nothing changed but the speaker.
 pub struct StartFailed<L: Assumptions> {
     /// The connection's serial.
     pub serial: u64,
@@ -336,10 +339,11 @@ impl<L: Assumptions, D: Dir + Drop, J: Journal> Turn<L, D, J> for StartFailed<L>
     }
 }
 
-/// The child of the connection with this serial has ended, as by `Yard::ended`: where it has this place and its child was started.
+/// Notes that the child of the connection with this serial has ended, as `Yard::ended` does. The connection has to have
+/// this place, and its child has to be started.
 ///
 /// # Errors
-/// It was not its turn: the place stays counted for good, and nothing changed but who speaks.
+/// The event is out of turn. The place stays counted for good, and nothing changed but the speaker.
 pub struct Ended<L: Assumptions> {
     /// The connection's serial.
     pub serial: u64,
@@ -385,11 +389,12 @@ impl<L: Assumptions, D: Dir + Drop, J: Journal> Turn<L, D, J> for Ended<L> {
     }
 }
 
-/// The child of the connection with this serial could not be waited for, as by `Yard::retired`: where it has the child's place and its child
-/// was started. The child is abandoned, and its place stays counted for good, in turn or not.
+/// Notes that the child of the connection with this serial could not be waited for, as `Yard::retired` does. The
+/// connection has to have the child's place, and its child has to be started. In turn or not, the child is abandoned,
+/// and its place stays counted for good.
 ///
 /// # Errors
-/// It was not its turn. Nothing changed but who speaks.
+/// The event is out of turn. Nothing changed but the speaker.
 pub struct Retired<L: Assumptions, C: Job> {
     /// The connection's serial.
     pub serial: u64,
@@ -428,10 +433,11 @@ impl<L: Assumptions, D: Dir + Drop, J: Journal, C: Job> Turn<L, D, J> for Retire
     }
 }
 
-/// The connection with this serial is given up, as by `Yard::dropped`: where it has this place and no child of it was started.
+/// Notes that the connection with this serial is given up, as `Yard::dropped` does. The connection has to have this
+/// place, and no child of it may be started.
 ///
 /// # Errors
-/// It was not its turn: the place stays counted for good, and nothing changed but who speaks.
+/// The event is out of turn. The place stays counted for good, and nothing changed but the speaker.
 pub struct Dropped<L: Assumptions> {
     /// The connection's serial.
     pub serial: u64,
@@ -477,7 +483,7 @@ impl<L: Assumptions, D: Dir + Drop, J: Journal> Turn<L, D, J> for Dropped<L> {
     }
 }
 
-// Whether it is the turn of a pass.
+// Whether the connection of a pass may be decided now.
 fn may_be_decided<L: Assumptions, D: Dir + Drop, J: Journal>(
     yard: &Yard<L, D, J>,
     pass: &Pass<L, D::File>,
@@ -490,7 +496,7 @@ fn may_be_decided<L: Assumptions, D: Dir + Drop, J: Journal>(
         && yard.is_peer(pass.serial(), peer)
 }
 
-// The serial of the connection at a place, where it was allowed.
+// The serial of the connection at a place, if it was allowed.
 fn allowed<L: Assumptions, D: Dir + Drop, J: Journal>(
     yard: &Yard<L, D, J>,
     place: &Place<L>,
@@ -504,7 +510,7 @@ fn allowed<L: Assumptions, D: Dir + Drop, J: Journal>(
     }
 }
 
-// The serial of the connection at a place, where its child was started.
+// The serial of the connection at a place, if its child was started.
 fn served<L: Assumptions, D: Dir + Drop, J: Journal>(
     yard: &Yard<L, D, J>,
     place: &Place<L>,
@@ -518,7 +524,7 @@ fn served<L: Assumptions, D: Dir + Drop, J: Journal>(
     }
 }
 
-// The serial of the connection at a place, where no child was started for it.
+// The serial of the connection at a place, if no child was started for it.
 fn unstarted<L: Assumptions, D: Dir + Drop, J: Journal>(
     yard: &Yard<L, D, J>,
     place: &Place<L>,

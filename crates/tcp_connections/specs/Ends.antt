@@ -2,14 +2,14 @@
 use Rattle.std.specs.Prelude.{ℕ, ◌⊎◌}
 use Rattle.connection_facts.specs.declared.outcome.Status.{Status}
 
--- telling that the child of the connection with a serial ended so; and that it could not be waited for
+-- telling that the child of the connection with this serial ended in this way; and that it could not be waited for
 abbrev pub TellsEnd : Type 0 → Type 1
 TellsEnd E = E → ℕ → Status → E → Type 0
 
 abbrev pub TellsRetired : Type 0 → Type 1
 TellsRetired E = E → ℕ → E → Type 0
 
--- it was told that the child of the connection with a serial ended, whichever way
+-- it was told that the child of the connection with this serial ended, in whatever way
 pub record IsAnEndTold {E : Type 0} (tells_end : TellsEnd E) (serial : ℕ) (old new : E) : Type 0 where
   pub status : Status
   pub told : tells_end old serial status new

@@ -3,17 +3,17 @@ use Rattle.std.specs.Prelude.{ℕ, Bool, not, ◌&&◌, List, Option, Some, None
 use Rattle.ucspi_env.specs.Hosts.{Hosts, name_of, confirms}
 use Rattle.tcp_connections.specs.declared.names.HostNames.{HostNames}
 
--- the name that a table has of an address, where there is a table
+-- the name that a table has for an address, if there is a table
 abbrev pub name_in : Option Hosts → List ℕ → Option (List ℕ)
 name_in None ip = None
 name_in (Some hosts) ip = name_of hosts ip
 
--- a name, unless only names that the table confirms are wanted and it does not confirm this one
+-- a name; none if only confirmed names are wanted and the table does not confirm this one
 abbrev pub kept_name : (confirm : Bool) → Hosts → (ip : List ℕ) → Option (List ℕ) → Option (List ℕ)
 kept_name confirm hosts ip None = None
 kept_name confirm hosts ip (Some name) = if confirm && not (confirms hosts name ip) then None else Some name
 
--- the name that a table has of a client, as far as it is wanted
+-- the name that a table has for a client, if names are wanted
 abbrev pub wanted_name : (confirm : Bool) → Option Hosts → (ip : List ℕ) → Option (List ℕ)
 wanted_name confirm None ip = None
 wanted_name confirm (Some hosts) ip = kept_name confirm hosts ip (name_of hosts ip)
@@ -27,6 +27,6 @@ abbrev pub or_else : Option (List ℕ) → Option (List ℕ) → Option (List �
 or_else (Some name) other = Some name
 or_else None other = other
 
--- the name of the server's end at an address: the one that was given, else the table's
+-- the name of the server's end at an address: the given one, or else the table's
 abbrev pub local_name : HostNames → (ip : List ℕ) → Option (List ℕ)
 local_name names ip = or_else (option_map string_bytes names.local) (name_in names.hosts ip)

@@ -3,7 +3,7 @@ use Rattle.std.specs.Prelude.{◌≡◌}
 use Rattle.connection_facts.specs.declared.outcome.StartFault.{StartFault}
 use Rattle.stream_tools.specs.declared.process.NotStarted.{NotStarted}
 
--- what is told of a refusal that there may have been
+-- the fault that a launcher answers if its starter refused the program in some way
 pub record RefusesBy (refuses : NotStarted → Type 0) (fault : StartFault) : Type 0 where
   pub refusal : NotStarted
   pub refused : refuses refusal

@@ -7,10 +7,10 @@ use ucspi_env::Local;
 /// Why no connection was given.
 #[derive(Clone, Copy, PartialEq, Eq, Debug, Error)]
 pub enum AcceptFault {
-    /// There was no descriptor or no memory for it, which the end of another connection may mend.
+    /// There was no descriptor or no memory for it. The end of another connection may help.
     #[error("too many open files")]
     NoRoom,
-    /// One came, and was closed: there was no memory for what holds it.
+    /// A connection came, and was closed for want of memory.
     #[error("out of memory")]
     OutOfMemory,
     /// Anything else.
@@ -20,27 +20,27 @@ pub enum AcceptFault {
 
 /// What ends a connection both ways.
 pub trait Shut {
-    /// Ends it both ways: whoever reads from it or writes to it comes to an end. What the system answers is not told.
+    /// Ends it both ways: each read comes to an end, and each write fails. An error of the system is ignored.
     fn shut(&self);
 }
 
-/// How long a client may take nothing of what is left for it, once nobody holds its program's output any more.
+/// How long the server waits for a client that reads nothing, once nobody holds its program's output any more.
 #[derive(Clone, Copy, PartialEq, Eq, Debug)]
 pub struct Patience {
-    /// For so long in succession.
+    /// So long without a byte.
     pub idle: Duration,
-    /// And for so long in all.
+    /// So long in all.
     pub all: Duration,
 }
 
-/// What is sent to a client, whose program says it on an `F`.
+/// A stream to a client. It carries the output of a program, which is an `F`.
 pub trait Follow<F> {
-    /// From now on what is written comes from this source. As long as somebody else holds the other end of that, a write waits for the client;
-    /// once nobody does, writes fail where the client takes nothing for too long.
+    /// From now on what is written comes from this source. While somebody else holds the other end of the source, a
+    /// write waits for the client. Once nobody does, writes fail if the client reads nothing for too long.
     fn follow(&mut self, source: &F, patience: Patience);
 }
 
-/// A connection that was made. Once all three of its parts are let go it is closed.
+/// An accepted connection. It is closed once all three of its parts are let go.
 #[derive(Drop)]
 pub struct Accepted<R, W, X> {
     /// What the client sends.
@@ -71,12 +71,12 @@ pub trait Acceptor {
     /// Waits for the next connection.
     ///
     /// # Errors
-    /// No connection is given; it may be asked again.
+    /// There is no connection; the call may be made again.
     fn accept(&mut self) -> Result<Accepted<Self::Reader, Self::Writer, Self::Shut>, AcceptFault>;
 
-    /// The system's number of the error (`errno`) by which it last gave none, where it had one.
+    /// The system's number of the last error (`errno`), if it had one.
     fn error(&self) -> Option<i32>;
 
-    /// Gives back what connections come to: nobody comes any more, and whoever waits is turned away.
+    /// Stops listening: nobody comes any more, and the system turns away those who wait.
     fn close(&mut self);
 }

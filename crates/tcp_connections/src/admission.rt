@@ -7,9 +7,9 @@ use crate::accepting::AcceptFault;
 /// How a server ended.
 #[derive(Clone, Copy, PartialEq, Eq, Debug)]
 pub enum ServeEnd {
-    /// As many connections were let in as it was to serve.
+    /// It let in as many connections as it was to serve.
     Count,
-    /// The last number of a connection or of an event was given.
+    /// The last serial number, or the last number of an event, was used.
     Spent,
     /// The children of all places could not be waited for.
     NoPlaces,
@@ -25,7 +25,7 @@ pub enum AdmitOutcome<T> {
     In(T),
     /// It was refused.
     Refused,
-    /// It was refused: no number is left, for this one and for all that follow.
+    /// It was refused, and so are all that follow: no serial number is left.
     Spent,
 }
 
@@ -37,47 +37,49 @@ pub trait Admission {
     /// How many were let in.
     ghost let_in: { Self → ℕ };
 
-    /// Waits until fewer connections are alive than may be; `false` where that never comes, since all places are retired.
+    /// Waits until fewer connections are alive than may be. `false` if all places are retired, so that this never
+    /// comes.
     fn wait_for_room(&self) -> bool;
 
-    /// Waits for the next connection, and lets it in; one that is refused is closed.
+    /// Waits for the next connection, and lets it in. A refused connection is closed.
     ///
     /// # Errors
-    /// No connection came; it may be asked again.
+    /// No connection came; the call may be made again.
     fn next(&mut self) -> Result<AdmitOutcome<Self::Work>, AcceptFault>
         ensures came { IfOk result (λ entry. LetsIn entry (let_in self.old) (let_in self.new)) }
         ensures none { OnErr result (let_in self.new ≡ let_in self.old) };
 
-    /// Lets nobody in any more: whoever waits is turned away.
+    /// Lets nobody in any more, and turns away those who wait.
     fn close(&mut self)
         ensures nobody { let_in self.new ≡ let_in self.old };
 }
 
-/// What serves the connections that were let in, each in one thread to its end.
+/// Serves the connections that were let in, from one call to the next.
 pub trait Serving<T> {
-    /// What a client sends, on its way.
+    /// The stream from a client, which `pass_up` passes on.
     type Upward: Send + Drop;
 
-    /// A connection whose child runs, and what its client is sent, on its way.
+    /// A connection whose child runs, with the stream to its client, which `pass_down` passes on.
     type Talk: Send;
 
-    /// That a connection is over: one is had only of its end.
+    /// Evidence that a connection is over: only its end makes one.
     type Over: Send + Drop;
 
-    /// Which connection it is: one that was let in, one whose child runs, and one that is over.
+    /// Which connection it is, by the serial number: one that was let in, one whose child runs, and one that is over.
     ghost of_work: { T → ℕ };
 
     ghost of_talk: { Self.Talk → ℕ };
 
     ghost of_over: { Self.Over → ℕ };
 
-    /// Whether what clients send is passed on, for which each worker has a second thread.
+    /// Whether what clients send is passed on. Each worker has a second thread for that.
     fn passes_up(&self) -> bool;
 
-    /// Begins to serve a connection, up to the start of its child; what its client sends is there where it is passed on.
+    /// Serves a connection up to the start of its child. The answer has the stream from the client, if that is to be
+    /// passed on.
     ///
     /// # Errors
-    /// It is over before its child ran.
+    /// The connection is over; its child never ran.
     fn begin(&self, work: T) -> Result<(Option<Self::Upward>, Self::Talk), Self::Over>
         ensures goes_on { IfOk result (λ begun. of_talk begun.1 ≡ of_work work) }
         ensures over { IfErr result (λ end. of_over end ≡ of_work work) };

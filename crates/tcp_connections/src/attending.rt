@@ -32,7 +32,7 @@ pub struct Line<I, O, X> {
     pub shut: X,
 }
 
-/// Who is told how the child of a connection ended.
+/// Takes the news of how the child of a connection ended.
 pub trait Endings<L: Ledger, C: Job> {
     /// The place that a child gives back: a `Place<L>`.
     type Place;
@@ -40,22 +40,22 @@ pub trait Endings<L: Ledger, C: Job> {
     /// A child that could not be waited for: a `Running<L, C>`.
     type Child;
 
-    /// Between these two states it was told that the child of the connection with this serial number ended so.
+    /// Between these two states it was told that the child of the connection with this serial number ended in this way.
     ghost tells_end: { Self → ℕ → StatusOf → Self → Type 0 };
 
     /// Between these two states it was told that the child of the connection with this serial number could not be waited for.
     ghost tells_retired: { Self → ℕ → Self → Type 0 };
 
-    /// The child of the connection with this serial number ended so, and gave its place back.
+    /// Takes note that the child of this connection ended in this way, and gave its place back.
     fn ended(&mut self, place: Self::Place, serial: u64, status: Status)
         ensures told { tells_end self.old serial status self.new };
 
-    /// The child of the connection with this serial number could not be waited for: its place stays counted.
+    /// Takes note that the child of this connection could not be waited for: its place stays counted.
     fn retired(&mut self, child: Self::Child, serial: u64)
         ensures told { tells_retired self.old serial self.new };
 }
 
-/// What a client sends, on its way to the child, through a chain of line wrappers.
+/// The stream from a client to the child, through a chain of line wrappers.
 #[derive(Drop)]
 pub struct Upward<I, P, G> {
     port: u16,
@@ -73,7 +73,7 @@ pub struct Chains<G> {
     pub output: Chain<G>,
 }
 
-/// What a child says, on its way to the client, through a chain of line wrappers.
+/// The stream from a child to the client, through a chain of line wrappers.
 #[derive(Drop)]
 pub struct Talk<F, O, X, G> {
     port: u16,
@@ -83,14 +83,14 @@ pub struct Talk<F, O, X, G> {
     chain: Chain<G>,
 }
 
-/// A child that runs, what the client sends and what the child says.
+/// A child that runs, with the streams from the client and to it.
 pub type Begun<L, C, I, O, X, G> = (
     Running<L, C>,
     Upward<I, <C as Job>::Input, G>,
     Talk<<C as Job>::Output, O, X, G>,
 );
 
-/// What passes on the streams of connections.
+/// Passes on the streams of connections.
 #[derive(Drop)]
 pub struct Attendant<'a, R, W> {
     /// The runtime.
@@ -101,13 +101,13 @@ pub struct Attendant<'a, R, W> {
     pub log: &'a Mutex<Log<W>>,
     /// Whether what goes both ways is recorded (`-w recordio`).
     pub recording: bool,
-    /// How long a client may take nothing of what its program left for it.
+    /// How long it waits for a client that reads nothing of what its program left.
     pub patience: Patience,
 }
 
 impl<R: Wait, W: Write> Attendant<'_, R, W> {
-    /// Takes the pipe ends of a child that runs: what the client sends goes to it by `pass_up`, and what it says goes to the client by
-    /// `pass_down`. A child without pipe ends is ended by force, and the connection with it: there is nothing to pass on then.
+    /// Takes the pipe ends of a child that runs. `pass_up` then passes on what the client sends, and `pass_down` what
+    /// the child writes. A child without pipe ends is killed, and its connection ends: there is nothing to pass on.
     pub fn begin<L, C, E, I, O, X, G>(
         &self,
         endings: &mut E,
@@ -159,7 +159,7 @@ impl<R: Wait, W: Write> Attendant<'_, R, W> {
         Some((running, upward, talk))
     }
 
-    /// Passes on what the client sends until it ends or the child takes no more.
+    /// Passes on what the client sends, until the client ends its stream or the child reads no more.
     pub fn pass_up<I, P, G>(&self, upward: Upward<I, P, G>)
     where
         I: Read + Drop,
@@ -180,7 +180,7 @@ impl<R: Wait, W: Write> Attendant<'_, R, W> {
         }
     }
 
-    /// Passes on what the child says until it says no more; then ends the child, and the connection.
+    /// Passes on what the child writes until its output ends. Then waits for the child, and ends the connection.
     pub fn pass_down<L, C, E, F, O, X, G>(
         &self,
         endings: &mut E,
@@ -209,7 +209,7 @@ impl<R: Wait, W: Write> Attendant<'_, R, W> {
         end_child(endings, running, serial, false, &shut);
     }
 
-    // Pumps what a child says to its client; both ends are let go.
+    // Pumps the output of a child to its client, and lets both ends go.
     fn pump_down<F: Read + Drop, O: Write + Drop, G: LineWrapper + Drop>(
         &self,
         port: u16,
@@ -225,7 +225,7 @@ impl<R: Wait, W: Write> Attendant<'_, R, W> {
         }
     }
 
-    // What records one way of a connection on the log.
+    // The recorder of one way of a connection, which writes to the log.
     fn recorder(&self, port: u16, way: Way) -> Recorder<SharedWriter<'_, R, Log<W>>> {
         let number = u64::from(port);
         Recorder::new(
@@ -237,7 +237,7 @@ impl<R: Wait, W: Write> Attendant<'_, R, W> {
     }
 }
 
-// Pumps what one side says to the other, through a chain of line wrappers; both ends are let go.
+// Pumps what one side writes to the other, through a chain of line wrappers, and lets both ends go.
 fn pump_stream<E, F, G, T>(alloc: Global, reader: E, writer: F, chain: Chain<G>, tap: T)
 where
     E: Read + Drop,
@@ -257,7 +257,8 @@ where
     );
 }
 
-/// Waits for the child of a connection that it holds itself, and tells its end: its place is given back once it was waited for.
+/// Waits for a child that holds its connection itself, and tells its end. Its place is given back only after a wait
+/// that succeeded.
 pub fn see_out<L, C, E>(endings: &mut E, running: Running<L, C>, serial: u64)
 where
     L: Ledger,
@@ -268,7 +269,8 @@ where
     tell_end(endings, wait_in_rounds(running, false), serial);
 }
 
-// Ends a child in its rounds, then its connection, and tells how the child ended: a log that is slow holds up no client.
+// Waits for a child in rounds, ends its connection, and only then tells how the child ended. So a slow log keeps no
+// client waiting.
 fn end_child<L, C, E, X>(
     endings: &mut E,
     running: Running<L, C>,

@@ -1,4 +1,4 @@
-//! Who waits at the door, and when one more is wanted there.
+//! Counts the workers, and says when one more is wanted.
 use std::sync::{Condvar, Mutex, MutexGuard, Wait};
 use std::time::{Clock, Duration};
 
@@ -20,14 +20,14 @@ struct CrewState {
 }
 
 impl CrewState {
-    // Whether one more is wanted, of so many at most.
+    // Whether one more is wanted, if there may be this many.
     fn wants_one(&self, most: usize) -> bool {
         self.at_door == 0 && self.workers < most
     }
 }
 
 impl Crew {
-    /// An empty one, of so many at most.
+    /// No workers yet, and at most this many later.
     pub fn new(most: usize) -> Crew {
         Crew {
             most,
@@ -45,7 +45,7 @@ impl Crew {
         self.state.lock(rt).workers
     }
 
-    /// One more is made, and comes to the door.
+    /// A new worker is at the door.
     pub fn add<R: Wait>(&self, rt: &R) {
         let mut state = self.state.lock(rt);
         state.workers = state.workers.saturating_add(1);
@@ -58,14 +58,14 @@ impl Crew {
         state.at_door = state.at_door.saturating_add(1);
     }
 
-    /// A worker ends that does not come back to the door.
+    /// A worker ends, and does not come back to the door.
     pub fn remove<R: Wait>(&self, rt: &R) {
         let mut state = self.state.lock(rt);
         state.workers = state.workers.saturating_sub(1);
         self.ask_if_wanted(state);
     }
 
-    /// A worker leaves the door; where nobody is left there, whoever makes workers is told.
+    /// A worker leaves the door. If it was the last one there, whoever makes workers is woken.
     pub fn leave_door<R: Wait>(&self, rt: &R) {
         let mut state = self.state.lock(rt);
         state.at_door = state.at_door.saturating_sub(1);
@@ -80,7 +80,7 @@ impl Crew {
         self.changed.notify_all();
     }
 
-    // Asks for one more where he is wanted.
+    // Wakes whoever makes workers, if one more is wanted.
     fn ask_if_wanted(&self, state: MutexGuard<'_, CrewState>) {
         let is_wanted = state.wants_one(self.most);
         drop(state);
@@ -89,7 +89,7 @@ impl Crew {
         }
     }
 
-    /// Waits until one more is wanted. Whether that comes: no more once no connections come.
+    /// Waits until one more is wanted; `false` if no more connections come first.
     pub fn wait_for_want<R: Wait>(&self, rt: &R) -> bool {
         let state = self.changed.wait_while(
             rt,
@@ -99,7 +99,7 @@ impl Crew {
         !state.is_over
     }
 
-    /// Waits for a pause, after which it is tried again to make one; for less where no connections come any more.
+    /// Waits before the next try to make a worker, but no longer once no more connections come.
     pub fn pause<R: Wait + Clock>(&self, rt: &R, pause: Duration) {
         let state = self.state.lock(rt);
         drop(

@@ -1,4 +1,4 @@
-//! What is under the lock of the socket.
+//! The door: the value under the lock of the socket.
 ghost use Rattle.std.specs.Option.{ForSome};
 ghost use Rattle.std.specs.Prelude.{◌≡◌, ◌≢◌, Some};
 ghost use Rattle.tcp_connections.specs.Admissions.{IsServed};
@@ -8,11 +8,11 @@ use crate::accepting::AcceptFault;
 use crate::admission::{Admission, AdmitOutcome, ServeEnd};
 use std::time::Duration;
 
-/// So many faults of accepting in succession end a server.
+/// How many faults of accepting in succession end a server.
 const FAULTS: u32 = 100;
 
-/// For so many milliseconds a server without descriptors or memory for a connection waits before it tries again: at first, and at most. Each
-/// pause is twice the one before it, so a hundred in succession take over a minute.
+/// How many milliseconds a server without descriptors or memory for a connection waits before it tries again, at first
+/// and at most. Each pause is twice the one before it, so a hundred in succession take over a minute.
 const FIRST_PAUSE: u64 = 10;
 
 const LONGEST_PAUSE: u64 = 1_000;
@@ -30,7 +30,7 @@ impl Pause {
         }
     }
 
-    /// The pause of now; the next one is twice as long.
+    /// The current pause; the next one is twice as long.
     pub fn next(&mut self) -> Duration {
         let pause = self.milliseconds.min(LONGEST_PAUSE);
         self.milliseconds = pause.saturating_mul(2);
@@ -38,7 +38,7 @@ impl Pause {
     }
 }
 
-// Where connections come in, with how many were let in, as far as that can be counted.
+// The admission, with how many it let in. `None` once that can't be counted any more.
 #[derive(Drop)]
 struct Entrance<Q: Admission> {
     admission: Q,
@@ -56,7 +56,7 @@ impl<Q: Admission> Entrance<Q> {
         }
     }
 
-    // Waits for the next connection, and lets it in; one that is refused is closed.
+    // Waits for the next connection, and lets it in. A refused connection is closed.
     fn next(&mut self) -> Result<AdmitOutcome<Q::Work>, AcceptFault> {
         let outcome = self.admission.next();
         match &outcome {
@@ -75,22 +75,22 @@ impl<Q: Admission> Entrance<Q> {
     }
 }
 
-/// The place where one connection after another is let in, by whoever has its lock.
+/// The door: whoever has its lock lets in one connection after another.
 #[derive(Drop)]
 pub(crate) struct Door<Q: Admission> {
     entrance: Entrance<Q>,
     // how many connections are let in before the server ends
     count: Option<u32>,
-    // how it ended, where not by that
+    // how it ended, if not by that count
     end: Option<ServeEnd>,
-    // how many faults of accepting came in succession, and the pause after the next one for want of room
+    // how many faults of accepting came in succession, and the next pause after one for want of room
     faults: u32,
     pause: Pause,
     ghost otherwise: { end ≢ Some Count },
 }
 
 impl<Q: Admission> Door<Q> {
-    /// One through which nobody came yet.
+    /// A door through which nobody came yet.
     pub fn new(admission: Q, count: Option<u32>) -> Door<Q>
         requires nobody { Q.let_in admission ≡ 0 }
     {
@@ -108,12 +108,12 @@ impl<Q: Admission> Door<Q> {
         self.end.is_some() || self.is_served()
     }
 
-    // Whether as many were let in as were to be.
+    // Whether as many were let in as `count` says.
     fn is_served(&self) -> bool {
         self.count.is_some() && self.count == self.entrance.let_in
     }
 
-    /// Waits until fewer connections are alive than may be; whether that comes.
+    /// Waits until fewer connections are alive than may be; `false` if that never comes.
     pub fn wait_for_room(&mut self) -> bool {
         let is_room = self.entrance.admission.wait_for_room();
         if !is_room {
@@ -122,7 +122,7 @@ impl<Q: Admission> Door<Q> {
         is_room
     }
 
-    /// Waits for the next connection, and lets it in where it is not refused. After the last one the door is closed.
+    /// Waits for the next connection, and lets it in if it is not refused. After the last one the door is closed.
     ///
     /// # Errors
     /// No connection came.
@@ -146,7 +146,7 @@ impl<Q: Admission> Door<Q> {
         }
     }
 
-    // No fault is the last one any more.
+    // Ends the succession of faults.
     fn forget_faults(&mut self) {
         self.faults = 0;
         self.pause = Pause::first();
@@ -165,7 +165,7 @@ impl<Q: Admission> Door<Q> {
         }
     }
 
-    /// Lets nobody in any more, for another reason than the count.
+    /// Closes the door for another reason than the count.
     pub fn close(&mut self, end: ServeEnd)
         requires other { end ≢ Count }
     {
@@ -173,7 +173,7 @@ impl<Q: Admission> Door<Q> {
         self.entrance.close();
     }
 
-    /// How it ended, and where connections came in.
+    /// How the server ended, and its admission.
     pub fn into_end(self, count: Option<u32>) -> (ServeEnd, Q)
         ensures served { IsServed result.0 count 0 (Q.let_in result.1) }
     {

@@ -4,8 +4,8 @@ use crate::helpers::{Helper, Helpers};
 use crate::supply::Means;
 use std::sync::Wait;
 
-/// A connection whose program runs, with the second thread that passes on what its client sends. Whoever lets it go goes
-/// on with it to its end, so that none is lost on the way from one thread to another.
+/// A connection whose program runs, with the second thread that passes on what its client sends. To drop it is to go on
+/// with it to its end. So none is lost on the way from one thread to another.
 pub(crate) struct GoingOn<'a, R: Wait, V: Serving<T, Upward = U>, T, U: Drop> {
     pub rt: &'a R,
     pub server: &'a V,

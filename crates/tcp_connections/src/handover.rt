@@ -1,7 +1,7 @@
-//! What one thread hands to another one.
+//! Hands values from one thread to another.
 use std::sync::{Condvar, Mutex, Wait};
 
-/// Where one thread hands something to another one, which is kept for it: one thing at a time.
+/// Hands one value at a time from one thread to a second one that waits for it.
 #[derive(Drop)]
 pub(crate) struct Handover<T> {
     state: Mutex<HandoverState<T>>,
@@ -11,15 +11,15 @@ pub(crate) struct Handover<T> {
 // The state of a handover.
 #[derive(Drop)]
 struct HandoverState<T> {
-    // what was handed over, until it is taken
+    // the value, until it is taken
     waiting: Option<T>,
-    // whether what was handed over last is not done with
+    // whether the taker is not done with the last value
     is_busy: bool,
     is_closed: bool,
 }
 
 impl<T: Drop> Handover<T> {
-    /// An empty one, whose taker is not there yet. It takes no memory.
+    /// An empty handover, whose taker is not there yet. It takes no memory.
     pub fn new() -> Handover<T> {
         Handover {
             state: Mutex::new(HandoverState {
@@ -31,7 +31,7 @@ impl<T: Drop> Handover<T> {
         }
     }
 
-    /// Hands something over. What was handed over before has to be done with.
+    /// Hands a value over. The taker has to be done with the one before.
     pub fn hand<R: Wait>(&self, rt: &R, what: T) {
         let mut state = self.state.lock(rt);
         state.waiting = Some(what);
@@ -40,7 +40,7 @@ impl<T: Drop> Handover<T> {
         self.changed.notify_all();
     }
 
-    /// Waits for the next that is handed over, and takes it. `None` once it is closed, and what was handed over before is taken.
+    /// Waits for the next value, and takes it. `None` once the handover is closed and every value was taken.
     pub fn take<R: Wait>(&self, rt: &R) -> Option<T> {
         let mut state = self.changed.wait_while(
             rt,
@@ -50,7 +50,7 @@ impl<T: Drop> Handover<T> {
         state.waiting.take()
     }
 
-    /// The taker is there, and what it took last is done with.
+    /// The taker is there, and done with its last value.
     pub fn finish<R: Wait>(&self, rt: &R) {
         let mut state = self.state.lock(rt);
         state.is_busy = state.waiting.is_some();
@@ -58,7 +58,7 @@ impl<T: Drop> Handover<T> {
         self.changed.notify_all();
     }
 
-    /// Waits until what was handed over last is done with.
+    /// Waits until the taker is done with the last value.
     pub fn wait_for_finish<R: Wait>(&self, rt: &R) {
         drop(
             self.changed
@@ -66,7 +66,7 @@ impl<T: Drop> Handover<T> {
         );
     }
 
-    /// Nothing more is handed over.
+    /// Closes the handover: no value comes any more.
     pub fn close<R: Wait>(&self, rt: &R) {
         self.state.lock(rt).is_closed = true;
         self.changed.notify_all();

@@ -1,38 +1,38 @@
-//! Threads that are kept for what is handed to them.
+//! Threads that are kept for later work.
 use crate::handover::Handover;
 use std::alloc::Global;
 use std::sync::{Arc, Mutex, Wait};
 
-/// Where such a thread gets what it has to do, one thing after another.
+/// A kept thread: the handover from which it takes one piece of work after another.
 pub(crate) type Helper<T> = Arc<Handover<T>, Global>;
 
-/// Those that have nothing to do.
+/// The kept threads that are idle.
 #[derive(Drop)]
 pub(crate) struct Helpers<T> {
     idle: Mutex<Option<Vec<Helper<T>>>>,
 }
 
 impl<T: Drop> Helpers<T> {
-    /// None. It takes no memory.
+    /// No threads yet. It takes no memory.
     pub fn new(alloc: Global) -> Helpers<T> {
         Helpers {
             idle: Mutex::new(Some(Vec::new(alloc))),
         }
     }
 
-    /// Takes the one that was given back last.
+    /// Takes the thread that was given back last.
     pub fn take<R: Wait>(&self, rt: &R) -> Option<Helper<T>> {
         self.idle.lock(rt).as_mut()?.pop()
     }
 
-    /// Gives one back; it ends where there is no memory for it, or no more are kept.
+    /// Gives a thread back. It ends if there is no memory to keep it, or no more are kept.
     pub fn give_back<R: Wait>(&self, rt: &R, helper: &Helper<T>) {
         if !self.keeps(rt, helper) {
             helper.close(rt);
         }
     }
 
-    // Keeps one, where there is memory for it, and some are kept.
+    // Keeps a thread, if there is memory for that and threads are still kept.
     fn keeps<R: Wait>(&self, rt: &R, helper: &Helper<T>) -> bool {
         let Ok(helper) = Arc::try_clone(helper) else {
             return false;
@@ -43,12 +43,13 @@ impl<T: Drop> Helpers<T> {
         }
     }
 
-    /// Lets all go. Whoever has them as a field calls it, since the check asks too much of dropping what waits there.
+    /// Drops them. Whoever has them as a field calls this, since the check can't prove a plain drop of what waits
+    /// there.
     pub fn discard(self) {
         drop(self);
     }
 
-    /// All of them end, and no more are kept.
+    /// Ends all of them, and keeps no more.
     pub fn end<R: Wait>(&self, rt: &R) {
         let idle = self.idle.lock(rt).take();
         let Some(idle) = idle else {

@@ -1,12 +1,12 @@
-//! TCP connections, whoever is told of them and whatever serves them: where they come from, the names of the two ends,
-//! the workers that let them in and begin them, the keepers that go on with them, the streams of a connection and the
-//! end of its child. A line that can't be written to the log is left out.
+//! TCP connections, without rules and logs of events: where they come from, the names of their two ends, the workers
+//! that let them in and begin them, the keepers that go on with them, their streams, and the end of a child. A line
+//! that can't be written to the log is left out.
 //!
-//! The server uses `serve_through`: when it ends by its count, exactly as many were let in. It alone starts threads.
-//! What it serves is a value that each call gives on or answers as over (`Serving`), on its way to a keeper too
-//! (`GoingOn`). `wait_in_rounds` gives a place back only after a wait that succeeded. Tested only: one more worker is
-//! made if none waits for the socket, what a connection takes is there before it is taken, and a hundred faults of
-//! accepting in succession end the server.
+//! The server uses `serve_through`: if it ends by its count, it let in exactly that many. It alone starts threads. A
+//! connection is a value that each call of `Serving` passes on, or answers as over. Dropping a `GoingOn` ends the
+//! connection too. `wait_in_rounds` gives a place back only after a wait that succeeded. Only tests show that one more
+//! worker is made if none waits for the socket, that what a connection takes is there before it is taken, and that a
+//! hundred faults of accepting in succession end the server.
 #![tactic(auto)]
 
 pub mod accepting;

@@ -22,7 +22,7 @@ pub struct HostNames {
 }
 
 impl HostNames {
-    /// The client at an address and port, with its name where it has one.
+    /// The client at an address and port, with its name if it has one.
     ///
     /// # Errors
     /// There was no memory for the name.
@@ -40,7 +40,7 @@ impl HostNames {
         }
     }
 
-    /// The server's end at an address and port, with its name where it has one: the one that was given, else the table's.
+    /// The server's end at an address and port, with its name if it has one: the given name, or else that of the table.
     ///
     /// # Errors
     /// There was no memory for the name.

@@ -6,11 +6,11 @@ use child_jobs::{Job, Place, Running, finish};
 use connection_facts::Status;
 use std::sync::ledger::Ledger;
 
-/// Waits for a child in up to three rounds. Before the second and the third it is killed; before the first too where that is asked for. Its
-/// place is given back with how it ended, as its job told in the last of them.
+/// Waits for a child in up to three rounds. It is killed before the second and the third, and under `by_force` before
+/// the first too. Its place is given back with how it ended, as its job told in the last round.
 ///
 /// # Errors
-/// It could not be waited for three times: the same child holds the same place.
+/// All three waits failed: the same child holds the same place.
 pub fn wait_in_rounds<L: Ledger, C: Job>(
     running: Running<L, C>,
     by_force: bool,
@@ -28,7 +28,7 @@ pub fn wait_in_rounds<L: Ledger, C: Job>(
     }
 }
 
-// Waits for a child, which is killed before where that is asked for. It is handed back where the wait failed.
+// Waits for a child, and under `by_force` kills it first. If the wait fails, the child is handed back.
 fn wait_once<L: Ledger, C: Job>(
     running: Running<L, C>,
     by_force: bool,

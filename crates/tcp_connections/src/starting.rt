@@ -1,4 +1,4 @@
-//! What starts the programs of connections.
+//! Starts the programs of connections.
 ghost use Rattle.std.specs.Prelude.{◌≡◌, IfOk, IfErr};
 ghost use Rattle.child_jobs.specs.Programs.{ProgramText};
 ghost use Rattle.stream_tools.specs.declared.process.NotStarted.{NotStarted as Refusal};
@@ -11,18 +11,19 @@ use std::sync::{Mutex, Wait};
 use stream_tools::NotStarted;
 use ucspi_env::Environment;
 
-/// What starts the programs of connections, each of which is shut by an `X`.
+/// Starts the programs of connections. An `X` shuts a connection.
 pub trait Starter<X> {
     /// What it starts.
     type Job: Job;
 
-    /// Why it may have started no program with these variables for a connection. One of which nothing is known may answer anything.
+    /// Why it may refuse to start a program with these variables for a connection. A starter of which nothing is known
+    /// may answer anything.
     ghost refuses: { Self → X → ProgramText → Variables → Refusal → Type 0 };
 
     /// Starts a program for a connection, with these variables and no others.
     ///
     /// # Errors
-    /// As of `Launcher::start`, with the system's error where it refused the program. Nothing runs then.
+    /// Those of `Launcher::start`, with the system's error if it refused the program. Nothing runs then.
     fn start_for(
         &self,
         alloc: Global,
@@ -40,11 +41,11 @@ pub trait Starter<X> {
 pub struct ConnectionLauncher<'a, R, S, X> {
     /// The runtime.
     pub rt: &'a R,
-    /// What starts its program.
+    /// Starts its program.
     pub starter: &'a S,
-    /// What shuts it.
+    /// Shuts the connection.
     pub connection: &'a X,
-    /// Takes the system's number of the error by which it refused the program.
+    /// Gets the number of the system's error if the system refuses the program.
     pub refusal: &'a Mutex<Option<i32>>,
 }
 

@@ -2,27 +2,28 @@
 use std::sync::{Condvar, CondvarTimeouts, Mutex, Wait};
 use std::time::{Clock, Duration};
 
-/// What the system gives a server for its connections, and what each of them takes. A connection is taken once there is what it may take.
+/// What the system gives a server for its connections, and what each of them takes. The server takes a connection only
+/// once there is all that it may take.
 #[derive(Clone, Copy, PartialEq, Eq, Debug)]
 pub struct Supply {
-    /// How many descriptors the process may open beside those that it has.
+    /// How many descriptors the process may still open.
     pub descriptors: u64,
-    /// How many a connection takes at most until its child runs, itself among them.
+    /// How many a connection takes at most until its child runs, its own socket included.
     pub to_begin: u64,
-    /// How many it takes from then on: no more than before.
+    /// How many it takes once its child runs; no more than before.
     pub to_go_on: u64,
-    /// What connections take of a memory that is limited.
+    /// What connections take of memory, if it is limited.
     pub memory: Option<Memory>,
 }
 
-/// What connections take of a memory that is limited, in bytes.
+/// What connections take of limited memory, in bytes.
 #[derive(Clone, Copy, PartialEq, Eq, Debug)]
 pub struct Memory {
-    /// How many connections there may be at once whose child does not run yet.
+    /// How many connections may be at once whose child does not run yet.
     pub at_once: u64,
-    /// What all of these take at most.
+    /// What all of these take together, at most.
     pub to_begin: usize,
-    /// What a connection takes at most whose child runs.
+    /// What one connection whose child runs takes, at most.
     pub to_go_on: usize,
 }
 
@@ -37,7 +38,7 @@ impl Supply {
         }
     }
 
-    // How many connections there may be at once whose child does not run yet.
+    // How many connections may be at once whose child does not run yet.
     pub(crate) fn at_once(&self) -> u64 {
         match self.memory {
             Some(memory) => memory.at_once,
@@ -46,8 +47,9 @@ impl Supply {
     }
 }
 
-/// A process that is kept in reserve, as a thread that waits: the system counts threads with processes. Where there is no process for a program
-/// it is given back, for good; from then on the server looks whether there are processes before it makes a thread.
+/// A process that is kept in reserve, as a thread that waits: the system counts threads and processes together. If a
+/// program finds no process, the reserve is given back, for good. From then on the server looks whether there are
+/// processes before it makes a thread.
 #[derive(Drop)]
 pub struct Reserve {
     is_gone: Mutex<bool>,
@@ -55,7 +57,7 @@ pub struct Reserve {
 }
 
 impl Reserve {
-    /// One that is not given back.
+    /// A reserve that is not given back yet.
     pub fn new() -> Reserve {
         Reserve {
             is_gone: Mutex::new(false),
@@ -83,7 +85,7 @@ impl Reserve {
     }
 }
 
-/// What there is for connections, and who has some of it.
+/// What there is for connections, and how much of it they have.
 #[derive(Drop)]
 pub(crate) struct Means {
     supply: Supply,
@@ -91,10 +93,10 @@ pub(crate) struct Means {
     changed: Condvar,
 }
 
-// What connections have of it.
+// What connections have.
 #[derive(Clone, Copy)]
 struct Held {
-    // how many connections are alive, the next one counted; and how many of these have no child yet
+    // how many connections are alive, including the next one; and how many of these have no child yet
     alive: u64,
     beginning: u64,
     // how many descriptors are left
@@ -102,7 +104,7 @@ struct Held {
 }
 
 impl Means {
-    /// Nobody has any of it.
+    /// All of it is free.
     pub fn new(supply: Supply) -> Means {
         Means {
             supply,
@@ -128,7 +130,7 @@ impl Means {
         held.descriptors = held.descriptors.saturating_sub(to_begin);
     }
 
-    /// The child of a connection runs.
+    /// The child of a connection runs: what only its begin took is free again.
     pub fn began<R: Wait>(&self, rt: &R) {
         let mut held = self.held.lock(rt);
         held.beginning = held.beginning.saturating_sub(1);
@@ -138,17 +140,17 @@ impl Means {
         self.changed.notify_all();
     }
 
-    /// A connection is over whose child ran.
+    /// A connection whose child ran is over.
     pub fn ended<R: Wait>(&self, rt: &R) {
         self.give(rt, 0, self.supply.to_go_on);
     }
 
-    /// A connection is over whose child did not run, or it did not come.
+    /// A connection is over before its child ran, or did not come at all.
     pub fn give_back<R: Wait>(&self, rt: &R) {
         self.give(rt, 1, self.supply.to_begin);
     }
 
-    // What a connection had is there again.
+    // What a connection had is free again.
     fn give<R: Wait>(&self, rt: &R, beginning: u64, descriptors: u64) {
         let mut held = self.held.lock(rt);
         held.alive = held.alive.saturating_sub(1);
@@ -158,8 +160,8 @@ impl Means {
         self.changed.notify_all();
     }
 
-    /// How many connections begin. Where memory is limited, it first waits until none does, and none is taken until
-    /// `let_begin`: so a look for memory takes none that they need.
+    /// How many connections have no child yet. If memory is limited, it first waits until there is none, and lets none
+    /// begin until `let_begin`. So a look for memory takes none that they need.
     pub fn hold_up<R: Wait>(&self, rt: &R) -> u64 {
         let is_limited = self.supply.memory.is_some();
         let mut held = self.changed.wait_while(
@@ -182,7 +184,7 @@ impl Means {
         }
     }
 
-    /// Waits until a connection is over, but for no longer than `most`. Where none is alive it waits for none, and says so.
+    /// Waits until a connection is over, for at most this time. If none is alive, it answers `false` at once.
     pub fn wait_for_one<R: Wait + Clock>(&self, rt: &R, most: Duration) -> bool {
         let held = self.held.lock(rt);
         let before = held.alive;

@@ -7,15 +7,16 @@ use std::sync::Wait;
 use std::thread;
 use std::thread::{Builder, Scope, Threads};
 
-/// How many bytes the stack of such a thread has, the least that there are. Its calls are few and not deep: they were seen to take 36 KiB at most.
+/// How many bytes the stack of such a thread has: the least that a thread gets. Its calls are few and not deep, and
+/// were seen to take 36 KiB at most.
 const STACK: usize = 128 * 1024;
 
-/// What starts a thread of a connection.
+/// Starts a thread of a connection.
 pub(crate) fn connection_thread() -> Builder {
     Builder::new().stack_size(STACK)
 }
 
-/// Starts the thread that is a process in reserve. Whether there was one to have.
+/// Starts the thread that keeps a process in reserve. Whether the system had one.
 pub(crate) fn start_reserve<'a: 's, 's, E, R>(
     scope: &Scope<'s, E>,
     rt: &'a R,
@@ -34,7 +35,8 @@ where
         .is_ok()
 }
 
-/// Whether so many processes could be made now: the system counts threads with them, so that many threads are made, and end at once.
+/// Whether this many processes could be made now. The system counts threads with processes, so this many threads are
+/// made, and end at once.
 pub(crate) fn has_processes<R: Threads + Wait + Sync>(rt: &R, count: u64) -> bool {
     let leave = Handover::new();
     let leave = &leave;
@@ -56,7 +58,7 @@ pub(crate) fn has_processes<R: Threads + Wait + Sync>(rt: &R, count: u64) -> boo
     )
 }
 
-// Starts a thread that ends once it is let go. Whether there was one to have.
+// Starts a thread that ends once `leave` is closed. Whether the system had one.
 fn start_idle<'a: 's, 's, E, R>(scope: &Scope<'s, E>, rt: &'a R, leave: &'a Handover<()>) -> bool
 where
     R: Wait + Sync + 's,

@@ -20,22 +20,22 @@ use std::thread;
 use std::thread::{Scope, Threads};
 use std::time::Clock;
 
-/// So often a server tries to make its first worker, over some two and a half seconds.
+/// How often a server tries to make its first worker, over some two and a half seconds.
 const TRIES: u32 = 8;
 
-/// For so many programs at most it is looked whether there are processes, before a worker is made. Where there are too
-/// few, the last programs wait for those before them.
+/// For at most this many programs, the server looks whether there are processes before it makes a worker. If there are
+/// too few, the last programs wait for those before them.
 const PROCESSES: u64 = 4;
 
-/// By so many bytes, two pages, a look for memory asks for more than the last one.
+/// By how many bytes a look for memory asks for more than the last one: two pages.
 const MORE: usize = 8 * 1024;
 
-/// Lets connections in, at most so many at once, until `count` were let in or no more can be. Then it closes
-/// `admission`, waits until all that were let in are over, and gives it back. A worker lets each in, and serves it until
-/// its program runs. A keeper goes on with it, and a second thread passes on what the client sends, where that is done.
-/// Where there is no keeper to have, the worker goes on himself. This thread makes one more worker where none waits.
+/// Lets connections in until `count` were let in or no more can be. Then it closes `admission`, waits until all that
+/// were let in are over, and gives it back. At most `most` workers let them in, each of which serves a connection until
+/// its program runs. Then a keeper goes on with it, or the worker itself if there is no keeper. A second thread passes
+/// on what the client sends, if `server` does that. This thread makes one more worker whenever none waits at the door.
 ///
-/// How many were let in is counted from none: `admission` is a new one.
+/// The count begins at 0, since nobody was let in by `admission` before.
 pub fn serve_through<R, V, Q, U>(
     rt: &R,
     alloc: Global,
@@ -88,15 +88,15 @@ struct Workers<'a, R: Wait, V: Serving<Q::Work, Upward = U>, Q: Admission, U: Dr
     server: &'a V,
     door: Mutex<Door<Q>>,
     crew: Crew,
-    // whether the one that was made is there, with his second thread where there is one; and then, whether he stays
+    // whether the worker that was made is there, with its second thread if it needs one; and then, whether it stays
     arrived: Handover<bool>,
     wanted: Handover<bool>,
-    // second threads, and those that go on with connections
+    // the idle second threads, and the idle keepers
     seconds: &'a Helpers<U>,
     keepers: Helpers<GoingOn<'a, R, V, Q::Work, U>>,
     supply: Supply,
     means: &'a Means,
-    // how many bytes of memory a look for it found last, where it is limited
+    // how many bytes the last look for memory found, if memory is limited
     found: AtomicUsize,
     reserve: &'a Reserve,
 }
@@ -113,12 +113,12 @@ where
         self.supply.memory.is_some()
     }
 
-    // Whether there was no want of threads yet: a connection may have more than its worker.
+    // Whether threads were never scarce: then a connection may have more than its worker.
     fn has_plenty(&self) -> bool {
         !self.is_limited() && !self.reserve.is_gone(self.rt)
     }
 
-    // The server ends so.
+    // Ends the server in this way.
     fn end(&self, end: ServeEnd)
         requires other { end ≢ Count }
     {
@@ -156,8 +156,8 @@ where
         unreachable!()
     }
 
-    // Counts a fault of accepting. One for want of descriptors or memory waits for a pause, or until a connection is
-    // over; where there was one to wait for it is none of the hundred.
+    // Counts a fault of accepting. After one for want of descriptors or memory it waits for a pause, or until a
+    // connection is over. If a connection was alive, the fault is none of the hundred.
     fn pause(&self, door: &mut Door<Q>, fault: AcceptFault) {
         if fault == AcceptFault::NoRoom {
             let pause = door.next_pause();
@@ -169,7 +169,7 @@ where
         door.count_fault();
     }
 
-    // Passes on what one client after another sends, until none comes any more.
+    // Passes on what each client sends, one after another, until no more come.
     fn pass_up_in_turn(&self, second: &Handover<U>) {
         for _ in self.rt.forever() {
             let Some(sent) = second.take(self.rt) else {
@@ -180,16 +180,17 @@ where
         }
     }
 
-    // Whether there is what the connections of all workers take beside descriptors: memory where it is limited, and
-    // processes where there were too few before.
+    // Whether there is what the connections of all workers take beside descriptors: memory if it is limited, and
+    // processes if there were too few before.
     fn has_supplies(&self, workers: usize, beginning: u64) -> bool {
         self.has_memory(workers)
             && (!self.reserve.is_gone(self.rt)
                 || has_processes(self.rt, beginning.clamp(1, PROCESSES)))
     }
 
-    // Whether there is memory for the connections of so many workers, where it is limited. Each look asks for more than
-    // the last that found it: what is no larger the C library takes from what it keeps for this thread alone.
+    // Whether there is memory for the connections of this many workers, if it is limited. Each look asks for more than
+    // the last one that succeeded. The C library would serve a smaller request from what it keeps for this thread
+    // alone.
     fn has_memory(&self, workers: usize) -> bool {
         let Some(memory) = self.supply.memory else {
             return true;
@@ -207,7 +208,8 @@ where
         is_there
     }
 
-    // A thread is there. Where memory is limited it first asks for some, with which the C library takes what it reserves.
+    // A new thread begins. If memory is limited it asks for some, so that the C library reserves now what it reserves
+    // for a thread.
     fn come_up(&self) {
         if self.is_limited() {
             drop(Vec::<u8>::with_capacity(self.alloc, 64));
@@ -242,8 +244,8 @@ where
         );
     }
 
-    // Makes one more worker where none is at the door, until no more connections come. Where that fails it is tried
-    // again after a pause. A server whose first worker can't be made ends.
+    // Makes one more worker whenever none is at the door, until no more connections come. If that fails, it pauses and
+    // tries again. A server that can't make its first worker ends.
     fn make_workers<'s, E>(&'s self, scope: &'s Scope<'s, E>) {
         let (mut pause, mut left, mut is_made) = (Pause::first(), TRIES, false);
         for _ in self.rt.forever() {
@@ -267,7 +269,7 @@ where
         }
     }
 
-    // Makes a worker, where there is a thread for him and what his connection would take, while so many begin.
+    // Makes a worker, if there is a thread for it and what its connection would take while this many others begin.
     fn make_worker<'s, E>(&'s self, scope: &'s Scope<'s, E>, beginning: u64) -> bool {
         if !self.start_worker(scope) || self.arrived.take(self.rt) != Some(true) {
             return false;
@@ -280,7 +282,7 @@ where
         stays
     }
 
-    // Starts the thread of a worker, where there is one to have.
+    // Starts the thread of a worker. Whether the system had one.
     fn start_worker<'s, E>(&'s self, scope: &'s Scope<'s, E>) -> bool {
         let workers = self;
         connection_thread()
@@ -293,7 +295,8 @@ where
             .is_ok()
     }
 
-    // A worker comes, and works if he is wanted. Where what clients send is passed on he has a second thread, or goes.
+    // A new worker reports that it is there, and works if it is wanted. If what clients send is passed on, it needs a
+    // second thread, and ends without one.
     fn come_to_work<'s, E>(&'s self, scope: &'s Scope<'s, E>) {
         self.come_up();
         let second = self.second(scope);
@@ -309,7 +312,7 @@ where
         }
     }
 
-    // Starts a second thread, where there is one to have.
+    // Starts a second thread, if the system has one.
     fn start_second<'s, E>(&'s self, scope: &'s Scope<'s, E>) -> Option<Helper<U>> {
         let workers = self;
         let second = Arc::new(workers.alloc, Handover::new()).ok()?;
@@ -328,7 +331,7 @@ where
         Some(second)
     }
 
-    // Lets one connection after another in and serves it, until no more come, or it lacks a second thread.
+    // Lets in and serves one connection after another, until no more come, or the worker lacks a second thread.
     fn work<'s, E>(&'s self, scope: &'s Scope<'s, E>, second: Option<Helper<U>>) {
         let mut second = second;
         for _ in self.rt.forever() {
@@ -347,8 +350,8 @@ where
         }
     }
 
-    // Serves a connection up to the start of its program. A keeper goes on with it, or this worker where there is none
-    // to have. Afterwards the worker has the second thread for the next connection, where it is to be had.
+    // Serves a connection up to the start of its program. A keeper goes on with it, or this worker if there is no
+    // keeper. Afterwards the worker has a second thread for the next connection, if the system has one.
     fn serve<'s, E>(
         &'s self,
         scope: &'s Scope<'s, E>,
@@ -382,7 +385,7 @@ where
         *second = self.second(scope);
     }
 
-    // A keeper that has nothing to do, where there is one to have and there was no want of threads.
+    // An idle keeper, or a new one; none if threads were scarce or the system has no more.
     fn keeper<'s, E>(
         &'s self,
         scope: &'s Scope<'s, E>,
@@ -397,7 +400,7 @@ where
         self.start_keeper(scope)
     }
 
-    // A second thread that has nothing to do, where there is one to have and what clients send is passed on.
+    // An idle second thread, or a new one; none if what clients send is not passed on, or the system has no more.
     fn second<'s, E>(&'s self, scope: &'s Scope<'s, E>) -> Option<Helper<U>> {
         if !self.server.passes_up() {
             return None;
@@ -408,7 +411,7 @@ where
         self.start_second(scope)
     }
 
-    // Starts a keeper, where there is a thread to have.
+    // Starts a keeper, if the system has a thread for it.
     fn start_keeper<'s, E>(
         &'s self,
         scope: &'s Scope<'s, E>,
@@ -429,7 +432,7 @@ where
         Some(keeper)
     }
 
-    // Goes on with one connection after another, until none comes any more.
+    // Goes on with one connection after another, until no more come.
     fn keep_in_turn<'s>(&'s self, keeper: &'s Helper<GoingOn<'a, R, V, Q::Work, U>>) {
         for _ in self.rt.forever() {
             let Some(going_on) = keeper.take(self.rt) else {
