@@ -148,10 +148,10 @@ fn words_of(alloc: Global, program: &Program) -> Result<Vec<u8>, StartFault> {
 /// Variables, each as `NAME=VALUE`.
 fn variables_of(alloc: Global, environment: &Environment) -> Result<Vec<u8>, StartFault> {
     let mut variables = Vec::new(alloc);
-    for (name, value) in environment.iter() {
-        push_part(&mut variables, name.as_bytes())?;
+    for variable in environment.as_slice() {
+        push_part(&mut variables, variable.name().as_bytes())?;
         push_part(&mut variables, b"=")?;
-        push_text(&mut variables, value.as_bytes())?;
+        push_text(&mut variables, variable.value().as_bytes())?;
     }
     Ok(variables)
 }

@@ -25,10 +25,10 @@ pub fn push_built(
 
 /// Adds the variables in their order, and the value of one by its name.
 fn push_all(given: &Arguments<'_>, variables: &Environment, out: &mut Answer) {
-    for (name, value) in variables.iter() {
-        out.text(name.as_str());
+    for variable in variables.as_slice() {
+        out.text(variable.name());
         out.text("=");
-        out.line(value.as_str());
+        out.line(variable.value());
     }
     out.debug_line(&variables.get(given.text("name")));
 }

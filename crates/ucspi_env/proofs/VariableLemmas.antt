@@ -1,115 +1,315 @@
--- A map of texts, as the list of variables that it is.
-use Rattle.std.proofs.Common.{◌≡◌, ℕ, ◌+◌, ◌<◌, List, [], ◌∷◌, ◌++◌, length, drop, get_or, drop-cons, add-one, Bor, Bool, true, false, cond, map, Some, option_map, refl, sym, ap, ◌∙◌, subst, append-nil, append_assoc, bytes_eq}
-use Rattle.std.specs.Prelude.{find, string_bytes}
-use Rattle.std.specs.BTreeMap.{insert_entry, is_at}
-use Rattle.std.specs.Cmp.Lexicographic.{slice_cmp}
-use Rattle.std.specs.Cmp.{IsTotalOrder}
-use Rattle.std.specs.List.{AllByRecursion, fold}
-use Rattle.std.specs.List.Sorted.{IsStrictlySortedBy}
-use Rattle.std.specs.Map.{keys_of, lookup, remove_entry}
-use Rattle.std.specs.Ordering.{is_eq, match_ordering, nat_cmp, ordering_reverse}
-use Rattle.std.specs.String.{string_cmp, string_cmp_total}
+-- Variables in order: the place of a name, and what is done there.
+use Rattle.std.proofs.Common.{◌≡◌, ℕ, zero, suc, ◌+◌, ◌<◌, ◌≤◌, List, [], ◌∷◌, length, drop, get_or, set, slice_get, drop-cons, add-one, Bor, Bool, true, false, cond, map, Some, None, Option, option_map, refl, sym, ap, ◌∙◌, subst, bytes_eq, arith}
+use Rattle.std.specs.Prelude.{find}
+use Rattle.std.specs.Arc.{arc_value}
+use Rattle.std.specs.Cmp.Lexicographic.{slice_cmp, nat_list_cmp_total}
+use Rattle.std.specs.List.{AllByRecursion, AllZip, fold, insert, prefix_len, remove}
+use Rattle.std.specs.List.Sorted.{IsPartitionedBy, IsPartitionPoint, IsStrictlySortedBy}
+use Rattle.std.specs.Map.{keys_of}
+use Rattle.std.specs.Ordering.{is_eq, is_lt, match_ordering, nat_cmp, ordering_reverse}
 use Rattle.std.specs.declared.alloc.Global.{Global}
 use Rattle.std.specs.declared.cmp.Ordering.{Ordering}
 use Rattle.std.specs.declared.cmp.Ordering.TheVariants.{Less, Equal, Greater}
-use Rattle.std.specs.declared.string.String.{String}
+use Rattle.std.specs.declared.sync.Arc.{Arc}
+use Rattle.std.proofs.lemmas.List.Sums.{prefix_len_is, prefix_len-le-length}
 use Rattle.std.proofs.lemmas.Map.Text.{is_eq-slice_cmp}
 use Rattle.std.proofs.lemmas.Slice.Eq.{bytes_eq-Decides}
-use Rattle.ucspi_env.specs.Variables.{Variable, Variables, value_of, variable_of, with_value, with_values, without_value}
+use Rattle.ucspi_env.specs.Variables.{AreOrdered, Variable, Variables, is_below, is_named, place_of, value_at, value_of, variables_in, with_value, without_value}
 
--- the entries of a map of texts
-abbrev pub Texts : Type 0
-Texts = List (String Global × String Global)
+-- how two names compare
+abbrev pub names_cmp : List ℕ → List ℕ → Ordering
+names_cmp = slice_cmp nat_cmp
 
--- bytes compare equal in either order
-pub bytes_eq-swap : (xs ys : List ℕ) → bytes_eq xs ys ≡ bytes_eq ys xs
-bytes_eq-swap xs ys = by_cases (bytes_eq xs ys) (bytes_eq ys xs) refl refl where
-  by_cases : (a b : Bool) → bytes_eq xs ys ≡ a → bytes_eq ys xs ≡ b → a ≡ b
-  by_cases true true e f = refl
-  by_cases false false e f = refl
-  by_cases true false e f = sym ((bytes_eq-Decides ys xs).1 (sym ((bytes_eq-Decides xs ys).0 e))) ∙ f
-  by_cases false true e f = sym e ∙ (bytes_eq-Decides xs ys).1 (sym ((bytes_eq-Decides ys xs).0 f))
+-- the other way round
+turned : (a b : List ℕ) (o : Ordering) → names_cmp a b ≡ o → names_cmp b a ≡ ordering_reverse o
+turned a b o is = nat_list_cmp_total.antisymm b a ∙ ap ordering_reverse is
 
--- the test by which a map finds a name
-finds_name : (name : List ℕ) (key : String Global) → is_eq (slice_cmp nat_cmp name (string_bytes key)) ≡ bytes_eq (string_bytes key) name
-finds_name name key = is_eq-slice_cmp name (string_bytes key) ∙ bytes_eq-swap name (string_bytes key)
+-- names that compare as different are different
+apart : (a b : List ℕ) (o : Ordering) → names_cmp a b ≡ o → bytes_eq a b ≡ is_eq o
+apart a b o is = sym (is_eq-slice_cmp a b) ∙ ap is_eq is
 
--- a text that is put among them
-pub variables-insert_entry : (es : Texts) (name value : String Global) → map variable_of (insert_entry string_cmp es name value) ≡ with_value (map variable_of es) (string_bytes name) (string_bytes value)
-variables-insert_entry [] name value = refl
-variables-insert_entry (e ∷ es) name value =
-    let rest = variables-insert_entry es name value in
-    elim (string_cmp name e.0) as (λ o. map variable_of (match_ordering o ((name, value) ∷ e ∷ es) ((e.0, value) ∷ es) (e ∷ insert_entry string_cmp es name value)) ≡ match_ordering o ((string_bytes name, string_bytes value) ∷ variable_of e ∷ map variable_of es) ((string_bytes e.0, string_bytes value) ∷ map variable_of es) (variable_of e ∷ with_value (map variable_of es) (string_bytes name) (string_bytes value))) [
-      | Less ↦ refl
-      | Equal ↦ refl
-      | Greater ↦ ap (λ (vs : List Variable). variable_of e ∷ vs) rest
-    ]
+alike : (a b : List ℕ) → names_cmp a b ≡ Equal → a ≡ b
+alike a b is = (bytes_eq-Decides a b).0 (apart a b Equal is)
 
--- a name that is taken away
-pub variables-remove_entry : (es : Texts) (name : List ℕ) → map variable_of (remove_entry (is_at (λ (k : String Global). slice_cmp nat_cmp name (string_bytes k))) es) ≡ without_value (map variable_of es) name
-variables-remove_entry [] name = refl
-variables-remove_entry (e ∷ es) name =
-    let rest = variables-remove_entry es name in
-    let test = is_at (λ (k : String Global). slice_cmp nat_cmp name (string_bytes k)) in
-    ap (λ b. map variable_of (cond b es (e ∷ remove_entry test es))) (finds_name name e.0)
-    ∙ (elim (bytes_eq (string_bytes e.0) name) as (λ b. map variable_of (cond b es (e ∷ remove_entry test es)) ≡ cond b (map variable_of es) (variable_of e ∷ without_value (map variable_of es) name)) [
-      | true ↦ refl
-      | false ↦ ap (λ (vs : List Variable). variable_of e ∷ vs) rest
-    ])
+lt_less : (o : Ordering) → is_lt o ≡ true → o ≡ Less
+lt_less Less h = refl
+lt_less Equal h = cc
+lt_less Greater h = cc
 
--- the value that is found at a name
-pub variables-lookup : (es : Texts) (name : List ℕ) → option_map string_bytes (lookup (is_at (λ (k : String Global). slice_cmp nat_cmp name (string_bytes k))) es) ≡ value_of (map variable_of es) name
-variables-lookup [] name = refl
-variables-lookup (e ∷ es) name =
-    let rest = variables-lookup es name in
-    let test = is_at (λ (k : String Global). slice_cmp nat_cmp name (string_bytes k)) in
-    ap (λ b. option_map string_bytes (cond b (Some e.1) (lookup test es))) (finds_name name e.0)
-    ∙ (elim (bytes_eq (string_bytes e.0) name) as (λ b. option_map string_bytes (cond b (Some e.1) (lookup test es)) ≡ option_map (λ (v : Variable). v.1) (cond b (Some (variable_of e)) (find (λ (v : Variable). bytes_eq v.0 name) (map variable_of es)))) [
-      | true ↦ refl
-      | false ↦ rest
-    ])
+one_more : (n : ℕ) → suc n ≡ 1 + n
+one_more n = omega arith
 
--- the variables of a map after a text was put among them
-pub variables_put : (es after : Texts) (name value : String Global) (vs : Variables) (n v : List ℕ) → after ≡ insert_entry string_cmp es name value → map variable_of es ≡ vs → string_bytes name ≡ n → string_bytes value ≡ v → map variable_of after ≡ with_value vs n v
-variables_put es after name value vs n v put seen is_name is_value =
-    ap (map variable_of) put
-    ∙ variables-insert_entry es name value
-    ∙ ap (λ (us : Variables). with_value us (string_bytes name) (string_bytes value)) seen
-    ∙ ap (λ b. with_value vs b (string_bytes value)) is_name
-    ∙ ap (λ b. with_value vs n b) is_value
+-- no variables are in order; of those that are, the first is before the others, and they are in order
+pub none-ordered : AreOrdered []
+unfolding IsStrictlySortedBy
+none-ordered = tt
 
--- entries in order, put one by one, are the entries
-module _ {K X : Type 0} {R : K → K → Ordering} (laws : IsTotalOrder R) where
-  before_all : (k : K) (front : List (K × X)) (e : K × X) (es : List (K × X)) → AllByRecursion (λ y. R k y ≡ Less) (keys_of (front ++ e ∷ es)) → R k e.0 ≡ Less
-  before_all k [] e es h = h.0
-  before_all k (f ∷ front) e es h = before_all k front e es h.1
+ordered_first : (v : Variable) (vars : Variables) → AreOrdered (v ∷ vars) → AllByRecursion (λ y. names_cmp v.0 y ≡ Less) (keys_of vars)
+unfolding IsStrictlySortedBy
+ordered_first v vars h = h.0
 
-  insert_entry-last : (front : List (K × X)) (e : K × X) (es : List (K × X)) → IsStrictlySortedBy R (keys_of (front ++ e ∷ es)) → insert_entry R front e.0 e.1 ≡ front ++ e ∷ []
-  unfolding IsStrictlySortedBy
-  insert_entry-last [] e es h = refl
-  insert_entry-last (f ∷ front) e es h =
-      let above : R e.0 f.0 ≡ Greater = laws.antisymm e.0 f.0 ∙ ap ordering_reverse (before_all f.0 front e es h.0) in
-      ap (λ o. match_ordering o (e ∷ f ∷ front) ((f.0, e.1) ∷ front) (f ∷ insert_entry R front e.0 e.1)) above
-      ∙ ap (λ (xs : List (K × X)). f ∷ xs) (insert_entry-last front e es h.1)
+ordered_rest : (v : Variable) (vars : Variables) → AreOrdered (v ∷ vars) → AreOrdered vars
+unfolding IsStrictlySortedBy
+ordered_rest v vars h = h.1
 
-  puts-sorted : (front es : List (K × X)) → IsStrictlySortedBy R (keys_of (front ++ es)) → fold (λ fs (e : K × X). insert_entry R fs e.0 e.1) front es ≡ front ++ es
-  puts-sorted front [] h = sym (append-nil front)
-  puts-sorted front (e ∷ es) h =
-      ap (λ fs. fold (λ fs (e : K × X). insert_entry R fs e.0 e.1) fs es) (insert_entry-last front e es h)
-      ∙ puts-sorted (front ++ e ∷ []) es (subst (λ (xs : List (K × X)). IsStrictlySortedBy R (keys_of xs)) (sym (append_assoc front (e ∷ []) es)) h)
-      ∙ append_assoc front (e ∷ []) es
+ordered_more : (v : Variable) (vars : Variables) → AllByRecursion (λ y. names_cmp v.0 y ≡ Less) (keys_of vars) → AreOrdered vars → AreOrdered (v ∷ vars)
+unfolding IsStrictlySortedBy
+ordered_more v vars first rest = (first, rest)
 
--- texts that are put one by one
-with_values-texts : (front es : Texts) → with_values (map variable_of front) (map variable_of es) ≡ map variable_of (fold (λ fs (e : String Global × String Global). insert_entry string_cmp fs e.0 e.1) front es)
-with_values-texts front [] = refl
-with_values-texts front (e ∷ es) =
-    ap (λ (vs : Variables). with_values vs (map variable_of es)) (sym (variables-insert_entry front e.0 e.1))
-    ∙ with_values-texts (insert_entry string_cmp front e.0 e.1) es
+-- each answer of a comparison
+by_ordering : {P : Type 0} (r : Ordering) → (r ≡ Less → P) → (r ≡ Equal → P) → (r ≡ Greater → P) → P
+by_ordering Less a b c = a refl
+by_ordering Equal a b c = b refl
+by_ordering Greater a b c = c refl
 
--- the variables of a map, put one by one into none, are the same
-pub with_values-none : (es : Texts) → IsStrictlySortedBy string_cmp (keys_of es) → with_values [] (map variable_of es) ≡ map variable_of es
-with_values-none es ordered =
-    with_values-texts [] es ∙ ap (map variable_of) (puts-sorted string_cmp_total [] es ordered)
+module _ (name value : List ℕ) where
+  -- a value is put at the place of its name: over the one that has it, or between those below and those above
+  abbrev pub put_at : Variables → ℕ → Variables
+  put_at vars place = cond (is_named name (slice_get vars place)) (set vars place (name, value)) (insert vars place (name, value))
+
+  pub with_value-at : (vars : Variables) → with_value vars name value ≡ put_at vars (place_of vars name)
+  with_value-at [] = refl
+  with_value-at (v ∷ vars) = by_ordering (names_cmp v.0 name) (less (with_value-at vars)) same more where
+    whole : Ordering → Variables
+    whole o = match_ordering o ((name, value) ∷ v ∷ vars) ((v.0, value) ∷ vars) (v ∷ with_value vars name value)
+
+    there : Ordering → Variables
+    there o = put_at (v ∷ vars) (cond (is_lt o) (1 + place_of vars name) 0)
+
+    next : (b : Bool) → v ∷ cond b (set vars (place_of vars name) (name, value)) (insert vars (place_of vars name) (name, value)) ≡ cond b (set (v ∷ vars) (suc (place_of vars name)) (name, value)) (insert (v ∷ vars) (suc (place_of vars name)) (name, value))
+    next true = refl
+    next false = refl
+
+    less : with_value vars name value ≡ put_at vars (place_of vars name) → names_cmp v.0 name ≡ Less → whole (names_cmp name v.0) ≡ there (names_cmp v.0 name)
+    less rest is =
+        ap whole (turned v.0 name Less is)
+        ∙ ap (λ (vs : Variables). v ∷ vs) rest
+        ∙ next (is_named name (slice_get vars (place_of vars name)))
+        ∙ ap (put_at (v ∷ vars)) (one_more (place_of vars name))
+        ∙ sym (ap there is)
+
+    same : names_cmp v.0 name ≡ Equal → whole (names_cmp name v.0) ≡ there (names_cmp v.0 name)
+    same is =
+        ap whole (turned v.0 name Equal is)
+        ∙ ap (λ (n : List ℕ). (n, value) ∷ vars) (alike v.0 name is)
+        ∙ sym (ap (λ b. cond b ((name, value) ∷ vars) ((name, value) ∷ v ∷ vars)) (apart v.0 name Equal is))
+        ∙ sym (ap there is)
+
+    more : names_cmp v.0 name ≡ Greater → whole (names_cmp name v.0) ≡ there (names_cmp v.0 name)
+    more is =
+        ap whole (turned v.0 name Greater is)
+        ∙ sym (ap (λ b. cond b ((name, value) ∷ vars) ((name, value) ∷ v ∷ vars)) (apart v.0 name Greater is))
+        ∙ sym (ap there is)
+
+-- a name below all others is below the rest
+below_rest : (a b : List ℕ) (names : List (List ℕ)) → names_cmp a b ≡ Less → AllByRecursion (λ y. names_cmp b y ≡ Less) names → AllByRecursion (λ y. names_cmp a y ≡ Less) names
+below_rest a b [] less all = tt
+below_rest a b (n ∷ names) less all = (nat_list_cmp_total.trans a b n less all.0, below_rest a b names less all.1)
+
+-- the order stays when a value is put
+above_put : (k name value : List ℕ) (vars : Variables) → names_cmp k name ≡ Less → AllByRecursion (λ y. names_cmp k y ≡ Less) (keys_of vars) → AllByRecursion (λ y. names_cmp k y ≡ Less) (keys_of (with_value vars name value))
+above_put k name value [] less all = (less, tt)
+above_put k name value (v ∷ vars) less all = by (above_put k name value vars less all.1) (names_cmp name v.0) where
+  by : AllByRecursion (λ y. names_cmp k y ≡ Less) (keys_of (with_value vars name value)) → (o : Ordering) → AllByRecursion (λ y. names_cmp k y ≡ Less) (keys_of (match_ordering o ((name, value) ∷ v ∷ vars) ((v.0, value) ∷ vars) (v ∷ with_value vars name value)))
+  by rest Less = (less, all)
+  by rest Equal = all
+  by rest Greater = (all.0, rest)
+
+pub put-ordered : (name value : List ℕ) (vars : Variables) → AreOrdered vars → AreOrdered (with_value vars name value)
+put-ordered name value [] h = ordered_more (name, value) [] tt h
+put-ordered name value (v ∷ vars) h = by_ordering (names_cmp name v.0)
+    (λ is. subst (λ o. AreOrdered (of_order o)) (sym is) (ordered_more (name, value) (v ∷ vars) (is, below_rest name v.0 (keys_of vars) is (ordered_first v vars h)) h))
+    (λ is. subst (λ o. AreOrdered (of_order o)) (sym is) (ordered_more (v.0, value) vars (ordered_first v vars h) (ordered_rest v vars h)))
+    (λ is. subst (λ o. AreOrdered (of_order o)) (sym is) (ordered_more v (with_value vars name value) (above_put v.0 name value vars (turned name v.0 Greater is) (ordered_first v vars h)) (put-ordered name value vars (ordered_rest v vars h))))
+  where
+    of_order : Ordering → Variables
+    of_order o = match_ordering o ((name, value) ∷ v ∷ vars) ((v.0, value) ∷ vars) (v ∷ with_value vars name value)
+
+-- a name that stands before all of them is none of theirs
+module _ (name : List ℕ) where
+  not_named : (k : List ℕ) → names_cmp name k ≡ Less → bytes_eq k name ≡ false
+  not_named k less = apart k name Greater (turned name k Less less)
+
+  pub without-none : (vars : Variables) → AllByRecursion (λ y. names_cmp name y ≡ Less) (keys_of vars) → without_value vars name ≡ vars
+  without-none [] all = refl
+  without-none (v ∷ vars) all =
+      ap (λ b. cond b vars (v ∷ without_value vars name)) (not_named v.0 all.0) ∙ ap (λ (vs : Variables). v ∷ vs) (without-none vars all.1)
+
+  pub value-none : (vars : Variables) → AllByRecursion (λ y. names_cmp name y ≡ Less) (keys_of vars) → value_of vars name ≡ None
+  value-none [] all = refl
+  value-none (v ∷ vars) all =
+      ap (λ b. option_map (λ (v : Variable). v.1) (cond b (Some v) (find (λ (v : Variable). bytes_eq v.0 name) vars))) (not_named v.0 all.0) ∙ value-none vars all.1
+
+  -- it is taken away from its place, if it is there
+  abbrev pub removed_at : Variables → ℕ → Variables
+  removed_at vars place = cond (is_named name (slice_get vars place)) (remove vars place) vars
+
+  pub without_value-at : (vars : Variables) → AreOrdered vars → without_value vars name ≡ removed_at vars (place_of vars name)
+  without_value-at [] h = refl
+  without_value-at (v ∷ vars) h = by_ordering (names_cmp v.0 name) (less (without_value-at vars (ordered_rest v vars h))) same more where
+    there : Ordering → Variables
+    there o = removed_at (v ∷ vars) (cond (is_lt o) (1 + place_of vars name) 0)
+
+    whole : Bool → Variables
+    whole b = cond b vars (v ∷ without_value vars name)
+
+    next : (b : Bool) → v ∷ cond b (remove vars (place_of vars name)) vars ≡ cond b (remove (v ∷ vars) (suc (place_of vars name))) (v ∷ vars)
+    next true = refl
+    next false = refl
+
+    less : without_value vars name ≡ removed_at vars (place_of vars name) → names_cmp v.0 name ≡ Less → whole (bytes_eq v.0 name) ≡ there (names_cmp v.0 name)
+    less rest is =
+        ap whole (apart v.0 name Less is)
+        ∙ ap (λ (vs : Variables). v ∷ vs) rest
+        ∙ next (is_named name (slice_get vars (place_of vars name)))
+        ∙ ap (removed_at (v ∷ vars)) (one_more (place_of vars name))
+        ∙ sym (ap there is)
+
+    same : names_cmp v.0 name ≡ Equal → whole (bytes_eq v.0 name) ≡ there (names_cmp v.0 name)
+    same is = ap whole (apart v.0 name Equal is) ∙ sym (ap (λ b. cond b vars (v ∷ vars)) (apart v.0 name Equal is)) ∙ sym (ap there is)
+
+    more : names_cmp v.0 name ≡ Greater → whole (bytes_eq v.0 name) ≡ there (names_cmp v.0 name)
+    more is =
+        ap whole (apart v.0 name Greater is)
+        ∙ ap (λ (vs : Variables). v ∷ vs) (without-none vars (below_rest name v.0 (keys_of vars) (turned v.0 name Greater is) (ordered_first v vars h)))
+        ∙ sym (ap (λ b. cond b vars (v ∷ vars)) (apart v.0 name Greater is))
+        ∙ sym (ap there is)
+
+  -- so is its value
+  pub value_of-at : (vars : Variables) → AreOrdered vars → value_of vars name ≡ value_at name (slice_get vars (place_of vars name))
+  value_of-at [] h = refl
+  value_of-at (v ∷ vars) h = by_ordering (names_cmp v.0 name) (less (value_of-at vars (ordered_rest v vars h))) same more where
+    there : Ordering → Option (List ℕ)
+    there o = value_at name (slice_get (v ∷ vars) (cond (is_lt o) (1 + place_of vars name) 0))
+
+    whole : Bool → Option (List ℕ)
+    whole b = option_map (λ (v : Variable). v.1) (cond b (Some v) (find (λ (v : Variable). bytes_eq v.0 name) vars))
+
+    less : value_of vars name ≡ value_at name (slice_get vars (place_of vars name)) → names_cmp v.0 name ≡ Less → whole (bytes_eq v.0 name) ≡ there (names_cmp v.0 name)
+    less rest is =
+        ap whole (apart v.0 name Less is)
+        ∙ rest
+        ∙ ap (λ n. value_at name (slice_get (v ∷ vars) n)) (one_more (place_of vars name))
+        ∙ sym (ap there is)
+
+    same : names_cmp v.0 name ≡ Equal → whole (bytes_eq v.0 name) ≡ there (names_cmp v.0 name)
+    same is = ap whole (apart v.0 name Equal is) ∙ sym (ap (λ b. cond b (Some v.1) None) (apart v.0 name Equal is)) ∙ sym (ap there is)
+
+    more : names_cmp v.0 name ≡ Greater → whole (bytes_eq v.0 name) ≡ there (names_cmp v.0 name)
+    more is =
+        ap whole (apart v.0 name Greater is)
+        ∙ value-none vars (below_rest name v.0 (keys_of vars) (turned v.0 name Greater is) (ordered_first v vars h))
+        ∙ sym (ap (λ b. cond b (Some v.1) None) (apart v.0 name Greater is))
+        ∙ sym (ap there is)
+
+  -- the order stays when it is taken away
+  above_removed : (k : List ℕ) (vars : Variables) → AllByRecursion (λ y. names_cmp k y ≡ Less) (keys_of vars) → AllByRecursion (λ y. names_cmp k y ≡ Less) (keys_of (without_value vars name))
+  above_removed k [] all = tt
+  above_removed k (v ∷ vars) all = by (above_removed k vars all.1) (bytes_eq v.0 name) where
+    by : AllByRecursion (λ y. names_cmp k y ≡ Less) (keys_of (without_value vars name)) → (b : Bool) → AllByRecursion (λ y. names_cmp k y ≡ Less) (keys_of (cond b vars (v ∷ without_value vars name)))
+    by rest true = all.1
+    by rest false = (all.0, rest)
+
+  pub removed-ordered : (vars : Variables) → AreOrdered vars → AreOrdered (without_value vars name)
+  removed-ordered [] h = h
+  removed-ordered (v ∷ vars) h = by (removed-ordered vars (ordered_rest v vars h)) (bytes_eq v.0 name) where
+    by : AreOrdered (without_value vars name) → (b : Bool) → AreOrdered (cond b vars (v ∷ without_value vars name))
+    by rest true = ordered_rest v vars h
+    by rest false = ordered_more v (without_value vars name) (above_removed v.0 vars (ordered_first v vars h)) rest
+
+-- the variables of shared ones
+abbrev pub Shared : Type 0
+Shared = Arc Variable Global
+
+seen-set : (all : List Shared) (i : ℕ) (one : Shared) → variables_in (set all i one) ≡ set (variables_in all) i (arc_value one)
+seen-set [] i one = refl
+seen-set (a ∷ all) zero one = refl
+seen-set (a ∷ all) (suc i) one = ap (λ (vs : Variables). arc_value a ∷ vs) (seen-set all i one)
+
+seen-insert : (all : List Shared) (i : ℕ) (one : Shared) → variables_in (insert all i one) ≡ insert (variables_in all) i (arc_value one)
+seen-insert all zero one = refl
+seen-insert [] (suc i) one = refl
+seen-insert (a ∷ all) (suc i) one = ap (λ (vs : Variables). arc_value a ∷ vs) (seen-insert all i one)
+
+seen-remove : (all : List Shared) (i : ℕ) → variables_in (remove all i) ≡ remove (variables_in all) i
+seen-remove [] zero = refl
+seen-remove [] (suc i) = refl
+seen-remove (a ∷ all) zero = refl
+seen-remove (a ∷ all) (suc i) = ap (λ (vs : Variables). arc_value a ∷ vs) (seen-remove all i)
+
+pub seen-clones : (all copies : List Shared) → AllZip (λ a b. arc_value b ≡ arc_value a) all copies → variables_in copies ≡ variables_in all
+seen-clones [] [] h = refl
+seen-clones [] (b ∷ copies) h = absurd h
+seen-clones (a ∷ all) [] h = absurd h
+seen-clones (a ∷ all) (b ∷ copies) h =
+    ap (λ (v : Variable). v ∷ variables_in copies) h.0 ∙ ap (λ (vs : Variables). arc_value a ∷ vs) (seen-clones all copies h.1)
+
+length-seen : (all : List Shared) → length (variables_in all) ≡ length all
+length-seen [] = refl
+length-seen (a ∷ all) = ap suc (length-seen all)
+
+-- what is done at a place among those that are shared
+module _ (all : List Shared) (vars : Variables) (name : List ℕ) (place : ℕ) (seen : variables_in all ≡ vars) (at : place ≡ place_of vars name) where
+  pub place_within : place ≤ length all
+  place_within = omega (arith, prefix_len-le-length (is_below name) vars, length-seen all, ap length seen, at)
+
+  pub put_over : (value : List ℕ) (one : Shared) → arc_value one ≡ (name, value) → is_named name (slice_get vars place) ≡ true → variables_in (set all place one) ≡ with_value vars name value
+  put_over value one is there =
+      seen-set all place one
+      ∙ ap (λ (vs : Variables). set vs place (arc_value one)) seen
+      ∙ ap (set vars place) is
+      ∙ sym (ap (λ b. cond b (set vars place (name, value)) (insert vars place (name, value))) there)
+      ∙ ap (put_at name value vars) at
+      ∙ sym (with_value-at name value vars)
+
+  pub put_between : (value : List ℕ) (one : Shared) → arc_value one ≡ (name, value) → is_named name (slice_get vars place) ≡ false → variables_in (insert all place one) ≡ with_value vars name value
+  put_between value one is there =
+      seen-insert all place one
+      ∙ ap (λ (vs : Variables). insert vs place (arc_value one)) seen
+      ∙ ap (insert vars place) is
+      ∙ sym (ap (λ b. cond b (set vars place (name, value)) (insert vars place (name, value))) there)
+      ∙ ap (put_at name value vars) at
+      ∙ sym (with_value-at name value vars)
+
+  pub taken_away : AreOrdered vars → is_named name (slice_get vars place) ≡ true → variables_in (remove all place) ≡ without_value vars name
+  taken_away ordered there =
+      seen-remove all place
+      ∙ ap (λ (vs : Variables). remove vs place) seen
+      ∙ sym (ap (λ b. cond b (remove vars place) vars) there)
+      ∙ ap (removed_at name vars) at
+      ∙ sym (without_value-at name vars ordered)
+
+  pub left : AreOrdered vars → is_named name (slice_get vars place) ≡ false → vars ≡ without_value vars name
+  left ordered there =
+      sym (ap (λ b. cond b (remove vars place) vars) there) ∙ ap (removed_at name vars) at ∙ sym (without_value-at name vars ordered)
+
+-- where a search ends
+module _ (name : List ℕ) where
+  abbrev pub stands_below : Shared → Bool
+  stands_below a = is_below name (arc_value a)
+
+  first_below : (v : Variable) (all : List Shared) (j : ℕ) (d : Shared) → AllByRecursion (λ y. names_cmp v.0 y ≡ Less) (keys_of (variables_in all)) → j < length all → stands_below (get_or all j d) ≡ true → is_below name v ≡ true
+  first_below v [] j d first within below = absurd (omega arith)
+  first_below v (a ∷ all) zero d first within below =
+      ap is_lt (nat_list_cmp_total.trans v.0 (arc_value a).0 name first.0 (lt_less (names_cmp (arc_value a).0 name) below))
+  first_below v (a ∷ all) (suc j) d first within below = first_below v all j d first.1 (omega arith) below
+
+  parted : (all : List Shared) → AreOrdered (variables_in all) → (i j : ℕ) (d : Shared) → i ≤ j → j < length all → stands_below (get_or all j d) ≡ true → stands_below (get_or all i d) ≡ true
+  parted [] ordered i j d le within below = absurd (omega arith)
+  parted (a ∷ all) ordered zero zero d le within below = below
+  parted (a ∷ all) ordered zero (suc j) d le within below = first_below (arc_value a) all j d (ordered_first (arc_value a) (variables_in all) ordered) (omega arith) below
+  parted (a ∷ all) ordered (suc i) zero d le within below = absurd (omega arith)
+  parted (a ∷ all) ordered (suc i) (suc j) d le within below = parted all (ordered_rest (arc_value a) (variables_in all) ordered) i j d (omega arith) (omega arith) below
+
+  place-seen : (all : List Shared) → place_of (variables_in all) name ≡ prefix_len stands_below all
+  place-seen [] = refl
+  place-seen (a ∷ all) = ap (λ n. cond (stands_below a) (1 + n) 0) (place-seen all)
+
+  pub searched : (all : List Shared) (place : ℕ) → AreOrdered (variables_in all) → place ≤ length all → (IsPartitionedBy stands_below all → IsPartitionPoint (λ y. stands_below y ≡ true) (λ y. stands_below y ≡ false) all place) → place ≡ place_of (variables_in all) name
+  searched [] place ordered within point = let none : place ≤ 0 = within in omega arith
+  searched (a ∷ all) place ordered within point =
+      let ends = point (parted (a ∷ all) ordered) in
+      sym (place-seen (a ∷ all) ∙ prefix_len_is stands_below (a ∷ all) place a within (λ k l. ends.0 k a (omega arith) l) (λ l. ends.1 place a (omega arith) l))
 
 -- of names that are taken away in turn, the next
 pub without_more : (names : List (Bor (List ℕ))) (vs after whole : Variables) (k : ℕ) (d : Bor (List ℕ)) → k < length names → fold without_value vs (map (λ (name : Bor (List ℕ)). name.now) (drop k names)) ≡ whole → after ≡ without_value vs (get_or names k d).now → fold without_value after (map (λ (name : Bor (List ℕ)). name.now) (drop (k + 1) names)) ≡ whole

@@ -1,12 +1,14 @@
 -- Variables: a value for each of some names.
-use Rattle.std.specs.Prelude.{ℕ, List, Option, map, bytes_eq, find, option_map, string_bytes}
-use Rattle.std.specs.Ordering.{nat_cmp}
+use Rattle.std.specs.Prelude.{ℕ, Bool, false, List, Option, Some, None, map, bytes_eq, find, option_map, if◌then◌else◌}
+use Rattle.std.specs.Ordering.{is_lt, nat_cmp}
 use Rattle.std.specs.Cmp.Lexicographic.{slice_cmp}
-use Rattle.std.specs.List.{fold}
-use Rattle.std.specs.BTreeMap.{BTreeMap, insert_entry}
-use Rattle.std.specs.Map.{remove_entry}
-use Rattle.std.specs.declared.string.String.{String}
+use Rattle.std.specs.List.{fold, prefix_len}
+use Rattle.std.specs.List.Sorted.{IsStrictlySortedBy}
+use Rattle.std.specs.Arc.{arc_value}
+use Rattle.std.specs.BTreeMap.{insert_entry}
+use Rattle.std.specs.Map.{keys_of, remove_entry}
 use Rattle.std.specs.declared.alloc.Global.{Global}
+use Rattle.std.specs.declared.sync.Arc.{Arc}
 
 -- a name and its value
 abbrev pub Variable : Type 0
@@ -15,6 +17,10 @@ Variable = List ℕ × List ℕ
 -- each name once, in the order of the names' bytes
 abbrev pub Variables : Type 0
 Variables = List Variable
+
+-- the names ascend
+abbrev pub AreOrdered : Variables → Type 0
+AreOrdered vars = IsStrictlySortedBy (slice_cmp nat_cmp) (keys_of vars)
 
 -- with a value for a name, in the place of the one before
 abbrev pub with_value : Variables → List ℕ → List ℕ → Variables
@@ -32,9 +38,24 @@ with_values = fold (λ vars (v : Variable). with_value vars v.0 v.1)
 abbrev pub value_of : Variables → List ℕ → Option (List ℕ)
 value_of vars name = option_map (λ (v : Variable). v.1) (find (λ (v : Variable). bytes_eq v.0 name) vars)
 
--- the variables that a map of texts is
-abbrev pub variable_of : String Global × String Global → Variable
-variable_of entry = (string_bytes entry.0, string_bytes entry.1)
+-- whether a variable's name stands before this one
+abbrev pub is_below : List ℕ → Variable → Bool
+is_below name v = is_lt (slice_cmp nat_cmp v.0 name)
 
-abbrev pub variables_in : BTreeMap (String Global) (String Global) → Variables
-variables_in entries = map variable_of entries.entries
+-- how many variables stand before this name
+abbrev pub place_of : Variables → List ℕ → ℕ
+place_of vars name = prefix_len (is_below name) vars
+
+-- whether there is a variable, and it has this name
+abbrev pub is_named : List ℕ → Option Variable → Bool
+is_named name None = false
+is_named name (Some v) = bytes_eq v.0 name
+
+-- its value, if it has this name
+abbrev pub value_at : List ℕ → Option Variable → Option (List ℕ)
+value_at name None = None
+value_at name (Some v) = if bytes_eq v.0 name then Some v.1 else None
+
+-- the variables that are shared
+abbrev pub variables_in : List (Arc Variable Global) → Variables
+variables_in = map arc_value

@@ -41,17 +41,17 @@ pub fn build(
 ) -> Result<Environment, AllocError>
     ensures { IfOk result (λ variables. variables ≡ environment_of inherited.now local.now peer.now decision.now) }
 {
-    let mut variables = inherit(alloc, inherited)?;
+    let mut variables = inherit(inherited)?;
     put_connection(alloc, &mut variables, local, peer)?;
     put_settings(alloc, &mut variables, decision.settings.as_slice())?;
     Ok(variables)
 }
 
 /// Copies what is inherited, without the names that a connection gives.
-fn inherit(alloc: Global, inherited: &Environment) -> Result<Environment, AllocError>
+fn inherit(inherited: &Environment) -> Result<Environment, AllocError>
     ensures { IfOk result (λ variables. variables ≡ without_own inherited.now) }
 {
-    let mut variables = inherited.copy(alloc)?;
+    let mut variables = inherited.copy()?;
     for name in &OWN_NAMES {
         variables.remove(name);
     }

@@ -1,25 +1,77 @@
 //! The variables of a program.
-ghost use Rattle.std.specs.Prelude.{◌≡◌, [], length, map, IfOk, OnOk, OnErr};
+ghost use Rattle.std.specs.Prelude.{◌≡◌, [], length, map, slice_get, string_bytes, IfOk, OnOk, OnErr};
+ghost use Rattle.std.specs.Arc.{arc_value};
 ghost use Rattle.connection_facts.specs.Peers.{given};
-ghost use Rattle.ucspi_env.specs.Variables.{value_of, variable_of, with_value, without_value};
+ghost use Rattle.ucspi_env.specs.Variables.{AreOrdered, is_below, is_named, place_of, value_at, value_of, with_value, without_value};
 
 use std::alloc::{AllocError, Global};
-use std::collections::BTreeMap;
-use std::collections::btree_map::Iter;
 use std::marker::Model;
+use std::sync::Arc;
+
+/// A name and its value.
+#[derive(Drop)]
+pub struct Variable {
+    name: String,
+    value: String,
+}
+
+impl Model for Variable {
+    ghost use Rattle.std.specs.Prelude.{string_bytes};
+    ghost use Rattle.ucspi_env.specs.Variables.{Variable as Pair};
+
+    ghost Value = { Pair };
+
+    ghost view = { λ v. (string_bytes v.name, string_bytes v.value) };
+}
+
+impl Variable {
+    fn new(alloc: Global, name: &str, value: &str) -> Result<Variable, AllocError>
+        ensures { IfOk result (λ variable. variable ≡ (name.now, value.now)) }
+    {
+        Ok(Variable {
+            name: String::from_str(alloc, name)?,
+            value: String::from_str(alloc, value)?,
+        })
+    }
+
+    /// Its name.
+    pub fn name(&self) -> &str
+        ensures { result.now ≡ self.now.0 }
+    {
+        self.name.as_str()
+    }
+
+    /// Its value.
+    pub fn value(&self) -> &str
+        ensures { result.now ≡ self.now.1 }
+    {
+        self.value.as_str()
+    }
+
+    fn is_below(&self, name: &str) -> bool
+        ensures { result ≡ is_below name.now self.now }
+    {
+        self.name.as_str() < name
+    }
+}
 
 /// The variables of a program: a value for each of some names.
+///
+/// Copies of an environment share the texts of its variables.
 #[derive(Drop)]
 pub struct Environment {
-    variables: BTreeMap<String, String>,
+    // in the order of the names' bytes
+    variables: Vec<Arc<Variable, Global>>,
 }
 
 impl Model for Environment {
-    ghost use Rattle.ucspi_env.specs.Variables.{Variables, variables_in};
+    ghost use Rattle.ucspi_env.specs.Variables.{Variables, AreOrdered, variables_in};
 
     ghost Value = { Variables };
 
-    ghost view = { λ e. variables_in e.variables };
+    ghost view = { λ e. variables_in e.variables.items };
+
+    ghost invariant = { λ e. AreOrdered (variables_in e.variables.items) };
 }
 
 impl Environment {
@@ -28,7 +80,7 @@ impl Environment {
         ensures { result ≡ [] }
     {
         Environment {
-            variables: BTreeMap::new(alloc),
+            variables: Vec::new(alloc),
         }
     }
 
@@ -40,9 +92,13 @@ impl Environment {
         ensures put { OnOk result (self.new ≡ with_value self.old name.now value.now) }
         ensures unchanged { OnErr result (self.new ≡ self.old) }
     {
-        let name = String::from_str(alloc, name)?;
-        let value = String::from_str(alloc, value)?;
-        self.variables.insert(name, value)?;
+        let variable = Arc::new(alloc, Variable::new(alloc, name, value)?)?;
+        let place = self.place_of(name);
+        if self.is_named(place, name) {
+            self.variables[place] = variable;
+        } else {
+            self.variables.insert(place, variable)?;
+        }
         Ok(())
     }
 
@@ -50,15 +106,17 @@ impl Environment {
     pub(crate) fn remove(&mut self, name: &str)
         ensures { self.new ≡ without_value self.old name.now }
     {
-        let _ = self.variables.remove(name);
+        let place = self.place_of(name);
+        if self.is_named(place, name) {
+            drop(self.variables.remove(place));
+        }
     }
 
     /// The value of a name, if it has one.
     pub fn get(&self, name: &str) -> Option<&str>
         ensures { given result ≡ value_of self.now name.now }
     {
-        let value = self.variables.get(name)?;
-        Some(value.as_str())
+        self.value_at(self.place_of(name), name)
     }
 
     /// How many variables there are.
@@ -69,20 +127,52 @@ impl Environment {
     }
 
     /// The names and values, in the order of the names' bytes.
-    pub fn iter(&self) -> Iter<'_, String, String>
-        ensures { map variable_of result ≡ self.now }
+    pub fn as_slice(&self) -> &[Arc<Variable, Global>]
+        ensures { map arc_value result.now ≡ self.now }
     {
-        self.variables.iter()
+        self.variables.as_slice()
     }
 
     /// A copy of the variables.
-    pub fn copy(&self, alloc: Global) -> Result<Environment, AllocError>
+    pub fn copy(&self) -> Result<Environment, AllocError>
         ensures { IfOk result (λ copy. copy ≡ self.now) }
     {
-        let mut copy = Environment::new(alloc);
-        for (name, value) in &self.variables {
-            copy.put(alloc, name.as_str(), value.as_str())?;
+        Ok(Environment {
+            variables: self.variables.clone()?,
+        })
+    }
+
+    // How many names are below this one.
+    fn place_of(&self, name: &str) -> usize
+        ensures place { result ≡ place_of self.now name.now }
+        ensures ordered { AreOrdered self.now }
+    {
+        self.variables
+            .partition_point(|variable| variable.is_below(name))
+    }
+
+    // Whether the variable at a place has this name.
+    fn is_named(&self, place: usize, name: &str) -> bool
+        ensures { result ≡ is_named name.now (slice_get self.now place) }
+    {
+        match self.variables.get(place) {
+            Some(variable) => variable.name() == name,
+            None => false,
         }
-        Ok(copy)
+    }
+    // The value of the variable at a place, if it has this name.
+    fn value_at(&self, place: usize, name: &str) -> Option<&str>
+        ensures { given result ≡ value_at name.now (slice_get self.now place) }
+    {
+        match self.variables.get(place) {
+            Some(variable) => {
+                if variable.name() == name {
+                    Some(variable.value())
+                } else {
+                    None
+                }
+            }
+            None => None,
+        }
     }
 }

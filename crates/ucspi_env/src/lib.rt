@@ -11,6 +11,6 @@ pub mod hosts;
 pub mod local;
 
 pub use child::build;
-pub use environment::Environment;
+pub use environment::{Environment, Variable};
 pub use hosts::{HostFault, HostTable};
 pub use local::Local;

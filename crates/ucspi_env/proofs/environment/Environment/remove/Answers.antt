@@ -1,10 +1,21 @@
-use Rattle.std.proofs.Common.{ap, ◌∙◌, map}
-use Rattle.ucspi_env.specs.Variables.{Variables, variable_of, without_value}
-use Rattle.ucspi_env.proofs.VariableLemmas.{variables-remove_entry}
+use Rattle.std.proofs.Common.{◌∙◌, ap, subst, sym}
+use Rattle.ucspi_env.specs.Variables.{AreOrdered, variables_in}
+use Rattle.ucspi_env.proofs.VariableLemmas.{left, removed-ordered, taken_away}
 use Rattle.ucspi_env.proofs.environment.Environment.remove.Goals as goal
 
-pub returns : goal.returns
-returns c =
-    ap (map variable_of) c.remove.ensures.entries
-    ∙ variables-remove_entry c.self.inside.variables.entries c.args.name.now
-    ∙ ap (λ (vs : Variables). without_value vs c.args.name.now) c.self.view_is
+pub returns-then-is_named : goal.returns-then-is_named
+returns-then-is_named c =
+    ap variables_in c.remove.ensures.items
+    ∙ taken_away c.self.inside.variables.items c.args.self.now c.args.name.now c.place_of-place.result c.self.view_is c.place_of-place.ensures.place
+    (subst AreOrdered c.self.view_is c.self.invariant) (sym c.is_named.ensures ∙ c.if-is_named.true)
+
+pub invariant_of-self : goal.invariant_of-self
+invariant_of-self c =
+    let ordered = subst AreOrdered c.self.view_is c.self.invariant in
+    let now = taken_away c.self.inside.variables.items c.args.self.now c.args.name.now c.place_of-place.result c.self.view_is c.place_of-place.ensures.place ordered (sym c.is_named.ensures ∙ c.if-is_named.true) in
+    subst AreOrdered (sym (ap variables_in c.remove.ensures.items ∙ now)) (removed-ordered c.args.name.now c.args.self.now ordered)
+
+pub returns-else-is_named : goal.returns-else-is_named
+returns-else-is_named c =
+    left c.self.inside.variables.items c.args.self.now c.args.name.now c.place_of-place.result c.self.view_is c.place_of-place.ensures.place
+    (subst AreOrdered c.self.view_is c.self.invariant) (sym c.is_named.ensures ∙ c.if-is_named.false)
