@@ -11,14 +11,14 @@ use Rattle.connection_facts.specs.Peers.{Client}
 use Rattle.rule_lookup.specs.declared.decision.Decision.{Decision}
 use Rattle.rule_lookup.specs.declared.decision.DecideFault.{DecideFault}
 use Rattle.rule_lookup.specs.declared.decision.DecideFault.TheVariants.{Find, Code, OutOfMemory}
-use Rattle.rule_lookup.specs.declared.decision.Missing.{Missing}
+use Rattle.rule_lookup.specs.declared.decision.WhenMissing.{WhenMissing}
 use Rattle.server_events.proofs.InstalledRuns.{decided_by_file}
 use Rattle.server_yard.specs.Installed.{IsWholeFile}
 use Rattle.server_yard.specs.Passes.{trust_in}
 use Rattle.one_connection.specs.Openings.{FailsToDecide, IsUndamaged, Opening}
 
 -- a whole file decides, and so does none
-decides_whole : (bytes : Option (List ℕ)) (missing : Missing) (peer : Client) → IsWholeFile bytes
+decides_whole : (bytes : Option (List ℕ)) (missing : WhenMissing) (peer : Client) → IsWholeFile bytes
     → (decision : Decision) × (decision_from (option_map reading bytes) missing peer ≡ Ok decision)
 decides_whole None missing peer whole = (without_file missing, refl)
 decides_whole (Some file) missing peer whole = (decision_in whole.0 peer, decided_by_file whole.0 file peer whole.1)
@@ -30,7 +30,7 @@ known true true (Some bytes) fact is holds = holds
 known true false (Some bytes) fact is holds = holds
 known false sound (Some bytes) fact is holds = absurd (cc)
 
-pub undamaged : (honest sound : Bool) (bytes : Option (List ℕ)) (missing : Missing) (peer : Client) (fault : DecideFault) → IsTrue honest → ∥ IsWholeFile bytes ∥₁
+pub undamaged : (honest sound : Bool) (bytes : Option (List ℕ)) (missing : WhenMissing) (peer : Client) (fault : DecideFault) → IsTrue honest → ∥ IsWholeFile bytes ∥₁
     → DecisionFails (trust_in honest sound bytes) (decision_from (option_map reading bytes) missing peer) fault → IsUndamaged fault
 undamaged honest sound bytes missing peer (Find find.Short) is whole fails =
     ∥∥₁_elim whole (hlevel props) (λ (w : IsWholeFile bytes).

@@ -12,7 +12,7 @@ use Rattle.rule_lookup.specs.declared.decision.Decision.{Decision}
 use Rattle.rule_lookup.specs.declared.decision.DecideFault.{DecideFault}
 use Rattle.rule_lookup.specs.declared.decision.DecideFault.TheVariants.{Find, Code}
 use Rattle.rule_lookup.specs.declared.decision.DecideFault.TheVariants as decide
-use Rattle.rule_lookup.specs.declared.decision.Missing.{Missing}
+use Rattle.rule_lookup.specs.declared.decision.WhenMissing.{WhenMissing}
 use Rattle.connection_facts.specs.declared.outcome.DropCause.{DropCause}
 use Rattle.connection_facts.specs.declared.outcome.DropCause.TheVariants as cause
 use Rattle.server_yard.specs.Passes.{pass_bytes, pass_missing, trust_in}
@@ -21,7 +21,7 @@ use Rattle.server_yard.specs.declared.pass.Pass.{Pass}
 -- the bytes of the rules file, or that there is none, and what is decided without one
 pub record Opening : Type 0 where
   pub bytes : Option (List ℕ)
-  pub missing : Missing
+  pub missing : WhenMissing
 
 -- what a pass has
 abbrev pub opening_of : {L F : Type 0} {p : _} {l : _} {f : _} → (F → List ℕ) → Pass L F p l f → Opening

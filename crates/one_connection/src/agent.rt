@@ -3,7 +3,7 @@ ghost use Rattle.std.specs.Prelude.{◌≡◌, ℕ, Bool, Option, Some, true, fa
 ghost use Rattle.child_jobs.specs.Runs.{place_of};
 ghost use Rattle.rule_lines.specs.declared.instr.Verdict.TheVariants.{Allow};
 ghost use Rattle.connection_facts.specs.Peers.{Client};
-ghost use Rattle.rule_lookup.specs.declared.decision.Missing.{Missing as MissingFile};
+ghost use Rattle.rule_lookup.specs.declared.decision.WhenMissing.{WhenMissing as MissingFile};
 ghost use Rattle.server_events.specs.declared.event.Event.{Event as EventOf};
 ghost use Rattle.server_events.specs.declared.event.Event.TheVariants.{Opened, Decided, Started, StartFailed, Dropped};
 ghost use Rattle.server_events.specs.declared.event.Stage.{Stage as StageOf};

@@ -16,18 +16,18 @@ use Rattle.rule_lookup.specs.declared.decision.Decision.{Decision}
 use Rattle.rule_lookup.specs.declared.decision.DecideFault.{DecideFault}
 use Rattle.rule_lookup.specs.declared.decision.DecideFault.TheVariants.{Find, Code, OutOfMemory}
 use Rattle.rule_lookup.specs.declared.decision.Found.TheVariants as found
-use Rattle.rule_lookup.specs.declared.decision.Missing.{Missing}
-use Rattle.rule_lookup.specs.declared.decision.Missing.TheVariants as missing
+use Rattle.rule_lookup.specs.declared.decision.WhenMissing.{WhenMissing}
+use Rattle.rule_lookup.specs.declared.decision.WhenMissing.TheVariants as missing
 use Rattle.rule_lookup.specs.Forms.{forms_of}
 use Rattle.connection_facts.specs.Peers.{Client}
 
 -- the verdict if there is no rules file
-abbrev pub verdict_without : Missing → Verdict
+abbrev pub verdict_without : WhenMissing → Verdict
 verdict_without missing.Drop = Deny
 verdict_without missing.Allow = Allow
 
 -- the decision if there is no rules file
-abbrev pub without_file : Missing → Decision
+abbrev pub without_file : WhenMissing → Decision
 without_file kind = record { found = found.NoFile; verdict = verdict_without kind; settings = [] }
 
 -- the decision if no form has a rule
@@ -66,7 +66,7 @@ abbrev pub decision_by : (List ℕ → Finding) → Client → Result Decision D
 decision_by finds peer = by_first finds (find (λ form. is_there (finds form)) (forms_of peer))
 
 -- the same if there may be no file
-abbrev pub decision_from : Option (List ℕ → Finding) → Missing → Client → Result Decision DecideFault
+abbrev pub decision_from : Option (List ℕ → Finding) → WhenMissing → Client → Result Decision DecideFault
 decision_from None kind peer = Ok (without_file kind)
 decision_from (Some finds) kind peer = decision_by finds peer
 

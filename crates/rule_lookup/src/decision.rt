@@ -14,7 +14,7 @@ use thiserror::Error;
 
 /// What is decided if there is no rules file.
 #[derive(Clone, Copy)]
-pub enum Missing {
+pub enum WhenMissing {
     /// A connection is denied.
     Drop,
     /// A connection is allowed.
@@ -118,12 +118,12 @@ impl Decision {
         }
     }
 
-    fn without_file(alloc: Global, missing: Missing) -> Decision
+    fn without_file(alloc: Global, missing: WhenMissing) -> Decision
         ensures { result ≡ without_file missing }
     {
         let verdict = match missing {
-            Missing::Drop => Verdict::Deny,
-            Missing::Allow => Verdict::Allow,
+            WhenMissing::Drop => Verdict::Deny,
+            WhenMissing::Allow => Verdict::Allow,
         };
         Decision {
             found: Found::NoFile,
@@ -192,7 +192,7 @@ impl DecideFault {
 pub fn decide<S: RuleSource>(
     alloc: Global,
     source: Option<&S>,
-    missing: Missing,
+    missing: WhenMissing,
     peer: &Peer,
 ) -> Result<Decision, DecideFault>
     ensures no_file { IfNone source.entry (result ≡ Ok (without_file missing)) }

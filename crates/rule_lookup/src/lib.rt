@@ -16,6 +16,6 @@ pub mod source;
 
 pub use address::parse_address;
 pub use answer::append_answer;
-pub use decision::{Address, DecideFault, Decision, Found, Missing, decide};
+pub use decision::{Address, DecideFault, Decision, Found, WhenMissing, decide};
 pub use form::forms;
 pub use source::{RuleSource, find_and_decode};

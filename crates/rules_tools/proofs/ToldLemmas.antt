@@ -7,7 +7,7 @@ use Rattle.rule_lines.specs.Lookups.{Finding, Has, Absent, Broken}
 use Rattle.rule_lines.specs.declared.instr.Instr.{Instr}
 use Rattle.rule_lookup.specs.declared.decision.DecideFault.{DecideFault}
 use Rattle.rule_lookup.specs.declared.decision.Decision.{Decision}
-use Rattle.rule_lookup.specs.declared.decision.Missing.TheVariants.{Drop}
+use Rattle.rule_lookup.specs.declared.decision.WhenMissing.TheVariants.{Drop}
 use Rattle.rule_lookup.specs.declared.decision.Found.TheVariants as found
 use Rattle.rule_lookup.specs.Decisions.{by_code, by_default, by_finding, by_first, by_rule, is_there, without_file}
 use Rattle.rule_lookup.specs.Forms.{forms_of}

@@ -5,7 +5,7 @@ use Rattle.rule_lines.specs.declared.code.CodeFault.TheVariants.{NotCode}
 use Rattle.rule_lines.specs.declared.source.FindFault.TheVariants.{Short}
 use Rattle.rule_lookup.specs.declared.decision.DecideFault.TheVariants.{Find, Code}
 use Rattle.rule_lookup.specs.declared.decision.Decision.{Decision}
-use Rattle.rule_lookup.specs.declared.decision.Missing.TheVariants.{Drop}
+use Rattle.rule_lookup.specs.declared.decision.WhenMissing.TheVariants.{Drop}
 use Rattle.rule_lookup.specs.Decisions.{decision_from}
 use Rattle.connection_facts.specs.Peers.{Client}
 use Rattle.rules_tools.specs.declared.tcprulescheck.CheckFault.{CheckFault}

@@ -18,7 +18,7 @@ use connection_facts::Peer;
 use dir_calls::{Dir, DirFault, Name, NameFault};
 use dir_disk::FolderFault;
 use rule_lines::FindFault;
-use rule_lookup::{DecideFault, Decision, Found, Missing, append_answer, decide};
+use rule_lookup::{DecideFault, Decision, Found, WhenMissing, append_answer, decide};
 use std::alloc::{AllocError, Global};
 use std::error::Error;
 use std::fmt;
@@ -260,7 +260,7 @@ pub fn decide_at<D: Dir>(
             }
         },
     };
-    match decide(alloc, file.as_ref(), Missing::Drop, peer) {
+    match decide(alloc, file.as_ref(), WhenMissing::Drop, peer) {
         Ok(decision) => Ok(decision),
         Err(DecideFault::Find(FindFault::Device)) => Err(CheckFault::ReadFault),
         Err(DecideFault::Find(FindFault::Short)) => Err(CheckFault::Damaged),

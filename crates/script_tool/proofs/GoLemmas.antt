@@ -8,12 +8,12 @@ use Rattle.script_tool.specs.declared.simulation.Progress.{Progress}
 use Rattle.script_tool.specs.declared.simulation.Simulation.{Simulation}
 use Rattle.script_tool.specs.Kept.{HasTexts, IsAt, IsInstalling, MayBeInstalling}
 use Rattle.script_words.specs.Scripts.{To}
-use Rattle.script_tool.specs.Sim.{Begun, State, after, begun_to, texts_to}
+use Rattle.script_tool.specs.Sim.{BegunInstall, State, after, begun_to, texts_to}
 use Rattle.script_tool.specs.Texts.{Texts, at_phases, later_of}
 use Rattle.script_tool.proofs.InstallLemmas.{IsOfBegun-some, begun-none}
 
-abbrev pub phase_told : Phase → Option Begun → Option Phase
-phase_told target = option_map (λ (b : Begun). later_of b.reached target)
+abbrev pub phase_told : Phase → Option BegunInstall → Option Phase
+phase_told target = option_map (λ (b : BegunInstall). later_of b.reached target)
 
 -- what is kept then, and the phase that is told
 pub record GoesTo (target : Phase) (state : State) (now : Simulation) (reached : Option Phase) : Type 0 where
@@ -44,7 +44,7 @@ module _ (target : Phase) (state : State) (kept : Simulation) (at : IsAt kept st
       })
 
   -- one was, and it went on
-  module _ (p later : Progress) (dir : MemDir) (phase : Phase) (goes : (b : Begun) (t : Texts) → IsInstalling (mem_state kept.dir) p b → HasTexts (mem_state kept.dir) t → (phase ≡ later_of b.reached target) × IsInstalling (mem_state dir) later (begun_to target b) × HasTexts (mem_state dir) (at_phases b.text b.reached target t)) where
+  module _ (p later : Progress) (dir : MemDir) (phase : Phase) (goes : (b : BegunInstall) (t : Texts) → IsInstalling (mem_state kept.dir) p b → HasTexts (mem_state kept.dir) t → (phase ≡ later_of b.reached target) × IsInstalling (mem_state dir) later (begun_to target b) × HasTexts (mem_state dir) (at_phases b.text b.reached target t)) where
     pub GoesTo-some : kept.begun ≡ Some p → now ≡ record kept { dir = dir; begun = Some later } → reached ≡ Some phase → GoesTo target state now reached
     GoesTo-some under_way same told =
         let d = mem_state dir in

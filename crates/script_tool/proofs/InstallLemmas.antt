@@ -15,7 +15,7 @@ use Rattle.rules_install.specs.NamePair.{NamePair}
 use Rattle.rules_install.specs.Whole.{Begins, MayBeInstalled}
 use Rattle.script_tool.specs.declared.simulation.Progress.{Progress}
 use Rattle.script_tool.specs.Kept.{IsInstalling, MayBeInstalling, sim_names}
-use Rattle.script_tool.specs.Sim.{Begun, Refusal, profile, refusal_of, told}
+use Rattle.script_tool.specs.Sim.{BegunInstall, Refusal, profile, refusal_of, told}
 
 -- limits with these numbers are those of the tools
 limits_are : (limits : Limits) → limits.text ≡ profile.text → limits.line ≡ profile.line → limits.file ≡ profile.file → limits ≡ profile
@@ -45,7 +45,7 @@ IsInstalling-begun d install text is accepted = record {
 }
 
 -- where no installation is under way, none was begun, and the directory is no matter
-pub begun-none : (d : Directory) (under_way : Option Progress) (begun : Option Begun) → under_way ≡ None → MayBeInstalling d under_way begun → begun ≡ None
+pub begun-none : (d : Directory) (under_way : Option Progress) (begun : Option BegunInstall) → under_way ≡ None → MayBeInstalling d under_way begun → begun ≡ None
 begun-none d None None is may = refl
 begun-none d None (Some b) is may = absurd may
 begun-none d (Some p) begun is may = absurd (none-some p (sym is))
@@ -55,12 +55,12 @@ MayBeInstalling-none d later None none = tt
 MayBeInstalling-none d later (Some p) none = absurd none
 
 -- an installation under way is one that was begun
-pub record IsOfBegun (d : Directory) (p : Progress) (begun : Option Begun) : Type 0 where
-  pub of : Begun
+pub record IsOfBegun (d : Directory) (p : Progress) (begun : Option BegunInstall) : Type 0 where
+  pub of : BegunInstall
   pub is : begun ≡ Some of
   pub installing : IsInstalling d p of
 
-pub IsOfBegun-some : (d : Directory) (under_way : Option Progress) (p : Progress) (begun : Option Begun) → under_way ≡ Some p → MayBeInstalling d under_way begun → IsOfBegun d p begun
+pub IsOfBegun-some : (d : Directory) (under_way : Option Progress) (p : Progress) (begun : Option BegunInstall) → under_way ≡ Some p → MayBeInstalling d under_way begun → IsOfBegun d p begun
 IsOfBegun-some d None p begun is may = absurd (none-some p is)
 IsOfBegun-some d (Some q) p None is may = absurd may
 IsOfBegun-some d (Some q) p (Some b) is may =

@@ -17,7 +17,7 @@ use Rattle.rules_install.specs.declared.fault.InstallFault.TheVariants.{Line, To
 use Rattle.rules_install.proofs.StepFits.{fresh_next, synced_has}
 use Rattle.script_tool.specs.declared.simulation.Progress.{Progress}
 use Rattle.script_tool.specs.Kept.{HasTexts, IsFileOf, IsInstalling, steps_left}
-use Rattle.script_tool.specs.Sim.{Begun, begun_to}
+use Rattle.script_tool.specs.Sim.{BegunInstall, begun_to}
 use Rattle.script_tool.specs.Texts.{Texts, no_texts, at_phase, at_phases, later_of, place_of, place_reached}
 use Rattle.script_tool.proofs.TextLemmas.{step_texts}
 
@@ -72,7 +72,7 @@ module _ (s s' : Installing) (phase : Phase) (same : IsSame s s') (goes : Goes (
 
 -- ---- a step of the installation that was begun
 
-module _ (d new : Directory) (p : Progress) (b : Begun) (at : IsInstalling d p b) where
+module _ (d new : Directory) (p : Progress) (b : BegunInstall) (at : IsInstalling d p b) where
   unfilled : (installing p.install).reached ≡ None → (installing p.install).patched ≡ false
   unfilled none =
       at.blank (subst (λ o. place_reached o < 2) (sym none ∙ at.phase) (let early : place_reached None < 2 = omega arith in early))
@@ -108,9 +108,9 @@ module _ (d new : Directory) (p : Progress) (b : Begun) (at : IsInstalling d p b
 
 -- an installation made some of its steps to a phase: what is left of the way leads where all of it did
 pub record Advances (target : Phase) (old new : Directory) (p p' : Progress) : Type 0 where
-  pub begun : (b : Begun) → IsInstalling old p b → IsInstalling new p' (record { text = b.text; reached = p'.reached })
+  pub begun : (b : BegunInstall) → IsInstalling old p b → IsInstalling new p' (record { text = b.text; reached = p'.reached })
   pub later : later_of p'.reached target ≡ later_of p.reached target
-  pub texts : (b : Begun) (t : Texts) → IsInstalling old p b → HasTexts old t
+  pub texts : (b : BegunInstall) (t : Texts) → IsInstalling old p b → HasTexts old t
       → (now : Texts) × HasTexts new now × (at_phases b.text p'.reached target now ≡ at_phases b.text p.reached target t)
 
 -- the way to a phase leads over the next one, since that fills the scratch file where it was just made
@@ -156,14 +156,14 @@ placed Synced = (omega arith, omega arith)
 placed Named = (omega arith, omega arith)
 placed Done = (omega arith, omega arith)
 
-pub not_done : (d : Directory) (p : Progress) (b : Begun) (target : Phase) → IsInstalling d p b → place_reached p.reached < place_of target → b.reached ≢ Some Done
+pub not_done : (d : Directory) (p : Progress) (b : BegunInstall) (target : Phase) → IsInstalling d p b → place_reached p.reached < place_of target → b.reached ≢ Some Done
 not_done d p b target at ahead done = absurd (omega (arith, ahead, ap place_reached (at.reached ∙ done), (placed target).1))
 
 module _ (target : Phase) (old mid : Directory) (p p_mid : Progress) (so_far : Advances target old mid p p_mid) where
   -- a step more
-  pub advances_more : (new : Directory) (p' : Progress) (phase : Phase) (b : Begun) → IsInstalling mid p_mid b → place_reached p_mid.reached < place_of target
-      → ((b : Begun) → IsInstalling mid p_mid b → (phase ≡ next_phase (installing p_mid.install)) × IsInstalling new p' (record { text = b.text; reached = Some phase }))
-      → ((b : Begun) (t : Texts) → IsInstalling mid p_mid b → HasTexts mid t → HasTexts new (at_phase b.text t phase)) → Advances target old new p p'
+  pub advances_more : (new : Directory) (p' : Progress) (phase : Phase) (b : BegunInstall) → IsInstalling mid p_mid b → place_reached p_mid.reached < place_of target
+      → ((b : BegunInstall) → IsInstalling mid p_mid b → (phase ≡ next_phase (installing p_mid.install)) × IsInstalling new p' (record { text = b.text; reached = Some phase }))
+      → ((b : BegunInstall) (t : Texts) → IsInstalling mid p_mid b → HasTexts mid t → HasTexts new (at_phase b.text t phase)) → Advances target old new p p'
   advances_more new p' phase b at ahead goes shows = record {
     begun = λ c begun. let went = (goes _ (so_far.begun c begun)).1 in subst (λ o. IsInstalling new p' (record { text = c.text; reached = o })) (sym is) went;
     later = ap (λ o. later_of o target) is ∙ (way b.text no_texts).0 ∙ so_far.later;
@@ -187,7 +187,7 @@ module _ (target : Phase) (old mid : Directory) (p p_mid : Progress) (so_far : A
           (on_the_way text p_mid.reached (installing p_mid.install).patched target t (λ early. at.blank (subst (λ o. place_reached o < 2) at.reached early)) ahead)
 
   -- the phase, or a later one, was reached
-  pub arrives : (reached : Phase) → p_mid.reached ≡ Some reached → place_of target ≤ place_of reached → (b : Begun) (t : Texts) → IsInstalling old p b → HasTexts old t
+  pub arrives : (reached : Phase) → p_mid.reached ≡ Some reached → place_of target ≤ place_of reached → (b : BegunInstall) (t : Texts) → IsInstalling old p b → HasTexts old t
       → (reached ≡ later_of b.reached target) × IsInstalling mid p_mid (begun_to target b) × HasTexts mid (at_phases b.text b.reached target t)
   arrives reached is le b t at has = (
     later,

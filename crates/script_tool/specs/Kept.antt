@@ -17,7 +17,7 @@ use Rattle.rules_install.specs.NamePair.{NamePair}
 use Rattle.rules_install.specs.declared.Phase.{Phase}
 use Rattle.script_tool.specs.declared.simulation.Simulation.{Simulation}
 use Rattle.script_tool.specs.declared.simulation.Progress.{Progress}
-use Rattle.script_tool.specs.Sim.{Begun, State, begun_to, profile}
+use Rattle.script_tool.specs.Sim.{BegunInstall, State, begun_to, profile}
 use Rattle.script_tool.specs.Texts.{Texts, at_phases, later_of, left_by, place_reached}
 
 -- the names of the rules file and of the scratch file
@@ -43,7 +43,7 @@ pub record HasTexts (d : Directory) (t : Texts) : Type 0 where
   pub left : (choice : Choice) → Shows (after_changes d.names.settled (chosen_changes choice d.names.pending)) d.files (left_by choice t)
 
 -- an installation under way is the one that was begun
-pub record IsInstalling (d : Directory) (p : Progress) (b : Begun) : Type 0 where
+pub record IsInstalling (d : Directory) (p : Progress) (b : BegunInstall) : Type 0 where
   pub reached : p.reached ≡ b.reached
   pub phase : (installing p.install).reached ≡ b.reached
   pub rules : (installing p.install).rules ≡ pairs_of b.text
@@ -59,17 +59,17 @@ abbrev pub steps_left : Installing → ℕ
 steps_left s = fillings_left s.rules s.filled s.patched + (5 - place_reached s.reached)
 
 -- an installation that was begun goes on to a phase, or is at a later one; it tells the phase, which the texts follow
-abbrev pub GoesOn : Phase → Begun → Texts → Directory → Progress → Phase → Type 0
+abbrev pub GoesOn : Phase → BegunInstall → Texts → Directory → Progress → Phase → Type 0
 GoesOn target b t d now phase =
     (phase ≡ later_of b.reached target) × IsInstalling d now (begun_to target b)
     × HasTexts d (at_phases b.text b.reached target t)
 
 -- an installation that was begun reaches its next phase and tells it
-abbrev pub Steps : Installing → Begun → Directory → Progress → Phase → Type 0
+abbrev pub Steps : Installing → BegunInstall → Directory → Progress → Phase → Type 0
 Steps before b d now phase =
     (phase ≡ next_phase before) × IsInstalling d now (record b { reached = Some phase })
 
-abbrev pub MayBeInstalling : Directory → Option Progress → Option Begun → Type 0
+abbrev pub MayBeInstalling : Directory → Option Progress → Option BegunInstall → Type 0
 MayBeInstalling d None None = Unit {0}
 MayBeInstalling d (Some p) (Some b) = IsInstalling d p b
 MayBeInstalling d p b = ⊥

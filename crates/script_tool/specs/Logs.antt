@@ -7,7 +7,7 @@ use Rattle.rule_lines.specs.Lines.{Line}
 use Rattle.rule_lookup.specs.declared.decision.Decision.{Decision}
 use Rattle.rule_lookup.specs.declared.decision.Found.{Found}
 use Rattle.rule_lookup.specs.declared.decision.Found.TheVariants.{Address, Default, NoFile}
-use Rattle.rule_lookup.specs.declared.decision.Missing.TheVariants.{Drop}
+use Rattle.rule_lookup.specs.declared.decision.WhenMissing.TheVariants.{Drop}
 use Rattle.rule_lookup.specs.Decisions.{decision_of, without_file}
 use Rattle.connection_facts.specs.Peers.{Client}
 use Rattle.script_tool.specs.declared.verdicts.Sums.{Sums}

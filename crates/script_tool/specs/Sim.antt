@@ -42,7 +42,7 @@ abbrev pub refusal_of : List ℕ → Option Refusal
 refusal_of text = refusal_by (fault_of profile text) text
 
 -- a text whose installation was begun, and the phase that it reached, if a step was made
-pub record Begun : Type 0 where
+pub record BegunInstall : Type 0 where
   pub text : List ℕ
   pub reached : Option Phase
 
@@ -51,7 +51,7 @@ pub record Begun : Type 0 where
 pub record State : Type 0 where
   pub pending : List ℕ
   pub texts : Texts
-  pub begun : Option Begun
+  pub begun : Option BegunInstall
   pub readers : List ℕ → Option (List ℕ)
   pub history : Option History
 
@@ -78,16 +78,16 @@ abbrev pub installed_texts : Option Refusal → List ℕ → Texts → Texts
 installed_texts None text t = at_phases text None Done t
 installed_texts (Some refusal) text t = t
 
-abbrev pub begun_by : Option Refusal → List ℕ → Option Begun
+abbrev pub begun_by : Option Refusal → List ℕ → Option BegunInstall
 begun_by None text = Some (record { text = text; reached = None })
 begun_by (Some refusal) text = None
 
 -- the texts, and the installation, after it went on to a phase
-abbrev pub texts_to : Phase → Option Begun → Texts → Texts
+abbrev pub texts_to : Phase → Option BegunInstall → Texts → Texts
 texts_to target None t = t
 texts_to target (Some b) t = at_phases b.text b.reached target t
 
-abbrev pub begun_to : Phase → Begun → Begun
+abbrev pub begun_to : Phase → BegunInstall → BegunInstall
 begun_to target b = record { text = b.text; reached = Some (later_of b.reached target) }
 
 -- a reader opened on the text that stands, if one does, in place of the one with its name

@@ -13,7 +13,7 @@ ghost use Rattle.script_tool.specs.Kept.{GoesOn, HasTexts, IsAt, IsFileOf, IsIns
 ghost use Rattle.script_words.specs.Readings.{meaning};
 ghost use Rattle.script_words.specs.Scripts.{Add, Install as InstallText, Begin, To, Stop, Ask, Open, AskBy, BeginEvents, AddEvent, Replay};
 ghost use Rattle.script_tool.specs.Logs.{decided_now};
-ghost use Rattle.script_tool.specs.Sim.{Begun, State, start, after, is_in_place, printed, profile, refusal_of, replayed, told};
+ghost use Rattle.script_tool.specs.Sim.{BegunInstall, State, start, after, is_in_place, printed, profile, refusal_of, replayed, told};
 ghost use Rattle.script_tool.specs.Texts.{Texts, at_phase, place_of};
 
 use crate::replies::{append_fault, append_illegal, append_reached, append_report};
@@ -21,7 +21,7 @@ use cdb_read::CdbFile;
 use connection_facts::Peer;
 use dir_calls::{Choice, Dir, DirFault, MemDir, MemFile, Name, NameFault};
 use rule_lines::{Limits, Settings, Verdict};
-use rule_lookup::{DecideFault, Decision, Found, Missing, append_answer, decide};
+use rule_lookup::{DecideFault, Decision, Found, WhenMissing, append_answer, decide};
 use rules_install::laws::decides;
 use rules_install::whole::prepare;
 use rules_install::{FileNames, Install, InstallFault, Phase, SameName};
@@ -352,8 +352,8 @@ impl Progress {
         dir: &mut MemDir,
         target: Phase,
     ) -> Result<Phase, AllocError>
-        requires { (b : Begun) × IsInstalling (mem_state dir.old) self.old b }
-        ensures { (b : Begun) (t : Texts) → IsInstalling (mem_state dir.old) self.old b
+        requires { (b : BegunInstall) × IsInstalling (mem_state dir.old) self.old b }
+        ensures { (b : BegunInstall) (t : Texts) → IsInstalling (mem_state dir.old) self.old b
             → HasTexts (mem_state dir.old) t
             → IfOk result (GoesOn target b t (mem_state dir.new) self.new) }
     {
@@ -369,11 +369,11 @@ impl Progress {
 
     /// Makes a step, and answers the phase that it reached.
     fn step(&mut self, alloc: Global, dir: &mut MemDir) -> Result<Phase, AllocError>
-        requires { (b : Begun) × IsInstalling (mem_state dir.old) self.old b
+        requires { (b : BegunInstall) × IsInstalling (mem_state dir.old) self.old b
             × (b.reached ≢ Some Phase.Done) }
-        ensures goes { (b : Begun) → IsInstalling (mem_state dir.old) self.old b
+        ensures goes { (b : BegunInstall) → IsInstalling (mem_state dir.old) self.old b
             → IfOk result (Steps (installing (self.old).install) b (mem_state dir.new) self.new) }
-        ensures texts { (b : Begun) (t : Texts) → IsInstalling (mem_state dir.old) self.old b
+        ensures texts { (b : BegunInstall) (t : Texts) → IsInstalling (mem_state dir.old) self.old b
             → HasTexts (mem_state dir.old) t
             → IfOk result (λ phase. HasTexts (mem_state dir.new) (at_phase b.text t phase)) }
         ensures fewer { OnOk result
@@ -454,7 +454,7 @@ fn decide_by(alloc: Global, file: &CdbFile<MemFile>, peer: &Peer) -> Result<Deci
         → IfOk result (λ decision. decision ≡ decision_of text peer.now) }
 {
     decides();
-    match decide(alloc, Some(file), Missing::Drop, peer) {
+    match decide(alloc, Some(file), WhenMissing::Drop, peer) {
         Ok(decision) => Ok(decision),
         Err(DecideFault::OutOfMemory) => Err(AllocError),
         Err(DecideFault::Find(_)) => unreachable!(),

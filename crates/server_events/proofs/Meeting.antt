@@ -3,7 +3,7 @@ use Rattle.std.proofs.Common.{◌≡◌, ◌≢◌, inl, Bool, true, false, refl
 use Rattle.std.specs.Prelude.{Option, None, Some}
 use Rattle.dir_calls.specs.Calls.{Call}
 use Rattle.dir_calls.specs.Directory.{Directory}
-use Rattle.rule_lookup.specs.declared.decision.Missing.{Missing}
+use Rattle.rule_lookup.specs.declared.decision.WhenMissing.{WhenMissing}
 use Rattle.rules_install.specs.Installing.{Installing, next_of, next_phase}
 use Rattle.rules_install.specs.Steps.{IsCallOf}
 use Rattle.rules_install.specs.declared.Phase.{Phase}
@@ -37,12 +37,12 @@ call_into phase under_way rules u r call way ruled is =
     subst (λ (o : Option UnderWay). IsCallTo phase o rules call) (sym way) (subst (λ (o : Option RulesName). IsCallTo phase (Some u) o call) (sym ruled) is)
 
 -- the name of its scratch file is not the rules name
-pub scratch_name : (s : Installing) (rules : Option RulesName) (missing : Missing) → rules ≡ Some (rules_named s.names missing)
+pub scratch_name : (s : Installing) (rules : Option RulesName) (missing : WhenMissing) → rules ≡ Some (rules_named s.names missing)
     → s.names.cdb ≢ s.names.tmp → IsScratchName rules s.names.tmp
 scratch_name s rules missing ruled differ =
     subst (λ (o : Option RulesName). IsScratchName o s.names.tmp) (sym ruled) (λ same. differ (sym same))
 
-calls_at : (w : World) (s : Installing) (missing : Missing) (reached : Option Phase) (patched : Bool)
+calls_at : (w : World) (s : Installing) (missing : WhenMissing) (reached : Option Phase) (patched : Bool)
     → w.rules ≡ Some (rules_named s.names missing) → s.names.cdb ≢ s.names.tmp → reached ≢ Some Done → HasReached w s reached
     → (call : Call) → IsCallOf s (next_of reached patched) call → IsCallTo (next_of reached patched) w.under_way w.rules call
 calls_at w s missing None patched ruled differ undone has call is = (s.names.tmp, scratch_name s w.rules missing ruled differ, inl is)

@@ -4,7 +4,7 @@ use Rattle.dir_calls.specs.Directory.{Directory}
 use Rattle.dir_calls.specs.Images.{IsImage}
 use Rattle.dir_calls.specs.declared.fault.DirFault.TheVariants.{Device}
 use Rattle.dir_calls.specs.declared.dir.Dir.{Ghosts}
-use Rattle.rule_lookup.specs.declared.decision.Missing.{Missing}
+use Rattle.rule_lookup.specs.declared.decision.WhenMissing.{WhenMissing}
 use Rattle.rules_install.specs.Installing.{Installing}
 use Rattle.rules_install.specs.NamePair.{NamePair}
 use Rattle.rules_install.specs.declared.Phase.{Phase}
@@ -16,7 +16,7 @@ use Rattle.server_events.specs.Worlds.{RulesName, UnderWay, World}
 use Rattle.server_events.specs.declared.event.Event.TheVariants.{Stepped, StepFailed}
 
 -- the name of an installation's rules file, and what a server decides if no file stands there
-abbrev pub rules_named : NamePair → Missing → RulesName
+abbrev pub rules_named : NamePair → WhenMissing → RulesName
 rules_named names missing = record { name = names.cdb; missing = missing }
 
 -- an installation as a world has it, with the number of its text
@@ -42,7 +42,7 @@ HasReached w s (Some Done) = ⊤
 -- it as far as it has come
 pub record IsUnderWay (w : World) (s : Installing) (d : Directory) : Type 0 where
   pub directory : w.directory ≡ d
-  pub missing : Missing
+  pub missing : WhenMissing
   pub rules : w.rules ≡ Some (rules_named s.names missing)
   pub reached : s.over ≡ false → HasReached w s s.reached
 

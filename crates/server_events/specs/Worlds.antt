@@ -8,8 +8,8 @@ use Rattle.cdb_write.specs.IsCdb.{IsCdb}
 use Rattle.rule_lines.specs.Pairs.{Rule}
 use Rattle.rule_lines.specs.Texts.{AreOfText}
 use Rattle.connection_facts.specs.Peers.{Client}
-use Rattle.rule_lookup.specs.declared.decision.Missing.{Missing}
-use Rattle.rule_lookup.specs.declared.decision.Missing.TheVariants.{Allow as AllowMissing}
+use Rattle.rule_lookup.specs.declared.decision.WhenMissing.{WhenMissing}
+use Rattle.rule_lookup.specs.declared.decision.WhenMissing.TheVariants.{Allow as AllowMissing}
 use Rattle.server_events.specs.ServerState.{ServerState, start}
 use Rattle.server_events.specs.declared.state.Connection.{Connection}
 
@@ -21,7 +21,7 @@ Accepted = List (Option (List Rule))
 -- the name under which the server looks for its rules, and what it decides if no file stands there
 pub record RulesName : Type 0 where
   pub name : List ℕ
-  pub missing : Missing
+  pub missing : WhenMissing
 
 -- an installation that is under way: its rules, the number of its text among those accepted, and the name of its scratch file
 pub record UnderWay : Type 0 where
@@ -51,11 +51,11 @@ abbrev pub standing : World → Option (List ℕ)
 standing w = option_and_then (λ (r : RulesName). content w.directory r.name) w.rules
 
 -- what the server decides without a file; without a rules name it allows
-abbrev pub missing_by : Option RulesName → Missing
+abbrev pub missing_by : Option RulesName → WhenMissing
 missing_by None = AllowMissing
 missing_by (Some r) = r.missing
 
-abbrev pub missing_in : World → Missing
+abbrev pub missing_in : World → WhenMissing
 missing_in w = missing_by w.rules
 
 -- what the connection with this serial keeps, if it opened the rules

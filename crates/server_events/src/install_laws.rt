@@ -6,7 +6,7 @@ ghost use Rattle.dir_calls.specs.Outcomes.{Passes};
 ghost use Rattle.server_events.specs.Series.{LeadsAlong};
 ghost use Rattle.server_events.specs.UnderWay.{IsUnderWay, StepLeads, rules_named};
 ghost use Rattle.rule_lines.specs.Pairs.{Rule};
-ghost use Rattle.rule_lookup.specs.declared.decision.Missing.{Missing};
+ghost use Rattle.rule_lookup.specs.declared.decision.WhenMissing.{WhenMissing};
 ghost use Rattle.rules_install.specs.Installing.{Installing, begun, next_phase};
 ghost use Rattle.rules_install.specs.NamePair.{NamePair};
 ghost use Rattle.rules_install.specs.Series.{IsSeries, MakesStep, MayStepFrom};
@@ -18,7 +18,7 @@ ghost use Rattle.server_events.specs.Worlds.{World};
 
 /// A new installation is under way in each world that has its directory and follows rules of its name.
 pub fn begins()
-    ensures { (w : World) (rules : List Rule) (names : NamePair) (missing : Missing)
+    ensures { (w : World) (rules : List Rule) (names : NamePair) (missing : WhenMissing)
         → w.rules ≡ Some (rules_named names missing) → IsUnderWay w (begun rules names) w.directory }
 {}
 
@@ -43,7 +43,7 @@ pub fn leaves()
 pub fn series()
     ensures from_there { (s t : Installing) (d e : Directory) (result : Result (Unit {0}) InstallFault) (w : World)
         → IsSeries s t d e result → IsUnderWay w s d → LeadsAlong w t e result }
-    ensures from_begin { (w : World) (rules : List Rule) (names : NamePair) (missing : Missing) (t : Installing)
+    ensures from_begin { (w : World) (rules : List Rule) (names : NamePair) (missing : WhenMissing) (t : Installing)
         (e : Directory) (result : Result (Unit {0}) InstallFault) → w.rules ≡ Some (rules_named names missing)
         → IsSeries (begun rules names) t w.directory e result → LeadsAlong w t e result }
 {}

@@ -6,7 +6,7 @@ use crate::fault::{ServerFailure, ServerFault};
 use child_jobs::{Plan, Program};
 use dir_calls::{Name, NameFault};
 use dir_disk::{FolderFault, OsDir};
-use rule_lookup::Missing;
+use rule_lookup::WhenMissing;
 use rules_tools::path::{folder_path, split_path};
 use server_words::ServerWords;
 use std::alloc::{AllocError, Global};
@@ -91,7 +91,7 @@ pub fn open_rules<'a, R>(
     alloc: Global,
     files: &'a R,
     words: &ServerWords<'_>,
-) -> Result<(OsDir<&'a R>, Option<(Name, Missing)>), ServerFailure>
+) -> Result<(OsDir<&'a R>, Option<(Name, WhenMissing)>), ServerFailure>
 where
     R: Files<File = File>,
 {

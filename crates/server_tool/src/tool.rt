@@ -8,7 +8,7 @@ use child_jobs::{Job, Plan};
 use dir_calls::{Dir, Name};
 use event_journals::Counts;
 use fault_hints::Voice;
-use rule_lookup::Missing;
+use rule_lookup::WhenMissing;
 use server_parts::limits::supply_for;
 use server_parts::opening::{listen, names_of, open_rules, plan_of, print_port, stand_in};
 use server_parts::signals::forgets_programs;
@@ -262,7 +262,7 @@ fn run_site<L, N, D, R, E, T>(
     rt: &R,
     server: &ServerParts<E>,
     listener: T,
-    rules: (D, Option<(Name, Missing)>),
+    rules: (D, Option<(Name, WhenMissing)>),
     at: RulesPath<'_, R>,
     words: &ServerWords<'_>,
     places: Blank,
@@ -302,7 +302,7 @@ where
 fn site_of<L: Assumptions, N: Callers, D: Dir + Drop>(
     alloc: Global,
     dir: D,
-    rules: Option<(Name, Missing)>,
+    rules: Option<(Name, WhenMissing)>,
     limits: ConnectionLimits,
     places: Blank,
     parts: Blank,

@@ -4,8 +4,8 @@ use Rattle.server_words.specs.declared.option_fault.WordFault.{WordFault}
 use Rattle.server_words.specs.OptionWords.{is_given, last_of, value_of}
 use Rattle.server_words.specs.Words.{LetterGiven, Reading, reading}
 use Rattle.server_words.specs.declared.letter.TheConstants.{TCPSERVER_LETTERS}
-use Rattle.rule_lookup.specs.declared.decision.Missing.{Missing}
-use Rattle.rule_lookup.specs.declared.decision.Missing.TheVariants.{Allow, Drop}
+use Rattle.rule_lookup.specs.declared.decision.WhenMissing.{WhenMissing}
+use Rattle.rule_lookup.specs.declared.decision.WhenMissing.TheVariants.{Allow, Drop}
 use Rattle.server_words.specs.declared.fault.ServerWordsFault.{ServerWordsFault}
 use Rattle.server_words.specs.declared.fault.ServerWordsFault.TheVariants as fault
 use Rattle.server_words.specs.declared.level.Level.{Level}
@@ -29,7 +29,7 @@ pub record ServerPlan : Type 0 where
   pub limits : ConnectionLimits
   -- the path of the rules file, and what it means that there is none
   pub rules : Option (List ℕ)
-  pub missing : Missing
+  pub missing : WhenMissing
   -- what is written before the rules are looked at
   pub banner : List ℕ
   -- the path of the host table
@@ -59,7 +59,7 @@ abbrev pub level_of : List LetterGiven → Level
 level_of options = level_by (last_of options (codes "vQq"))
 
 -- `-X`: allow
-abbrev pub missing_of : List LetterGiven → Missing
+abbrev pub missing_of : List LetterGiven → WhenMissing
 missing_of options = if is_given options (letter (codes "X")) then Allow else Drop
 
 -- what options ask for, with what was read of their numbers, of the wrappers, of the mode and of the words after them

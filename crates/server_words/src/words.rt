@@ -14,7 +14,7 @@ use crate::operands::Operands;
 use crate::option_laws::by_the_rules;
 use crate::wrapping::Wrapping;
 use crate::{Options, TCPSERVER_LETTERS, WordFault, read_words};
-use rule_lookup::Missing;
+use rule_lookup::WhenMissing;
 use std::alloc::Global;
 use std::marker::Model;
 
@@ -25,7 +25,7 @@ pub struct ServerWords<'a> {
     prints_port: bool,
     limits: ConnectionLimits,
     rules: Option<&'a str>,
-    missing: Missing,
+    missing: WhenMissing,
     banner: &'a str,
     hosts: Option<&'a str>,
     local: Option<&'a str>,
@@ -168,7 +168,7 @@ impl<'a> ServerWords<'a> {
     }
 
     /// What it means that the rules file is missing: allow under `-X`, else drop. It means nothing where no rules file is given.
-    pub fn missing(&self) -> Missing
+    pub fn missing(&self) -> WhenMissing
         ensures { result ≡ self.now.missing }
     {
         self.missing
@@ -239,12 +239,12 @@ impl<'a> ServerWords<'a> {
 }
 
 /// What a missing rules file means.
-fn missing_of(options: &Options<'_>) -> Missing
+fn missing_of(options: &Options<'_>) -> WhenMissing
     ensures { result ≡ missing_of options.now }
 {
     if options.has('X') {
-        Missing::Allow
+        WhenMissing::Allow
     } else {
-        Missing::Drop
+        WhenMissing::Drop
     }
 }

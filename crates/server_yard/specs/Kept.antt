@@ -3,7 +3,7 @@ use Rattle.std.specs.Prelude.{◌≡◌, ◌≢◌, ℕ, Bool, IsTrue, List, [],
 use Rattle.std.proofs.Props.{props}
 use Rattle.dir_calls.specs.Directory.{Directory}
 use Rattle.event_journals.specs.Journals.{Books, TellsOf}
-use Rattle.rule_lookup.specs.declared.decision.Missing.{Missing}
+use Rattle.rule_lookup.specs.declared.decision.WhenMissing.{WhenMissing}
 use Rattle.rules_install.specs.Installing.{Fits, FitsPhase, Installing}
 use Rattle.rules_install.specs.Installs.{installing}
 use Rattle.rules_install.specs.declared.Phase.{Phase}
@@ -17,7 +17,7 @@ use Rattle.server_yard.specs.declared.yard.Installation.{Installation}
 use Rattle.server_yard.specs.declared.yard.Installation.TheVariants.{Idle, UnderWay, AtDone}
 
 -- the rules name, and what is decided if no file stands there
-abbrev pub rules_of : Option (List ℕ × Missing) → Option RulesName
+abbrev pub rules_of : Option (List ℕ × WhenMissing) → Option RulesName
 rules_of rules = option_map (λ r. record { name = r.0; missing = r.1 }) rules
 
 -- the installation that is under way
@@ -27,7 +27,7 @@ installing_of (UnderWay install) = Some (installing install)
 installing_of AtDone = None
 
 -- what a yard of these parts has of a world
-abbrev pub state_of : {L J : Type 0} {j : _} → Register L J j → Directory → Option (List ℕ × Missing) → Installation → YardState
+abbrev pub state_of : {L J : Type 0} {j : _} → Register L J j → Directory → Option (List ℕ × WhenMissing) → Installation → YardState
 state_of register directory rules installation = record {
   directory = directory;
   rules = rules_of rules;

@@ -6,7 +6,7 @@ use Rattle.rule_lines.specs.Lookups.{Trust, Sound, WhereKnown}
 use Rattle.rule_lookup.specs.Decisions.{decision_from}
 use Rattle.connection_facts.specs.Peers.{Client}
 use Rattle.rule_lookup.specs.declared.decision.Decision.{Decision}
-use Rattle.rule_lookup.specs.declared.decision.Missing.{Missing}
+use Rattle.rule_lookup.specs.declared.decision.WhenMissing.{WhenMissing}
 use Rattle.server_yard.specs.declared.finding.Finding.{Finding}
 use Rattle.server_yard.specs.declared.pass.Pass.{Pass}
 
@@ -15,7 +15,7 @@ abbrev pub pass_serial : {L F : Type 0} {p : _} {l : _} {f : _} → Pass L F p l
 pass_serial pass = pass.serial
 
 -- what is decided without a file
-abbrev pub pass_missing : {L F : Type 0} {p : _} {l : _} {f : _} → Pass L F p l f → Missing
+abbrev pub pass_missing : {L F : Type 0} {p : _} {l : _} {f : _} → Pass L F p l f → WhenMissing
 pass_missing pass = pass.missing
 
 -- the file that was found by a handle of the connection's own

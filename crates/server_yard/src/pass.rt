@@ -5,7 +5,7 @@ ghost use Rattle.server_yard.specs.Installed.{IsWholeFile};
 use crate::assumptions::Assumptions;
 use cdb_read::CdbFile;
 use dir_calls::RulesFile;
-use rule_lookup::Missing;
+use rule_lookup::WhenMissing;
 use std::marker::PhantomData;
 
 /// The rules file that a connection opened, or that there was none. It keeps its bytes, whatever becomes of the name.
@@ -14,7 +14,7 @@ use std::marker::PhantomData;
 pub struct Pass<L: Assumptions, F: RulesFile + Drop> {
     pub(crate) serial: u64,
     pub(crate) file: Option<CdbFile<F>>,
-    pub(crate) missing: Missing,
+    pub(crate) missing: WhenMissing,
     pub(crate) yard: PhantomData<L>,
     /// if its yard's directory is honest and began as it has to, the file is compiled of rules
     pub ghost whole: { IsTrue L.met → ∥ IsWholeFile (option_map F.bytes file) ∥₁ },
@@ -34,7 +34,7 @@ impl<L: Assumptions, F: RulesFile + Drop> Pass<L, F> {
     }
 
     /// What is decided if there is no file.
-    pub fn missing(&self) -> Missing
+    pub fn missing(&self) -> WhenMissing
         ensures { result ≡ pass_missing self.now }
     {
         self.missing

@@ -36,7 +36,7 @@ use child_jobs::{Job, Place, Running, TableFault};
 use connection_facts::{DropCause, Peer, StartFault, Status};
 use dir_calls::{Dir, DirFault, Name};
 use event_journals::Journal;
-use rule_lookup::{Decision, Missing};
+use rule_lookup::{Decision, WhenMissing};
 use rules_install::{Install, InstallFault, Phase};
 use server_events::{Event, Stage};
 use std::alloc::{AllocError, Global};
@@ -62,7 +62,7 @@ enum Installation {
 pub struct Yard<L: Assumptions, D: Dir + Drop, J: Journal> {
     register: Register<L, J>,
     dir: D,
-    rules: Option<(Name, Missing)>,
+    rules: Option<(Name, WhenMissing)>,
     installation: Installation,
     // the number of the last installation that made its first step
     begun: u64,
@@ -93,7 +93,7 @@ impl<L: Assumptions, D: Dir + Drop, J: Journal> Yard<L, D, J> {
         alloc: Global,
         blank: Blank,
         dir: D,
-        rules: Option<(Name, Missing)>,
+        rules: Option<(Name, WhenMissing)>,
         limit: u64,
         journal: J,
     ) -> Result<Yard<L, D, J>, TableFault>
@@ -115,7 +115,7 @@ impl<L: Assumptions, D: Dir + Drop, J: Journal> Yard<L, D, J> {
         alloc: Global,
         blank: Blank,
         dir: D,
-        rules: Option<(Name, Missing)>,
+        rules: Option<(Name, WhenMissing)>,
         limit: u64,
         per_address: u64,
         journal: J,
@@ -151,12 +151,12 @@ impl<L: Assumptions, D: Dir + Drop, J: Journal> Yard<L, D, J> {
     }
 
     /// What is decided if no rules file stands. `open` gives it to its pass.
-    pub fn missing(&self) -> Missing
+    pub fn missing(&self) -> WhenMissing
         ensures { result ≡ missing_by (yard_rules self.now) }
     {
         match &self.rules {
             Some((_, missing)) => *missing,
-            None => Missing::Allow,
+            None => WhenMissing::Allow,
         }
     }
 
@@ -293,7 +293,7 @@ impl<L: Assumptions, D: Dir + Drop, J: Journal> Yard<L, D, J> {
     }
 
     // What stands under the rules name, and what is decided if nothing does.
-    fn find(&mut self, alloc: Global) -> Result<(Option<CdbFile<D::File>>, Missing), DirFault>
+    fn find(&mut self, alloc: Global) -> Result<(Option<CdbFile<D::File>>, WhenMissing), DirFault>
         ensures missing { IfOk result (λ r. r.1 ≡ missing_by (yard_rules self.old)) }
         ensures found { IsTrue D.honest → IfOk result (λ r.
             option_map D.File.bytes r.0 ≡ standing_of (yard_state self.old)) }
@@ -308,7 +308,7 @@ impl<L: Assumptions, D: Dir + Drop, J: Journal> Yard<L, D, J> {
         ensures seats { KeepsSeats (yard_seat self.old) (yard_seat self.new) }
     {
         let Some((name, missing)) = &self.rules else {
-            return Ok((None, Missing::Allow));
+            return Ok((None, WhenMissing::Allow));
         };
         match self.dir.open(alloc, name)? {
             Some(file) => Ok((Some(CdbFile::new(file)), *missing)),

@@ -1,7 +1,7 @@
 -- What an agent knows of its connection by the answers of its site.
 use Rattle.std.specs.Prelude.{◌≡◌, ℕ, Bool, IsTrue, Option, None, Some, Result, Ok, Err, option_and_then, option_map}
 use Rattle.one_connection.specs.Openings.{Opening}
-use Rattle.rule_lookup.specs.declared.decision.Missing.{Missing}
+use Rattle.rule_lookup.specs.declared.decision.WhenMissing.{WhenMissing}
 use Rattle.server_events.specs.declared.event.Event.{Event}
 use Rattle.server_events.specs.declared.event.Event.TheVariants.{Opened, Decided}
 use Rattle.server_events.specs.declared.event.Stage.{Stage}
@@ -44,7 +44,7 @@ abbrev pub FindsWhole : (met : Bool) → Opening → Type 0
 FindsWhole met found = IsTrue met → ∥ IsWholeFile found.bytes ∥₁
 
 -- what is decided without a file, as it was found
-abbrev pub IsMissingBy : Option Opening → Missing → Type 0
+abbrev pub IsMissingBy : Option Opening → WhenMissing → Type 0
 IsMissingBy found missing = option_map (λ (o : Opening). o.missing) found ≡ Some missing
 
 -- it is an answer that a turn may give, to some caller after some events

@@ -1,7 +1,7 @@
 //! Directories in memory with rules.
 ghost use Rattle.std.specs.Prelude.{◌≡◌, IfOk, Some};
 ghost use Rattle.dir_calls.specs.MemDir.{mem_state};
-ghost use Rattle.rule_lookup.specs.declared.decision.Missing.{Missing};
+ghost use Rattle.rule_lookup.specs.declared.decision.WhenMissing.{WhenMissing};
 ghost use Rattle.server_yard.specs.Standing.{Begins};
 ghost use Rattle.test_parts.specs.Beginnings.{rules_file, rules_there};
 
@@ -44,7 +44,7 @@ pub fn names(alloc: Global) -> io::Result<FileNames>
 ///
 /// A yard may begin over it: whatever a stop leaves, the rules file of this text stands there.
 pub fn with_rules(alloc: Global, text: &[u8]) -> io::Result<MemDir>
-    ensures { IfOk result (λ dir. (missing : Missing) → Begins (mem_state dir) (Some (rules_there missing))) }
+    ensures { IfOk result (λ dir. (missing : WhenMissing) → Begins (mem_state dir) (Some (rules_there missing))) }
 {
     let mut dir = MemDir::new(alloc);
     match install(alloc, &mut dir, names(alloc)?, &Limits::profile(), text) {

@@ -7,7 +7,7 @@ ghost use Rattle.test_parts.specs.Beginnings.{rules_there};
 use crate::rules::{rules_name, stuck};
 use dir_calls::Dir;
 use event_journals::Journal;
-use rule_lookup::Missing;
+use rule_lookup::WhenMissing;
 use server_yard::{Assumptions, Yard};
 use std::alloc::Global;
 use std::io;
@@ -19,7 +19,7 @@ pub fn yard_over<L: Assumptions, D: Dir + Drop, J: Journal>(
     alloc: Global,
     blank: Blank,
     dir: D,
-    missing: Missing,
+    missing: WhenMissing,
     limit: u64,
     journal: J,
 ) -> io::Result<Yard<L, D, J>>

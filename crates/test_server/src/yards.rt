@@ -7,7 +7,7 @@ use connection_facts::{Peer, Status};
 use dir_calls::MemDir;
 use event_journals::Counts;
 use rule_lines::Verdict;
-use rule_lookup::Missing;
+use rule_lookup::WhenMissing;
 use server_yard::{Assumptions, Yard};
 use std::alloc::Global;
 use std::io;
@@ -43,7 +43,7 @@ pub fn time_yard<R: Print + Clock, L: Assumptions>(
         alloc,
         blank,
         dir,
-        Missing::Drop,
+        WhenMissing::Drop,
         limit,
         Counts::new(),
     )?;

@@ -9,7 +9,7 @@ use connection_facts::DropCause;
 use dir_calls::MemDir;
 use event_journals::{Full, Journal};
 use rule_lines::Verdict;
-use rule_lookup::Missing;
+use rule_lookup::WhenMissing;
 use server_events::{Event, replay};
 use server_yard::{Assumptions, Yard};
 use shared_site::{Caller, Callers, Receipt, Site};
@@ -161,7 +161,7 @@ fn eight<
     requires callers { (N.all ≡ CALLERS) × (N.before ≡ 0) }
 {
     let alloc = rt.alloc();
-    let rules = Some((rules_name(rt, alloc), Missing::Drop));
+    let rules = Some((rules_name(rt, alloc), WhenMissing::Drop));
     let (site, callers) = new_site::<L, N, R>(
         rt,
         alloc,

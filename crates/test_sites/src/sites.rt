@@ -9,7 +9,7 @@ ghost use Rattle.shared_site.specs.Audits.{note_of};
 
 use dir_calls::{MemDir, Name};
 use event_journals::Full;
-use rule_lookup::Missing;
+use rule_lookup::WhenMissing;
 use server_yard::{Assumptions, Yard};
 use shared_site::{Caller, Callers, Receipt, Site, close_and_audit};
 use std::alloc::Global;
@@ -23,7 +23,7 @@ pub(crate) fn new_site<L: Assumptions, N: Callers, R: Abort>(
     places: Blank,
     parts: Blank,
     dir: MemDir,
-    rules: Option<(Name, Missing)>,
+    rules: Option<(Name, WhenMissing)>,
     limit: u64,
     callers: u64,
 ) -> (Site<L, N, MemDir, Full>, Vec<Caller<N>>)

@@ -4,7 +4,7 @@ use crate::environments::push_built;
 use crate::sources::{Faulty, fault_of};
 use connection_facts::Peer;
 use rule_lines::{Limits, ListPairs, RuleList, Setting, Settings, Verdict, parse};
-use rule_lookup::{DecideFault, Decision, Found, Missing, decide, forms, parse_address};
+use rule_lookup::{DecideFault, Decision, Found, WhenMissing, decide, forms, parse_address};
 use std::alloc::Global;
 use test_parts::Answer;
 
@@ -74,8 +74,8 @@ fn decided_by(
     peer: &Peer,
 ) -> Result<Decision, DecideFault> {
     let missing = match given.text("missing") {
-        "allow" => Missing::Allow,
-        _ => Missing::Drop,
+        "allow" => WhenMissing::Allow,
+        _ => WhenMissing::Drop,
     };
     match given.text("source") {
         "" => decide(alloc, Some(&ListPairs::new(list)), missing, peer),

@@ -8,7 +8,7 @@ use connection_facts::{DropCause, Peer, StartFault, Status};
 use dir_calls::MemDir;
 use event_journals::Journal;
 use rule_lines::Verdict;
-use rule_lookup::Missing;
+use rule_lookup::WhenMissing;
 use server_yard::{Assumptions, Yard};
 use std::alloc::Global;
 use std::io;
@@ -54,7 +54,7 @@ fn yard_of<L: Assumptions, J: Journal>(
     requires journal { HasNoEvents (J.books journal) }
 {
     let dir = with_rules(alloc, RULES)?;
-    yard_over(alloc, blank, dir, Missing::Drop, limit, journal)
+    yard_over(alloc, blank, dir, WhenMissing::Drop, limit, journal)
 }
 
 /// Serves the connections by a yard, and adds what its journal tells.

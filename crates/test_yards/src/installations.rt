@@ -7,7 +7,7 @@ use crate::shown::{Lists, add_answer, add_decided_after};
 use dir_calls::{Choice, Dir, FuseDir, MemDir};
 use event_journals::Full;
 use rule_lines::Limits;
-use rule_lookup::Missing;
+use rule_lookup::WhenMissing;
 use rules_install::whole::prepare;
 use rules_install::{Install, InstallFault, Phase};
 use server_yard::{Assumptions, Yard};
@@ -48,7 +48,7 @@ fn yard_of<L: Assumptions>(
     requires parts { (blank.parts ≡ L.parts) × (blank.parts ≡ 1) }
 {
     let dir = FuseDir::new(with_rules(alloc, b":allow\n")?, call);
-    yard_over(alloc, blank, dir, Missing::Drop, 1, Full::new(alloc))
+    yard_over(alloc, blank, dir, WhenMissing::Drop, 1, Full::new(alloc))
 }
 
 /// A law of such a yard, whatever it installed. Its rules file is whole, whatever a stop leaves. Once an installation

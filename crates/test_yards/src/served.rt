@@ -10,7 +10,7 @@ use connection_facts::{Peer, StartFault, Status};
 use dir_calls::{Dir, FuseDir, MemDir};
 use event_journals::Journal;
 use one_connection::{Served, YardAgent, is_admitted, serve_by_yard};
-use rule_lookup::Missing;
+use rule_lookup::WhenMissing;
 use server_yard::{Assumptions, Yard};
 use std::alloc::{AllocError, Global};
 use std::fmt::Debug;
@@ -158,10 +158,10 @@ fn serve_over<L: Assumptions, D: Dir + Drop, J: Journal>(
 }
 
 /// What is decided if no rules file stands.
-fn missing_of(case: Case) -> Missing {
+fn missing_of(case: Case) -> WhenMissing {
     match case {
-        Case::MissingAllowed => Missing::Allow,
-        _ => Missing::Drop,
+        Case::MissingAllowed => WhenMissing::Allow,
+        _ => WhenMissing::Drop,
     }
 }
 

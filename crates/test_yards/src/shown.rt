@@ -3,7 +3,7 @@ use cdb_read::CdbFile;
 use connection_facts::Peer;
 use dir_calls::{Choice, Dir, MemDir, MemFile};
 use event_journals::{Counts, Full, Journal};
-use rule_lookup::{Missing, decide};
+use rule_lookup::{WhenMissing, decide};
 use rules_install::{InstallFault, Phase};
 use server_events::Report;
 use std::alloc::Global;
@@ -39,7 +39,7 @@ fn add_decided_by(alloc: Global, file: &CdbFile<MemFile>, out: &mut Answer) {
     let Some(peer) = peer_of(alloc, 0) else {
         return out.fail();
     };
-    match decide(alloc, Some(file), Missing::Drop, &peer) {
+    match decide(alloc, Some(file), WhenMissing::Drop, &peer) {
         Ok(decision) => out.text(verdict_word(decision.verdict)),
         Err(_) => out.text("fault"),
     }

@@ -12,7 +12,7 @@ use Rattle.rule_lines.specs.Lookups.{WhereKnown}
 use Rattle.rule_lookup.specs.declared.decision.DecideFault.{DecideFault}
 use Rattle.rule_lookup.specs.declared.decision.DecideFault.TheVariants.{Find, Code}
 use Rattle.rule_lookup.specs.declared.decision.Decision.{Decision}
-use Rattle.rule_lookup.specs.declared.decision.Missing.TheVariants.{Drop}
+use Rattle.rule_lookup.specs.declared.decision.WhenMissing.TheVariants.{Drop}
 use Rattle.rule_lookup.specs.Decisions.{decision_from, finds_of, trust_of, DecisionFails}
 use Rattle.connection_facts.specs.Peers.{Client}
 use Rattle.rules_tools.specs.declared.tcprulescheck.CheckFault.TheVariants.{Damaged}
