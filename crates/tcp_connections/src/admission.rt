@@ -54,7 +54,7 @@ pub trait Admission {
         ensures nobody { let_in self.new ≡ let_in self.old };
 }
 
-/// Serves the connections that were let in, from one call to the next.
+/// Serves the connections that were let in. A connection is a value that each call takes, and gives on to the next.
 pub trait Serving<T> {
     /// The stream from a client, which `pass_up` passes on.
     type Upward: Send + Drop;

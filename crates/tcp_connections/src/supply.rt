@@ -130,7 +130,7 @@ impl Means {
         held.descriptors = held.descriptors.saturating_sub(to_begin);
     }
 
-    /// The child of a connection runs: what only its begin took is free again.
+    /// The child of a connection runs: what it took only for its start is free again.
     pub fn began<R: Wait>(&self, rt: &R) {
         let mut held = self.held.lock(rt);
         held.beginning = held.beginning.saturating_sub(1);

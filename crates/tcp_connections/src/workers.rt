@@ -113,7 +113,7 @@ where
         self.supply.memory.is_some()
     }
 
-    // Whether threads were never scarce: then a connection may have more than its worker.
+    // Whether memory is not limited, and threads were never scarce: then a connection may have more than its worker.
     fn has_plenty(&self) -> bool {
         !self.is_limited() && !self.reserve.is_gone(self.rt)
     }
@@ -385,7 +385,7 @@ where
         *second = self.second(scope);
     }
 
-    // An idle keeper, or a new one; none if threads were scarce or the system has no more.
+    // An idle keeper, or a new one. None if memory is limited, threads were scarce, or the system has no more.
     fn keeper<'s, E>(
         &'s self,
         scope: &'s Scope<'s, E>,
@@ -400,7 +400,7 @@ where
         self.start_keeper(scope)
     }
 
-    // An idle second thread, or a new one; none if what clients send is not passed on, or the system has no more.
+    // An idle second thread, or a new one. None if what clients send is not passed on, or the system has no more.
     fn second<'s, E>(&'s self, scope: &'s Scope<'s, E>) -> Option<Helper<U>> {
         if !self.server.passes_up() {
             return None;
