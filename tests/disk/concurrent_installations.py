@@ -9,13 +9,15 @@ import tempfile
 import time
 
 from disk.killed_installations import READER, digest
-from shared.checks import Checks
+from shared.checks import Checks, is_tried, leave_out
 
-PAIRS = 200
+# so many pairs there are, and so many rules each text has; a program that was built without proofs takes 150 times as long for a rule
+PAIRS, FEW_PAIRS = 200, 40
+RULES, FEW_RULES = (40_000, 30_000, 300, 20_000), (400, 300, 3, 200)
 # two that end closer together than this may have ended in the other order than they were noticed
 SURELY_LATER = 0.01
-# and so may these few, where a busy machine lets one wait between its last call and its end
-FEW = PAIRS // 50
+# and so may one in fifty, where a busy machine lets one wait between its last call and its end
+FEW = 50
 
 
 def text_of(number, rules):
@@ -30,7 +32,7 @@ class Writers:
         self.rules = os.path.join(folder, "rules")
         self.words = [program, "tcprules", self.rules, os.path.join(folder, "rules.tmp")]
         self.texts, self.files = [], []
-        for number, rules in enumerate((40_000, 30_000, 300, 20_000)):
+        for number, rules in enumerate(FEW_RULES if is_tried() else RULES):
             self.texts.append(os.path.join(folder, "text%d" % number))
             with open(self.texts[number], "wb") as file:
                 file.write(text_of(number, rules))
@@ -58,6 +60,8 @@ class Writers:
 def check(program, failures):
     """How many pairs there were, and what is looked at beside them."""
     checks = Checks("concurrent_installations", failures)
+    pairs = FEW_PAIRS if is_tried() else PAIRS
+    leave_out(PAIRS - pairs)
     sure = wrong = 0
     with tempfile.TemporaryDirectory() as folder:
         writers = Writers(program, folder)
@@ -65,9 +69,9 @@ def check(program, failures):
             [sys.executable, "-c", READER, writers.rules] + writers.files,
             stdin=subprocess.PIPE, stdout=subprocess.PIPE, stderr=subprocess.PIPE,
         ) as reader:
-            for count in range(10 * PAIRS):
+            for count in range(10 * pairs):
                 # (as many more as it takes until it was known often enough which was the last)
-                if count >= PAIRS and sure >= PAIRS // 4:
+                if count >= pairs and sure >= pairs // 4:
                     break
                 codes, last = writers.pair(count % 4, (count + 1 + count // 4 % 3) % 4)
                 found = digest(writers.rules)
@@ -81,7 +85,7 @@ def check(program, failures):
             said, errors = reader.communicate(b"end\n", timeout=600)
         checks.holds("a reader of the files", reader.returncode == 0 and int(said.split()[0]) >= 20, (said, errors))
         checks.holds("no scratch file is left", not os.path.exists(writers.words[3]))
-        checks.holds("how often the text of the first to end stands", wrong <= max(FEW, sure // 20), wrong)
-        if sure < PAIRS // 4:
-            checks.fail("how often it was known which was the last", "%d of %d times" % (sure, PAIRS))
-    return checks.tests + PAIRS
+        checks.holds("how often the text of the first to end stands", wrong <= max(pairs // FEW, sure // 20), wrong)
+        if sure < pairs // 4:
+            checks.fail("how often it was known which was the last", "%d of %d times" % (sure, pairs))
+    return checks.tests + pairs

@@ -27,6 +27,8 @@ from shared.checks import LIMIT, Checks, is_tried, python_words
 INSTALLATIONS, RULES = 40, 60_000
 # a text of so many rules is tried first; one installation of the tests is to take at most so many seconds, however slow the program is
 FEW_RULES, LONGEST = 1_500, 0.75
+# so many where the program was built without proofs, which takes as long for one as a proved one for 150
+TRIED_RULES = 300
 LOOPS, KINDS = 2, 4
 MARK = b"%08d"
 RULES_NAME, SCRATCH = "rules", "tmp"
@@ -101,7 +103,7 @@ class Kind:
 def rules_for(program, folder):
     """How many rules a text has: fewer if the program is slow, as one that was built without proofs."""
     if is_tried():
-        return FEW_RULES
+        return TRIED_RULES
     began = time.monotonic()
     Kind(program, folder, 0, FEW_RULES)
     lasted = time.monotonic() - began

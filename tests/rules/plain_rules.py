@@ -4,18 +4,25 @@ kind, the compiled file, and the decisions. Beside it one text of 64 MiB. Texts 
 import os
 import tempfile
 
-from shared.checks import Runs, needs_proved
+from shared.checks import Runs, is_tried, leave_out, needs_proved
 from shared.compiled_files import cdb, content
 from shared.plain_texts import PEERS, TEXT_LIMIT, Texts, code, decision, first_difference, question, rules_in
 
+# with a program that was built without proofs a fifth of them
 SCRIPTS = 30
 TEXTS_OF_A_SCRIPT = 200
 FILES = 600
 
 
+def some(number):
+    """So many of this number of cases as are tried."""
+    return number // 5 if is_tried() else number
+
+
 def check_scripts(runs, kinds):
     """Texts one after another, each with questions: a text that is refused leaves the one before."""
-    for number in range(SCRIPTS):
+    leave_out((SCRIPTS - some(SCRIPTS)) * TEXTS_OF_A_SCRIPT * (1 + len(PEERS)))
+    for number in range(some(SCRIPTS)):
         script, wanted, rules = [], [], None
         for seed in range(number * TEXTS_OF_A_SCRIPT, (number + 1) * TEXTS_OF_A_SCRIPT):
             lines = Texts(seed).text().split(b"\n")
@@ -37,7 +44,8 @@ def check_files(runs):
     """Compiled files, also of texts whose last line has no line feed."""
     with tempfile.TemporaryDirectory() as folder:
         path, old = os.path.join(folder, "rules"), None
-        for seed in range(FILES):
+        leave_out(FILES - some(FILES))
+        for seed in range(some(FILES)):
             text = Texts(1000000 + seed).text()
             text = text[:-1] if seed % 3 == 0 else text
             rules, fault = rules_in(text)
@@ -76,8 +84,8 @@ def check_kinds(runs, kinds):
     names = ["no verdict", "bad setting", "bad range", "not text", "nul byte", "long line"]
     for name in names:
         count = sum(1 for fault in kinds if fault and fault.endswith(name))
-        runs.holds("texts with " + name, count >= 10, count)
-    runs.holds("texts that are accepted", kinds.count(None) >= 1000, kinds.count(None))
+        runs.holds("texts with " + name, count >= some(10), count)
+    runs.holds("texts that are accepted", kinds.count(None) >= some(1000), kinds.count(None))
 
 
 def check(program, failures):

@@ -12,7 +12,7 @@ import subprocess
 import tempfile
 
 from shared import plain_texts, refusals
-from shared.checks import Checks, is_tried, leave_out
+from shared.checks import Checks, is_tried, leave_out, needs_proved
 
 TEXTS = 10000
 # how many of them one shell looks over
@@ -21,7 +21,7 @@ PART = 400
 LIMIT = 600
 LONG_TEXT = 64 * 1024 * 1024
 # of a program that was built without proofs, which is a hundred times as slow
-SHORT_TEXT = 1024 * 1024
+SHORT_TEXT = 128 * 1024
 USAGE = b"tcprules: usage: tcprules cdb tmp\n"
 NOBODY = b"no client has this address"
 USER = b"a user is never known"
@@ -313,6 +313,12 @@ def check_refused(program, checks):
         for word in ("-n", "-N"):
             checks.expect("%s of a refused text %r" % (word, text[:40]), run(program, [word], text), (lines, 100, b""))
         checks.holds("it is refused", not accepted)
+    check_too_long(program, checks)
+
+
+@needs_proved(1)
+def check_too_long(program, checks):
+    """A text over its limit."""
     checks.expect("a text over its limit", run(program, ["-N"], b"#" * (LONG_TEXT + 1)), (b"tcprules: text too long\n", 100, b""))
 
 

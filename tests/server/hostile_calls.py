@@ -14,6 +14,7 @@ import tempfile
 import time
 
 from shared import compiled_files, failed_calls, log_forms, refusals, server_runs
+from shared.checks import is_tried, leave_out
 from shared.log_forms import ANY
 from shared.server_runs import read_all
 
@@ -214,6 +215,11 @@ class Calls:
         return "" if ended.stdout.decode() == events.report() else "the replay of its log: %r" % ended.stdout
 
 
+def tried(errors):
+    """Those of a call's errors that are tried: two, where the program was built without proofs."""
+    return errors[:2] if is_tried() else errors
+
+
 def each_call(suite):
     """One call fails in each run, the first, then the second, until a run meets none."""
     calls = Calls(suite)
@@ -221,7 +227,7 @@ def each_call(suite):
     reached = []
     for call, errors, faults, forms in CALLS:
         forms = [form for form in forms if not (suite.handed and form == NO_PIPES)]
-        for error in errors:
+        for error in tried(errors):
             found = []
             runs, whole = failed_calls.one_after_another(
                 MOST, lambda n: found.append(calls.one(call, error, n, faults, forms)) or found[-1])
@@ -229,6 +235,8 @@ def each_call(suite):
             reached += [call] if any(found) else []
             if not any(found):
                 break
+        else:
+            leave_out((1 + runs) * (len(errors) - len(tried(errors))))
     of_pumps = () if suite.handed else ("pipe2", "recv", "send")
     for call in ("socket", "bind", "listen", "accept4", "posix_spawn", "pthread_create", "waitpid", "open", "read", "write") + of_pumps:
         suite.holds("%s is called" % call, call in reached, sorted(set(reached)))
@@ -497,13 +505,15 @@ def tools(suite):
     for words, given, faults in TOOLS:
         calls = ToolCalls(suite, words, given, faults)
         for call, errors in TOOL_CALLS:
-            for error in errors:
+            for error in tried(errors):
                 found = []
                 runs, whole = failed_calls.one_after_another(
                     MOST, lambda n: found.append(calls.one(call, error, n)) or found[-1])
                 suite.holds("%s: %s, %s: each call was tried, %d of them" % (words[0], call, error, runs), whole)
                 if not any(found):
                     break
+            else:
+                leave_out((1 + runs) * (len(errors) - len(tried(errors))))
 
 
 CHECKS = [each_call, bytes_one_by_one, while_calls_fail, no_process, no_places, faults_of_accepting, tools, below_the_library]
