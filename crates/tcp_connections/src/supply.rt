@@ -45,11 +45,16 @@ impl Supply {
             None => u64::MAX,
         }
     }
+
+    // Whether there is memory for a thread that only waits: it is low if one connection begins at a time.
+    pub(crate) fn has_reserve(&self) -> bool {
+        self.at_once() > 1
+    }
 }
 
 /// A process that is kept in reserve, as a thread that waits: the system counts threads and processes together. If a
 /// program finds no process, the reserve is given back, for good. From then on the server looks whether there are
-/// processes before it makes a thread.
+/// processes before it makes a thread. If memory is low, there is no reserve from the start.
 #[derive(Drop)]
 pub struct Reserve {
     is_gone: Mutex<bool>,

@@ -30,6 +30,9 @@ const PROCESSES: u64 = 4;
 /// By how many bytes a look for memory asks for more than the last one: two pages.
 const MORE: usize = 8 * 1024;
 
+/// What a thread takes of address space, in bytes: its stack, and what guards it.
+const THREAD: usize = 192 * 1024;
+
 /// Lets connections in until `count` were let in or no more can be. Then it closes `admission`, waits until all that
 /// were let in are over, and gives it back. At most `most` workers let them in, each of which serves a connection until
 /// its program runs. Then a keeper goes on with it, or the worker itself if there is no keeper. A second thread passes
@@ -183,15 +186,22 @@ where
     // Whether there is what the connections of all workers take beside descriptors: memory if it is limited, and
     // processes if there were too few before.
     fn has_supplies(&self, workers: usize, beginning: u64) -> bool {
-        self.has_memory(workers)
+        (!self.supply.has_reserve() || self.has_memory(workers, 0))
             && (!self.reserve.is_gone(self.rt)
                 || has_processes(self.rt, beginning.clamp(1, PROCESSES)))
     }
 
-    // Whether there is memory for the connections of this many workers, if it is limited. Each look asks for more than
-    // the last one that succeeded. The C library would serve a smaller request from what it keeps for this thread
-    // alone.
-    fn has_memory(&self, workers: usize) -> bool {
+    // Whether there is memory for the threads of one more worker too, if it is low. The C library keeps what threads took
+    // that are over, and a program would lack it.
+    fn has_stacks(&self, workers: usize) -> bool {
+        let threads = if self.server.passes_up() { 2 } else { 1 };
+        self.supply.has_reserve() || self.has_memory(workers, threads * THREAD)
+    }
+
+    // Whether there is memory for the connections of this many workers and for this many bytes more, if it is limited.
+    // Each look asks for more than the last one that succeeded. The C library would serve a smaller request from what it
+    // keeps for this thread alone.
+    fn has_memory(&self, workers: usize, beside: usize) -> bool {
         let Some(memory) = self.supply.memory else {
             return true;
         };
@@ -200,6 +210,7 @@ where
             .to_go_on
             .saturating_mul(workers)
             .saturating_add(memory.to_begin)
+            .saturating_add(beside)
             .max(more);
         let is_there = Vec::<u8>::with_capacity(self.alloc, all).is_ok();
         if is_there {
@@ -233,7 +244,9 @@ where
             move |scope|
                 requires { IsSync R.row × IsSync V.row × IsSend Q.row × IsSend U.row × IsSend V.Talk.row }
             {
-                if !start_reserve(scope, workers.rt, workers.reserve) {
+                if !workers.supply.has_reserve()
+                    || !start_reserve(scope, workers.rt, workers.reserve)
+                {
                     workers.reserve.give_back(workers.rt);
                 }
                 workers.make_workers(scope);
@@ -271,10 +284,14 @@ where
 
     // Makes a worker, if there is a thread for it and what its connection would take while this many others begin.
     fn make_worker<'s, E>(&'s self, scope: &'s Scope<'s, E>, beginning: u64) -> bool {
-        if !self.start_worker(scope) || self.arrived.take(self.rt) != Some(true) {
+        let workers = self.crew.count(self.rt).saturating_add(1);
+        if !self.has_stacks(workers)
+            || !self.start_worker(scope)
+            || self.arrived.take(self.rt) != Some(true)
+        {
             return false;
         }
-        let stays = self.has_supplies(self.crew.count(self.rt).saturating_add(1), beginning);
+        let stays = self.has_supplies(workers, beginning);
         if stays {
             self.crew.add(self.rt);
         }
