@@ -110,7 +110,8 @@ def documented(handed):
 
 @needs_proved(8)
 def lowest_limits(suite):
-    """The lowest limits that the cookbook tells, and an eighth more: so many clients are served at once. With two thirds of them the server ends and says so."""
+    """The lowest limits that the cookbook tells, and an eighth more: so many clients are served at once. With an eighth less the server ends and says
+    so; with much less it has no memory for its words, or the loader none for it."""
     for kinds, number, count in documented(suite.handed):
         name = "%d bytes of %s" % (number, " and ".join(kinds))
         options, how = ["-v", "-c", "40"], {"env": {"PATH": os.environ["PATH"]}}
@@ -122,12 +123,20 @@ def lowest_limits(suite):
             for client in clients:
                 client.close()
         if count == 1:
-            words = limited(suite, [(kind, number * 2 // 3) for kind in kinds]) + options + ["127.0.0.1", "0", "cat"]
+            words = limited(suite, [(kind, number * 7 // 8) for kind in kinds]) + options + ["127.0.0.1", "0", "cat"]
             ended = subprocess.run(words, stderr=subprocess.PIPE, timeout=server_runs.WAIT, **how)
             told = ended.stderr.decode().splitlines()[-2:]
-            suite.expect("two thirds of " + name, (ended.returncode, told[:1]), (111, ["tcpserver: out of memory"]))
+            suite.expect("an eighth less than " + name, (ended.returncode, told[:1]), (111, ["tcpserver: out of memory"]))
             cause = re.fullmatch(r"tcpserver: cause: (data|address space): limited to (\d+) bytes, at least (\d+) needed", told[-1])
-            suite.expect("which limit two thirds of %s are, and that more is needed" % name, cause and int(cause[2]) == number * 2 // 3 < int(cause[3]) <= number, True)
+            is_told = cause and int(cause[2]) == number * 7 // 8 < int(cause[3]) <= number
+            suite.expect("which limit is an eighth less than %s, and that more is needed" % name, is_told, True)
+
+
+@needs_proved(7)
+def common_limit(suite):
+    """`softlimit -m 4000000`, which is common for 0.88: forty clients at once are all served, however few at a time."""
+    little = [(kind, 4000000) for kind in ("data", "stack", "as")]
+    all_served(suite, "softlimit -m 4000000", little, 40, 40, 0.02, env={"PATH": os.environ["PATH"]})
 
 
 def as_user(suite, limit):
@@ -236,5 +245,5 @@ def no_trace(suite):
 
 
 CHECKS = [descriptors, memory, lowest_limits, processes, nobody, refused_threads, kept_threads, no_trace]
-HANDED = [descriptors, memory, lowest_limits, processes, nobody, refused_threads, kept_threads]
+HANDED = [descriptors, memory, lowest_limits, common_limit, processes, nobody, refused_threads, kept_threads]
 COMMON = []

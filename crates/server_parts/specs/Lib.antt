@@ -1,3 +1,4 @@
--- The program and the line wrappers of a server.
+-- The program, the line wrappers and the limits of a server.
+pub mod Limits
 pub mod Services
 pub mod Wrappers

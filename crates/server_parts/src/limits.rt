@@ -1,4 +1,7 @@
 //! The limits that the system sets for this process, and what they leave a server for its connections.
+ghost use Rattle.std.specs.Prelude.{◌≡◌, ◌≢◌, ◌≤◌, ◌*◌};
+ghost use Rattle.server_parts.specs.Limits.{room_of, small_limit};
+
 use libc::net::POLLNVAL;
 use libc::types::{pollfd, rlimit};
 use server_words::Mode;
@@ -32,6 +35,38 @@ fn limit_on(something: i32) -> u64 {
     limit.rlim_cur
 }
 
+/// The limits on the memory of a process, in bytes; one that there is not is the greatest number.
+#[derive(Clone, Copy)]
+pub struct MemoryLimits {
+    /// How much of it the process may write to (`ulimit -d`).
+    pub data: u64,
+    /// How much address space it may reserve (`ulimit -v`).
+    pub addresses: u64,
+}
+
+impl MemoryLimits {
+    /// Those of this process.
+    pub fn own() -> MemoryLimits {
+        MemoryLimits {
+            data: limit_on(DATA),
+            addresses: limit_on(ADDRESSES),
+        }
+    }
+
+    // Whether there is any.
+    fn is_any(self) -> bool {
+        self.data != UNLIMITED || self.addresses != UNLIMITED
+    }
+
+    // How much they leave beside what a server takes alone.
+    fn room(self) -> u64
+        ensures { result ≡ room_of self }
+    {
+        let data = self.data.saturating_sub(DATA_ALONE);
+        data.min(self.addresses.saturating_sub(ADDRESSES_ALONE))
+    }
+}
+
 /// The descriptors of a server that it opens after this: its socket, the folder of its rules, and two for a log that has to be waited for.
 const OWN: u64 = 4;
 
@@ -46,9 +81,6 @@ const PUMPED_ON: u64 = 3;
 /// Numbers of descriptors are looked at as far as connections may need them, and so many more.
 const BESIDE: u64 = 1_024;
 
-/// So many connections may be there at once whose program is not started yet, where memory is limited.
-const AT_ONCE: usize = 4;
-
 /// A page of memory, in bytes: where memory is limited the C library may take so much for each text.
 const PAGE: usize = 4 * 1024;
 
@@ -62,11 +94,15 @@ const GOING_ON: usize = 32 * 1024;
 
 const BUFFERS: usize = 256 * 1024;
 
-/// The least limits of data and of address space, in bytes, under which a server serves one client after another, as `bench/least` measures
-/// them; buffers come on top.
-const DATA_ALONE: u64 = 2_100_000;
+/// What a server takes of data and of address space, in bytes, beside its connections, as `bench/least` measures it.
+const DATA_ALONE: u64 = 540_000;
 
-const ADDRESSES_ALONE: u64 = 5_100_000;
+const ADDRESSES_ALONE: u64 = 3_500_000;
+
+/// What starting a program takes that inherits no variables; and what a connection that is pumped takes beside it: its buffers, and a second thread.
+const START_ALONE: u64 = 327_680;
+
+const PUMPED_ALONE: u64 = 458_752;
 
 /// What the system gives the connections of a server in this mode, of which so many may be alive, and whose programs inherit so many variables.
 pub fn supply_for(mode: Mode, connections: u64, variables: usize) -> Supply {
@@ -78,62 +114,78 @@ pub fn supply_for(mode: Mode, connections: u64, variables: usize) -> Supply {
     };
     let texts = variables.saturating_mul(4).saturating_add(TEXTS);
     let start = texts.saturating_mul(PAGE).saturating_add(START);
+    let limits = MemoryLimits::own();
+    let at_once = at_once_in(limits, start);
     let memory = Memory {
-        at_once: AT_ONCE as u64,
-        to_begin: start.saturating_mul(AT_ONCE),
+        at_once: at_once as u64,
+        to_begin: start.saturating_mul(at_once),
         to_go_on: buffers.saturating_add(GOING_ON),
     };
     Supply {
         descriptors,
         to_begin,
         to_go_on,
-        memory: has_limited_memory().then_some(memory),
+        memory: limits.is_any().then_some(memory),
     }
 }
 
+// How many connections may be there at once whose program is not started yet, where memory is limited and each takes so much: four where there is
+// room for five, and else one. Where it is one the server saves threads too.
+fn at_once_in(limits: MemoryLimits, start: usize) -> usize
+    ensures known { result ≢ 4 → result ≡ 1 }
+    ensures fits { result ≡ 4 → 5 * start ≤ room_of limits }
+{
+    if start as u64 <= limits.room() / 5 {
+        4
+    } else {
+        1
+    }
+}
+
+/// What a limit on memory counts.
+#[derive(Clone, Copy)]
+pub enum Counted {
+    /// What may be written to (`ulimit -d`).
+    Data,
+    /// What is reserved (`ulimit -v`).
+    Addresses,
+}
+
 /// A limit on memory that is too small for a server.
-#[derive(Drop)]
+#[derive(Clone, Copy)]
 pub struct SmallLimit {
-    /// What it limits: `data` (`ulimit -d`) or `address space` (`ulimit -v`).
-    pub name: &'static str,
+    /// What it counts.
+    pub counted: Counted,
     /// The limit, in bytes.
     pub limit: u64,
     /// How many bytes a server wants at least, with one connection whose program inherits no variables.
     pub wanted: u64,
 }
 
-/// The limit on memory that is too small for a server in this mode, if one is.
-pub fn small_limit(mode: Mode) -> Option<SmallLimit> {
-    let buffers = match mode {
-        Mode::HandedOver => 0,
-        Mode::Pumped => BUFFERS as u64,
+/// Of these limits the one that is too small for a server in this mode, if one is; of two that of data.
+pub fn small_limit(mode: Mode, limits: MemoryLimits) -> Option<SmallLimit>
+    ensures { result ≡ small_limit mode limits }
+{
+    let connection = match mode {
+        Mode::HandedOver => START_ALONE,
+        Mode::Pumped => START_ALONE + PUMPED_ALONE,
     };
-    smaller_than(DATA, "data", buffers.saturating_add(DATA_ALONE)).or_else(|| {
-        smaller_than(
-            ADDRESSES,
-            "address space",
-            buffers.saturating_add(ADDRESSES_ALONE),
-        )
-    })
-}
-
-// The limit on something, if it is smaller than what is wanted.
-fn smaller_than(something: i32, name: &'static str, wanted: u64) -> Option<SmallLimit> {
-    let limit = limit_on(something);
-    if limit < wanted {
+    let (data, addresses) = (DATA_ALONE + connection, ADDRESSES_ALONE + connection);
+    if limits.data < data {
         Some(SmallLimit {
-            name,
-            limit,
-            wanted,
+            counted: Counted::Data,
+            limit: limits.data,
+            wanted: data,
+        })
+    } else if limits.addresses < addresses {
+        Some(SmallLimit {
+            counted: Counted::Addresses,
+            limit: limits.addresses,
+            wanted: addresses,
         })
     } else {
         None
     }
-}
-
-/// Whether the process may use or reserve so much memory and no more.
-pub fn has_limited_memory() -> bool {
-    limit_on(DATA) != UNLIMITED || limit_on(ADDRESSES) != UNLIMITED
 }
 
 /// How many descriptors this process may open beside those that it has. Numbers from `most` on are not looked at: they count as taken.

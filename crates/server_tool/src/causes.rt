@@ -2,7 +2,7 @@
 use byte_text::{append_os_cause, push_address, push_number, push_text, words_of_error};
 use fault_hints::{Detail, Voice, append_help};
 use rules_tools::path::{folder_path, split_path};
-use server_parts::limits::{SmallLimit, small_limit};
+use server_parts::limits::{Counted, MemoryLimits, SmallLimit, small_limit};
 use server_parts::{ServerFailure, ServerFault};
 use server_words::{Mode, Operands, ServerWords, ServerWordsFault};
 use std::alloc::{AllocError, Global};
@@ -44,7 +44,7 @@ fn append_known(mode: Mode, fault: ServerFault, causes: &mut Vec<u8>) -> Result<
         ServerFault::CannotWait => {
             causes.extend_from_slice(b"tcpserver: cause: SIGCHLD is ignored\n")
         }
-        ServerFault::OutOfMemory => match small_limit(mode) {
+        ServerFault::OutOfMemory => match small_limit(mode, MemoryLimits::own()) {
             Some(small) => append_small(&small, causes),
             None => Ok(()),
         },
@@ -54,8 +54,12 @@ fn append_known(mode: Mode, fault: ServerFault, causes: &mut Vec<u8>) -> Result<
 
 // The line of a limit on memory that is too small.
 fn append_small(small: &SmallLimit, causes: &mut Vec<u8>) -> Result<(), AllocError> {
+    let counted = match small.counted {
+        Counted::Data => "data",
+        Counted::Addresses => "address space",
+    };
     push_text(causes, "tcpserver: cause: ")?;
-    push_text(causes, small.name)?;
+    push_text(causes, counted)?;
     push_text(causes, ": limited to ")?;
     push_number(causes, small.limit)?;
     push_text(causes, " bytes, at least ")?;
