@@ -1,4 +1,5 @@
 //! What was read of a text, so that a faulty line of it can be shown.
+ghost use Rattle.std.specs.Prelude.{◌≡◌};
 
 use rule_lines::lines::first_line;
 use std::alloc::Global;
@@ -16,8 +17,12 @@ pub struct KeepingReader<R> {
 }
 
 impl<R> KeepingReader<R> {
+    ghost use Rattle.fault_hints.specs.Kept.{kept_reader};
+
     /// One that has given nothing.
-    pub fn new(alloc: Global, reader: R) -> KeepingReader<R> {
+    pub fn new(alloc: Global, reader: R) -> KeepingReader<R>
+        ensures { kept_reader result ≡ reader }
+    {
         KeepingReader {
             reader,
             kept: Vec::new(alloc),
