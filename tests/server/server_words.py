@@ -294,6 +294,9 @@ def absent_rules(suite):
         suite.expect("a rules file that came, under -X", server.ask(), b"")
         os.remove(absent)
         suite.expect("a rules file that went, under -X", server.ask(), b"hi\n")
+    # (what stands before the only slash is the root folder, and no empty path)
+    with suite.start(["-X", "-x", "/absent.cdb"] + server_runs.QUIET, ["echo", "hi"], may_end=True) as server:
+        suite.expect("no rules file in the root folder, under -X", server.port and server.ask(), b"hi\n")
 
 
 def banners(suite):
