@@ -1,14 +1,17 @@
 -- What `tcprulescheck` tells, from variables and a path.
-use Rattle.std.specs.Prelude.{◌≡◌, ◌⊎◌, ⊤, ℕ, List, Option, Some, None, IsSome, option_and_then, Result, Ok, Err}
+use Rattle.std.specs.Prelude.{◌≡◌, ◌⊎◌, ⊤, ℤ, ℕ, List, Option, Some, None, IsSome, option_and_then, Result, Ok, Err}
 use Rattle.std.specs.Io.KnownBytes.{Appends}
 use Rattle.dir_calls.specs.Directory.{Directory, content}
 use Rattle.dir_calls.specs.Names.{name_fault}
 use Rattle.rule_lookup.specs.Answers.{answer_lines}
 use Rattle.rule_lookup.specs.declared.decision.Decision.{Decision}
 use Rattle.connection_facts.specs.Peers.{Client}
+use Rattle.rules_tools.specs.Causes.{check_failure_of}
 use Rattle.rules_tools.specs.Checks.{DecidesBy, FailsBy}
 use Rattle.rules_tools.specs.Clients.{client_of}
 use Rattle.rules_tools.specs.Paths.{IsSplit, folder_path}
+use Rattle.rules_tools.specs.declared.cause.ErrorCause.{ErrorCause}
+use Rattle.rules_tools.specs.declared.tcprulescheck.CheckFailure.{CheckFailure}
 use Rattle.rules_tools.specs.declared.tcprulescheck.CheckFault.{CheckFault}
 use Rattle.rules_tools.specs.declared.tcprulescheck.CheckFault.TheVariants.{BadIp, BadHost, BadInfo, NoFile, Device, ReadFault, Damaged, WriteFault, OutOfMemory}
 
@@ -76,3 +79,10 @@ abbrev pub Checks : (value : List ℕ → Option (List ℕ)) → (stands : Direc
     → (before now : Option (List ℕ)) → Result (Unit {0}) CheckFault → Type 0
 Checks value stands path before now (Ok done) = Printed value stands path before now
 Checks value stands path before now (Err fault) = FailsToTell value stands path fault
+
+-- a run does this, and what it answers is told with the cause: what the folders tell of it, or the number that the writer noted
+pub record TellsWithCause (Does : Result (Unit {0}) CheckFault → Type 0) (folders : Option ErrorCause) (writing : Option ℤ)
+    (result : Result (Unit {0}) CheckFailure) : Type 0 where
+  pub outcome : Result (Unit {0}) CheckFault
+  pub does : Does outcome
+  pub told : result ≡ check_failure_of outcome folders writing

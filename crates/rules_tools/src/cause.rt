@@ -1,4 +1,7 @@
 //! What a fault of the system was about, and the system's error.
+ghost use Rattle.std.specs.Prelude.{◌≡◌};
+ghost use Rattle.rules_tools.specs.Causes.{cause_of};
+
 use dir_disk::{DiskFailure, FailedOn};
 
 /// What the system was asked for when it failed.
@@ -27,7 +30,9 @@ pub struct ErrorCause {
 
 impl ErrorCause {
     /// The cause that a call tells, if the system has a number for its error.
-    pub(crate) fn of(of: CauseOf, error: Option<i32>) -> Option<ErrorCause> {
+    pub(crate) fn of(of: CauseOf, error: Option<i32>) -> Option<ErrorCause>
+        ensures { result ≡ cause_of of error }
+    {
         error.map(|error| ErrorCause { of, error })
     }
 

@@ -39,6 +39,13 @@ impl<D: Drop> RulesFolder<D> {
     {
         &self.dir
     }
+
+    /// Gives its directory back.
+    pub fn into_dir(self) -> D
+        ensures { result ≡ folder_dir self }
+    {
+        self.dir
+    }
 }
 
 impl<D: ClearableDir> RulesFolder<D> {

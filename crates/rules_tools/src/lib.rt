@@ -1,11 +1,11 @@
 //! The tools for rules: `tcprules` installs them, and `tcprulescheck` tells which of them decides.
 //!
-//! The program's path goes through `install_text`, `run_review` and `tell_decision`, each one call from its input to
-//! its answer. They take any reader, writer and folder. A `RulesFolder` is a directory of which each call needs what
-//! the one before it gave: a turn, then a cleared folder, then an installation. `Alone` gives turns where nobody else
-//! uses the directory, in tests. `run_tcprules` and `run_tcprulescheck` lend these calls the system's folder and
-//! streams: of these two only safety is proved. Tested: two installers at once, what they say while they wait, buffered
-//! lines of `-n`, and causes.
+//! The program's path goes through `run_tcprules`, `run_review` and `run_tcprulescheck`, each one call from its input
+//! to its answer. They take any reader, writer and folders, and have the contracts of `install_text` and
+//! `tell_decision`, which are below them. A `RulesFolder` is a directory of which each call needs what the one before
+//! it gave: a turn, then a cleared folder, then an installation. `Alone` gives turns where nobody else uses the
+//! directory, in tests. Of `SystemFolders` and `SystemVariables`, which are the system's, only safety is proved. Tested:
+//! two installers at once, what they say while they wait, buffered lines of `-n`, and causes.
 #![tactic(auto)]
 
 pub mod cause;
@@ -23,7 +23,7 @@ pub mod waiting;
 
 pub use cause::{CauseOf, ErrorCause};
 pub use folder::RulesFolder;
-pub use folders::{Folders, SystemFolders};
+pub use folders::{Folders, InstallFolders, SystemFolders};
 pub use installing::{install_named, install_text};
 pub use review::{ReviewFault, run_review};
 pub use tcprules::{RulesFailure, TcprulesFault, run_tcprules};

@@ -1,37 +1,32 @@
 //! Paths of one folder that are spelled in two ways.
-ghost use Rattle.std.specs.Prelude.{IfOk, IfSome, string_bytes};
+ghost use Rattle.std.specs.Prelude.{IfOk, option_map, string_bytes};
 ghost use Rattle.rules_tools.specs.Paths.{IsRespelled};
+ghost use Rattle.rules_tools.specs.Shells.{Spells};
 
+use crate::folders::InstallFolders;
 use crate::path::{folder_path, split_path};
 use std::alloc::{AllocError, Global};
-use std::fs::Files;
-use std::os::unix::fs::MetadataExt;
 
 /// The path `tmp` in the folder as `cdb` spells it, where the two spell one folder in two ways; else none.
 ///
 /// # Errors
 /// There was no memory.
-pub(crate) fn respelled<F: Files>(
+pub(crate) fn respelled<F: InstallFolders>(
     alloc: Global,
-    files: &F,
+    folders: &F,
     cdb: &str,
     tmp: &str,
 ) -> Result<Option<String>, AllocError>
-    ensures { IfOk result (λ respelled. IfSome respelled (λ path. IsRespelled cdb.now tmp.now (string_bytes path))) }
+    ensures { IfOk result (λ spelled. Spells (F.are_one folders.now) cdb.now tmp.now (option_map string_bytes spelled)) }
 {
     let (folder, other) = (split_path(cdb).0, split_path(tmp).0);
-    if folder == other || !is_one(files, folder_path(folder), folder_path(other)) {
+    if folder == other {
+        return Ok(None);
+    }
+    if !folders.are_one(folder_path(folder), folder_path(other)) {
         return Ok(None);
     }
     Ok(Some(spelled_as(alloc, cdb, tmp)?))
-}
-
-// Whether two paths stand for one folder of the system, by its device and number.
-fn is_one<F: Files>(files: &F, folder: &str, other: &str) -> bool {
-    match (files.metadata(folder), files.metadata(other)) {
-        (Ok(folder), Ok(other)) => folder.dev() == other.dev() && folder.ino() == other.ino(),
-        _ => false,
-    }
 }
 
 // The last part of `tmp` in the folder of `cdb`.

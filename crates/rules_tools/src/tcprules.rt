@@ -1,26 +1,25 @@
 //! `tcprules`: compiles a rule text from standard input, and installs it.
-ghost use Rattle.std.specs.Prelude.{◌≡◌, ◌⊎◌, ◌<◌, ◌^◌, ◌-◌, ◌+◌, None, IsSome, IfOk, IfErr, IfSome, OnOk, take};
+ghost use Rattle.std.specs.Prelude.{◌≡◌, ◌⊎◌, ◌<◌, ◌^◌, ◌-◌, ◌+◌, None, Err, IsSome, IfOk, IfErr, IfSome, OnOk, take};
 ghost use Rattle.dir_calls.specs.Names.{name_fault};
 ghost use Rattle.rules_install.specs.ParseFaults.{of_parse};
-ghost use Rattle.rules_tools.specs.Paths.{PlacesOf};
+ghost use Rattle.rules_tools.specs.Causes.{failure_of, without_cause};
+ghost use Rattle.rules_tools.specs.Paths.{IsFolderOf, PlacesOf};
 ghost use Rattle.rules_tools.specs.Rules.{told_fault};
+ghost use Rattle.rules_tools.specs.Shells.{RunsByPaths, RunsIn, RunsSpelled};
 ghost use Rattle.rules_tools.specs.declared.tcprules.TcprulesFault.TheVariants.{OutOfMemory};
 
 use crate::cause::{CauseOf, ErrorCause};
 use crate::folder::RulesFolder;
+use crate::folders::InstallFolders;
 use crate::installing::install_text;
 use crate::path::{folder_path, split_path};
 use crate::spelling::respelled;
-use crate::waiting::Waiting;
 use byte_text::NotingStream;
 use dir_calls::{Name, NameFault};
-use dir_disk::{DiskFailure, LockedDir};
 use rule_lines::{LineFault, LineKind, ParseFault};
 use rules_install::{FileNames, InstallFault, Phase};
 use std::alloc::{AllocError, Global};
-use std::fs::{File, Files};
-use std::io::{ErrorKind, Read, Write};
-use std::time::Clock;
+use std::io::{ErrorKind, Read};
 use thiserror::Error;
 
 /// Why `tcprules` fails. Of several the first in this order is told.
@@ -98,12 +97,16 @@ pub struct RulesFailure {
 }
 
 impl From<AllocError> for RulesFailure {
+    ghost from_gives = { λ _ failure. failure ≡ without_cause OutOfMemory };
+
     fn from(error: AllocError) -> Self {
         RulesFailure::from(TcprulesFault::from(error))
     }
 }
 
 impl From<TcprulesFault> for RulesFailure {
+    ghost from_gives = { λ fault failure. failure ≡ without_cause fault };
+
     fn from(fault: TcprulesFault) -> Self {
         RulesFailure { fault, cause: None }
     }
@@ -113,76 +116,104 @@ impl From<TcprulesFault> for RulesFailure {
 /// folder of the paths. Where they spell one folder in two ways it is as `cdb` spells it.
 ///
 /// # Errors
-/// As of `install_text`, with the cause of a fault of the reader or of the disk.
-///
-/// Its scratch file is claimed (`dir_disk::Locked`). Where another `tcprules` has it, that is waited for: after three seconds `errors` is told
-/// so, and after a minute it is `Device` on the way to `Fresh`.
-pub fn run_tcprules<S, R, E>(
+/// As of `install_text`, with the cause of a fault of the reader or of the disk. Where something is wrong with the paths no folder is opened.
+pub fn run_tcprules<F: InstallFolders, R: Read>(
     alloc: Global,
-    system: &S,
+    folders: &mut F,
     reader: &mut R,
-    errors: &mut E,
     cdb: &str,
     tmp: &str,
 ) -> Result<(), RulesFailure>
-where
-    S: Files<File = File> + Clock,
-    R: Read,
-    E: Write,
+    ensures runs { RunsByPaths (record {
+      tells = F.Opened.Dir;
+      are_one = F.are_one;
+      opens = F.opens;
+      closes = F.closes;
+      input = R.remaining reader.old;
+      old = folders.old;
+      new = folders.new;
+    }) cdb.now tmp.now result }
 {
-    let spelled = respelled(alloc, system, cdb, tmp)?;
-    let tmp = match &spelled {
-        Some(path) => path.as_str(),
-        None => tmp,
-    };
-    let path = folder_path(read_places(alloc, cdb, tmp)?.0);
-    let mut folder = lend_folder(alloc, system, errors, path)?;
+    let spelled = respelled(alloc, folders, cdb, tmp)?;
+    match &spelled {
+        Some(path) => run_spelled(alloc, folders, reader, cdb, path.as_str()),
+        None => run_spelled(alloc, folders, reader, cdb, tmp),
+    }
+}
+
+// The same for paths that spell one folder in one way.
+fn run_spelled<F: InstallFolders, R: Read>(
+    alloc: Global,
+    folders: &mut F,
+    reader: &mut R,
+    cdb: &str,
+    tmp: &str,
+) -> Result<(), RulesFailure>
+    ensures runs { RunsSpelled (record {
+      tells = F.Opened.Dir;
+      are_one = F.are_one;
+      opens = F.opens;
+      closes = F.closes;
+      input = R.remaining reader.old;
+      old = folders.old;
+      new = folders.new;
+    }) cdb.now tmp.now result }
+{
+    let folder = folder_of(alloc, cdb, tmp)?;
+    let dir = folders.open(alloc, folder_path(folder))?;
+    run_there(alloc, folders, dir, reader, cdb, tmp)
+}
+
+// The folder of two paths.
+fn folder_of<'a>(alloc: Global, cdb: &'a str, tmp: &'a str) -> Result<&'a str, TcprulesFault>
+    ensures found { IfOk result (λ folder. IsFolderOf cdb.now tmp.now folder.now) }
+    ensures refused { IfErr result (λ fault. PlacesOf cdb.now tmp.now (Err fault)) }
+{
+    let (folder, _names) = read_places(alloc, cdb, tmp)?;
+    Ok(folder)
+}
+
+// The same in the folder of the paths, which is let go in the end.
+fn run_there<F: InstallFolders, R: Read>(
+    alloc: Global,
+    folders: &mut F,
+    dir: F::Opened,
+    reader: &mut R,
+    cdb: &str,
+    tmp: &str,
+) -> Result<(), RulesFailure>
+    ensures runs { RunsIn (record {
+      tells = F.Opened.Dir;
+      are_one = F.are_one;
+      opens = F.opens;
+      closes = F.closes;
+      input = R.remaining reader.old;
+      old = folders.old;
+      new = folders.new;
+    }) dir cdb.now tmp.now result }
+{
+    let mut folder = RulesFolder::new(dir);
     let mut reader = NotingStream::new(reader);
     let outcome = install_text(alloc, &mut reader, &mut folder, cdb, tmp);
-    let failure = failure_in(&folder);
-    drop(folder);
-    tell(outcome, reader.error(), failure)
-}
-
-// A folder of the system for `tcprules`.
-type SystemFolder<'a, S, E> = RulesFolder<LockedDir<&'a S, Waiting<'a, S, &'a mut E>>>;
-
-// The folder of the system at a path.
-fn lend_folder<'a, S, E>(
-    alloc: Global,
-    system: &'a S,
-    errors: &'a mut E,
-    path: &str,
-) -> Result<SystemFolder<'a, S, E>, TcprulesFault>
-where
-    S: Files<File = File> + Clock,
-    E: Write,
-{
-    let dir = LockedDir::locked(alloc, system, Waiting::new(system, errors), path)?;
-    Ok(RulesFolder::new(dir))
-}
-
-// The call of the system that failed there.
-fn failure_in<'a, S, E>(folder: &SystemFolder<'a, S, E>) -> Option<DiskFailure>
-where
-    S: Files<File = File> + Clock,
-    E: Write,
-{
-    folder.dir().disk().failure()
+    let reading = reader.error();
+    let cause = folders.close(folder.into_dir());
+    tell(outcome, reading, cause)
 }
 
 // What is told of a run, with the cause of its fault.
 fn tell(
     outcome: Result<(), TcprulesFault>,
     reading: Option<i32>,
-    disk: Option<DiskFailure>,
-) -> Result<(), RulesFailure> {
+    disk: Option<ErrorCause>,
+) -> Result<(), RulesFailure>
+    ensures { result ≡ failure_of outcome reading disk }
+{
     let Err(fault) = outcome else {
         return Ok(());
     };
     let cause = match fault {
         TcprulesFault::ReadFault => ErrorCause::of(CauseOf::Input, reading),
-        TcprulesFault::Device(_) => ErrorCause::of_installation(disk),
+        TcprulesFault::Device(_) => disk,
         _ => None,
     };
     Err(RulesFailure { fault, cause })

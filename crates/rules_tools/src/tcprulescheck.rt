@@ -4,14 +4,15 @@ ghost use Rattle.std.specs.Io.KnownBytes.{Appends};
 ghost use Rattle.rule_lookup.specs.Answers.{answer_lines};
 ghost use Rattle.dir_calls.specs.Directory.{content};
 ghost use Rattle.byte_text.specs.NotingStream.{noted_error, noted_stream};
+ghost use Rattle.rules_tools.specs.Causes.{check_failure_of};
 ghost use Rattle.rules_tools.specs.Checks.{Blames, DecidesBy, FailsBy};
-ghost use Rattle.rules_tools.specs.Told.{Checks, DecidesAt, DecidesThere, FailsAt, HasNone, NameFails};
+ghost use Rattle.rules_tools.specs.Told.{Checks, DecidesAt, DecidesThere, FailsAt, HasNone, NameFails, TellsWithCause};
 ghost use Rattle.rules_tools.specs.declared.tcprulescheck.CheckFault.TheVariants.{OutOfMemory};
 
 use crate::cause::{CauseOf, ErrorCause};
-use crate::folders::{Folders, SystemFolders};
+use crate::folders::Folders;
 use crate::path::{folder_path, split_path};
-use crate::variables::{SystemVariables, Variables, read_peer};
+use crate::variables::{Variables, read_peer};
 use byte_text::NotingStream;
 use cdb_read::CdbFile;
 use connection_facts::Peer;
@@ -22,10 +23,7 @@ use rule_lookup::{DecideFault, Decision, Found, WhenMissing, append_answer, deci
 use std::alloc::{AllocError, Global};
 use std::error::Error;
 use std::fmt;
-use std::fs::Files;
 use std::io::Write;
-use std::os::unix::fs::FileExt;
-use std::rt::Env;
 
 /// Why `tcprulescheck` tells no decision. Of several the first in this order is told.
 #[derive(Clone, Copy, PartialEq, Eq, Debug)]
@@ -98,38 +96,44 @@ impl From<CheckFault> for CheckFailure {
     }
 }
 
-/// Writes what the compiled file at a path decides for the peer of the variables of this process: `tell_decision` over the system's files.
+/// The same as `tell_decision`, with the cause of a fault.
 ///
 /// # Errors
-/// As of `tell_decision`, with the cause of a fault of the disk or of the writer.
-pub fn run_tcprulescheck<E: Env + AllocGlobal, F: Files, W: Write>(
-    env: &E,
-    files: &F,
-    writer: &mut W,
+/// As of `tell_decision`, with the cause that the folders tell, or the error that the writer noted.
+pub fn run_tcprulescheck<V: Variables, F: Folders, W: Write>(
+    alloc: Global,
+    variables: &V,
+    folders: &mut F,
+    writer: &mut NotingStream<W>,
     cdb: &str,
 ) -> Result<(), CheckFailure>
-where
-    F::File: FileExt,
+    ensures runs { TellsWithCause (λ outcome. IsTrue V.honest → IsTrue F.honest → Checks (V.value variables.now)
+        (F.stands folders.old) cdb.now (W.contents (noted_stream writer.old)) (W.contents (noted_stream writer.new)) outcome)
+        (F.told folders.new) (noted_error writer.new) result }
+    ensures passed { OnOk result (noted_error writer.new ≡ None) }
+    ensures unwritten { IfErr result (λ failure. failure.fault ≢ CheckFault.WriteFault → writer.new ≡ writer.old) }
 {
-    let mut folders = SystemFolders::new(files);
-    let mut writer = NotingStream::new(writer);
-    match tell_decision(
-        env.alloc(),
-        &SystemVariables(env),
-        &mut folders,
-        &mut writer,
-        cdb,
-    ) {
-        Ok(()) => Ok(()),
-        Err(fault) => Err(CheckFailure {
-            fault,
-            cause: match fault {
-                CheckFault::NoFile | CheckFault::Device | CheckFault::ReadFault => folders.cause(),
-                CheckFault::WriteFault => ErrorCause::of(CauseOf::Output, writer.error()),
-                _ => None,
-            },
-        }),
-    }
+    let outcome = tell_decision(alloc, variables, folders, writer, cdb);
+    tell(outcome, folders.cause(), writer.error())
+}
+
+// What is told of a run, with the cause of its fault.
+fn tell(
+    outcome: Result<(), CheckFault>,
+    folders: Option<ErrorCause>,
+    writing: Option<i32>,
+) -> Result<(), CheckFailure>
+    ensures { result ≡ check_failure_of outcome folders writing }
+{
+    let Err(fault) = outcome else {
+        return Ok(());
+    };
+    let cause = match fault {
+        CheckFault::NoFile | CheckFault::Device | CheckFault::ReadFault => folders,
+        CheckFault::WriteFault => ErrorCause::of(CauseOf::Output, writing),
+        _ => None,
+    };
+    Err(CheckFailure { fault, cause })
 }
 
 /// Writes what the compiled file at a path decides for the peer of the variables `TCPREMOTEIP`, `TCPREMOTEHOST` and `TCPREMOTEINFO`. One

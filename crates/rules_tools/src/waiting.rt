@@ -20,15 +20,15 @@ const WAITING: &[u8] = b"tcprules: waiting for another installation\n";
 #[derive(Drop)]
 pub struct Waiting<'a, C, E> {
     clock: &'a C,
-    errors: E,
+    errors: Option<E>,
     began: Option<Instant>,
     pauses: u64,
     told: bool,
 }
 
 impl<'a, C: Clock, E> Waiting<'a, C, E> {
-    /// A wait that has not begun. It is told on `errors`.
-    pub fn new(clock: &'a C, errors: E) -> Waiting<'a, C, E> {
+    /// A wait that has not begun. It is told on `errors`, if there are any.
+    pub fn new(clock: &'a C, errors: Option<E>) -> Waiting<'a, C, E> {
         Waiting {
             clock,
             errors,
@@ -59,7 +59,9 @@ impl<'a, C: Clock, E: Write> Waits for Waiting<'a, C, E> {
             return false;
         }
         if waited >= TOLD_AFTER && !self.told {
-            let _ = self.errors.write_all(WAITING);
+            if let Some(errors) = &mut self.errors {
+                let _ = errors.write_all(WAITING);
+            }
             self.told = true;
         }
         self.pauses = self.pauses.saturating_add(1);

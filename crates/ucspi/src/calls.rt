@@ -2,11 +2,12 @@
 ghost use Rattle.ucspi_tools.specs.Systems.{anything};
 
 use byte_streams::Patient;
+use byte_text::NotingStream;
 use connection_facts::Status;
 use fault_hints::{KeepingReader, Voice};
 use rules_tools::{
-    CheckFailure, ReviewFault, RulesFailure, TcprulesFault, run_review, run_tcprules,
-    run_tcprulescheck,
+    CheckFailure, ReviewFault, RulesFailure, SystemFolders, SystemVariables, TcprulesFault,
+    run_review, run_tcprules, run_tcprulescheck,
 };
 use script_tool::{SimFault, run_script};
 use server_parts::ServerFault;
@@ -63,14 +64,14 @@ where
     fn install(&self, cdb: &str, tmp: &str, faulty: &mut Vec<u8>) -> Result<(), RulesFailure> {
         let alloc = self.rt.alloc();
         let mut reader = KeepingReader::new(alloc, Patient::new(self.rt, self.rt.reader()));
-        let mut errors = Patient::new(self.rt, self.errors);
-        let done = run_tcprules(alloc, self.rt, &mut reader, &mut errors, cdb, tmp);
+        let mut folders = SystemFolders::new(self.rt, Patient::new(self.rt, self.errors));
+        let done = run_tcprules(alloc, &mut folders, &mut reader, cdb, tmp);
         if let Err(failure) = done
             && let TcprulesFault::Line(fault) = failure.fault
         {
             reader.copy_line(fault.line, faulty);
         }
-        drop(errors);
+        drop(folders);
         drop(reader);
         done
     }
@@ -86,9 +87,13 @@ where
     }
 
     fn check(&self, cdb: &str) -> Result<(), CheckFailure> {
-        let mut writer = Patient::new(self.rt, io::writer(self.rt));
-        let told = run_tcprulescheck(self.rt, self.rt, &mut writer, cdb);
+        let alloc = self.rt.alloc();
+        let variables = SystemVariables(self.rt);
+        let mut folders = SystemFolders::new(self.rt, Patient::new(self.rt, self.errors));
+        let mut writer = NotingStream::new(Patient::new(self.rt, io::writer(self.rt)));
+        let told = run_tcprulescheck(alloc, &variables, &mut folders, &mut writer, cdb);
         drop(writer);
+        drop(folders);
         told
     }
 
