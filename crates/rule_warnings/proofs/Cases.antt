@@ -5,7 +5,7 @@ use Rattle.std.specs.Fmt.{digits}
 use Rattle.rule_lookup.specs.Addresses.{ipv4_in}
 use Rattle.rule_warnings.specs.declared.warning.Warning.{Warning}
 use Rattle.rule_warnings.specs.declared.warning.WarningKind.{WarningKind}
-use Rattle.rule_warnings.specs.declared.warning.WarningKind.TheVariants.{NoClient, UnknownUser, DecidedBy, NobodyElse, Ignored}
+use Rattle.rule_warnings.specs.declared.warning.WarningKind.TheVariants.{NoClient, UnknownUser, DecidedBy, BlankName, NobodyElse, Ignored}
 use Rattle.rule_warnings.specs.Clients.{asks_user, is_form}
 use Rattle.rule_warnings.specs.Warnings.{report_of, warnings_of}
 
@@ -76,7 +76,15 @@ several_of_one_line : warnings_of (codes "joe@x:deny\njoe@x:deny\n #:deny") ≡ 
 unfolding at digits ipv4_in
 several_of_one_line = refl
 
+a_blank_name : warnings_of (codes ":allow,A=/ x/, B=/y/\n") ≡ at 1 BlankName ∷ []
+unfolding at digits
+a_blank_name = refl
+
+a_blank_value : warnings_of (codes ":allow,A=/x B=y/\n") ≡ []
+unfolding at digits
+a_blank_value = refl
+
 -- lines
-a_report : report_of (codes "=a:deny\n=a:allow\n") ≡ codes "tcprules: line 2: line 1 decides first\ntcprules: line 2: no rule for everyone else\n"
+a_report : report_of (codes "=a:deny\n=a:allow\n") ≡ codes "tcprules: line 2: line 1 decides first\ntcprules: line 2: no rule for everyone else\ntcprules: rules by name need a host table\n"
 unfolding digits
 a_report = refl

@@ -4,6 +4,7 @@ pub mod ExactLemmas
 pub mod FrontLemmas
 pub mod LentLemmas
 pub mod LineLemmas
+pub mod NameLemmas
 pub mod ReadLemmas
 pub mod ReportLemmas
 pub mod SpanLemmas

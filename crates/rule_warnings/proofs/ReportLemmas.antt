@@ -17,9 +17,10 @@ use Rattle.rule_lines.specs.Pairs.{address_in, instructions_in, is_ignored, sett
 use Rattle.rule_lines.specs.Spread.{is_bad_range}
 use Rattle.rule_warnings.specs.declared.warning.Warning.{Warning}
 use Rattle.rule_warnings.specs.declared.warning.WarningKind.{WarningKind}
-use Rattle.rule_warnings.specs.declared.warning.WarningKind.TheVariants.{NoClient, UnknownUser, NobodyElse, Ignored}
+use Rattle.rule_warnings.specs.declared.warning.WarningKind.TheVariants.{NoClient, UnknownUser, BlankName, NobodyElse, Ignored}
+use Rattle.rule_warnings.specs.Names.{has_blank_name, names_host}
 use Rattle.rule_warnings.specs.Tables.{noted_all}
-use Rattle.rule_warnings.specs.Warnings.{addresses_in, decided_by, first_from, first_in, has_no_client, has_user, kinds_between, kinds_by, looks_ignored, report_of, trimmed_lines, warning_line, warnings_at, warnings_behind, warnings_of, when, when_decided}
+use Rattle.rule_warnings.specs.Warnings.{addresses_in, decided_by, first_from, first_in, has_no_client, has_user, kinds_between, kinds_by, looks_ignored, lines_report, report_of, table_report, trimmed_lines, warning_line, warnings_at, warnings_behind, warnings_of, when, when_decided}
 
 -- equal searches find the same line
 all_alike : (f g : List ℕ → Option ℕ) → ((a : List ℕ) → f a ≡ g a) → (addresses : List (List ℕ)) → list_all (λ a. is_some (f a)) addresses ≡ list_all (λ a. is_some (g a)) addresses
@@ -124,9 +125,9 @@ faultless-lines limit n rest line after ended cut faultless =
 abbrev pub report_behind : List (List ℕ) → List (List ℕ) → List ℕ
 report_behind earlier lines = flat_map warning_line (warnings_behind earlier lines)
 
-pub report_of-some : (text : List ℕ) → 0 < length text → report_of text ≡ report_behind [] (trimmed_lines text)
-report_of-some [] some = absurd (omega arith)
-report_of-some (b ∷ bs) some = refl
+pub lines_report-some : (text : List ℕ) → 0 < length text → lines_report text ≡ report_behind [] (trimmed_lines text)
+lines_report-some [] some = absurd (omega arith)
+lines_report-some (b ∷ bs) some = refl
 
 -- lines were read up to a rest, and their warnings were written
 pub record IsWrittenUpTo (limit : ℕ) (text rest : List ℕ) (number : ℕ) (table : List ℕ → Option ℕ) (warned : Bool) (old new : Option (List ℕ)) : Type 0 where
@@ -143,7 +144,7 @@ pub record IsWrittenUpTo (limit : ℕ) (text rest : List ℕ) (number : ℕ) (ta
 -- the kinds of warning, by the line that decides
 abbrev kinds_with : List ℕ → Option ℕ → Bool → List WarningKind
 kinds_with line decided leaves =
-    when (has_no_client line) NoClient ++ when (has_user line) UnknownUser ++ when_decided decided ++ when leaves NobodyElse ++ when (looks_ignored line) Ignored
+    when (has_no_client line) NoClient ++ when (has_user line) UnknownUser ++ when_decided decided ++ when (has_blank_name line) BlankName ++ when leaves NobodyElse ++ when (looks_ignored line) Ignored
 
 kinds-same : (f g : List ℕ → Option ℕ) (earlier : List (List ℕ)) (line after : List ℕ) (is_last : Bool) → is_last ≡ (length after == 0) → ((a : List ℕ) → f a ≡ first_in earlier a) → ((a : List ℕ) → g a ≡ first_in (earlier ++ line ∷ []) a) → kinds_by f line (is_last && is_none (g [])) ≡ kinds_between earlier line (trimmed_lines after)
 kinds-same f g earlier line after is_last last before now =
@@ -195,14 +196,42 @@ written-none limit text f old none faultless = record {
 }
 
 -- all was read
-pub written-all : (limit : ℕ) (text rest : List ℕ) (number : ℕ) (f : List ℕ → Option ℕ) (warned : Bool) (old new : Option (List ℕ)) → 0 < length text → length rest ≡ 0 → IsWrittenUpTo limit text rest number f warned old new → (Appends old new (report_of text)) × (warned ≡ not (length (report_of text) == 0))
+pub written-all : (limit : ℕ) (text rest : List ℕ) (number : ℕ) (f : List ℕ → Option ℕ) (warned : Bool) (old new : Option (List ℕ)) → 0 < length text → length rest ≡ 0 → IsWrittenUpTo limit text rest number f warned old new → (Appends old new (lines_report text)) × (warned ≡ not (length (lines_report text) == 0))
 written-all limit text [] number f warned old new some none so_far =
-    let all : so_far.written ≡ report_of text = sym (append-nil so_far.written) ∙ so_far.left ∙ sym (report_of-some text some) in
+    let all : so_far.written ≡ lines_report text = sym (append-nil so_far.written) ∙ so_far.left ∙ sym (lines_report-some text some) in
     (subst (Appends old new) all so_far.appended, so_far.told ∙ ap (λ (bytes : List ℕ). not (length bytes == 0)) all)
 written-all limit text (b ∷ bs) number f warned old new some none so_far = absurd (omega (arith, none))
 
+-- and then what is told of rules by name
+pub written-table : (text : List ℕ) (named : Bool) (old mid new : Option (List ℕ)) → 0 < length text → named ≡ list_any names_host (trimmed_lines text) → Appends old mid (lines_report text) → Appends mid new (table_report named) → Appends old new (report_of text)
+written-table [] named old mid new some is first second = absurd (omega (arith, some))
+written-table (b ∷ bs) named old mid new some is first second =
+    subst (Appends old new) (ap (λ (t : Bool). lines_report (b ∷ bs) ++ table_report t) is)
+    (Appends-trans old mid new (lines_report (b ∷ bs)) (table_report named) first second)
+
+or_later_too : (a b c : Bool) → ((a || b) || c) ≡ (a || (b || c))
+or_later_too true b c = refl
+or_later_too false b c = refl
+
+-- a line more was looked at for a rule by name
+pub named-more : (named now total : Bool) (rest line after : List ℕ) (ended : Bool) → lines_of rest ≡ record { bytes = line; ended = ended } ∷ lines_of after → now ≡ (named || names_host (trimmed line)) → (named || list_any names_host (trimmed_lines rest)) ≡ total → (now || list_any names_host (trimmed_lines after)) ≡ total
+named-more named now total rest line after ended cut found so_far =
+    ap (λ b. b || list_any names_host (trimmed_lines after)) found
+    ∙ or_later_too named (names_host (trimmed line)) (list_any names_host (trimmed_lines after))
+    ∙ sym (ap (λ (ls : List Line). named || list_any names_host (map (λ (line : Line). trimmed line.bytes) ls)) cut)
+    ∙ so_far
+
+or_nothing : (a : Bool) → (a || false) ≡ a
+or_nothing true = refl
+or_nothing false = refl
+
+-- all lines were looked at
+pub named-all : (named total : Bool) (rest : List ℕ) → length rest ≡ 0 → (named || list_any names_host (trimmed_lines rest)) ≡ total → named ≡ total
+named-all named total [] none is = sym (or_nothing named) ∙ is
+named-all named total (b ∷ bs) none is = absurd (omega (arith, none))
+
 -- a line is never empty, so there is a line exactly where there is a warning
-pub warned-report : (text : List ℕ) → (length (report_of text) == 0) ≡ (length (warnings_of text) == 0)
+pub warned-report : (text : List ℕ) → (length (lines_report text) == 0) ≡ (length (warnings_of text) == 0)
 warned-report text = by_list (warnings_of text) where
   by_list : (warnings : List Warning) → (length (flat_map warning_line warnings) == 0) ≡ (length warnings == 0)
   by_list [] = refl

@@ -6,14 +6,14 @@ use Rattle.rule_warnings.specs.declared.findings.Findings.{Findings}
 use Rattle.rule_warnings.specs.declared.report.WarnFault.{WarnFault}
 use Rattle.rule_warnings.specs.declared.report.WarnFault.TheVariants.{Line, WriteFault, OutOfMemory}
 use Rattle.rule_warnings.specs.declared.warning.WarningKind.{WarningKind}
-use Rattle.rule_warnings.specs.declared.warning.WarningKind.TheVariants.{NoClient, UnknownUser, NobodyElse, Ignored}
+use Rattle.rule_warnings.specs.declared.warning.WarningKind.TheVariants.{NoClient, UnknownUser, BlankName, NobodyElse, Ignored}
 use Rattle.rule_warnings.specs.Warnings.{when, when_decided}
 
 -- the kinds of warning that were found
 abbrev pub kinds_in : Findings → List WarningKind
 kinds_in found =
-    when found.no_client NoClient ++ when found.unknown_user UnknownUser ++ when_decided found.decided_by ++ when found.nobody_else NobodyElse
-    ++ when found.ignored Ignored
+    when found.no_client NoClient ++ when found.unknown_user UnknownUser ++ when_decided found.decided_by ++ when found.blank_name BlankName
+    ++ when found.nobody_else NobodyElse ++ when found.ignored Ignored
 
 -- a refused text has the fault that is named; a writer fails only with an accepted one
 abbrev pub WarnFails : Limits → List ℕ → WarnFault → Type 0

@@ -2,6 +2,7 @@
 pub mod Clients
 pub mod Findings
 pub mod LentLines
+pub mod Names
 pub mod Spans
 pub mod Tables
 pub mod Warnings

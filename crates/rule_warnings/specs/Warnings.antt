@@ -5,9 +5,10 @@ use Rattle.rule_lines.specs.Lines.{Line, lines_of, trimmed, is_blank, has_byte}
 use Rattle.rule_lines.specs.Pairs.{is_ignored, address_in}
 use Rattle.rule_lines.specs.Spread.{spread}
 use Rattle.rule_warnings.specs.declared.warning.WarningKind.{WarningKind}
-use Rattle.rule_warnings.specs.declared.warning.WarningKind.TheVariants.{NoClient, UnknownUser, DecidedBy, NobodyElse, Ignored}
+use Rattle.rule_warnings.specs.declared.warning.WarningKind.TheVariants.{NoClient, UnknownUser, DecidedBy, BlankName, NobodyElse, Ignored}
 use Rattle.rule_warnings.specs.declared.warning.Warning.{Warning}
 use Rattle.rule_warnings.specs.Clients.{is_form, asks_user}
+use Rattle.rule_warnings.specs.Names.{has_blank_name, names_host}
 
 -- the addresses of a trimmed line: none where it is ignored
 abbrev pub addresses_in : List ℕ → List (List ℕ)
@@ -71,7 +72,7 @@ looks_ignored line = is_lost line || is_moved_comment line
 abbrev pub kinds_by : (List ℕ → Option ℕ) → List ℕ → Bool → List WarningKind
 kinds_by first line leaves =
     when (has_no_client line) NoClient ++ when (has_user line) UnknownUser ++ when_decided (decided_by first (addresses_in line))
-    ++ when leaves NobodyElse ++ when (looks_ignored line) Ignored
+    ++ when (has_blank_name line) BlankName ++ when leaves NobodyElse ++ when (looks_ignored line) Ignored
 
 -- the same of a line between the earlier and the later ones
 abbrev pub kinds_between : List (List ℕ) → List ℕ → List (List ℕ) → List WarningKind
@@ -101,6 +102,7 @@ abbrev pub kind_text : WarningKind → List ℕ
 kind_text NoClient = codes "no client has this address"
 kind_text UnknownUser = codes "a user is never known"
 kind_text (DecidedBy line) = codes "line " ++ decimal line ++ codes " decides first"
+kind_text BlankName = codes "a name with a blank"
 kind_text NobodyElse = codes "no rule for everyone else"
 kind_text Ignored = codes "ignored"
 
@@ -109,5 +111,14 @@ abbrev pub warning_line : Warning → List ℕ
 warning_line warning = codes "tcprules: line " ++ decimal warning.line ++ codes ": " ++ kind_text warning.kind ++ 10 ∷ []
 
 -- the lines of the warnings of a text
+abbrev pub lines_report : List ℕ → List ℕ
+lines_report text = flat_map warning_line (warnings_of text)
+
+-- what is told of rules by name, which is no warning of a line
+abbrev pub table_report : Bool → List ℕ
+table_report named = if named then codes "tcprules: rules by name need a host table\n" else []
+
+-- what is told of a text: its warnings, and at the end whether a rule is by name
 abbrev pub report_of : List ℕ → List ℕ
-report_of text = flat_map warning_line (warnings_of text)
+report_of [] = lines_report []
+report_of (b ∷ bs) = lines_report (b ∷ bs) ++ table_report (list_any names_host (trimmed_lines (b ∷ bs)))

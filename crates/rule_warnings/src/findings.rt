@@ -14,6 +14,7 @@ ghost use Rattle.rule_warnings.specs.Warnings.{addresses_in, decided_by, has_no_
 use crate::addresses::{count, write_address};
 use crate::client::{asks_user, contains, first_equals, has_capitals, is_form};
 use crate::seen::Seen;
+use crate::settings::has_blank_name;
 use crate::spans::{is_cut, lesser};
 use memchr::memchr;
 use rule_lines::lines::is_blank;
@@ -29,6 +30,8 @@ pub struct Findings {
     pub unknown_user: bool,
     /// The first line that decides one of its addresses, where each of them is decided by an earlier line.
     pub decided_by: Option<u64>,
+    /// A setting of it has a name with a blank.
+    pub blank_name: bool,
     /// It is the last line, and no line is for everyone else.
     pub nobody_else: bool,
     /// It is ignored, or was meant to be.
@@ -66,6 +69,7 @@ pub fn look_at<'a>(
         no_client: rule.no_client,
         unknown_user: rule.unknown_user,
         decided_by: rule.decided_by,
+        blank_name: has_blank_name(line),
         nobody_else,
         ignored: looks_ignored(line),
     })

@@ -14,6 +14,7 @@ pub mod laws;
 mod lent;
 pub mod report;
 mod seen;
+mod settings;
 mod spans;
 pub mod warning;
 

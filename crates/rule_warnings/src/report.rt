@@ -1,15 +1,18 @@
 //! The warnings of a text.
 ghost use Rattle.std.specs.Prelude.{◌≡◌, ◌<◌, ◌≤◌, ◌⊎◌, ◌++◌, ◌==◌, ◌||◌, [], not, true, None, length, flat_map, IfOk, IfErr, OnOk};
 ghost use Rattle.std.specs.Io.KnownBytes.{Appends};
+ghost use Rattle.std.specs.List.{list_any};
 ghost use Rattle.rule_lines.specs.Faults.{first_faulty, IsAccepted};
 ghost use Rattle.rule_lines.specs.Lines.{lines_of};
 ghost use Rattle.rule_warnings.specs.Findings.{kinds_in, OnRefusal, RefusedBy, WarnFails};
-ghost use Rattle.rule_warnings.specs.Warnings.{report_of, warning_line, warnings_at, warnings_of, when, when_decided};
+ghost use Rattle.rule_warnings.specs.Names.{names_host};
+ghost use Rattle.rule_warnings.specs.Warnings.{lines_report, report_of, table_report, trimmed_lines, warning_line, warnings_at, warnings_of, when, when_decided};
 ghost use Rattle.rule_warnings.specs.declared.report.WarnFault.TheVariants.{OutOfMemory};
 
 use crate::client::contains;
 use crate::findings::{Findings, look_at};
 use crate::seen::Seen;
+use crate::settings::names_host;
 use crate::warning::{Warning, WarningKind};
 use rule_lines::lines::{first_line, trim_blanks};
 use rule_lines::{Limits, LineFault, ParseFault};
@@ -39,7 +42,8 @@ impl From<AllocError> for WarnFault {
     }
 }
 
-/// Writes the warnings of an accepted text, a line each, in the order of its lines, and tells whether there was one.
+/// Writes the warnings of an accepted text, a line each, in the order of its lines, and tells whether there was one. Behind them
+/// stands whether a rule is by name, which is no warning of a line.
 ///
 /// # Errors
 /// In the order of `WarnFault`.
@@ -89,7 +93,7 @@ fn write_nobody<W: Write>(alloc: Global, writer: &mut W) -> Result<bool, WarnFau
     write_found(writer, &lines, false)
 }
 
-/// Writes the warnings of the lines of an accepted text that is not empty.
+/// Writes the warnings of an accepted text that is not empty.
 fn write_lines<W: Write>(
     alloc: Global,
     text: &[u8],
@@ -99,7 +103,57 @@ fn write_lines<W: Write>(
     requires faultless { first_faulty limit 1 (lines_of text.now) ≡ None }
     requires some { 0 < length text.now }
     ensures written { OnOk result (Appends (W.contents writer.old) (W.contents writer.new) (report_of text.now)) }
-    ensures warned { IfOk result (λ warned. warned ≡ not (length (report_of text.now) == 0)) }
+    ensures warned { IfOk result (λ warned. warned ≡ not (length (lines_report text.now) == 0)) }
+    ensures fault { IfErr result (λ fault. (fault ≡ WarnFault.WriteFault) ⊎ (fault ≡ WarnFault.OutOfMemory)) }
+{
+    let warned = write_each(alloc, text, limit, writer)?;
+    write_found(writer, table_line(names_someone(text)), warned)?;
+    Ok(warned)
+}
+
+/// What is told of a text with rules by name.
+fn table_line(named: bool) -> &'static [u8]
+    ensures { result.now ≡ table_report named }
+{
+    if named {
+        b"tcprules: rules by name need a host table\n"
+    } else {
+        b""
+    }
+}
+
+/// Whether a text has a rule for clients with a name.
+fn names_someone(text: &[u8]) -> bool
+    ensures { result ≡ list_any names_host (trimmed_lines text.now) }
+{
+    let mut named = false;
+    let mut rest = text;
+    while !rest.is_empty() {
+        let (line, after) = first_line(rest);
+        named = named_by(named, trim_blanks(line));
+        rest = after;
+    }
+    named
+}
+
+/// Whether a rule by name was found before, or a line is one.
+fn named_by(named: bool, line: &[u8]) -> bool
+    ensures { result ≡ (named || names_host line.now) }
+{
+    named || names_host(line)
+}
+
+/// Writes the warnings of the lines of an accepted text that is not empty.
+fn write_each<W: Write>(
+    alloc: Global,
+    text: &[u8],
+    limit: u64,
+    writer: &mut W,
+) -> Result<bool, WarnFault>
+    requires faultless { first_faulty limit 1 (lines_of text.now) ≡ None }
+    requires some { 0 < length text.now }
+    ensures written { OnOk result (Appends (W.contents writer.old) (W.contents writer.new) (lines_report text.now)) }
+    ensures warned { IfOk result (λ warned. warned ≡ not (length (lines_report text.now) == 0)) }
     ensures fault { IfErr result (λ fault. (fault ≡ WarnFault.WriteFault) ⊎ (fault ≡ WarnFault.OutOfMemory)) }
 {
     let mut seen = Seen::with_room(alloc, count_hosts(text))?;
@@ -167,6 +221,7 @@ fn append_found(out: &mut Vec<u8>, line: u64, found: &Findings) -> Result<(), Al
     append_where(out, line, found.no_client, WarningKind::NoClient)?;
     append_where(out, line, found.unknown_user, WarningKind::UnknownUser)?;
     append_decided(out, line, found.decided_by)?;
+    append_where(out, line, found.blank_name, WarningKind::BlankName)?;
     append_where(out, line, found.nobody_else, WarningKind::NobodyElse)?;
     append_where(out, line, found.ignored, WarningKind::Ignored)
 }

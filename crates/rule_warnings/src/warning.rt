@@ -14,6 +14,8 @@ pub enum WarningKind {
     UnknownUser,
     /// Each of its addresses stands in an earlier line, and the first of these lines has this number.
     DecidedBy(u64),
+    /// A setting of it has a name with a blank or a tab.
+    BlankName,
     /// It is the last line, and no line is for everyone else.
     NobodyElse,
     /// It is no rule and no comment; or a comment that blanks before it make a rule.
@@ -54,6 +56,7 @@ fn append_kind(kind: WarningKind, out: &mut Vec<u8>) -> Result<(), AllocError>
             push_number(out, line)?;
             push_text(out, " decides first")
         }
+        WarningKind::BlankName => push_text(out, "a name with a blank"),
         WarningKind::NobodyElse => push_text(out, "no rule for everyone else"),
         WarningKind::Ignored => push_text(out, "ignored"),
     }

@@ -1,7 +1,7 @@
 use Rattle.std.proofs.Common.{length}
 use Rattle.rule_warnings.specs.Tables.{line_under}
 use Rattle.rule_warnings.proofs.ReportLemmas.{IsWrittenUpTo}
-use Rattle.rule_warnings.proofs.report.write_lines.Given as goal
+use Rattle.rule_warnings.proofs.report.write_each.Given as goal
 
 abbrev pub invariant-loop-rest : goal.invariant-loop-rest
 invariant-loop-rest g l =
