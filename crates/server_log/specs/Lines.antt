@@ -12,7 +12,12 @@ use Rattle.connection_facts.specs.declared.outcome.StartFault.TheVariants.{NotFo
 use Rattle.connection_facts.specs.declared.outcome.Status.{Status}
 use Rattle.connection_facts.specs.declared.outcome.Status.TheVariants.{Code, Signal}
 use Rattle.ucspi_env.specs.Ends.{LocalEnd}
-use Rattle.byte_text.specs.Causes.{cause_text as cause_line}
+use Rattle.byte_text.specs.Causes.{cause_text as os_cause_text}
+use Rattle.fault_hints.specs.declared.voice.Detail.{Detail}
+use Rattle.fault_hints.specs.declared.voice.Detail.TheVariants.{Line, Cause, Hint}
+use Rattle.fault_hints.specs.declared.voice.Voice.{Voice}
+use Rattle.fault_hints.specs.declared.voice.Voice.TheVariants.{Plain, Helpful}
+use Rattle.fault_hints.specs.Voices.{detail_of}
 use Rattle.server_words.specs.declared.level.Level.{Level}
 use Rattle.server_words.specs.declared.level.Level.TheVariants.{Quiet, Errors, All}
 use Rattle.server_log.specs.Causes.{CauseText}
@@ -50,6 +55,18 @@ status_text Signal = codes "signal"
 
 abbrev pub end_text : ℕ → Status → List ℕ
 end_text serial status = codes "tcpserver: end " ++ decimal serial ++ codes " status " ++ status_text status ++ codes "\n"
+
+-- which signal ended a child
+abbrev pub signal_text : ℕ → ℕ → List ℕ
+signal_text serial signal = codes "tcpserver: cause: " ++ decimal serial ++ codes ": signal " ++ decimal signal ++ codes "\n"
+
+-- which process runs a connection's program
+abbrev pub runs_text : ℕ → ℕ → List ℕ
+runs_text serial process = codes "tcpserver: runs " ++ decimal serial ++ codes " process " ++ decimal process ++ codes "\n"
+
+-- where the server listens
+abbrev pub listening_text : List ℕ → ℕ → List ℕ
+listening_text ip port = codes "tcpserver: listening on " ++ ipv4_text ip ++ codes ":" ++ decimal port ++ codes "\n"
 
 abbrev pub retired_text : ℕ → List ℕ
 retired_text serial = codes "tcpserver: retired " ++ decimal serial ++ codes "\n"
@@ -102,22 +119,55 @@ error All line = line ∷ []
 abbrev pub status_lines : Level → (limit live : ℕ) → List (List ℕ)
 status_lines level limit live = progress level (status_line live limit)
 
--- the line of a cause, under `All` alone
-abbrev pub cause_lines : Level → Option CauseText → List (List ℕ)
-cause_lines level None = []
-cause_lines level (Some cause) = progress level (cause_line (codes "tcpserver") cause.what cause.why)
+-- a line that tells a person how connections go: under `All` alone
+abbrev pub person : Voice → Level → List ℕ → List (List ℕ)
+person Plain level line = []
+person Helpful level line = progress level line
+
+-- the line of a cause
+abbrev pub cause_line : CauseText → List ℕ
+cause_line cause = os_cause_text (codes "tcpserver") cause.what cause.why
+
+-- the same, where causes are told
+abbrev pub cause_lines : Detail → Option CauseText → List (List ℕ)
+cause_lines detail None = []
+cause_lines Line (Some cause) = []
+cause_lines Cause (Some cause) = cause_line cause ∷ []
+cause_lines Hint (Some cause) = cause_line cause ∷ []
+
+-- the same of a cause that is told to a person alone
+abbrev pub hint_lines : Detail → Option CauseText → List (List ℕ)
+hint_lines detail None = []
+hint_lines Line (Some cause) = []
+hint_lines Cause (Some cause) = []
+hint_lines Hint (Some cause) = cause_line cause ∷ []
+
+-- which signal ended a child, and which process runs a program, where that is known: for a person
+abbrev pub signal_lines : Level → Voice → ℕ → Option ℕ → List (List ℕ)
+signal_lines level voice serial None = []
+signal_lines level voice serial (Some signal) = person voice level (signal_text serial signal)
+
+abbrev pub runs_lines : Level → Voice → ℕ → Option ℕ → List (List ℕ)
+runs_lines level voice serial None = []
+runs_lines level voice serial (Some process) = person voice level (runs_text serial process)
 
 -- The lines of each event. The status stands in front of the line of an admission, and behind the line of any other
 -- event that changes how many are alive. A cause stands right behind its fault. A denied connection has an empty text.
-abbrev pub event_lines : Level → (limit live : ℕ) → Told → List (List ℕ)
-event_lines level limit live (Told.Admitted serial ip) = status_lines level limit live ++ progress level (pid_line serial ip)
-event_lines level limit live (Told.Decided serial verdict local peer) = progress level (verdict_text verdict serial local.now peer.now)
-event_lines level limit live (Told.StartFailed serial fault cause) =
-    (error level (start_text serial (Some fault)) ++ cause_lines level cause) ++ status_lines level limit live
-event_lines level limit live (Told.Ended serial status) = progress level (end_text serial status) ++ status_lines level limit live
-event_lines level limit live (Told.Retired serial) = error level (retired_text serial) ++ status_lines level limit live
-event_lines level limit live (Told.Dropped serial cause why) =
-    (error level (drop_text serial cause) ++ cause_lines level why) ++ status_lines level limit live
+-- A person is told at each level but the quiet one why there is no rules file, though the verdict has its line under
+-- `All` alone.
+abbrev pub event_lines : Level → Voice → (limit live : ℕ) → Told → List (List ℕ)
+event_lines level voice limit live (Told.Admitted serial ip) = status_lines level limit live ++ progress level (pid_line serial ip)
+event_lines level voice limit live (Told.Decided serial verdict local peer file) =
+    progress level (verdict_text verdict serial local.now peer.now) ++ hint_lines (detail_of voice level) file
+event_lines level voice limit live (Told.Started serial process) = runs_lines level voice serial process
+event_lines level voice limit live (Told.StartFailed serial fault cause) =
+    (error level (start_text serial (Some fault)) ++ cause_lines (detail_of voice level) cause) ++ status_lines level limit live
+event_lines level voice limit live (Told.Ended serial status signal) =
+    (progress level (end_text serial status) ++ signal_lines level voice serial signal) ++ status_lines level limit live
+event_lines level voice limit live (Told.Retired serial) = error level (retired_text serial) ++ status_lines level limit live
+event_lines level voice limit live (Told.Dropped serial cause file why) =
+    (error level (drop_text serial cause) ++ (hint_lines (detail_of voice level) file ++ cause_lines (detail_of voice level) why))
+    ++ status_lines level limit live
 
 -- what else a log tells: a child that gave no pipe ends, and an address that is full
 abbrev pub no_ends_lines : Level → ℕ → List (List ℕ)

@@ -4,6 +4,7 @@ use Rattle.std.specs.List.{concat}
 use Rattle.std.specs.declared.option.Option.{Option}
 use Rattle.std.specs.Io.KnownBytes.{Appends}
 use Rattle.server_words.specs.declared.level.Level.{Level}
+use Rattle.fault_hints.specs.declared.voice.Voice.{Voice}
 use Rattle.server_log.specs.declared.fault.LogFault.{LogFault}
 use Rattle.server_log.specs.declared.fault.LogFault.TheVariants.{OutOfMemory, OutOfOrder, WriteFault}
 use Rattle.server_log.specs.declared.log.Log.{Log}
@@ -13,6 +14,9 @@ writer_of log = log.writer
 
 abbrev pub level_of : {W : Type 0} → Log W → Level
 level_of log = log.level
+
+abbrev pub voice_of : {W : Type 0} → Log W → Voice
+voice_of log = log.voice
 
 abbrev pub limit_of : {W : Type 0} → Log W → ℕ
 limit_of log = log.limit
@@ -25,9 +29,10 @@ last_of log = log.last
 abbrev pub held : {W : Type 0} → (W → Option (List ℕ)) → Log W → Option (List ℕ)
 held contents log = contents (writer_of log)
 
--- it is of the same level, and of a server with the same limit
+-- it is of the same level and voice, and of a server with the same limit
 pub record KeepsSettings {W : Type 0} (old new : Log W) : Type 0 where
   pub level : level_of new ≡ level_of old
+  pub voice : voice_of new ≡ voice_of old
   pub limit : limit_of new ≡ limit_of old
 
 -- these of the lines are left, whole and in their order

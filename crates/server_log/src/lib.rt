@@ -1,10 +1,10 @@
-//! The log of `tcpserver`: which lines each event has at which level, and what is written of them.
+//! The log of `tcpserver`: which lines each event has at which level and for whom, and what is written of them.
 //!
-//! The server uses `Log::tell`. It writes exactly the lines of an event at the log's level, whole and in order, or
-//! answers what was left out. An event that is not later than the last is refused (`order`). `Write::contents` says
-//! what a writer holds; of standard error no clause says more. It is tested only when the server tells an event, and
-//! that it passes over an error of the log. It is also tested that an event's lines go by one write if the writer takes
-//! them.
+//! The server uses `Log::tell`. It writes exactly the lines of an event for the log's level and voice, whole and in
+//! order, or answers what was left out. An event that is not later than the last is refused (`order`).
+//! `Write::contents` says what a writer holds; of standard error no clause says more. It is tested only when the server
+//! tells an event, and that it passes over an error of the log. It is also tested that an event's lines go by one write
+//! if the writer takes them.
 #![tactic(auto)]
 
 pub mod cause;

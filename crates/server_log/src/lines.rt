@@ -3,7 +3,8 @@
 ghost use Rattle.std.specs.Prelude.{◌≡◌, Some, ◌++◌, List, ℕ, codes, decimal};
 ghost use Rattle.connection_facts.specs.Peers.{given};
 ghost use Rattle.byte_text.specs.Outcomes.{AppendsLine, AppendsPart};
-ghost use Rattle.server_log.specs.Lines.{cause_lines, cause_text, drop_text, end_text, error, event_lines, fault_text, full_text, pid_line, progress, retired_text, start_text, status_line, status_lines, verdict_text, verdict_word};
+ghost use Rattle.fault_hints.specs.Voices.{detail_of};
+ghost use Rattle.server_log.specs.Lines.{cause_line, cause_lines, cause_text, drop_text, end_text, error, event_lines, fault_text, full_text, hint_lines, listening_text, person, pid_line, progress, retired_text, runs_lines, runs_text, signal_lines, signal_text, start_text, status_line, status_lines, verdict_text, verdict_word};
 ghost use Rattle.server_log.specs.Logs.{Adds};
 
 use crate::cause::Cause;
@@ -11,6 +12,7 @@ use crate::fields::{push_local, push_remote, push_status};
 use crate::told::Told;
 use byte_text::{append_cause, push_address, push_number, push_text, whole_or_none};
 use connection_facts::{DropCause, Peer, StartFault, Status};
+use fault_hints::{Detail, Voice};
 use rule_lines::Verdict;
 use server_words::Level;
 use std::alloc::AllocError;
@@ -19,13 +21,15 @@ use ucspi_env::Local;
 /// Adds the lines of an event, after which `live` connections are alive.
 pub(crate) fn add_event(
     level: Level,
+    voice: Voice,
     limit: u64,
     live: u64,
     told: Told<'_>,
     out: &mut Vec<u8>,
 ) -> Result<(), AllocError>
-    ensures { Adds (event_lines level limit live told.entry) out.old.items out.new.items result }
+    ensures { Adds (event_lines level voice limit live told.entry) out.old.items out.new.items result }
 {
+    let detail = voice.detail(level);
     match told {
         Told::Admitted { serial, ip } => add_admitted(level, limit, live, serial, ip, out),
         Told::Decided {
@@ -33,28 +37,56 @@ pub(crate) fn add_event(
             verdict,
             local,
             peer,
-        } => add_verdict(level, verdict, serial, local, peer, out),
+            file,
+        } => {
+            let decided = add_verdict(level, verdict, serial, local, peer, out);
+            add_hint_behind(detail, file, decided, out)
+        }
+        Told::Started { serial, process } => add_runs(level, voice, serial, process, out),
         Told::StartFailed {
             serial,
             fault,
             cause,
         } => {
-            let failed = add_refused(level, serial, fault, cause, out);
+            let failed = add_refused(level, detail, serial, fault, cause, out);
             add_status_behind(level, limit, live, failed, out)
         }
-        Told::Ended { serial, status } => {
-            let end = add_end(level, serial, status, out);
+        Told::Ended {
+            serial,
+            status,
+            signal,
+        } => {
+            let end = add_ended(level, voice, serial, status, signal, out);
             add_status_behind(level, limit, live, end, out)
         }
         Told::Retired { serial } => {
             let retired = add_retired(level, serial, out);
             add_status_behind(level, limit, live, retired, out)
         }
-        Told::Dropped { serial, cause, why } => {
-            let dropped = add_given_up(level, serial, cause, why, out);
+        Told::Dropped {
+            serial,
+            cause,
+            file,
+            why,
+        } => {
+            let dropped = add_given_up(level, detail, serial, cause, file, why, out);
             add_status_behind(level, limit, live, dropped, out)
         }
     }
+}
+
+/// Adds the line of a cause that is told to a person alone behind lines that were added.
+fn add_hint_behind(
+    detail: Detail,
+    cause: Option<Cause<'_>>,
+    added: Result<(), AllocError>,
+    out: &mut Vec<u8>,
+) -> Result<(), AllocError>
+    ensures { (lines : List (List ℕ)) (first : List ℕ) → Adds lines first out.old.items added
+        → Adds (lines ++ hint_lines detail cause.entry) first out.new.items result }
+{
+    let hint = add_hint(detail, cause, out);
+    added.and(hint)
 }
 
 /// Adds the status line behind lines that were added.
@@ -140,6 +172,71 @@ fn add_end(level: Level, serial: u64, ended: Status, out: &mut Vec<u8>) -> Resul
     }
 }
 
+/// Adds the line of a child that ended, and behind it that of the signal that ended it, if one is known.
+fn add_ended(
+    level: Level,
+    voice: Voice,
+    serial: u64,
+    ended: Status,
+    signal: Option<u32>,
+    out: &mut Vec<u8>,
+) -> Result<(), AllocError>
+    ensures { Adds (progress level (end_text serial ended) ++ signal_lines level voice serial signal)
+        out.old.items out.new.items result }
+{
+    let end = add_end(level, serial, ended, out);
+    let signal = add_signal(level, voice, serial, signal, out);
+    end.and(signal)
+}
+
+/// Adds the line of the signal that ended a child, for a person.
+fn add_signal(
+    level: Level,
+    voice: Voice,
+    serial: u64,
+    signal: Option<u32>,
+    out: &mut Vec<u8>,
+) -> Result<(), AllocError>
+    ensures { Adds (signal_lines level voice serial signal) out.old.items out.new.items result }
+{
+    match (level, voice, signal) {
+        (Level::All, Voice::Helpful, Some(signal)) => signal_line(serial, signal, out),
+        _ => Ok(()),
+    }
+}
+
+/// Adds the line of the process that runs a connection's program, for a person.
+fn add_runs(
+    level: Level,
+    voice: Voice,
+    serial: u64,
+    process: Option<u32>,
+    out: &mut Vec<u8>,
+) -> Result<(), AllocError>
+    ensures { Adds (runs_lines level voice serial process) out.old.items out.new.items result }
+{
+    match (level, voice, process) {
+        (Level::All, Voice::Helpful, Some(process)) => runs_line(serial, process, out),
+        _ => Ok(()),
+    }
+}
+
+/// Adds the line of where a server listens, for a person.
+pub(crate) fn add_listening(
+    level: Level,
+    voice: Voice,
+    ip: [u8; 4],
+    port: u16,
+    out: &mut Vec<u8>,
+) -> Result<(), AllocError>
+    ensures { Adds (person voice level (listening_text ip port)) out.old.items out.new.items result }
+{
+    match (level, voice) {
+        (Level::All, Voice::Helpful) => listening_line(ip, port, out),
+        _ => Ok(()),
+    }
+}
+
 /// Adds the line of a child that was not started, or gave no pipe ends.
 pub(crate) fn add_start(
     level: Level,
@@ -155,28 +252,47 @@ pub(crate) fn add_start(
     }
 }
 
-/// Adds the line of a cause, if there is one and the level has it.
-fn add_cause(level: Level, cause: Option<Cause<'_>>, out: &mut Vec<u8>) -> Result<(), AllocError>
-    ensures { Adds (cause_lines level cause.entry) out.old.items out.new.items result }
+/// Adds the line of a cause, if there is one and causes are told.
+fn add_cause(detail: Detail, cause: Option<Cause<'_>>, out: &mut Vec<u8>) -> Result<(), AllocError>
+    ensures { Adds (cause_lines detail cause.entry) out.old.items out.new.items result }
 {
-    match (level, cause) {
-        (Level::All, Some(cause)) => append_cause(out, "tcpserver", cause.what(), cause.why()),
+    match (detail, cause) {
+        (Detail::Cause, Some(cause)) => cause_line(cause, out),
+        (Detail::Hint, Some(cause)) => cause_line(cause, out),
         _ => Ok(()),
     }
+}
+
+/// Adds the line of a cause that is told to a person alone, if there is one.
+fn add_hint(detail: Detail, cause: Option<Cause<'_>>, out: &mut Vec<u8>) -> Result<(), AllocError>
+    ensures { Adds (hint_lines detail cause.entry) out.old.items out.new.items result }
+{
+    match (detail, cause) {
+        (Detail::Hint, Some(cause)) => cause_line(cause, out),
+        _ => Ok(()),
+    }
+}
+
+/// Adds the line of a cause.
+fn cause_line(cause: Cause<'_>, out: &mut Vec<u8>) -> Result<(), AllocError>
+    ensures { AppendsLine (cause_line cause.entry) out.old.items out.new.items result }
+{
+    append_cause(out, "tcpserver", cause.what(), cause.why())
 }
 
 /// Adds the line of a child that was not started, and behind it that of the cause, if there is one.
 fn add_refused(
     level: Level,
+    detail: Detail,
     serial: u64,
     fault: StartFault,
     cause: Option<Cause<'_>>,
     out: &mut Vec<u8>,
 ) -> Result<(), AllocError>
-    ensures { Adds (error level (start_text serial (Some fault)) ++ cause_lines level cause.entry) out.old.items out.new.items result }
+    ensures { Adds (error level (start_text serial (Some fault)) ++ cause_lines detail cause.entry) out.old.items out.new.items result }
 {
     let start = add_start(level, serial, Some(fault), out);
-    let why = add_cause(level, cause, out);
+    let why = add_cause(detail, cause, out);
     start.and(why)
 }
 
@@ -204,19 +320,37 @@ fn add_drop(
     }
 }
 
-/// Adds the line of a connection that was given up, and behind it that of the cause, if there is one.
+/// Adds the line of a connection that was given up, and behind it those of the causes, if there are any: of the file for
+/// a person, and of what was asked of the system or is damaged.
 fn add_given_up(
     level: Level,
+    detail: Detail,
     serial: u64,
     cause: DropCause,
+    file: Option<Cause<'_>>,
     why: Option<Cause<'_>>,
     out: &mut Vec<u8>,
 ) -> Result<(), AllocError>
-    ensures { Adds (error level (drop_text serial cause) ++ cause_lines level why.entry) out.old.items out.new.items result }
+    ensures { Adds (error level (drop_text serial cause) ++ (hint_lines detail file.entry ++ cause_lines detail why.entry))
+        out.old.items out.new.items result }
 {
     let dropped = add_drop(level, serial, cause, out);
-    let why = add_cause(level, why, out);
-    dropped.and(why)
+    let causes = add_causes(detail, file, why, out);
+    dropped.and(causes)
+}
+
+/// Adds the lines of two causes, the first for a person alone.
+fn add_causes(
+    detail: Detail,
+    file: Option<Cause<'_>>,
+    why: Option<Cause<'_>>,
+    out: &mut Vec<u8>,
+) -> Result<(), AllocError>
+    ensures { Adds (hint_lines detail file.entry ++ cause_lines detail why.entry) out.old.items out.new.items result }
+{
+    let hint = add_hint(detail, file, out);
+    let why = add_cause(detail, why, out);
+    hint.and(why)
 }
 
 /// Adds the line of an address from which as many connections are alive as may be.
@@ -332,6 +466,73 @@ fn push_end_line(serial: u64, ended: Status, out: &mut Vec<u8>) -> Result<(), Al
     push_number(out, serial)?;
     push_text(out, " status ")?;
     push_status(out, ended)?;
+    push_text(out, "\n")
+}
+
+/// Appends the line of the signal that ended a connection's child.
+pub fn signal_line(serial: u64, signal: u32, out: &mut Vec<u8>) -> Result<(), AllocError>
+    ensures { AppendsLine (signal_text serial signal) out.old.items out.new.items result }
+{
+    let whole = out.len();
+    let done = push_two_numbers(
+        "tcpserver: cause: ",
+        serial,
+        ": signal ",
+        u64::from(signal),
+        out,
+    );
+    whole_or_none(out, whole, done)
+}
+
+/// Appends the line of the process that runs a connection's program.
+pub fn runs_line(serial: u64, process: u32, out: &mut Vec<u8>) -> Result<(), AllocError>
+    ensures { AppendsLine (runs_text serial process) out.old.items out.new.items result }
+{
+    let whole = out.len();
+    let done = push_two_numbers(
+        "tcpserver: runs ",
+        serial,
+        " process ",
+        u64::from(process),
+        out,
+    );
+    whole_or_none(out, whole, done)
+}
+
+/// Adds a line of a serial number and another number, with words before each.
+fn push_two_numbers(
+    before: &str,
+    serial: u64,
+    between: &str,
+    number: u64,
+    out: &mut Vec<u8>,
+) -> Result<(), AllocError>
+    ensures { AppendsPart (before.now ++ decimal serial ++ between.now ++ decimal number ++ codes "\n")
+        out.old.items out.new.items result }
+{
+    push_text(out, before)?;
+    push_number(out, serial)?;
+    push_text(out, between)?;
+    push_number(out, number)?;
+    push_text(out, "\n")
+}
+
+/// Appends the line of where a server listens.
+pub fn listening_line(ip: [u8; 4], port: u16, out: &mut Vec<u8>) -> Result<(), AllocError>
+    ensures { AppendsLine (listening_text ip port) out.old.items out.new.items result }
+{
+    let whole = out.len();
+    let done = push_listening(ip, port, out);
+    whole_or_none(out, whole, done)
+}
+
+fn push_listening(ip: [u8; 4], port: u16, out: &mut Vec<u8>) -> Result<(), AllocError>
+    ensures { AppendsPart (listening_text ip port) out.old.items out.new.items result }
+{
+    push_text(out, "tcpserver: listening on ")?;
+    push_address(out, ip)?;
+    push_text(out, ":")?;
+    push_number(out, u64::from(port))?;
     push_text(out, "\n")
 }
 

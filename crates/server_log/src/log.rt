@@ -2,13 +2,14 @@
 ghost use Rattle.std.specs.Prelude.{◌≡◌, ◌≢◌, ◌↔◌, Err, IfErr, IsTrue, List, [], ℕ};
 ghost use Rattle.std.specs.Io.{WritesAtMost};
 ghost use Rattle.std.specs.Io.KnownBytes.{Keeps, WriteAppends};
-ghost use Rattle.server_log.specs.Lines.{event_lines, full_lines, memory_lines, no_ends_lines, no_names_lines, status_lines};
-ghost use Rattle.server_log.specs.Logs.{Adds, IsLater, KeepsSettings, Logged, Takes, TellsInOrder, held, last_of, level_of, limit_of, writer_of};
+ghost use Rattle.server_log.specs.Lines.{event_lines, full_lines, listening_text, memory_lines, no_ends_lines, no_names_lines, person, status_lines};
+ghost use Rattle.server_log.specs.Logs.{Adds, IsLater, KeepsSettings, Logged, Takes, TellsInOrder, held, last_of, level_of, limit_of, voice_of, writer_of};
 
 use crate::fault::LogFault;
-use crate::lines::{add_event, add_full, add_start, add_status};
+use crate::lines::{add_event, add_full, add_listening, add_start, add_status};
 use crate::told::Told;
 use byte_streams::write_out;
+use fault_hints::Voice;
 use server_words::Level;
 use std::alloc::{AllocError, Global};
 use std::io;
@@ -23,6 +24,7 @@ use std::io::Write;
 pub struct Log<W> {
     writer: W,
     level: Level,
+    voice: Voice,
     limit: u64,
     // the place of the last event that was told
     last: u64,
@@ -31,16 +33,19 @@ pub struct Log<W> {
 }
 
 impl<W: Write> Log<W> {
-    /// A log of this level, for a server with this limit of connections. It takes no memory, and nothing is written.
-    pub fn new(alloc: Global, writer: W, level: Level, limit: u64) -> Log<W>
+    /// A log of this level that speaks with this voice, for a server with this limit of connections. It takes no memory,
+    /// and nothing is written.
+    pub fn new(alloc: Global, writer: W, level: Level, voice: Voice, limit: u64) -> Log<W>
         ensures writer { writer_of result ≡ writer }
         ensures level { level_of result ≡ level }
+        ensures voice { voice_of result ≡ voice }
         ensures limit { limit_of result ≡ limit }
         ensures untold { last_of result ≡ 0 }
     {
         Log {
             writer,
             level,
+            voice,
             limit,
             last: 0,
             lines: Vec::new(alloc),
@@ -70,7 +75,7 @@ impl<W: Write> Log<W> {
     pub fn tell(&mut self, at: u64, live: u64, told: Told<'_>) -> Result<(), LogFault>
         ensures order { TellsInOrder (last_of self.old) at (last_of self.new) result }
         ensures lines { result ≢ Err LogFault.OutOfOrder
-            → Logged (event_lines (level_of self.old) (limit_of self.old) live told.entry)
+            → Logged (event_lines (level_of self.old) (voice_of self.old) (limit_of self.old) live told.entry)
             (held W.contents self.old) (held W.contents self.new) result }
         ensures untouched { result ≡ Err LogFault.OutOfOrder → self.new ≡ self.old }
         ensures same { KeepsSettings self.old self.new }
@@ -80,8 +85,21 @@ impl<W: Write> Log<W> {
         }
         self.last = at;
         self.lines.clear();
-        let added = add_event(self.level, self.limit, live, told, &mut self.lines);
+        let (level, voice) = (self.level, self.voice);
+        let added = add_event(level, voice, self.limit, live, told, &mut self.lines);
         self.write_lines(added)
+    }
+
+    /// Tells where the server listens.
+    pub fn listening(&mut self, ip: [u8; 4], port: u16) -> Result<(), LogFault>
+        ensures lines { Logged (person (voice_of self.old) (level_of self.old) (listening_text ip port))
+            (held W.contents self.old) (held W.contents self.new) result }
+        ensures same { KeepsSettings self.old self.new }
+        ensures no_event { last_of self.new ≡ last_of self.old }
+    {
+        self.lines.clear();
+        let listening = add_listening(self.level, self.voice, ip, port, &mut self.lines);
+        self.write_lines(listening)
     }
 
     /// Tells that a child which was started gave no pipe ends, or that its input got no thread.

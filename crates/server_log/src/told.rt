@@ -12,12 +12,18 @@ pub enum Told<'a> {
         serial: u64,
         ip: [u8; 4],
     },
-    /// It was decided, between these ends.
+    /// It was decided, between these ends; without the rules file, if this says why there is none.
     Decided {
         serial: u64,
         verdict: Verdict,
         local: &'a Local,
         peer: &'a Peer,
+        file: Option<Cause<'a>>,
+    },
+    /// Its child was started, and is this process of the system if that is known.
+    Started {
+        serial: u64,
+        process: Option<u32>,
     },
     /// Its child could not be started, by this cause if the system told one.
     StartFailed {
@@ -25,19 +31,22 @@ pub enum Told<'a> {
         fault: StartFault,
         cause: Option<Cause<'a>>,
     },
-    /// Its child ended.
+    /// Its child ended; by this signal, if one is known.
     Ended {
         serial: u64,
         status: Status,
+        signal: Option<u32>,
     },
     /// Its child could not be waited for.
     Retired {
         serial: u64,
     },
-    /// It was given up before its child was started, by this cause of the system if there was one.
+    /// It was given up before its child was started: by what is wrong with the rules file, if that is known, and by this
+    /// cause of the system or this damage if there was one.
     Dropped {
         serial: u64,
         cause: DropCause,
+        file: Option<Cause<'a>>,
         why: Option<Cause<'a>>,
     },
 }

@@ -5,5 +5,5 @@ use Rattle.server_log.proofs.lines.add_refused.Goals as goal
 
 pub returns : goal.returns
 returns c =
-    adds_both_is (error c.args.level (start_text c.args.serial (Some c.args.fault))) (cause_lines c.args.level c.args.cause) _ _ _ _ _ _
+    adds_both_is (error c.args.level (start_text c.args.serial (Some c.args.fault))) (cause_lines c.args.detail c.args.cause) _ _ _ _ _ _
     c.add_start-start.ensures c.add_cause-why.ensures c.and.ensures
