@@ -129,7 +129,7 @@ class Shell:
         self.run(re.sub(r" (0|localhost|\d+\.\d+\.\d+\.\d+) \d+ ", r" 127.0.0.1 %d " % port, command, count=1) + " > served 2>&1 &")
         wait_until("a server", lambda: listens(port))
         self.run("kill $!; wait $! 2>/dev/null")
-        return self.run("grep -v '^tcpserver: status: 0/' served")[0]
+        return self.run("grep -v -e '^tcpserver: status: 0/' -e '^tcpserver: listening on ' served")[0]
 
     def close(self):
         """Ends the shell; what it started and left has ended by then."""

@@ -31,7 +31,7 @@ VERBOSE = ("tcprules", "tcprulescheck")
 # what a page writes for a part of a text that changes
 PLACES = {"u64": "N", "char": "L", "Phase": "PHASE", "LineFault": "line N: KIND"}
 # pages of others that ours refer to, which need not be installed here
-OUTSIDE = {"fcntl(2)", "multilog(8)", "runsv(8)", "setpriv(1)", "supervise(8)", "svlogd(8)"}
+OUTSIDE = {"fcntl(2)", "multilog(8)", "ps(1)", "runsv(8)", "setpriv(1)", "supervise(8)", "svlogd(8)"}
 # the sections that each page has
 SECTIONS = ("NAME", "DESCRIPTION", "EXAMPLES", "COMPATIBILITY", "SEE ALSO", "HISTORY", "AUTHORS")
 # pages of others to which a page has to refer
@@ -366,7 +366,7 @@ def check_server_texts(checks):
 
 def check_log_lines(checks):
     page, source = Page("tcpserver"), read("server_log/src/lines.rt")
-    begins = {text.rstrip() for text in re.findall(r'"(tcpserver: [^"]*)"', source)}
+    begins = {text.rstrip().removesuffix(" on") for text in re.findall(r'"(tcpserver: [^"]*)"', source)}
     verdicts = {"tcpserver: " + word.strip() for word in words_of(source, "verdict_word").values()}
     begins = begins - {"tcpserver:"} | verdicts
     # the line of a cause is made for each tool

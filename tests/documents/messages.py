@@ -10,8 +10,9 @@ import socket
 import subprocess
 import tempfile
 
-from shared import plain_words
+from shared import compiled_files, plain_words
 from shared.checks import LIMIT, TOP, Checks
+from shared.server_runs import read_all
 
 NOBODY = 65534
 ORIGINAL = "/usr/bin"
@@ -181,6 +182,83 @@ def words(tools):
         tools.expect("%s: nothing is known of the level" % word, named, other)
 
 
+class Served:
+    """A server of one client, by its own name or as `ucspi tcpserver`: its port, the client's, what the client got, and the server's log."""
+
+    def __init__(self, tools, named, options, program):
+        words = ([] if named else ["ucspi"]) + ["tcpserver", "-1", "-k", "1"] + options + ["127.0.0.1", "0"] + program
+        with subprocess.Popen(
+            words, executable=tools.program, cwd=tools.folder, stdin=subprocess.DEVNULL, stdout=subprocess.PIPE, stderr=subprocess.PIPE,
+        ) as server:
+            self.port = int(server.stdout.readline())
+            with socket.create_connection(("127.0.0.1", self.port), LIMIT) as client:
+                self.peer = client.getsockname()[1]
+                self.got = read_all(client)
+            self.log = server.communicate(timeout=LIMIT)[1].decode()
+
+    def lines(self, *lines):
+        """A log of these lines; `%(port)d` stands for the server's port, and `%(peer)d` for the client's."""
+        return "".join("tcpserver: %s\n" % line for line in lines) % {"port": self.port, "peer": self.peer}
+
+
+START = ["status: 0/40", "status: 1/40", "pid 1 from 127.0.0.1"]
+LISTENS = ["listening on 127.0.0.1:%(port)d"]
+ENDS = "1 :127.0.0.1:%(port)d :127.0.0.1::%(peer)d"
+
+
+def clients(tools):
+    """What the log of a running server has for a person besides: at each level but `-q` what is wrong with the rules file."""
+    absent = ["cause: none.cdb: No such file or directory"]
+    put(tools.folder, "text", ":deny\n")
+    with open(os.path.join(tools.folder, "bad.cdb"), "wb") as file:
+        file.write(compiled_files.cdb([(b"127.", b"x")]))
+    damaged = "cause: %s: damaged, or not compiled by tcprules"
+    folder = ["cause: there: Is a directory"]
+    rule = ["cause: 127.: damaged rule"]
+    for name, path, verdict, drop, plain, more in (
+        ("no rules file", "none.cdb", ["deny " + ENDS], [], [], absent), ("a rule text as rules file", "text", [], ["drop 1 rules damaged"], [], [damaged % "text"]),
+        ("a damaged rule", "bad.cdb", [], ["drop 1 rules damaged"], rule, [damaged % "bad.cdb"] + rule), ("a folder as rules file", "there", [], ["drop 1 directory fault"], folder, folder),
+    ):
+        options = ["-H", "-x", path]
+        for level, shown in (([], drop + more), (["-Q"], drop + more), (["-q"], []), (["-v"], LISTENS + START + verdict + drop + more + ["status: 0/40"])):
+            served = Served(tools, True, level + options, ["true"])
+            tools.expect("%s, under %r" % (name, level), (served.got, served.log), (b"", served.lines(*shown)))
+        for level, shown in (([], drop), (["-Q"], drop), (["-q"], []), (["-v"], START + verdict + drop + plain + ["status: 0/40"])):
+            served = Served(tools, False, level + options, ["true"])
+            tools.expect("%s, of ucspi, under %r" % (name, level), (served.got, served.log), (b"", served.lines(*shown)))
+    if os.path.exists(os.path.join(ORIGINAL, "tcpserver")):
+        tools.holds("no rules file, of 0.88", "unable to read none.cdb: file does not exist" in original_log(tools.folder))
+
+
+def original_log(folder):
+    """What the tcpserver of 0.88 writes of a client without a rules file."""
+    words = [os.path.join(ORIGINAL, "tcpserver"), "-1", "-RH", "-l", "0", "-x", "none.cdb", "127.0.0.1", "0", "true"]
+    with subprocess.Popen(words, cwd=folder, stdin=subprocess.DEVNULL, stdout=subprocess.PIPE, stderr=subprocess.PIPE) as server:
+        with socket.create_connection(("127.0.0.1", int(server.stdout.readline())), LIMIT) as client:
+            read_all(client)
+        server.terminate()
+        return server.communicate(timeout=LIMIT)[1].decode()
+
+
+def processes(tools):
+    """Under `-v` a person is told where the server listens, which process a program is, and which signal ended it."""
+    for mode in ("-s", "-S"):
+        for how, status, signals in (("exit 3", "3", []), ("kill -9 $$", "signal", ["cause: 1: signal 9"]), ("kill -15 $$", "signal", ["cause: 1: signal 15"])):
+            program = ["sh", "-c", "echo $$; " + how]
+            served = Served(tools, True, ["-v", "-H", mode], program)
+            runs = ["runs 1 process %s" % served.got.decode().strip()]
+            shown = LISTENS + START + ["ok " + ENDS] + runs + ["end 1 status " + status] + signals + ["status: 0/40"]
+            tools.expect("%s %r" % (mode, how), served.log, served.lines(*shown))
+            served = Served(tools, False, ["-v", "-H", mode], program)
+            tools.expect("%s %r, of ucspi" % (mode, how), served.log, served.lines(*START, "ok " + ENDS, "end 1 status " + status, "status: 0/40"))
+            for level in ([], ["-Q"], ["-q"]):
+                tools.expect("%s %r, under %r" % (mode, how, level), Served(tools, True, level + [mode], program).log, "")
+    served = Served(tools, True, ["-v", "-H"], ["/nonexistent/prog"])
+    fault = ["start 1 not found", "cause: /nonexistent/prog: No such file or directory"]
+    tools.expect("a program that is not there", served.log, served.lines(*LISTENS, *START, "ok " + ENDS, *fault, "status: 0/40"))
+    tools.expect("the same without -v", Served(tools, True, [], ["/nonexistent/prog"]).log, "".join("tcpserver: %s\n" % line for line in fault))
+
+
 def help_of_tools(tools):
     """--help and --version, alone and by the tool's own name, and a usage line."""
     with open(os.path.join(TOP, "VERSION"), encoding="ascii") as file:
@@ -219,5 +297,7 @@ def check(program, failures):
         programs(tools)
         servers(tools)
         words(tools)
+        clients(tools)
+        processes(tools)
         help_of_tools(tools)
         return tools.tests

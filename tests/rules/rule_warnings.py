@@ -24,6 +24,9 @@ LONG_TEXT = 64 * 1024 * 1024
 SHORT_TEXT = 128 * 1024
 USAGE = b"tcprules: usage: tcprules cdb tmp\n"
 NOBODY = b"no client has this address"
+BLANK = b"a name with a blank"
+# stands once behind the warnings, and is none of a line
+TABLE = b"tcprules: rules by name need a host table\n"
 USER = b"a user is never known"
 OTHERS = b"no rule for everyone else"
 IGNORED = b"ignored"
@@ -110,6 +113,8 @@ def warnings(text):
                 found.append((number, USER))
             if addresses and all(address in first for address in addresses):
                 found.append((number, b"line %d decides first" % min(first[address] for address in addresses)))
+            if any(set(b" \t") & set(name) for name, _ in plain_texts.instruction_in(line.partition(b":")[2], "utf-8")[1]):
+                found.append((number, BLANK))
         for address in addresses:
             first.setdefault(address, number)
         if number == len(lines) and b"" not in first:
@@ -124,7 +129,8 @@ def report(text):
     _, fault = plain_texts.rules_in(text)
     if fault is not None:
         return ("tcprules: %s\n" % fault).encode(), False
-    return b"".join(b"tcprules: line %d: %s\n" % warning for warning in warnings(text)), True
+    named = any(line.startswith(b"=") and b":" in line for line in text.split(b"\n"))
+    return b"".join(b"tcprules: line %d: %s\n" % warning for warning in warnings(text)) + (TABLE if named else b""), True
 
 
 # random texts with mistakes
@@ -172,8 +178,17 @@ class Texts:
             return self.series.choice(OTHER)
         if kind == 3:
             return self.series.choice([b" #", b"\t#", b"  \t #", b" x#", b"# "]) + self.address() + b":deny"
-        words = b":denied" if kind == 4 and self.series.randrange(4) == 0 else self.series.choice([b":allow", b":deny", b':allow,A="x"'])
+        words = b":denied" if kind == 4 and self.series.randrange(4) == 0 else self.series.choice([b":allow", b":deny", b':allow,A="x"', self.settings()])
         return self.address() + words + self.series.choice([b"", b"", b"", b" ", b"\t"])
+
+    def settings(self):
+        """Some settings, with a blank in some of their names and values."""
+        settings = b""
+        for _ in range(self.series.randrange(1, 4)):
+            name = self.series.choice([b"A", b"A", b"B ", b" B", b"A\tB", b"\xc3\xa9", b"a,b"])
+            quote = self.series.choice([b'"', b"/", b"\xc3\xa9"])
+            settings += b",%s=%s%s%s" % (name, quote, self.series.choice([b"", b"x", b",A=", b"x\ty", b"=\""]).replace(quote, b""), quote)
+        return b":allow" + settings
 
     def text(self):
         lines = [self.line() for _ in range(self.series.randrange(10))]
@@ -224,13 +239,13 @@ def check_random(program, checks):
             for place, (text, got) in enumerate(zip(texts, answers, strict=True)):
                 lines, fine = report(text)
                 strict = place % 8 == 0
-                checks.expect("the random text %r" % text, got, (lines, 100 if not fine else 1 if strict and lines else 0, b""))
+                checks.expect("the random text %r" % text, got, (lines, 100 if not fine else 1 if strict and lines not in (b"", TABLE) else 0, b""))
                 accepted += fine
                 for line in lines.split(b"\n") if fine else []:
-                    kind = re.sub(rb"^.*: |[0-9]+", b"", line)
+                    kind = re.sub(rb"^.*: |[0-9]+", b"", line) if line + b"\n" != TABLE else TABLE
                     told[kind] = told.get(kind, 0) + 1
     checks.holds("most random texts are accepted", accepted > count * 3 // 4, str(accepted))
-    for kind in (NOBODY, USER, b"line  decides first", OTHERS, IGNORED):
+    for kind in (NOBODY, USER, b"line  decides first", BLANK, OTHERS, IGNORED, TABLE):
         checks.holds("random texts with %r" % kind, told.get(kind, 0) > count // 20, str(told.get(kind)))
 
 
@@ -283,6 +298,13 @@ ROWS = [
     (b":deny\n10.0.0.5 allow", [b"2: ignored"]),
     (b"10.0.0.5 allow", [b"1: no rule for everyone else", b"1: ignored"]),
     (b"10.0.0.5:deny\r\n:deny\r\n", None),
+    (b':allow, RELAYCLIENT=""\n', [b"1: a name with a blank"]),
+    (b':allow,A="",\tB="x"\n', [b"1: a name with a blank"]),
+    (b':deny,A B="",C D=""\n', [b"1: a name with a blank"]),
+    (b':allow,A="B C=",D=/ E F=/\n', []),
+    (b":allow,A= x ,B=x yx\n", []),
+    (b'#:allow, A=""\n:deny\n', []),
+    (b'10.0.0.9-5:allow, A=""\n', [b"1: no client has this address", b"1: a name with a blank", b"1: no rule for everyone else"]),
 ]
 
 
@@ -290,9 +312,12 @@ def check_rows(program, checks):
     """Each kind of warning, with both words."""
     for text, rows in ROWS:
         lines = report(text)[0] if rows is None else b"".join(b"tcprules: line %s\n" % row for row in rows)
+        warned = bool(lines)
+        if text.startswith(b"="):
+            lines += TABLE
         code = 100 if rows is None else 0
         checks.expect("-n of %r" % text, run(program, ["-n"], text), (lines, code, b""))
-        checks.expect("-N of %r" % text, run(program, ["-N"], text), (lines, code or (1 if lines else 0), b""))
+        checks.expect("-N of %r" % text, run(program, ["-N"], text), (lines, code or (1 if warned else 0), b""))
         checks.expect("the second program on %r" % text, report(text), (lines, rows is not None))
 
 
