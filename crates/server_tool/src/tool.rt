@@ -3,29 +3,29 @@ ghost use Rattle.std.specs.Prelude.{◌≡◌, false, IfOk, vec_len};
 ghost use Rattle.shared_site.specs.Callers.{total_share};
 
 use crate::causes::{tell_failure, tell_words};
-use crate::rules::{FolderRules, RulesOnDisk, RulesPath};
-use child_jobs::{Job, Plan};
+use crate::rules::{FolderRules, RulesPath};
+use crate::system::{HandsOver, Pumps, System, SystemOf};
+use crate::wrappers::Wrappers;
+use child_jobs::Plan;
 use dir_calls::{Dir, Name};
+use dir_disk::OsDir;
 use event_journals::Counts;
 use fault_hints::Voice;
 use rule_lookup::WhenMissing;
 use server_parts::limits::supply_for;
-use server_parts::opening::{listen, names_of, open_rules, plan_of, print_port, stand_in};
+use server_parts::opening::{names_of, open_rules, plan_of, print_port, stand_in};
 use server_parts::signals::forgets_programs;
 use server_parts::{
     HandedAcceptor, HandingLauncher, PumpedAcceptor, ServerFailure, ServerFault, ServiceLauncher,
-    Wrapper, chain_of,
 };
-use server_words::{
-    ConnectionLimits, Level, Mode, ServerWords, Wrapping as WrapperNames, read_server_words,
-};
+use server_words::{ConnectionLimits, Level, Mode, ServerWords, read_server_words};
 use server_yard::{Assumptions, Yard};
 use shared_site::{Caller, Callers, Site};
-use std::alloc::{AllocError, Global};
+use std::alloc::Global;
 use std::fs::{File, Files};
 use std::io::Write;
 use std::marker::Brand;
-use std::net::{Net, OpenListener, TcpStream};
+use std::net::{Net, TcpStream};
 use std::process::{ChildStdin, OpenProcess, Processes};
 use std::rt::Env;
 use std::sync::ledger::Blank;
@@ -35,8 +35,7 @@ use std::time::{Clock, Duration};
 use stream_tools::SearchPath;
 use stream_tools::started::texts_of;
 use tcp_service::{
-    Acceptor, ChainSource, Chains, Follow, Log, Patience, Reserve, Rules, ServeEnd, Service,
-    Starter, serve,
+    Acceptor, Closed, Host, Log, Patience, Reserve, ServeEnd, Service, Unfinished, serve,
 };
 
 /// For so many seconds in succession a client whose connection is pumped may take nothing of what its program left for it.
@@ -64,46 +63,36 @@ pub fn run_tcpserver<R, E>(
 where
     R: Env + Print + AllocGlobal + Files<File = File> + Processes + Threads + Wait + Clock + Sync,
     R: Net<Stream = TcpStream>,
-    E: Write + Send + Drop,
     R::Dir: Send + Sync,
     R::Listener: Send + Sync,
     R::Started: OpenProcess<Stdin = ChildStdin> + Send,
     <R::Started as OpenProcess>::Stdout: Send,
     <R::Started as OpenProcess>::Stderr: Send,
+    E: Write + Send + Drop,
 {
     let alloc = rt.alloc();
     let _held = [stand_in(rt), stand_in(rt), stand_in(rt)];
     let texts = texts_of(alloc, words)?;
-    run_words(rt, errors, texts.as_slice(), voice, causes)
+    run_words::<SystemOf<'_, R, E>>(rt, errors, texts.as_slice(), voice, causes)
 }
 
 // What a server has but for its site and its socket.
 #[derive(Drop)]
-struct ServerParts<E> {
+struct ServerParts<P: System> {
     plan: Plan,
     search: SearchPath,
     service: Service,
-    log: Mutex<Log<E>>,
+    log: Mutex<Log<P::Errors>>,
 }
 
 // Runs the tool with these words. Here and below, what a function owns it lends to the calls that follow: they have the many ways out.
-fn run_words<R, E>(
-    rt: &R,
-    errors: E,
+fn run_words<P: System + Send + Sync>(
+    rt: &P::Runtime,
+    errors: P::Errors,
     words: &[String],
     voice: Voice,
     causes: &mut Vec<u8>,
-) -> Result<(), ServerFault>
-where
-    R: Env + Print + AllocGlobal + Files<File = File> + Processes + Threads + Wait + Clock + Sync,
-    R: Net<Stream = TcpStream>,
-    E: Write + Send + Drop,
-    R::Dir: Send + Sync,
-    R::Listener: Send + Sync,
-    R::Started: OpenProcess<Stdin = ChildStdin> + Send,
-    <R::Started as OpenProcess>::Stdout: Send,
-    <R::Started as OpenProcess>::Stderr: Send,
-{
+) -> Result<(), ServerFault> {
     let words = match read_server_words(rt.alloc(), words, voice.mode()) {
         Ok(words) => words,
         Err(fault) => {
@@ -111,7 +100,7 @@ where
             return Err(ServerFault::Words(fault));
         }
     };
-    match run_server(rt, errors, &words) {
+    match run_server::<P>(rt, errors, &words) {
         Ok(()) => Ok(()),
         Err(failure) => {
             tell_failure(rt.alloc(), voice, &words, failure, causes);
@@ -121,34 +110,24 @@ where
 }
 
 // Runs the tool as its words ask for.
-fn run_server<R, E>(rt: &R, errors: E, words: &ServerWords<'_>) -> Result<(), ServerFailure>
-where
-    R: Env + Print + AllocGlobal + Files<File = File> + Processes + Threads + Wait + Clock + Sync,
-    R: Net<Stream = TcpStream>,
-    E: Write + Send + Drop,
-    R::Dir: Send + Sync,
-    R::Listener: Send + Sync,
-    R::Started: OpenProcess<Stdin = ChildStdin> + Send,
-    <R::Started as OpenProcess>::Stdout: Send,
-    <R::Started as OpenProcess>::Stderr: Send,
-{
+fn run_server<P: System + Send + Sync>(
+    rt: &P::Runtime,
+    errors: P::Errors,
+    words: &ServerWords<'_>,
+) -> Result<(), ServerFailure> {
     if forgets_programs(rt) {
         return Err(ServerFailure::from(ServerFault::CannotWait));
     }
-    let server = parts_of(rt, errors, words)?;
+    let server = parts_of::<P>(rt, errors, words)?;
     open_and_run(rt, &server, words)
 }
 
 // What a server has by its words, but for its site and its socket.
-fn parts_of<R, E>(
-    rt: &R,
-    errors: E,
+fn parts_of<P: System>(
+    rt: &P::Runtime,
+    errors: P::Errors,
     words: &ServerWords<'_>,
-) -> Result<ServerParts<E>, ServerFailure>
-where
-    R: Env + AllocGlobal + Files,
-    E: Write + Drop,
-{
+) -> Result<ServerParts<P>, ServerFailure> {
     let alloc = rt.alloc();
     let log = Log::new(alloc, errors, words.level(), words.limits().connections);
     let plan = plan_of(alloc, rt, words)?;
@@ -186,21 +165,11 @@ fn service_of<R: AllocGlobal + Files>(
 }
 
 // Opens the folder of the rules and the socket, and runs the server on them.
-fn open_and_run<R, E>(
-    rt: &R,
-    server: &ServerParts<E>,
+fn open_and_run<P: System + Send + Sync>(
+    rt: &P::Runtime,
+    server: &ServerParts<P>,
     words: &ServerWords<'_>,
-) -> Result<(), ServerFailure>
-where
-    R: Print + AllocGlobal + Files<File = File> + Processes + Threads + Wait + Clock + Sync,
-    R: Net<Stream = TcpStream>,
-    E: Write + Send,
-    R::Dir: Send + Sync,
-    R::Listener: Send + Sync,
-    R::Started: OpenProcess<Stdin = ChildStdin> + Send,
-    <R::Started as OpenProcess>::Stdout: Send,
-    <R::Started as OpenProcess>::Stderr: Send,
-{
+) -> Result<(), ServerFailure> {
     let limits = words.limits();
     let alloc = rt.alloc();
     let (dir, rules) = open_rules(alloc, rt, words)?;
@@ -209,12 +178,12 @@ where
         None => None,
     };
     let at = RulesPath::new(rt, words.rules().unwrap_or_default(), name.as_ref());
-    let listener = open_socket(rt, words)?;
+    let listener = open_socket::<P>(rt, words)?;
     if words.hosts().is_none() && words.level() == Level::All && at.name_someone(alloc) {
         let _ = server.log.lock(rt).no_names();
     }
     let (places, parts) = (Blank::new(limits.connections), Blank::new(CALLERS));
-    let served = run_site::<Brand, Brand, _, _, _, _>(
+    let served = run_site::<Brand, Brand, P>(
         rt,
         server,
         listener,
@@ -228,74 +197,35 @@ where
 }
 
 // The socket that listens where the words say, its port printed where they ask for that.
-fn open_socket<R: Print + Net>(
-    rt: &R,
+fn open_socket<P: System>(
+    rt: &P::Runtime,
     words: &ServerWords<'_>,
-) -> Result<R::Listener, ServerFailure> {
-    let listener = listen(rt, words.service().address(), words.service().port())?;
+) -> Result<P::Listener, ServerFailure> {
+    let listener = P::listen(rt, words.service().address(), words.service().port())?;
     if words.prints_port() {
         print_port(rt, &listener)?;
     }
     Ok(listener)
 }
 
-// The wrappers that words name.
-#[derive(Drop)]
-struct Wrappers<'a> {
-    names: &'a WrapperNames,
-}
-
-impl ChainSource for Wrappers<'_> {
-    type Wrapper = Wrapper;
-
-    #[tactic(auto, using(crate::proofs::Renewed::is_new))]
-    fn chains(&self, alloc: Global) -> Result<Chains<Wrapper>, AllocError> {
-        Ok(Chains {
-            input: chain_of(alloc, self.names.input())?,
-            output: chain_of(alloc, self.names.output())?,
-        })
-    }
-}
-
 // The server over a yard and a site of its own.
-fn run_site<L, N, D, R, E, T>(
-    rt: &R,
-    server: &ServerParts<E>,
-    listener: T,
-    rules: (D, Option<(Name, WhenMissing)>),
-    at: RulesPath<'_, R>,
-    words: &ServerWords<'_>,
+fn run_site<'a, L: Assumptions + Send + Sync, N: Callers + Send + Sync, P: System + Send + Sync>(
+    rt: &'a P::Runtime,
+    server: &'a ServerParts<P>,
+    listener: P::Listener,
+    rules: (OsDir<&'a P::Runtime>, Option<(Name, WhenMissing)>),
+    at: RulesPath<'a, P::Runtime>,
+    words: &'a ServerWords<'_>,
     places: Blank,
     parts: Blank,
 ) -> Result<(), ServerFailure>
-where
-    L: Assumptions + Send + Sync,
-    N: Callers + Send + Sync,
-    D: Dir<File = RulesOnDisk> + Send + Drop,
-    R: AllocGlobal + Files<File = File> + Processes + Threads + Wait + Clock + Sync,
-    R: Net<Stream = TcpStream>,
-    R::Dir: Send + Sync,
-    R::Listener: Send + Sync,
-    R::Started: OpenProcess<Stdin = ChildStdin> + Send,
-    <R::Started as OpenProcess>::Stdout: Send,
-    <R::Started as OpenProcess>::Stderr: Send,
-    T: OpenListener<Stream = TcpStream> + Send + Drop,
-    E: Write + Send,
     requires places { (places.name ≡ L.name) × (places.parts ≡ L.parts) × (places.parts ≡ words.now.limits.connections) }
     requires met { L.met ≡ false }
     requires parts { (parts.name ≡ N.name) × (parts.parts ≡ N.parts) × (parts.parts ≡ 2) }
     requires callers { (N.all ≡ 2) × (N.before ≡ 0) }
 {
-    let (site, callers) = site_of::<L, N, D>(
-        rt.alloc(),
-        rules.0,
-        rules.1,
-        words.limits(),
-        places,
-        parts,
-    )?;
-    let rules = FolderRules::<L, R>::new(at);
-    serve_by_mode(rt, server, listener, (site, callers), &rules, words)
+    let made = site_of::<L, N, _>(rt.alloc(), rules.0, rules.1, words.limits(), places, parts)?;
+    serve_by_mode(rt, server, listener, made, at, words)
 }
 
 // A site, with both of its callers, over a yard of this folder.
@@ -332,101 +262,118 @@ fn site_of<L: Assumptions, N: Callers, D: Dir + Drop>(
     }
 }
 
+// A site of the system's folder that only counts its events, with its callers.
+type SystemSite<'a, L, N, P> = (
+    Site<L, N, OsDir<&'a <P as System>::Runtime>, Counts>,
+    Vec<Caller<N>>,
+);
+
 // Serves the connections of a socket at a site: their programs hold them, or the server passes their bytes on.
-fn serve_by_mode<L, N, D, U, R, E, T>(
-    rt: &R,
-    server: &ServerParts<E>,
-    listener: T,
-    site: (Site<L, N, D, Counts>, Vec<Caller<N>>),
-    rules: &U,
-    words: &ServerWords<'_>,
-) -> Result<(), ServerFailure>
-where
+fn serve_by_mode<
+    'a,
     L: Assumptions + Send + Sync,
     N: Callers + Send + Sync,
-    D: Dir + Send + Drop,
-    D::File: Send,
-    U: Rules<L, D::File> + Sync,
-    U::Handle: Send,
-    R: AllocGlobal + Files<File = File> + Processes + Threads + Wait + Clock + Sync,
-    R: Net<Stream = TcpStream>,
-    R::Dir: Send + Sync,
-    R::Listener: Send + Sync,
-    R::Started: OpenProcess<Stdin = ChildStdin> + Send,
-    <R::Started as OpenProcess>::Stdout: Send,
-    <R::Started as OpenProcess>::Stderr: Send,
-    T: OpenListener<Stream = TcpStream> + Send + Drop,
-    E: Write + Send,
+    P: System + Send + Sync,
+>(
+    rt: &'a P::Runtime,
+    server: &'a ServerParts<P>,
+    listener: P::Listener,
+    site: SystemSite<'a, L, N, P>,
+    at: RulesPath<'a, P::Runtime>,
+    words: &'a ServerWords<'_>,
+) -> Result<(), ServerFailure>
+    requires met { L.met ≡ false }
     requires callers { (N.all ≡ 2) × (N.parts ≡ 2) × (vec_len site.1 ≡ 2) × (total_share site.1.items ≡ 0) }
 {
-    let wrappers = Wrappers {
-        names: words.wrapping(),
-    };
-    let at_once = words.sends_at_once();
     match words.mode() {
-        Mode::HandedOver => {
-            let mut acceptor = HandedAcceptor::new(rt, rt.alloc(), listener, at_once);
-            let starter = HandingLauncher::new(rt, &server.search, &server.service.reserve);
-            serve_site(rt, server, &mut acceptor, site, rules, &wrappers, &starter)
-        }
-        Mode::Pumped => {
-            let mut acceptor = PumpedAcceptor::new(rt, rt.alloc(), listener, at_once);
-            let starter = ServiceLauncher::new(rt, &server.search, &server.service.reserve);
-            serve_site(rt, server, &mut acceptor, site, rules, &wrappers, &starter)
-        }
+        Mode::HandedOver => serve_handed::<L, N, P>(rt, server, listener, site, at, words),
+        Mode::Pumped => serve_pumped::<L, N, P>(rt, server, listener, site, at, words),
     }
 }
 
-// Serves at a site by both of its callers.
-fn serve_site<L, N, D, U, R, E, A, S>(
-    rt: &R,
-    server: &ServerParts<E>,
-    acceptor: &mut A,
-    site: (Site<L, N, D, Counts>, Vec<Caller<N>>),
-    rules: &U,
-    wrappers: &Wrappers<'_>,
-    starter: &S,
-) -> Result<(), ServerFailure>
-where
+// Serves connections that their programs hold themselves.
+fn serve_handed<
+    'a,
     L: Assumptions + Send + Sync,
     N: Callers + Send + Sync,
-    D: Dir + Send + Drop,
-    D::File: Send,
-    U: Rules<L, D::File> + Sync,
-    U::Handle: Send,
-    R: AllocGlobal + Threads + Wait + Clock + Sync,
-    E: Write + Send,
-    A: Acceptor + Send,
-    A::Writer: Follow<<S::Job as Job>::Output>,
-    S: Starter<A::Shut> + Sync,
-    S::Job: Send,
-    <S::Job as Job>::Input: Send + Drop,
-    <S::Job as Job>::Output: Send + Drop,
+    P: System + Send + Sync,
+>(
+    rt: &'a P::Runtime,
+    server: &'a ServerParts<P>,
+    listener: P::Listener,
+    site: SystemSite<'a, L, N, P>,
+    at: RulesPath<'a, P::Runtime>,
+    words: &'a ServerWords<'_>,
+) -> Result<(), ServerFailure>
+    requires met { L.met ≡ false }
     requires callers { (N.all ≡ 2) × (N.parts ≡ 2) × (vec_len site.1 ≡ 2) × (total_share site.1.items ≡ 0) }
 {
+    let mut acceptor = HandedAcceptor::new(rt, rt.alloc(), listener, words.sends_at_once());
+    let starter = HandingLauncher::new(rt, &server.search, &server.service.reserve);
+    let rules = FolderRules::<L, P::Runtime>::new(at);
     let (site, callers) = site;
-    let served = serve(
+    let served = serve::<_, HandsOver<'a, P, L, N>>(
         rt,
         rt.alloc(),
-        acceptor,
+        &mut acceptor,
         site,
         callers,
-        rules,
-        wrappers,
-        starter,
+        &rules,
+        &Wrappers::new(words.wrapping()),
+        &starter,
         &server.plan,
         &server.service,
         &server.log,
     );
-    match served {
-        Ok(closed) => end_of(closed.end, acceptor.error()),
-        Err(_) => Err(ServerFailure::from(ServerFault::LostConnection)),
-    }
+    end_of(served, acceptor.error())
 }
 
-// How the tool ends, by the system's last error of accepting.
-fn end_of(end: ServeEnd, error: Option<i32>) -> Result<(), ServerFailure> {
-    match end {
+// Serves connections whose bytes it passes on.
+fn serve_pumped<
+    'a,
+    L: Assumptions + Send + Sync,
+    N: Callers + Send + Sync,
+    P: System + Send + Sync,
+>(
+    rt: &'a P::Runtime,
+    server: &'a ServerParts<P>,
+    listener: P::Listener,
+    site: SystemSite<'a, L, N, P>,
+    at: RulesPath<'a, P::Runtime>,
+    words: &'a ServerWords<'_>,
+) -> Result<(), ServerFailure>
+    requires met { L.met ≡ false }
+    requires callers { (N.all ≡ 2) × (N.parts ≡ 2) × (vec_len site.1 ≡ 2) × (total_share site.1.items ≡ 0) }
+{
+    let mut acceptor = PumpedAcceptor::new(rt, rt.alloc(), listener, words.sends_at_once());
+    let starter = ServiceLauncher::new(rt, &server.search, &server.service.reserve);
+    let rules = FolderRules::<L, P::Runtime>::new(at);
+    let (site, callers) = site;
+    let served = serve::<_, Pumps<'a, P, L, N>>(
+        rt,
+        rt.alloc(),
+        &mut acceptor,
+        site,
+        callers,
+        &rules,
+        &Wrappers::new(words.wrapping()),
+        &starter,
+        &server.plan,
+        &server.service,
+        &server.log,
+    );
+    end_of(served, acceptor.error())
+}
+
+// How the tool ends, by how its server did and the system's last error of accepting.
+fn end_of<H: Host>(
+    served: Result<Closed<H>, Unfinished<H>>,
+    error: Option<i32>,
+) -> Result<(), ServerFailure> {
+    let Ok(closed) = served else {
+        return Err(ServerFailure::from(ServerFault::LostConnection));
+    };
+    match closed.end {
         ServeEnd::Count | ServeEnd::Spent => Ok(()),
         ServeEnd::NoPlaces => Err(ServerFailure::from(ServerFault::NoPlaces)),
         ServeEnd::AcceptFaults => Err(ServerFailure {

@@ -1,86 +1,42 @@
 //! What the threads of all connections do with each of them.
 ghost use Rattle.std.specs.Prelude.{◌≡◌, IfOk, IfErr};
 
-use crate::life::{Admitted, Started};
-use crate::observer::Observer;
-use crate::opening::Rules;
+use crate::host::Host;
+use crate::life::{Admitted, LineOf, Started, TalkOf, UpwardOf};
 use crate::over::Over;
 use crate::service::ChainSource;
-use byte_streams::LineWrapper;
-use child_jobs::Job;
 use connection_facts::DropCause;
-use dir_calls::Dir;
-use event_journals::Journal;
 use server_words::Mode;
-use server_yard::Assumptions;
-use shared_site::Callers;
 use std::alloc::AllocError;
-use std::io::{Read, Write};
-use std::sync::Wait;
-use tcp_connections::{Attendant, Chains, Follow, Line, Serving, Shut, Starter, Talk, Upward};
+use tcp_connections::{Attendant, Chains, Serving, Shut};
 
 /// A connection that was let in, with its streams.
-pub(crate) struct NewConnection<
-    'a,
-    L: Assumptions,
-    N: Callers,
-    D: Dir + Drop,
-    J: Journal,
-    U: Rules<L, D::File>,
-    R: Wait,
-    W: Observer,
-    I,
-    O,
-    X,
-> {
-    pub admitted: Admitted<'a, L, N, D, J, U, R, W>,
-    pub line: Line<I, O, X>,
+pub(crate) struct NewConnection<'a, H: Host> {
+    pub admitted: Admitted<'a, H>,
+    pub line: LineOf<H>,
 }
 
 /// A connection whose child runs, and what that says where it is passed on; else the child holds the connection itself.
-pub(crate) struct Begun<
-    'a,
-    L: Assumptions,
-    N: Callers,
-    D: Dir + Drop,
-    J: Journal,
-    U: Rules<L, D::File>,
-    R: Wait,
-    W: Observer,
-    C: Job,
-    F,
-    O,
-    X,
-    G,
-> {
-    started: Started<'a, L, N, D, J, U, R, W, C>,
-    talk: Option<Talk<F, O, X, G>>,
+pub(crate) struct Begun<'a, H: Host> {
+    started: Started<'a, H>,
+    talk: Option<TalkOf<H>>,
 }
 
 /// What the client of a connection sends, where that is passed on; and the connection.
-type Beginning<'a, L, N, D, J, U, R, W, C, I, O, X, G> = (
-    Option<Upward<I, <C as Job>::Input, G>>,
-    Begun<'a, L, N, D, J, U, R, W, C, <C as Job>::Output, O, X, G>,
-);
+type Beginning<'a, H> = (Option<UpwardOf<H>>, Begun<'a, H>);
 
 /// What the threads of all connections share.
 #[derive(Drop)]
-pub(crate) struct Server<'a, S, M, R, W: Observer> {
-    pub wrapping: &'a M,
-    pub starter: &'a S,
+pub(crate) struct Server<'a, H: Host> {
+    pub wrapping: &'a H::Chains,
+    pub starter: &'a H::Starter,
     pub mode: Mode,
-    pub attendant: Attendant<'a, R, W::Writer>,
+    pub attendant: Attendant<'a, H::Runtime, H::Lines>,
 }
 
-impl<S, M, R, W, G> Server<'_, S, M, R, W>
-where
-    M: ChainSource<Wrapper = G>,
-    G: LineWrapper + Drop,
-    R: Wait,
-    W: Observer,
-{
+impl<H: Host> Server<'_, H> {
     // The line wrappers of a connection, where it is pumped.
-    fn chains(&self) -> Result<Option<Chains<G>>, AllocError> {
+    fn chains(&self) -> Result<Option<Chains<H::Wrapper>>, AllocError> {
         match self.mode {
             Mode::HandedOver => Ok(None),
             Mode::Pumped => Ok(Some(self.wrapping.chains(self.attendant.alloc)?)),
@@ -88,24 +44,12 @@ where
     }
 
     // Goes on with a connection whose child runs: the child has it, or its streams are passed on.
-    fn go_on<'b, L, N, D, J, U, C, I, O, X>(
+    fn go_on<'b>(
         &self,
-        started: Started<'b, L, N, D, J, U, R, W, C>,
-        line: Line<I, O, X>,
-        chains: Option<Chains<G>>,
-    ) -> Result<Beginning<'b, L, N, D, J, U, R, W, C, I, O, X, G>, Over>
-    where
-        L: Assumptions,
-        N: Callers,
-        D: Dir + Drop,
-        J: Journal,
-        U: Rules<L, D::File>,
-        C: Job,
-        C::Input: Drop,
-        C::Output: Drop,
-        I: Drop,
-        O: Follow<C::Output> + Drop,
-        X: Shut + Drop,
+        started: Started<'b, H>,
+        line: LineOf<H>,
+        chains: Option<Chains<H::Wrapper>>,
+    ) -> Result<Beginning<'b, H>, Over>
         ensures own { IfOk result (λ begun. begun.1.started.serial ≡ started.entry.serial) }
         ensures over { IfErr result (λ over. over.serial ≡ started.entry.serial) }
     {
@@ -131,22 +75,7 @@ where
     }
 
     // Begins to serve a connection.
-    fn begin_with<'b, L, N, D, J, U, I, O, X>(
-        &self,
-        work: NewConnection<'b, L, N, D, J, U, R, W, I, O, X>,
-    ) -> Result<Beginning<'b, L, N, D, J, U, R, W, S::Job, I, O, X, G>, Over>
-    where
-        L: Assumptions,
-        N: Callers,
-        D: Dir + Drop,
-        J: Journal,
-        U: Rules<L, D::File>,
-        S: Starter<X>,
-        <S::Job as Job>::Input: Drop,
-        <S::Job as Job>::Output: Drop,
-        I: Drop,
-        O: Write + Follow<<S::Job as Job>::Output> + Drop,
-        X: Shut + Drop,
+    fn begin_with<'b>(&self, work: NewConnection<'b, H>) -> Result<Beginning<'b, H>, Over>
         ensures own { IfOk result (λ begun. begun.1.started.serial ≡ work.entry.admitted.serial) }
         ensures over { IfErr result (λ over. over.serial ≡ work.entry.admitted.serial) }
     {
@@ -166,32 +95,30 @@ where
     }
 }
 
-impl<'b, L, N, D, J, U, S, M, R, W, G, I, O, X> Serving<
-    NewConnection<'b, L, N, D, J, U, R, W, I, O, X>,
-> for Server<'_, S, M, R, W>
+impl<'b, H> Serving<NewConnection<'b, H>> for Server<'_, H>
 where
-    L: Assumptions + Send + Sync,
-    N: Callers + Send + Sync,
-    D: Dir + Send + Drop,
-    D::File: Send,
-    J: Journal + Send,
-    U: Rules<L, D::File> + Sync,
-    S: Starter<X>,
-    S::Job: Send,
-    <S::Job as Job>::Input: Send + Drop,
-    <S::Job as Job>::Output: Send + Drop,
-    M: ChainSource<Wrapper = G>,
-    G: LineWrapper + Send + Drop,
-    R: Wait + Sync,
-    W: Observer + Sync,
-    W::Writer: Send,
-    I: Read + Send + Drop,
-    O: Write + Follow<<S::Job as Job>::Output> + Send + Drop,
-    X: Shut + Send + Drop,
+    H: Host,
+    H::Runtime: Sync,
+    H::Places: Send + Sync,
+    H::Callers: Send + Sync,
+    H::File: Send,
+    H::Folder: Send,
+    H::Journal: Send,
+    H::Handle: Send,
+    H::Rules: Sync,
+    H::Lines: Send,
+    H::Observer: Sync,
+    H::Reader: Send,
+    H::Writer: Send,
+    H::Shut: Send,
+    H::Input: Send,
+    H::Output: Send,
+    H::Job: Send,
+    H::Wrapper: Send,
 {
-    type Upward = Upward<I, <S::Job as Job>::Input, G>;
+    type Upward = UpwardOf<H>;
 
-    type Talk = Begun<'b, L, N, D, J, U, R, W, S::Job, <S::Job as Job>::Output, O, X, G>;
+    type Talk = Begun<'b, H>;
 
     type Over = Over;
 
@@ -205,21 +132,15 @@ where
         self.mode == Mode::Pumped
     }
 
-    fn begin(
-        &self,
-        work: NewConnection<'b, L, N, D, J, U, R, W, I, O, X>,
-    ) -> Result<Beginning<'b, L, N, D, J, U, R, W, S::Job, I, O, X, G>, Over> {
+    fn begin(&self, work: NewConnection<'b, H>) -> Result<Beginning<'b, H>, Over> {
         self.begin_with(work)
     }
 
-    fn pass_up(&self, upward: Upward<I, <S::Job as Job>::Input, G>) {
+    fn pass_up(&self, upward: UpwardOf<H>) {
         self.attendant.pass_up(upward);
     }
 
-    fn pass_down(
-        &self,
-        begun: Begun<'b, L, N, D, J, U, R, W, S::Job, <S::Job as Job>::Output, O, X, G>,
-    ) -> Over {
+    fn pass_down(&self, begun: Begun<'b, H>) -> Over {
         let Begun { started, talk } = begun;
         match talk {
             None => started.see_out(),

@@ -6,44 +6,37 @@ ghost use Rattle.tcp_connections.specs.declared.admission.AdmitOutcome.TheVarian
 ghost use Rattle.tcp_service.specs.Lives.{AdmitsOwn};
 
 use crate::connection::NewConnection;
-use crate::life::{Admitted, Register};
+use crate::host::{CallerOf, Host, YardOf};
+use crate::life::{Admitted, LineOf, Register};
 use crate::observer::{Observer, tell};
-use crate::opening::Rules;
 use crate::permit::Permit;
 use child_jobs::Place;
 use connection_facts::{DropCause, Peer};
-use dir_calls::Dir;
-use event_journals::Journal;
 use server_log::Told;
-use server_yard::{AdmitFault, Assumptions, Yard};
+use server_yard::AdmitFault;
 use shared_site::turns::{Admit, Dropped};
-use shared_site::{Caller, Callers, Made, Room, Turn};
+use shared_site::{Made, Room, Turn};
 use std::alloc::{AllocError, Global};
-use std::sync::Wait;
 use tcp_connections::{AcceptFault, Accepted, Acceptor, Admission, AdmitOutcome, HostNames, Line};
 use ucspi_env::Local;
 
 /// Lets the connections of an acceptor in, by a caller of a site that makes no other events: its share is how many were let in.
 #[derive(Drop)]
-pub(crate) struct SiteEntrance<
-    'a,
-    A,
-    L: Assumptions,
-    N: Callers,
-    D: Dir + Drop,
-    J: Journal,
-    U,
-    R,
-    W,
-> {
-    pub register: &'a Register<'a, L, N, D, J, U, R, W>,
+pub(crate) struct SiteEntrance<'a, A, H: Host> {
+    pub register: &'a Register<'a, H>,
     pub acceptor: &'a mut A,
-    pub host: Caller<N>,
+    pub admitter: CallerOf<H>,
     pub names: &'a HostNames,
 }
 
+/// A connection that was made.
+type AcceptedBy<H> = Accepted<<H as Host>::Reader, <H as Host>::Writer, <H as Host>::Shut>;
+
+/// Of a connection that was let in: its serial, its place, and the event that its admission made.
+type AdmittedBy<H> = (u64, Place<<H as Host>::Places>, Made);
+
 // The streams of an accepted connection, with the port of its client.
-fn line_of<I, O, X>(accepted: Accepted<I, O, X>, port: u16) -> Line<I, O, X> {
+fn line_of<H: Host>(accepted: AcceptedBy<H>, port: u16) -> LineOf<H> {
     Line {
         port,
         reader: accepted.reader,
@@ -53,10 +46,10 @@ fn line_of<I, O, X>(accepted: Accepted<I, O, X>, port: u16) -> Line<I, O, X> {
 }
 
 // The two ends of a connection, with their names.
-fn ends_of<I, O, X>(
+fn ends_of<H: Host>(
     alloc: Global,
     names: &HostNames,
-    accepted: &Accepted<I, O, X>,
+    accepted: &AcceptedBy<H>,
 ) -> Result<(Peer, Local), AllocError> {
     let peer = names.peer(alloc, accepted.ip, accepted.port)?;
     let local = names.local(alloc, accepted.local.ip(), accepted.local.port())?;
@@ -64,44 +57,31 @@ fn ends_of<I, O, X>(
 }
 
 // A connection has found no memory.
-fn refuse_for_memory<T, R: Wait, W: Observer>(rt: &R, observer: &W) -> AdmitOutcome<T>
+fn refuse_for_memory<H: Host, T>(register: &Register<'_, H>) -> AdmitOutcome<T>
     ensures refused { result ≡ Refused }
 {
-    let _ = observer.log().lock(rt).out_of_memory();
+    let _ = register.observer.log().lock(register.rt).out_of_memory();
     AdmitOutcome::Refused
 }
 
-impl<'a, A, L, N, D, J, U, R, W> Admission for SiteEntrance<'a, A, L, N, D, J, U, R, W>
+impl<'a, A, H> Admission for SiteEntrance<'a, A, H>
 where
-    A: Acceptor,
-    L: Assumptions + Send + Sync,
-    N: Callers + Send + Sync,
-    D: Dir + Send + Drop,
-    D::File: Send,
-    J: Journal + Send,
-    U: Rules<L, D::File> + Sync,
-    R: Wait + Sync,
-    W: Observer + Sync,
-    W::Writer: Send,
+    H: Host,
+    A: Acceptor<Reader = H::Reader, Writer = H::Writer, Shut = H::Shut>,
 {
-    type Work = NewConnection<'a, L, N, D, J, U, R, W, A::Reader, A::Writer, A::Shut>;
+    type Work = NewConnection<'a, H>;
 
-    ghost let_in = { λ entrance. caller_share entrance.host };
+    ghost let_in = { λ entrance. caller_share entrance.admitter };
 
     fn wait_for_room(&self) -> bool {
         self.register.site.room(self.register.rt) == Room::Free
     }
 
-    fn next(
-        &mut self,
-    ) -> Result<
-        AdmitOutcome<NewConnection<'a, L, N, D, J, U, R, W, A::Reader, A::Writer, A::Shut>>,
-        AcceptFault,
-    > {
+    fn next(&mut self) -> Result<AdmitOutcome<NewConnection<'a, H>>, AcceptFault> {
         let register = self.register;
         match self.acceptor.accept() {
-            Ok(accepted) => Ok(let_in(register, &mut self.host, self.names, accepted)),
-            Err(AcceptFault::OutOfMemory) => Ok(refuse_for_memory(register.rt, register.observer)),
+            Ok(accepted) => Ok(let_in(register, &mut self.admitter, self.names, accepted)),
+            Err(AcceptFault::OutOfMemory) => Ok(refuse_for_memory(register)),
             Err(fault) => Err(fault),
         }
     }
@@ -112,30 +92,19 @@ where
 }
 
 // Lets a connection in; one that is refused is closed.
-fn let_in<'a, L, N, D, J, U, R, W, I, O, X>(
-    register: &'a Register<'a, L, N, D, J, U, R, W>,
-    host: &mut Caller<N>,
+fn let_in<'a, H: Host>(
+    register: &'a Register<'a, H>,
+    admitter: &mut CallerOf<H>,
     names: &HostNames,
-    accepted: Accepted<I, O, X>,
-) -> AdmitOutcome<NewConnection<'a, L, N, D, J, U, R, W, I, O, X>>
-where
-    L: Assumptions,
-    N: Callers,
-    D: Dir + Drop,
-    J: Journal,
-    U: Rules<L, D::File>,
-    R: Wait,
-    W: Observer,
-    I: Drop,
-    O: Drop,
-    X: Drop,
-    ensures came { LetsIn result (caller_share host.old) (caller_share host.new) }
+    accepted: AcceptedBy<H>,
+) -> AdmitOutcome<NewConnection<'a, H>>
+    ensures came { LetsIn result (caller_share admitter.old) (caller_share admitter.new) }
 {
-    let Ok((peer, local)) = ends_of(register.alloc, names, &accepted) else {
-        return refuse_for_memory(register.rt, register.observer);
+    let Ok((peer, local)) = ends_of::<H>(register.alloc, names, &accepted) else {
+        return refuse_for_memory(register);
     };
     let port = peer.port();
-    let (serial, place, made) = match admit(register, host, &peer) {
+    let (serial, place, made) = match admit(register, admitter, &peer) {
         AdmitOutcome::In(admitted) => admitted,
         AdmitOutcome::Refused => return AdmitOutcome::Refused,
         AdmitOutcome::Spent => return AdmitOutcome::Spent,
@@ -149,29 +118,22 @@ where
             peer,
             local,
         },
-        line: line_of(accepted, port),
+        line: line_of::<H>(accepted, port),
     })
 }
 
 // Counts a connection: its serial, and its place. Once the last number of an event is given nobody is let in any more.
 #[tactic(auto, using(crate::proofs::Shares::one_came, crate::proofs::Shares::none_came, crate::proofs::Shares::own_came))]
-fn admit<L, N, D, J, U, R, W>(
-    register: &Register<'_, L, N, D, J, U, R, W>,
-    host: &mut Caller<N>,
+fn admit<H: Host>(
+    register: &Register<'_, H>,
+    admitter: &mut CallerOf<H>,
     peer: &Peer,
-) -> AdmitOutcome<(u64, Place<L>, Made)>
-where
-    L: Assumptions,
-    N: Callers,
-    D: Dir + Drop,
-    J: Journal,
-    R: Wait,
-    W: Observer,
-    ensures came { LetsIn result (caller_share host.old) (caller_share host.new) }
+) -> AdmitOutcome<AdmittedBy<H>>
+    ensures came { LetsIn result (caller_share admitter.old) (caller_share admitter.new) }
     ensures own { AdmitsOwn result peer.now }
 {
     let (rt, site, observer) = (register.rt, register.site, register.observer);
-    match site.turn(rt, host, TellingAdmission { peer, rt, observer }) {
+    match site.turn(rt, admitter, TellingAdmission::<H> { peer, rt, observer }) {
         Ok((serial, place, made)) => {
             if made.at() == u64::MAX {
                 let turn = Dropped {
@@ -179,7 +141,7 @@ where
                     place,
                     cause: DropCause::Memory,
                 };
-                let _ = site.turn(rt, host, turn);
+                let _ = site.turn(rt, admitter, turn);
                 return AdmitOutcome::Spent;
             }
             AdmitOutcome::In((serial, place, made))
@@ -190,48 +152,37 @@ where
 }
 
 // Lets a connection in, and tells the log so before the turn is over, or why it is refused.
-struct TellingAdmission<'a, R, W> {
+struct TellingAdmission<'a, H: Host> {
     peer: &'a Peer,
-    rt: &'a R,
-    observer: &'a W,
+    rt: &'a H::Runtime,
+    observer: &'a H::Observer,
 }
 
-impl<L, D, J, R, W> Turn<L, D, J> for TellingAdmission<'_, R, W>
-where
-    L: Assumptions,
-    D: Dir + Drop,
-    J: Journal,
-    R: Wait,
-    W: Observer,
-{
+impl<H: Host> Turn<H::Places, H::Folder, H::Journal> for TellingAdmission<'_, H> {
     ghost use Rattle.std.specs.Prelude.{⊤};
     ghost use Rattle.shared_site.specs.Receipts.{AdmitsOrNot};
 
-    type Answer = Result<(u64, Place<L>, Made), AdmitFault>;
+    type Answer = Result<AdmittedBy<H>, AdmitFault>;
 
     ghost may = { λ _. ⊤ };
 
     ghost answers = { λ turn. AdmitsOrNot turn.peer.now };
 
-    fn run(
-        self,
-        yard: &mut Yard<L, D, J>,
-        caller: u64,
-    ) -> Result<(u64, Place<L>, Made), AdmitFault> {
+    fn run(self, yard: &mut YardOf<H>, caller: u64) -> Result<AdmittedBy<H>, AdmitFault> {
         let TellingAdmission { peer, rt, observer } = self;
         let admitted = Admit { peer }.run(yard, caller);
-        tell_admission(rt, observer, peer, yard.live(), &admitted);
+        tell_admission::<H>(rt, observer, peer, yard.live(), &admitted);
         admitted
     }
 }
 
 // Tells of a connection that was let in, or why it was refused, where that has a line. So many are alive.
-fn tell_admission<L: Assumptions, R: Wait, W: Observer>(
-    rt: &R,
-    observer: &W,
+fn tell_admission<H: Host>(
+    rt: &H::Runtime,
+    observer: &H::Observer,
     peer: &Peer,
     live: u64,
-    admitted: &Result<(u64, Place<L>, Made), AdmitFault>,
+    admitted: &Result<AdmittedBy<H>, AdmitFault>,
 ) {
     let ip = peer.ip();
     match admitted {

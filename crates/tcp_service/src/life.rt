@@ -2,55 +2,39 @@
 ghost use Rattle.std.specs.Prelude.{◌≡◌, None, IfOk, IfErr};
 ghost use Rattle.child_jobs.specs.Runs.{IsSameRun, place_of};
 
-use crate::observer::Observer;
+use crate::host::{CallerOf, Host, SiteOf};
 use crate::opening::Rules;
-use crate::over::{LifeAgent, Over};
+use crate::over::Over;
 use crate::permit::Permit;
 use crate::site_agent::{LoggedAgent, SiteAgent};
-use byte_streams::LineWrapper;
-use child_jobs::{Job, Place, Plan, Running};
+use child_jobs::{Place, Plan, Running};
 use connection_facts::{DropCause, Peer};
-use dir_calls::Dir;
-use event_journals::Journal;
 use one_connection::{Agent, Served, serve_one};
-use server_yard::Assumptions;
-use shared_site::{Caller, Callers, Site};
 use std::alloc::Global;
-use std::io::{Read, Write};
-use std::sync::{Mutex, Wait};
+use std::sync::Mutex;
 use tcp_connections::{
-    Attendant, Begun, Chains, ConnectionLauncher, Endings, Follow, Line, Shut, Starter, Talk,
-    Upward, see_out,
+    Attendant, Begun, Chains, ConnectionLauncher, Endings, Line, Talk, Upward, see_out,
 };
 use ucspi_env::Local;
 
 /// Where the lives of connections are told: a site, by one caller of it, and who observes that.
 #[derive(Drop)]
-pub(crate) struct Register<'a, L: Assumptions, N: Callers, D: Dir + Drop, J: Journal, U, R, W> {
-    pub rt: &'a R,
+pub(crate) struct Register<'a, H: Host> {
+    pub rt: &'a H::Runtime,
     pub alloc: Global,
-    pub site: &'a Site<L, N, D, J>,
-    pub caller: &'a Mutex<Caller<N>>,
-    pub rules: &'a U,
+    pub site: &'a SiteOf<H>,
+    pub caller: &'a Mutex<CallerOf<H>>,
+    pub rules: &'a H::Rules,
     pub plan: &'a Plan,
-    pub observer: &'a W,
+    pub observer: &'a H::Observer,
 }
 
 /// A connection that was let in and whose child was not started yet: the right to what comes next. It is made of the place that its admission
 /// gave, and of the permit, which has its serial (`own`). It is served, or given up.
-pub(crate) struct Admitted<
-    'a,
-    L: Assumptions,
-    N: Callers,
-    D: Dir + Drop,
-    J: Journal,
-    U: Rules<L, D::File>,
-    R: Wait,
-    W: Observer,
-> {
-    pub(crate) register: &'a Register<'a, L, N, D, J, U, R, W>,
+pub(crate) struct Admitted<'a, H: Host> {
+    pub(crate) register: &'a Register<'a, H>,
     pub(crate) serial: u64,
-    pub(crate) place: Place<L>,
+    pub(crate) place: Place<H::Places>,
     pub(crate) peer: Peer,
     pub(crate) local: Local,
     pub(crate) permit: Permit,
@@ -58,29 +42,39 @@ pub(crate) struct Admitted<
 }
 
 /// A connection whose child runs: the right to its end. It is made of one that was let in.
-pub(crate) struct Started<
-    'a,
-    L: Assumptions,
-    N: Callers,
-    D: Dir + Drop,
-    J: Journal,
-    U: Rules<L, D::File>,
-    R: Wait,
-    W: Observer,
-    C: Job,
-> {
-    register: &'a Register<'a, L, N, D, J, U, R, W>,
+pub(crate) struct Started<'a, H: Host> {
+    register: &'a Register<'a, H>,
     serial: u64,
-    running: Running<L, C>,
+    running: Running<H::Places, H::Job>,
     local: Local,
 }
 
+/// What a client sends, on its way to the child of its connection.
+pub(crate) type UpwardOf<H> = Upward<<H as Host>::Reader, <H as Host>::Input, <H as Host>::Wrapper>;
+
+/// What a child says, on its way to the client of its connection.
+pub(crate) type TalkOf<H> = Talk<
+    <H as Host>::Output,
+    <H as Host>::Writer,
+    <H as Host>::Shut,
+    <H as Host>::Wrapper,
+>;
+
+/// The streams of a connection.
+pub(crate) type LineOf<H> = Line<<H as Host>::Reader, <H as Host>::Writer, <H as Host>::Shut>;
+
 /// A connection whose streams are passed on: what its client sends, and the connection with what its child says.
-pub(crate) type Passed<'a, L, N, D, J, U, R, W, C, I, O, X, G> = (
-    Upward<I, <C as Job>::Input, G>,
-    Started<'a, L, N, D, J, U, R, W, C>,
-    Talk<<C as Job>::Output, O, X, G>,
-);
+pub(crate) type Passed<'a, H> = (UpwardOf<H>, Started<'a, H>, TalkOf<H>);
+
+/// A child that runs, what its client sends and what it says.
+type BegunOf<H> = Begun<
+    <H as Host>::Places,
+    <H as Host>::Job,
+    <H as Host>::Reader,
+    <H as Host>::Writer,
+    <H as Host>::Shut,
+    <H as Host>::Wrapper,
+>;
 
 // What starts the program of one connection.
 fn launcher_of<'b, R, S, X>(
@@ -97,23 +91,14 @@ fn launcher_of<'b, R, S, X>(
     }
 }
 
-impl<'a, L, N, D, J, U, R, W> Register<'a, L, N, D, J, U, R, W>
-where
-    L: Assumptions,
-    N: Callers,
-    D: Dir + Drop,
-    J: Journal,
-    U: Rules<L, D::File>,
-    R: Wait,
-    W: Observer,
-{
+impl<'a, H: Host> Register<'a, H> {
     // The agent of the connection with this serial number. Nothing was asked for it yet.
     fn agent<'b>(
         &'b self,
         serial: u64,
         local: &'b Local,
         refusal: &'b Mutex<Option<i32>>,
-    ) -> LifeAgent<'b, L, N, D, J, U, R, W>
+    ) -> LoggedAgent<'b, H>
     where
         'a: 'b,
         ensures own { (result.serial ≡ serial) × (result.agent.serial ≡ serial) }
@@ -136,7 +121,7 @@ where
     fn give_up(
         &self,
         serial: u64,
-        place: Place<L>,
+        place: Place<H::Places>,
         peer: &Peer,
         local: &Local,
         cause: DropCause,
@@ -150,19 +135,16 @@ where
     }
 
     // Serves a connection up to the start of its child.
-    fn serve<S, O, X>(
+    fn serve(
         &self,
         serial: u64,
-        place: Place<L>,
+        place: Place<H::Places>,
         peer: &Peer,
         local: &Local,
-        starter: &S,
-        connection: &X,
-        writer: &mut O,
-    ) -> Result<Running<L, S::Job>, Over>
-    where
-        S: Starter<X>,
-        O: Write,
+        starter: &H::Starter,
+        connection: &H::Shut,
+        writer: &mut H::Writer,
+    ) -> Result<Running<H::Places, H::Job>, Over>
         ensures own { IfOk result (λ running. place_of running ≡ place) }
         ensures over { IfErr result (λ over. over.serial ≡ serial) }
     {
@@ -182,24 +164,16 @@ where
 
     // Takes the pipe ends of the child of a connection.
     #[tactic(auto, using(crate::proofs::Told::over_told))]
-    fn begin<C, I, O, X, G>(
+    fn begin(
         &self,
-        attendant: &Attendant<'_, R, W::Writer>,
+        attendant: &Attendant<'_, H::Runtime, H::Lines>,
         serial: u64,
-        running: Running<L, C>,
+        running: Running<H::Places, H::Job>,
         local: &Local,
-        line: Line<I, O, X>,
-        chains: Chains<G>,
-    ) -> Result<Begun<L, C, I, O, X, G>, Over>
-    where
-        C: Job,
-        C::Input: Drop,
-        C::Output: Drop,
-        I: Drop,
-        O: Follow<C::Output> + Drop,
-        X: Shut + Drop,
-        G: Drop,
-        ensures same { IfOk result (λ begun. IsSameRun C.program C.environment running begun.0) }
+        line: LineOf<H>,
+        chains: Chains<H::Wrapper>,
+    ) -> Result<BegunOf<H>, Over>
+        ensures same { IfOk result (λ begun. IsSameRun H.Job.program H.Job.environment running begun.0) }
         ensures over { IfErr result (λ over. over.serial ≡ serial) }
     {
         let refusal = Mutex::new(None);
@@ -211,16 +185,7 @@ where
     }
 }
 
-impl<'a, L, N, D, J, U, R, W> Admitted<'a, L, N, D, J, U, R, W>
-where
-    L: Assumptions,
-    N: Callers,
-    D: Dir + Drop,
-    J: Journal,
-    U: Rules<L, D::File>,
-    R: Wait,
-    W: Observer,
-{
+impl<'a, H: Host> Admitted<'a, H> {
     /// It is given up for this cause.
     pub(crate) fn give_up(self, cause: DropCause) -> Over
         ensures own { result.serial ≡ self.entry.serial }
@@ -240,15 +205,12 @@ where
     ///
     /// # Errors
     /// It is over: it was denied or given up, or its child could not be started.
-    pub(crate) fn serve<S, O, X>(
+    pub(crate) fn serve(
         self,
-        starter: &S,
-        connection: &X,
-        writer: &mut O,
-    ) -> Result<Started<'a, L, N, D, J, U, R, W, S::Job>, Over>
-    where
-        S: Starter<X>,
-        O: Write,
+        starter: &H::Starter,
+        connection: &H::Shut,
+        writer: &mut H::Writer,
+    ) -> Result<Started<'a, H>, Over>
         ensures own { IfOk result (λ started. (started.serial ≡ self.entry.serial) × (place_of started.running ≡ self.entry.place)) }
         ensures over { IfErr result (λ over. over.serial ≡ self.entry.serial) }
     {
@@ -267,24 +229,14 @@ where
     }
 }
 
-impl<'a, L, N, D, J, U, R, W, C> Started<'a, L, N, D, J, U, R, W, C>
-where
-    L: Assumptions,
-    N: Callers,
-    D: Dir + Drop,
-    J: Journal,
-    U: Rules<L, D::File>,
-    R: Wait,
-    W: Observer,
-    C: Job,
-{
+impl<'a, H: Host> Started<'a, H> {
     // One whose child was started.
     fn of(
-        register: &'a Register<'a, L, N, D, J, U, R, W>,
+        register: &'a Register<'a, H>,
         serial: u64,
-        running: Running<L, C>,
+        running: Running<H::Places, H::Job>,
         local: Local,
-    ) -> Started<'a, L, N, D, J, U, R, W, C>
+    ) -> Started<'a, H>
         ensures { (result.serial ≡ serial) × (result.running ≡ running) }
     {
         Started {
@@ -299,21 +251,14 @@ where
     ///
     /// # Errors
     /// It is over: its child has no pipe ends, and was ended by force.
-    pub(crate) fn begin<I, O, X, G>(
+    pub(crate) fn begin(
         self,
-        attendant: &Attendant<'_, R, W::Writer>,
-        line: Line<I, O, X>,
-        chains: Chains<G>,
-    ) -> Result<Passed<'a, L, N, D, J, U, R, W, C, I, O, X, G>, Over>
-    where
-        C::Input: Drop,
-        C::Output: Drop,
-        I: Drop,
-        O: Follow<C::Output> + Drop,
-        X: Shut + Drop,
-        G: Drop,
+        attendant: &Attendant<'_, H::Runtime, H::Lines>,
+        line: LineOf<H>,
+        chains: Chains<H::Wrapper>,
+    ) -> Result<Passed<'a, H>, Over>
         ensures own { IfOk result (λ passed. passed.1.serial ≡ self.entry.serial) }
-        ensures same { IfOk result (λ passed. IsSameRun C.program C.environment self.entry.running passed.1.running) }
+        ensures same { IfOk result (λ passed. IsSameRun H.Job.program H.Job.environment self.entry.running passed.1.running) }
         ensures over { IfErr result (λ over. over.serial ≡ self.entry.serial) }
     {
         let Started {
@@ -350,16 +295,11 @@ where
 
     /// What its child says is passed on to the end; then its child is waited for, and it ends.
     #[tactic(auto, using(crate::proofs::Told::over_told))]
-    pub(crate) fn pass_down<F, O, X, G>(
+    pub(crate) fn pass_down(
         self,
-        attendant: &Attendant<'_, R, W::Writer>,
-        talk: Talk<F, O, X, G>,
+        attendant: &Attendant<'_, H::Runtime, H::Lines>,
+        talk: TalkOf<H>,
     ) -> Over
-    where
-        F: Read + Drop,
-        O: Write + Drop,
-        X: Shut + Drop,
-        G: LineWrapper + Drop,
         ensures own { result.serial ≡ self.entry.serial }
     {
         let Started {

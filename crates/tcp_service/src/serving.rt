@@ -4,50 +4,45 @@ ghost use Rattle.server_yard.specs.Yards.{yard_books, yard_server};
 ghost use Rattle.shared_site.specs.Callers.{caller_share, total_share};
 ghost use Rattle.tcp_connections.specs.Admissions.{IsServed};
 
-use crate::connection::Server;
-use crate::entrance::SiteEntrance;
+use crate::host::{CallerOf, Host, SiteOf, YardOf};
 use crate::life::Register;
 use crate::observer::Observer;
-use crate::opening::Rules;
-use crate::service::{ChainSource, Service};
-use child_jobs::{Job, Plan};
-use dir_calls::Dir;
+use crate::running::serve_by;
+use crate::service::Service;
+use child_jobs::Plan;
 use event_journals::Journal;
-use server_yard::{Assumptions, Yard};
-use shared_site::{Caller, Callers, Site};
+use shared_site::{Caller, Callers};
 use std::alloc::Global;
 use std::snapshot::Snapshot;
-use std::sync::{Mutex, Wait};
-use std::thread::Threads;
-use std::time::Clock;
-use tcp_connections::{Acceptor, Attendant, Follow, ServeEnd, Starter, serve_through};
+use std::sync::Mutex;
+use tcp_connections::{Acceptor, ServeEnd};
 
 /// A server that has come to its end: nobody is let in any more and its threads have ended, both callers of its site are back and the site is closed.
 /// Each connection that is alive still is a retired one.
 #[derive(Drop)]
-pub struct Closed<L: Assumptions, N: Callers, D: Dir + Drop, J: Journal> {
+pub struct Closed<H: Host> {
     /// How it ended.
     pub end: ServeEnd,
     /// What its site was made of, with all that happened.
-    pub yard: Yard<L, D, J>,
+    pub yard: YardOf<H>,
     // the caller that let connections in, and the one that made all other events
-    host: Snapshot<Caller<N>>,
-    teller: Snapshot<Caller<N>>,
+    admitter: Snapshot<CallerOf<H>>,
+    teller: Snapshot<CallerOf<H>>,
     // no event is of anybody else
     pub ghost all_back: { (yard_books yard).count
-        ≡ N.before + (caller_share host.value + caller_share teller.value) },
+        ≡ H.Callers.before + (caller_share admitter.value + caller_share teller.value) },
     pub ghost all_retired: { (yard_books yard).report.retired ≡ length (yard_server yard).connections },
 }
 
 /// A server that has come to its end, but a connection is alive still that is not retired, though no thread has it.
 #[derive(Drop)]
-pub struct Unfinished<L: Assumptions, N: Callers, D: Dir + Drop, J: Journal> {
+pub struct Unfinished<H: Host> {
     /// How it ended.
     pub end: ServeEnd,
     /// What its site was made of, with all that happened.
-    pub yard: Yard<L, D, J>,
+    pub yard: YardOf<H>,
     // the caller that let connections in
-    host: Snapshot<Caller<N>>,
+    admitter: Snapshot<CallerOf<H>>,
     pub ghost lost: { (yard_books yard).report.retired ≢ length (yard_server yard).connections },
 }
 
@@ -59,49 +54,52 @@ pub struct Unfinished<L: Assumptions, N: Callers, D: Dir + Drop, J: Journal> {
 ///
 /// # Errors
 /// A place is lost: its connection is alive, and no thread has it. The site is closed all the same.
-pub fn serve<A, L, N, D, J, U, S, M, R, W>(
-    rt: &R,
+pub fn serve<'a, A, H>(
+    rt: &'a H::Runtime,
     alloc: Global,
     acceptor: &mut A,
-    site: Site<L, N, D, J>,
-    callers: Vec<Caller<N>>,
-    rules: &U,
-    wrapping: &M,
-    starter: &S,
-    plan: &Plan,
+    site: SiteOf<H>,
+    callers: Vec<CallerOf<H>>,
+    rules: &'a H::Rules,
+    wrapping: &H::Chains,
+    starter: &H::Starter,
+    plan: &'a Plan,
     service: &Service,
-    observer: &W,
-) -> Result<Closed<L, N, D, J>, Unfinished<L, N, D, J>>
+    observer: &'a H::Observer,
+) -> Result<Closed<H>, Unfinished<H>>
 where
-    A: Acceptor + Send,
-    L: Assumptions + Send + Sync,
-    N: Callers + Send + Sync,
-    D: Dir + Send + Drop,
-    D::File: Send,
-    J: Journal + Send,
-    U: Rules<L, D::File> + Sync,
-    U::Handle: Send,
-    S: Starter<A::Shut> + Sync,
-    S::Job: Send,
-    <S::Job as Job>::Input: Send + Drop,
-    <S::Job as Job>::Output: Send + Drop,
-    A::Writer: Follow<<S::Job as Job>::Output>,
-    M: ChainSource + Sync,
-    M::Wrapper: Send + Drop,
-    R: Threads + Wait + Clock + Sync,
-    W: Observer + Sync,
-    W::Writer: Send,
-    requires callers { (N.all ≡ 2) × (N.parts ≡ 2) × (vec_len callers ≡ 2) × (total_share callers.items ≡ 0) }
-    ensures count { IfOk result (λ closed. IsServed closed.end service.now.limits.count 0 (caller_share closed.host.value)) }
+    H: Host + Send + Sync,
+    H::Runtime: Sync,
+    H::Places: Send + Sync,
+    H::Callers: Send + Sync,
+    H::File: Send,
+    H::Folder: Send,
+    H::Journal: Send,
+    H::Handle: Send,
+    H::Rules: Sync,
+    H::Lines: Send,
+    H::Observer: Sync,
+    H::Reader: Send,
+    H::Writer: Send,
+    H::Shut: Send,
+    H::Input: Send,
+    H::Output: Send,
+    H::Job: Send,
+    H::Starter: Sync,
+    H::Wrapper: Send,
+    H::Chains: Sync,
+    A: Acceptor<Reader = H::Reader, Writer = H::Writer, Shut = H::Shut> + Send,
+    requires callers { (H.Callers.all ≡ 2) × (H.Callers.parts ≡ 2) × (vec_len callers ≡ 2) × (total_share callers.items ≡ 0) }
+    ensures count { IfOk result (λ closed. IsServed closed.end service.now.limits.count 0 (caller_share closed.admitter.value)) }
     ensures then_too { IfErr result (λ unfinished.
-        IsServed unfinished.end service.now.limits.count 0 (caller_share unfinished.host.value)) }
+        IsServed unfinished.end service.now.limits.count 0 (caller_share unfinished.admitter.value)) }
 {
     let live = site.live(rt);
     let _ = observer.log().lock(rt).status(live);
     let mut callers = callers;
-    let (teller, host) = both(&mut callers);
+    let (teller, admitter) = both(&mut callers);
     let teller = Mutex::new(teller);
-    let register = Register {
+    let register = Register::<H> {
         rt,
         alloc,
         site: &site,
@@ -110,8 +108,8 @@ where
         plan,
         observer,
     };
-    let (end, host) = serve_by(acceptor, &register, host, wrapping, starter, service);
-    close(end, site, callers, host, teller.into_inner())
+    let (end, admitter) = serve_by(acceptor, &register, admitter, wrapping, starter, service);
+    close(end, site, callers, admitter, teller.into_inner())
 }
 
 // The two callers of a site, the second first.
@@ -128,92 +126,23 @@ fn both<N: Callers>(callers: &mut Vec<Caller<N>>) -> (Caller<N>, Caller<N>)
     (second, first)
 }
 
-// Serves connections until it comes to an end: how it ended, and the caller that let them in.
-fn serve_by<A, L, N, D, J, U, S, M, R, W>(
-    acceptor: &mut A,
-    register: &Register<'_, L, N, D, J, U, R, W>,
-    host: Caller<N>,
-    wrapping: &M,
-    starter: &S,
-    service: &Service,
-) -> (ServeEnd, Caller<N>)
-where
-    A: Acceptor + Send,
-    L: Assumptions + Send + Sync,
-    N: Callers + Send + Sync,
-    D: Dir + Send + Drop,
-    D::File: Send,
-    J: Journal + Send,
-    U: Rules<L, D::File> + Sync,
-    U::Handle: Send,
-    S: Starter<A::Shut> + Sync,
-    S::Job: Send,
-    <S::Job as Job>::Input: Send + Drop,
-    <S::Job as Job>::Output: Send + Drop,
-    A::Writer: Follow<<S::Job as Job>::Output>,
-    M: ChainSource + Sync,
-    M::Wrapper: Send + Drop,
-    R: Threads + Wait + Clock + Sync,
-    W: Observer + Sync,
-    W::Writer: Send,
-    requires idle { caller_share host ≡ 0 }
-    ensures count { IsServed result.0 service.now.limits.count 0 (caller_share result.1) }
-{
-    let (rt, alloc, log) = (register.rt, register.alloc, register.observer.log());
-    let server = Server {
-        wrapping,
-        starter,
-        mode: service.mode,
-        attendant: Attendant {
-            rt,
-            alloc,
-            log,
-            recording: service.recording,
-            patience: service.patience,
-        },
-    };
-    let entrance = SiteEntrance {
-        register,
-        acceptor,
-        host,
-        names: &service.names,
-    };
-    let (end, entrance) = serve_through(
-        rt,
-        alloc,
-        entrance,
-        &server,
-        usize::try_from(service.limits.connections).unwrap_or(usize::MAX),
-        service.limits.count,
-        service.supply,
-        &service.reserve,
-    );
-    let SiteEntrance {
-        register: _,
-        acceptor: _,
-        host,
-        names: _,
-    } = entrance;
-    (end, host)
-}
-
 // Closes a site with both of its callers, and looks whether each connection that is alive still is retired.
 #[tactic(auto, using(crate::proofs::Shares::of_both))]
-fn close<L: Assumptions, N: Callers, D: Dir + Drop, J: Journal>(
+fn close<H: Host>(
     end: ServeEnd,
-    site: Site<L, N, D, J>,
-    callers: Vec<Caller<N>>,
-    host: Caller<N>,
-    teller: Caller<N>,
-) -> Result<Closed<L, N, D, J>, Unfinished<L, N, D, J>>
-    requires all { (N.all ≡ 2) × (N.parts ≡ 2) }
+    site: SiteOf<H>,
+    callers: Vec<CallerOf<H>>,
+    admitter: CallerOf<H>,
+    teller: CallerOf<H>,
+) -> Result<Closed<H>, Unfinished<H>>
+    requires all { (H.Callers.all ≡ 2) × (H.Callers.parts ≡ 2) }
     requires room { (callers.items ≡ []) × (2 ≤ vec_capacity callers) }
-    ensures end { IfOk result (λ closed. (closed.end ≡ end) × (closed.host.value ≡ host)) }
-    ensures lost { IfErr result (λ unfinished. (unfinished.end ≡ end) × (unfinished.host.value ≡ host)) }
+    ensures end { IfOk result (λ closed. (closed.end ≡ end) × (closed.admitter.value ≡ admitter)) }
+    ensures lost { IfErr result (λ unfinished. (unfinished.end ≡ end) × (unfinished.admitter.value ≡ admitter)) }
 {
     let mut callers = callers;
-    let (host_then, teller_then) = (Snapshot::of(&host), Snapshot::of(&teller));
-    callers.push_reserved(host);
+    let (admitter_then, teller_then) = (Snapshot::of(&admitter), Snapshot::of(&teller));
+    callers.push_reserved(admitter);
     callers.push_reserved(teller);
     let Ok(yard) = site.close(callers) else {
         unreachable!()
@@ -222,14 +151,14 @@ fn close<L: Assumptions, N: Callers, D: Dir + Drop, J: Journal>(
         Ok(Closed {
             end,
             yard,
-            host: host_then,
+            admitter: admitter_then,
             teller: teller_then,
         })
     } else {
         Err(Unfinished {
             end,
             yard,
-            host: host_then,
+            admitter: admitter_then,
         })
     }
 }

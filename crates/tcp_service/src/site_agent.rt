@@ -1,22 +1,21 @@
 //! The agent of one connection: its calls are turns of one caller of a site, and each event is told to the log before its turn is over.
 ghost use Rattle.std.specs.Prelude.{◌≡◌, None};
 
-use crate::observer::{Observer, tell};
+use crate::host::{CallerOf, Host, SiteOf, YardOf};
+use crate::observer::tell;
 use crate::opening::{Rules, RulesHandle};
 use byte_text::words_of_error;
 use child_jobs::{Job, Place, Plan, Running};
 use connection_facts::{DropCause, Peer, StartFault, Status};
-use dir_calls::Dir;
-use event_journals::Journal;
 use one_connection::{Agent, cause_of_open, decide_by_pass};
 use rule_lookup::{DecideFault, Decision};
 use server_log::{Cause, Told};
-use server_yard::{Assumptions, Finding, Pass, Yard};
+use server_yard::{Finding, Pass};
 use shared_site::turns::{Decided, Dropped, Ended, Opened, Retired, StartFailed, Started};
-use shared_site::{Caller, Callers, Made, OutOfTurn, Site, Turn};
+use shared_site::{Made, OutOfTurn, Turn};
 use std::alloc::Global;
 use std::snapshot::Snapshot;
-use std::sync::{Mutex, Wait};
+use std::sync::Mutex;
 use tcp_connections::Endings;
 use ucspi_env::Local;
 
@@ -26,45 +25,29 @@ use ucspi_env::Local;
 /// The rules are opened by a handle of the connection's own, before the site is asked: no other connection waits meanwhile. Where the assumptions are
 /// met the file that was found is compiled of rules.
 #[derive(Drop)]
-pub struct SiteAgent<
-    'a,
-    L: Assumptions,
-    N: Callers,
-    D: Dir + Drop,
-    J: Journal,
-    R,
-    O: Rules<L, D::File>,
-> {
-    rt: &'a R,
-    site: &'a Site<L, N, D, J>,
-    caller: &'a Mutex<Caller<N>>,
-    rules: &'a O,
+pub struct SiteAgent<'a, H: Host> {
+    rt: &'a H::Runtime,
+    site: &'a SiteOf<H>,
+    caller: &'a Mutex<CallerOf<H>>,
+    rules: &'a H::Rules,
     serial: u64,
     // what the connection opened the rules by
-    handle: Option<O::Handle>,
+    handle: Option<H::Handle>,
     // and what it found
-    found: Option<Snapshot<Pass<L, D::File>>>,
+    found: Option<Snapshot<Pass<H::Places, H::File>>>,
     // what the site answered last
     last: Option<Result<Made, OutOfTurn>>,
 }
 
-impl<'a, L, N, D, J, R, O> SiteAgent<'a, L, N, D, J, R, O>
-where
-    L: Assumptions,
-    N: Callers,
-    D: Dir + Drop,
-    J: Journal,
-    R: Wait,
-    O: Rules<L, D::File>,
-{
+impl<'a, H: Host> SiteAgent<'a, H> {
     /// What the connection with this serial has of this caller and these rules. Nothing was asked for it yet.
     pub fn new(
-        rt: &'a R,
-        site: &'a Site<L, N, D, J>,
-        caller: &'a Mutex<Caller<N>>,
-        rules: &'a O,
+        rt: &'a H::Runtime,
+        site: &'a SiteOf<H>,
+        caller: &'a Mutex<CallerOf<H>>,
+        rules: &'a H::Rules,
         serial: u64,
-    ) -> SiteAgent<'a, L, N, D, J, R, O>
+    ) -> SiteAgent<'a, H>
         ensures own { result.serial ≡ serial }
         ensures unasked { result.last ≡ None }
     {
@@ -82,21 +65,17 @@ where
 }
 
 // A turn whose event is told before it is over: so the lines of the log stand in the order of events.
-struct Telling<'a, T, R, W> {
+struct Telling<'a, H: Host, T> {
     turn: T,
     told: Told<'a>,
-    rt: &'a R,
-    observer: &'a W,
+    rt: &'a H::Runtime,
+    observer: &'a H::Observer,
 }
 
-impl<L, D, J, T, R, W> Turn<L, D, J> for Telling<'_, T, R, W>
+impl<H, T> Turn<H::Places, H::Folder, H::Journal> for Telling<'_, H, T>
 where
-    L: Assumptions,
-    D: Dir + Drop,
-    J: Journal,
-    T: Turn<L, D, J, Answer = Result<Made, OutOfTurn>>,
-    R: Wait,
-    W: Observer,
+    H: Host,
+    T: Turn<H::Places, H::Folder, H::Journal, Answer = Result<Made, OutOfTurn>>,
 {
     type Answer = Result<Made, OutOfTurn>;
 
@@ -104,7 +83,7 @@ where
 
     ghost answers = { λ telling. T.answers telling.turn };
 
-    fn run(self, yard: &mut Yard<L, D, J>, caller: u64) -> Result<Made, OutOfTurn> {
+    fn run(self, yard: &mut YardOf<H>, caller: u64) -> Result<Made, OutOfTurn> {
         let Telling {
             turn,
             told,
@@ -119,15 +98,7 @@ where
     }
 }
 
-impl<L, N, D, J, R, O> SiteAgent<'_, L, N, D, J, R, O>
-where
-    L: Assumptions,
-    N: Callers,
-    D: Dir + Drop,
-    J: Journal,
-    R: Wait,
-    O: Rules<L, D::File>,
-{
+impl<H: Host> SiteAgent<'_, H> {
     ghost use Rattle.std.specs.Prelude.{◌≡◌, ◌-◌, ◌^◌, Some, true, IfErr, IfOk, OnErr, is_some};
     ghost use Rattle.one_connection.specs.Openings.{FailsToOpen, kept_opening, opening_of};
     ghost use Rattle.server_events.specs.declared.event.Event.TheVariants as event;
@@ -135,7 +106,7 @@ where
     ghost use Rattle.tcp_service.specs.SiteAgents.{IsAnswer, made};
 
     // A turn of the caller.
-    fn turn<T: Turn<L, D, J>>(&self, turn: T) -> T::Answer
+    fn turn<T: Turn<H::Places, H::Folder, H::Journal>>(&self, turn: T) -> T::Answer
         requires may { T.may turn }
         ensures answered { IsAnswer (T.answers turn) result }
     {
@@ -147,16 +118,16 @@ where
     fn opened(
         &mut self,
         serial: u64,
-        finding: Finding<L, D::File>,
-    ) -> Result<Pass<L, D::File>, DropCause>
+        finding: Finding<H::Places, H::File>,
+    ) -> Result<Pass<H::Places, H::File>, DropCause>
         ensures its { IfOk result (λ pass. pass_serial pass ≡ serial) }
-        ensures keeps { IfOk result (λ pass. kept_opening D.File.bytes self.new.found ≡ Some (opening_of D.File.bytes pass)) }
+        ensures keeps { IfOk result (λ pass. kept_opening H.File.bytes self.new.found ≡ Some (opening_of H.File.bytes pass)) }
         ensures told { IfOk result (λ pass. made self.new.last ≡ Some (event.Opened serial (is_some (pass_file pass)))) }
         ensures refused { OnErr result (self.new.last ≡ self.old.last) }
         ensures own { self.new.serial ≡ self.old.serial }
         ensures cause { IfErr result (FailsToOpen true (2 ^ 64 - 1) (2 ^ 64 - 1)) }
     {
-        let turn: Opened<L, D> = Opened { serial, finding };
+        let turn: Opened<H::Places, H::Folder> = Opened { serial, finding };
         match self.turn(turn) {
             Some((pass, made)) => {
                 self.found = Some(Snapshot::of(&pass));
@@ -188,15 +159,15 @@ impl Reason {
 
 /// The agent of one connection, with a log.
 #[derive(Drop)]
-pub struct LoggedAgent<'a, K, R, W> {
+pub struct LoggedAgent<'a, H: Host> {
     /// The runtime.
-    pub rt: &'a R,
+    pub rt: &'a H::Runtime,
     /// What gives memory.
     pub alloc: Global,
     /// What it has of its site.
-    pub agent: K,
+    pub agent: SiteAgent<'a, H>,
     /// Who observes its events.
-    pub observer: &'a W,
+    pub observer: &'a H::Observer,
     /// The connection's serial number.
     pub serial: u64,
     /// The server's end of the connection.
@@ -209,15 +180,7 @@ pub struct LoggedAgent<'a, K, R, W> {
     pub refusal: &'a Mutex<Option<i32>>,
 }
 
-impl<L, N, D, J, R, O, W> LoggedAgent<'_, SiteAgent<'_, L, N, D, J, R, O>, R, W>
-where
-    L: Assumptions,
-    N: Callers,
-    D: Dir + Drop,
-    J: Journal,
-    R: Wait,
-    O: Rules<L, D::File>,
-{
+impl<H: Host> LoggedAgent<'_, H> {
     // Why the rules could not be opened or read, or which rule is damaged.
     fn reason_of(&self, cause: DropCause, peer: &Peer) -> Option<Reason> {
         match cause {
@@ -234,32 +197,21 @@ where
     }
 }
 
-impl<L, N, D, J, R, O, W, C> Endings<L, C>
-    for LoggedAgent<'_, SiteAgent<'_, L, N, D, J, R, O>, R, W>
-where
-    L: Assumptions,
-    N: Callers,
-    D: Dir + Drop,
-    J: Journal,
-    R: Wait,
-    O: Rules<L, D::File>,
-    W: Observer,
-    C: Job,
-{
+impl<H: Host> Endings<H::Places, H::Job> for LoggedAgent<'_, H> {
     ghost use Rattle.std.specs.Prelude.{◌≡◌, Some};
     ghost use Rattle.server_events.specs.declared.event.Event.TheVariants as event;
     ghost use Rattle.tcp_service.specs.SiteAgents.{asked};
 
-    type Place = Place<L>;
+    type Place = Place<H::Places>;
 
-    type Child = Running<L, C>;
+    type Child = Running<H::Places, H::Job>;
 
     ghost tells_end = { λ _ serial status after. asked after.agent.last ≡ Some (event.Ended serial status) };
 
     ghost tells_retired = { λ _ serial after. asked after.agent.last ≡ Some (event.Retired serial) };
 
     #[tactic(auto, using(crate::proofs::Asked::asked_for))]
-    fn ended(&mut self, place: Place<L>, serial: u64, status: Status) {
+    fn ended(&mut self, place: Place<H::Places>, serial: u64, status: Status) {
         let turn = Ended {
             serial,
             place,
@@ -267,7 +219,7 @@ where
         };
         let told = Told::Ended { serial, status };
         let (rt, observer) = (self.rt, self.observer);
-        let answer = self.agent.turn(Telling {
+        let answer = self.agent.turn(Telling::<H, _> {
             turn,
             told,
             rt,
@@ -277,11 +229,11 @@ where
     }
 
     #[tactic(auto, using(crate::proofs::Asked::asked_for))]
-    fn retired(&mut self, running: Running<L, C>, serial: u64) {
+    fn retired(&mut self, running: Running<H::Places, H::Job>, serial: u64) {
         let turn = Retired { serial, running };
         let told = Told::Retired { serial };
         let (rt, observer) = (self.rt, self.observer);
-        let answer = self.agent.turn(Telling {
+        let answer = self.agent.turn(Telling::<H, _> {
             turn,
             told,
             rt,
@@ -291,16 +243,7 @@ where
     }
 }
 
-impl<L, N, D, J, R, O, W> Agent<L> for LoggedAgent<'_, SiteAgent<'_, L, N, D, J, R, O>, R, W>
-where
-    L: Assumptions,
-    N: Callers,
-    D: Dir + Drop,
-    J: Journal,
-    R: Wait,
-    O: Rules<L, D::File>,
-    W: Observer,
-{
+impl<H: Host> Agent<H::Places> for LoggedAgent<'_, H> {
     ghost use Rattle.std.specs.Prelude.{◌≡◌, ◌-◌, ◌^◌, true, false, Some, IfOk, IfErr, OnOk, OnErr};
     ghost use Rattle.one_connection.specs.Openings.{Decides, FailsToDecide, RefusesDecision, kept_opening, opening_of};
     ghost use Rattle.server_events.specs.declared.event.Event.TheVariants as event;
@@ -308,27 +251,27 @@ where
     ghost use Rattle.server_yard.specs.Passes.{IsDecidedBy, pass_missing, pass_serial};
     ghost use Rattle.tcp_service.specs.SiteAgents.{FindsWhole, IsGoneBy, IsMissingBy, StandsBy, asked};
 
-    type Place = Place<L>;
+    type Place = Place<H::Places>;
 
-    type Pass = Pass<L, D::File>;
+    type Pass = Pass<H::Places, H::File>;
 
     ghost index = { λ place. place };
 
-    ghost opening = { λ pass. opening_of D.File.bytes pass };
+    ghost opening = { λ pass. opening_of H.File.bytes pass };
 
     ghost serial = { λ pass. pass_serial pass };
 
-    ghost honest = { D.File.honest };
+    ghost honest = { H.File.honest };
 
-    ghost sound = { D.File.sound };
+    ghost sound = { H.File.sound };
 
     ghost stands = { λ logged _ serial _ at. StandsBy logged.agent.last logged.agent.serial serial at };
 
     ghost is_gone = { λ logged serial. IsGoneBy logged.agent.last serial };
 
-    ghost finds = { λ _ found. FindsWhole L.met found };
+    ghost finds = { λ _ found. FindsWhole H.Places.met found };
 
-    ghost found = { λ logged. kept_opening D.File.bytes logged.agent.found };
+    ghost found = { λ logged. kept_opening H.File.bytes logged.agent.found };
 
     ghost tells = { λ _ event after. asked after.agent.last ≡ Some event };
 
@@ -336,7 +279,7 @@ where
 
     ghost still = { λ logged after. after.agent.last ≡ logged.agent.last };
 
-    ghost is_missing = { λ logged missing. IsMissingBy (kept_opening D.File.bytes logged.agent.found) missing };
+    ghost is_missing = { λ logged missing. IsMissingBy (kept_opening H.File.bytes logged.agent.found) missing };
 
     ghost failures = { λ _. 2 ^ 64 - 1 };
 
@@ -345,10 +288,10 @@ where
     fn open(
         &mut self,
         alloc: Global,
-        _place: &Place<L>,
+        _place: &Place<H::Places>,
         serial: u64,
         _peer: &Peer,
-    ) -> Result<Pass<L, D::File>, DropCause> {
+    ) -> Result<Pass<H::Places, H::File>, DropCause> {
         let Ok(mut handle) = self.agent.rules.handle(alloc) else {
             return Err(DropCause::Memory);
         };
@@ -360,10 +303,14 @@ where
         }
     }
 
-    fn decide(alloc: Global, pass: &Pass<L, D::File>, peer: &Peer) -> Result<Decision, DecideFault>
-        ensures decided { IfOk result (Decides D.File.honest D.File.sound (opening_of D.File.bytes pass.now) peer.now) }
+    fn decide(
+        alloc: Global,
+        pass: &Pass<H::Places, H::File>,
+        peer: &Peer,
+    ) -> Result<Decision, DecideFault>
+        ensures decided { IfOk result (Decides H.File.honest H.File.sound (opening_of H.File.bytes pass.now) peer.now) }
         ensures refused { IfErr result
-            (FailsToDecide D.File.honest D.File.sound (opening_of D.File.bytes pass.now) peer.now) }
+            (FailsToDecide H.File.honest H.File.sound (opening_of H.File.bytes pass.now) peer.now) }
     {
         decide_by_pass(alloc, pass, peer)
     }
@@ -371,21 +318,21 @@ where
     fn decided(
         &mut self,
         _alloc: Global,
-        _place: &Place<L>,
-        pass: Pass<L, D::File>,
+        _place: &Place<H::Places>,
+        pass: Pass<H::Places, H::File>,
         peer: &Peer,
         decision: Decision,
     ) -> Result<(), DropCause>
         requires stands { StandsBy self.old.agent.last self.old.agent.serial (pass_serial pass) stage.Opened }
-        requires missing { IsMissingBy (kept_opening D.File.bytes self.old.agent.found) (pass_missing pass) }
-        requires decides { IsDecidedBy D.File.honest D.File.sound D.File.bytes pass peer.now decision }
+        requires missing { IsMissingBy (kept_opening H.File.bytes self.old.agent.found) (pass_missing pass) }
+        requires decides { IsDecidedBy H.File.honest H.File.sound H.File.bytes pass peer.now decision }
         ensures decided { OnOk result
             (StandsBy self.new.agent.last self.new.agent.serial (pass_serial pass) (stage.Decided decision.verdict)) }
         ensures told { OnOk result (asked self.new.agent.last ≡ Some (event.Decided (pass_serial pass) decision)) }
         ensures refused { OnErr result (StandsBy self.new.agent.last self.new.agent.serial (pass_serial pass) stage.Opened) }
         ensures quiet { OnErr result (self.new.agent.last ≡ self.old.agent.last) }
         ensures cause { IfErr result (RefusesDecision true) }
-        ensures keeps { kept_opening D.File.bytes self.new.agent.found ≡ kept_opening D.File.bytes self.old.agent.found }
+        ensures keeps { kept_opening H.File.bytes self.new.agent.found ≡ kept_opening H.File.bytes self.old.agent.found }
         ensures failures { 2 ^ 64 - 1 ≡ 2 ^ 64 - 1 }
     {
         let told = Told::Decided {
@@ -394,13 +341,13 @@ where
             local: self.local,
             peer,
         };
-        let turn: Decided<'_, L, D> = Decided {
+        let turn: Decided<'_, H::Places, H::Folder> = Decided {
             pass,
             peer,
             decision,
         };
         let (rt, observer) = (self.rt, self.observer);
-        let answer = self.agent.turn(Telling {
+        let answer = self.agent.turn(Telling::<H, _> {
             turn,
             told,
             rt,
@@ -416,13 +363,19 @@ where
     }
 
     #[tactic(auto, using(crate::proofs::Asked::asked_for))]
-    fn started<C: Job>(&mut self, running: &Running<L, C>, serial: u64, _peer: &Peer) {
+    fn started<C: Job>(&mut self, running: &Running<H::Places, C>, serial: u64, _peer: &Peer) {
         let answer = self.agent.turn(Started { serial, running });
         self.agent.last = Some(answer);
     }
 
     #[tactic(auto, using(crate::proofs::Asked::asked_for))]
-    fn start_failed(&mut self, place: Place<L>, serial: u64, _peer: &Peer, fault: StartFault) {
+    fn start_failed(
+        &mut self,
+        place: Place<H::Places>,
+        serial: u64,
+        _peer: &Peer,
+        fault: StartFault,
+    ) {
         let error = self.refusal.lock(self.rt).take();
         let why = error.and_then(|error| words_of_error(self.alloc, error).ok());
         let program = self.plan.program().path().as_bytes();
@@ -438,7 +391,7 @@ where
             fault,
         };
         let (rt, observer) = (self.rt, self.observer);
-        let answer = self.agent.turn(Telling {
+        let answer = self.agent.turn(Telling::<H, _> {
             turn,
             told,
             rt,
@@ -448,7 +401,7 @@ where
     }
 
     #[tactic(auto, using(crate::proofs::Asked::asked_for))]
-    fn dropped(&mut self, place: Place<L>, serial: u64, peer: &Peer, cause: DropCause) {
+    fn dropped(&mut self, place: Place<H::Places>, serial: u64, peer: &Peer, cause: DropCause) {
         let reason = self.reason_of(cause, peer);
         let why = reason.as_ref().map(|reason| reason.cause(self.rules));
         let told = Told::Dropped { serial, cause, why };
@@ -458,7 +411,7 @@ where
             cause,
         };
         let (rt, observer) = (self.rt, self.observer);
-        let answer = self.agent.turn(Telling {
+        let answer = self.agent.turn(Telling::<H, _> {
             turn,
             told,
             rt,

@@ -4,7 +4,7 @@ ghost use Rattle.shared_site.specs.Callers.{total_share};
 
 use crate::history::add_history;
 use crate::receipts::ReceiptsLog;
-use crate::scripts::{Clients, Scripts, ServedTally};
+use crate::scripts::{Clients, ScriptedJob, Scripts, ServedTally, Silent};
 use byte_streams::{Chain, FixCr};
 use child_jobs::{Plan, Program};
 use connection_facts::Peer;
@@ -16,14 +16,15 @@ use shared_site::{Caller, Callers, Site};
 use std::alloc::{AllocError, Global};
 use std::io;
 use std::io::Write;
-use std::marker::Brand;
+use std::marker::{Brand, PhantomData};
 use std::sync::Wait;
 use std::sync::atomic::Ordering;
 use std::sync::ledger::Blank;
 use std::thread::Threads;
 use std::time::{Clock, Duration};
+use stream_tools::SharedWriter;
 use tcp_service::{
-    ChainSource, Chains, ConnectionLimits, HostNames, Log, Mode, Patience, Reserve, Rules,
+    ChainSource, Chains, ConnectionLimits, Host, HostNames, Log, Mode, Patience, Reserve, Rules,
     RulesHandle, ServeEnd, Service, Supply, serve,
 };
 use test_parts::Answer;
@@ -74,6 +75,60 @@ impl<L: Assumptions> RulesHandle<L, MemFile> for NoRules {
     fn error(&self) -> Option<i32> {
         None
     }
+}
+
+/// What such a server stands on: a directory in memory, and clients and jobs by scripts.
+struct InMemory<'s, 'l, 'w, R, L, N> {
+    scripts: PhantomData<&'s R>,
+    log: PhantomData<&'l R>,
+    lines: PhantomData<&'w u8>,
+    places: PhantomData<L>,
+    callers: PhantomData<N>,
+}
+
+impl<'s, 'l, 'w, R, L, N> Host for InMemory<'s, 'l, 'w, R, L, N>
+where
+    R: Threads + Wait + Clock + Sync,
+    L: Assumptions + Send + Sync,
+    N: Callers + Send + Sync,
+{
+    type Runtime = R;
+
+    type Places = L;
+
+    type Callers = N;
+
+    type File = MemFile;
+
+    type Folder = MemDir;
+
+    type Journal = Full;
+
+    type Handle = NoRules;
+
+    type Rules = NoRules;
+
+    type Lines = &'w mut Vec<u8>;
+
+    type Observer = ReceiptsLog<'l, R, &'w mut Vec<u8>>;
+
+    type Reader = Silent;
+
+    type Writer = Silent;
+
+    type Shut = Silent;
+
+    type Input = SharedWriter<'s, R, Vec<u8>>;
+
+    type Output = &'static [u8];
+
+    type Job = ScriptedJob<'s, R>;
+
+    type Starter = Scripts<'s, R>;
+
+    type Wrapper = FixCr;
+
+    type Chains = Unwrapped;
 }
 
 /// How a server ended: its fault, how many connections were alive, its history, and the receipts of its log.
@@ -156,7 +211,7 @@ where
         left: asked.clients,
         addresses: asked.addresses,
     };
-    let served = serve(
+    let served = serve::<_, InMemory<'_, '_, '_, R, L, N>>(
         rt,
         alloc,
         &mut acceptor,

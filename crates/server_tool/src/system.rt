@@ -1,0 +1,207 @@
+//! What the tool has of the system, and what its server stands on.
+use crate::rules::{FolderHandle, FolderRules, RulesOnDisk};
+use crate::wrappers::Wrappers;
+use dir_disk::{OsDir, SystemDisk};
+use event_journals::Counts;
+use server_parts::client::ClientWriter;
+use server_parts::opening::listen;
+use server_parts::programs::{ProgramInput, ServiceJob};
+use server_parts::sockets::{Handle, Holder, Unread};
+use server_parts::{HandingLauncher, ServerFailure, ServiceLauncher, Wrapper};
+use server_yard::Assumptions;
+use shared_site::Callers;
+use std::fs::{File, Files};
+use std::io::{Read, Write};
+use std::marker::PhantomData;
+use std::net::{Net, OpenListener, TcpStream};
+use std::process::{ChildStdin, ChildStdout, OpenProcess, Processes};
+use std::rt::Env;
+use std::sync::{Mutex, Wait};
+use std::thread::Threads;
+use std::time::Clock;
+use stream_tools::OsJob;
+use tcp_service::{Host, Log};
+
+/// What the tool has of the system. It is a name for these types together, and has no values.
+pub(crate) trait System {
+    /// The runtime, with the system's files and processes.
+    type Runtime: Env
+        + Print
+        + AllocGlobal
+        + Files<File = File, Dir = Self::Folder>
+        + Processes<Started = Self::Process>
+        + Threads
+        + Wait
+        + Clock
+        + Sync;
+
+    /// A folder that is open.
+    type Folder: Read + Send + Sync + Drop;
+
+    /// A socket that listens.
+    type Listener: OpenListener<Stream = TcpStream> + Send + Sync + Drop;
+
+    /// A program that was started, with the ends of its pipes.
+    type Process: OpenProcess<
+        Stdin = ChildStdin,
+        Stdout = Self::ProcessOutput,
+        Stderr = Self::ProcessErrors,
+    >
+        + Send
+        + Drop;
+
+    /// The end of a pipe that a program writes.
+    type ProcessOutput: Read + Send + Drop;
+
+    /// The end of the pipe to which it writes its errors.
+    type ProcessErrors: Read + Send + Drop;
+
+    /// What takes the lines of the log.
+    type Errors: Write + Send + Drop;
+
+    /// A socket that listens at an address and port.
+    ///
+    /// # Errors
+    /// `CannotListen` with each fault of the system.
+    fn listen(rt: &Self::Runtime, ip: [u8; 4], port: u16) -> Result<Self::Listener, ServerFailure>;
+}
+
+/// The system of a runtime, with the stream that takes the lines of the log.
+pub(crate) struct SystemOf<'a, R, E> {
+    runtime: PhantomData<&'a R>,
+    errors: PhantomData<Mutex<E>>,
+}
+
+impl<R, E> System for SystemOf<'_, R, E>
+where
+    R: Env + Print + AllocGlobal + Files<File = File> + Processes + Threads + Wait + Clock + Sync,
+    R: Net<Stream = TcpStream>,
+    R::Dir: Send + Sync,
+    R::Listener: Send + Sync,
+    R::Started: OpenProcess<Stdin = ChildStdin> + Send,
+    <R::Started as OpenProcess>::Stdout: Send,
+    <R::Started as OpenProcess>::Stderr: Send,
+    E: Write + Send + Drop,
+{
+    type Runtime = R;
+
+    type Folder = R::Dir;
+
+    type Listener = R::Listener;
+
+    type Process = R::Started;
+
+    type ProcessOutput = <R::Started as OpenProcess>::Stdout;
+
+    type ProcessErrors = <R::Started as OpenProcess>::Stderr;
+
+    type Errors = E;
+
+    fn listen(rt: &R, ip: [u8; 4], port: u16) -> Result<R::Listener, ServerFailure> {
+        listen(rt, ip, port)
+    }
+}
+
+/// What a server stands on whose programs hold their connections themselves, over these ledgers of places and of callers.
+pub(crate) struct HandsOver<'a, P: System, L, N> {
+    system: PhantomData<&'a P::Runtime>,
+    places: PhantomData<L>,
+    callers: PhantomData<N>,
+}
+
+impl<'a, P, L, N> Host for HandsOver<'a, P, L, N>
+where
+    P: System,
+    L: Assumptions + Send + Sync,
+    N: Callers + Send + Sync,
+{
+    type Runtime = P::Runtime;
+
+    type Places = L;
+
+    type Callers = N;
+
+    type File = RulesOnDisk;
+
+    type Folder = OsDir<&'a P::Runtime>;
+
+    type Journal = Counts;
+
+    type Handle = FolderHandle<'a, L, SystemDisk<&'a P::Runtime>>;
+
+    type Rules = FolderRules<'a, L, P::Runtime>;
+
+    type Lines = P::Errors;
+
+    type Observer = Mutex<Log<P::Errors>>;
+
+    type Reader = Unread;
+
+    type Writer = Handle<'a, P::Runtime>;
+
+    type Shut = Handle<'a, P::Runtime>;
+
+    type Input = ChildStdin;
+
+    type Output = ChildStdout;
+
+    type Job = OsJob;
+
+    type Starter = HandingLauncher<'a, P::Runtime>;
+
+    type Wrapper = Wrapper;
+
+    type Chains = Wrappers<'a>;
+}
+
+/// What a server stands on that passes bytes on, over these ledgers of places and of callers.
+pub(crate) struct Pumps<'a, P: System, L, N> {
+    system: PhantomData<&'a P::Runtime>,
+    places: PhantomData<L>,
+    callers: PhantomData<N>,
+}
+
+impl<'a, P, L, N> Host for Pumps<'a, P, L, N>
+where
+    P: System,
+    L: Assumptions + Send + Sync,
+    N: Callers + Send + Sync,
+{
+    type Runtime = P::Runtime;
+
+    type Places = L;
+
+    type Callers = N;
+
+    type File = RulesOnDisk;
+
+    type Folder = OsDir<&'a P::Runtime>;
+
+    type Journal = Counts;
+
+    type Handle = FolderHandle<'a, L, SystemDisk<&'a P::Runtime>>;
+
+    type Rules = FolderRules<'a, L, P::Runtime>;
+
+    type Lines = P::Errors;
+
+    type Observer = Mutex<Log<P::Errors>>;
+
+    type Reader = Holder;
+
+    type Writer = ClientWriter<'a, P::Runtime>;
+
+    type Shut = Holder;
+
+    type Input = ProgramInput<'a, P::Runtime>;
+
+    type Output = ChildStdout;
+
+    type Job = ServiceJob<'a, P::Runtime>;
+
+    type Starter = ServiceLauncher<'a, P::Runtime>;
+
+    type Wrapper = Wrapper;
+
+    type Chains = Wrappers<'a>;
+}
