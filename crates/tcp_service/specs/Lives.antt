@@ -1,6 +1,10 @@
 -- How the life of a connection begins, and what was told last of it.
-use Rattle.std.specs.Prelude.{◌≡◌, ◌⊎◌, ℕ, Option, Some, ⊤, option_and_then}
+use Rattle.std.specs.Prelude.{◌≡◌, ◌⊎◌, ℕ, Bool, Option, Some, ⊤, option_and_then}
+use Rattle.child_jobs.specs.Plans.{PlanText}
+use Rattle.child_jobs.specs.Programs.{ProgramText}
 use Rattle.connection_facts.specs.Peers.{Client}
+use Rattle.one_connection.specs.Openings.{Opening, WasFound}
+use Rattle.one_connection.specs.Servings.{IsChild}
 use Rattle.server_events.specs.declared.event.Event.{Event}
 use Rattle.server_events.specs.declared.event.Event.TheVariants.{Admitted, Retired}
 use Rattle.server_yard.specs.Seating.{leaver}
@@ -8,6 +12,9 @@ use Rattle.shared_site.specs.Receipts.{made_event}
 use Rattle.shared_site.specs.declared.receipt.Made.{Made}
 use Rattle.tcp_connections.specs.declared.admission.AdmitOutcome.{AdmitOutcome}
 use Rattle.tcp_connections.specs.declared.admission.AdmitOutcome.TheVariants.{In}
+use Rattle.tcp_service.specs.SiteAgents.{FindsWhole}
+use Rattle.ucspi_env.specs.Ends.{LocalEnd}
+use Rattle.ucspi_env.specs.Variables.{Variables}
 
 -- where a client is let in, the event that was made is the admission of it, by the serial that it has
 abbrev pub AdmitsOwn : {P : Type 0} → AdmitOutcome (ℕ × P × Made) → Client → Type 0
@@ -17,3 +24,9 @@ AdmitsOwn outcome client = ⊤
 -- the last that was asked of the site is the end of the connection with a serial: that it goes, or is retired
 abbrev pub IsEndOf : Option Event → (serial : ℕ) → Type 0
 IsEndOf event serial = (option_and_then leaver event ≡ Some serial) ⊎ (event ≡ Some (Retired serial))
+
+-- a program that runs for a connection is the one of its decision, by what that connection found when it opened the rules: the plan's, with the
+-- variables that this decision gives
+abbrev pub IsOwnChild : (found : Option Opening) → (met honest sound : Bool) → Client → LocalEnd → PlanText → ProgramText → Variables → Type 0
+IsOwnChild found met honest sound peer local plan program environment =
+    ∥ IsChild (WasFound found (FindsWhole met)) honest sound peer local plan program environment ∥₁

@@ -1,16 +1,19 @@
 //! The life of a connection at a site, from its admission to its end: each value of it is made of the one before, and none can be let go.
 ghost use Rattle.std.specs.Prelude.{◌≡◌, None, IfOk, IfErr};
-ghost use Rattle.child_jobs.specs.Runs.{IsSameRun, place_of};
+ghost use Rattle.child_jobs.specs.Runs.{IsSameRun, job_of, place_of};
+ghost use Rattle.one_connection.specs.Openings.{kept_opening};
+ghost use Rattle.tcp_service.specs.Lives.{IsOwnChild};
 
 use crate::host::{CallerOf, Host, SiteOf};
 use crate::opening::Rules;
 use crate::over::Over;
 use crate::permit::Permit;
-use crate::site_agent::{LoggedAgent, SiteAgent};
+use crate::site_agent::{Found, LoggedAgent, SiteAgent};
 use child_jobs::{Place, Plan, Running};
 use connection_facts::{DropCause, Peer};
 use one_connection::{Agent, Served, serve_one};
 use std::alloc::Global;
+use std::snapshot::Snapshot;
 use std::sync::Mutex;
 use tcp_connections::{
     Attendant, Begun, Chains, ConnectionLauncher, Endings, Line, Talk, Upward, see_out,
@@ -41,12 +44,17 @@ pub(crate) struct Admitted<'a, H: Host> {
     pub(crate) ghost own: { permit.serial ≡ serial },
 }
 
-/// A connection whose child runs: the right to its end. It is made of one that was let in.
+/// A connection whose child runs: the right to its end. It is made of one that was let in. The child is the connection's own (`child`): its program is
+/// the plan's, with the variables of the decision by what this connection found, for this client and this end.
 pub(crate) struct Started<'a, H: Host> {
     register: &'a Register<'a, H>,
     serial: u64,
     running: Running<H::Places, H::Job>,
     local: Local,
+    peer: Snapshot<Peer>,
+    found: Found<H>,
+    ghost child: { IsOwnChild (kept_opening H.File.bytes found) H.Places.met H.File.honest H.File.sound
+        peer.value local register.now.plan.now (H.Job.program (job_of running)) (H.Job.environment (job_of running)) },
 }
 
 /// What a client sends, on its way to the child of its connection.
@@ -144,8 +152,10 @@ impl<'a, H: Host> Register<'a, H> {
         starter: &H::Starter,
         connection: &H::Shut,
         writer: &mut H::Writer,
-    ) -> Result<Running<H::Places, H::Job>, Over>
-        ensures own { IfOk result (λ running. place_of running ≡ place) }
+    ) -> Result<(Running<H::Places, H::Job>, Found<H>), Over>
+        ensures own { IfOk result (λ ran. place_of ran.0 ≡ place) }
+        ensures child { IfOk result (λ ran. IsOwnChild (kept_opening H.File.bytes ran.1) H.Places.met H.File.honest H.File.sound
+            peer.now local.now self.now.plan.now (H.Job.program (job_of ran.0)) (H.Job.environment (job_of ran.0))) }
         ensures over { IfErr result (λ over. over.serial ≡ serial) }
     {
         let refusal = Mutex::new(None);
@@ -155,7 +165,7 @@ impl<'a, H: Host> Register<'a, H> {
         match serve_one(
             alloc, &mut agent, place, serial, peer, local, plan, launcher, writer,
         ) {
-            Served::Running(running) => Ok(running),
+            Served::Running(running) => Ok((running, agent.agent.into_found())),
             Served::Denied | Served::StartFailed(_) | Served::Dropped(_) => {
                 Err(Over::of(&agent, serial))
             }
@@ -223,7 +233,10 @@ impl<'a, H: Host> Admitted<'a, H> {
             permit: _,
         } = self;
         match register.serve(serial, place, &peer, &local, starter, connection, writer) {
-            Ok(running) => Ok(Started::of(register, serial, running, local)),
+            Ok((running, found)) => {
+                let peer = Snapshot::of(&peer);
+                Ok(Started::of(register, serial, running, local, peer, found))
+            }
             Err(over) => Err(over),
         }
     }
@@ -236,14 +249,20 @@ impl<'a, H: Host> Started<'a, H> {
         serial: u64,
         running: Running<H::Places, H::Job>,
         local: Local,
+        peer: Snapshot<Peer>,
+        found: Found<H>,
     ) -> Started<'a, H>
-        ensures { (result.serial ≡ serial) × (result.running ≡ running) }
+        requires child { IsOwnChild (kept_opening H.File.bytes found) H.Places.met H.File.honest H.File.sound
+            peer.value local register.now.plan.now (H.Job.program (job_of running)) (H.Job.environment (job_of running)) }
+        ensures own { (result.serial ≡ serial) × (result.running ≡ running) }
     {
         Started {
             register,
             serial,
             running,
             local,
+            peer,
+            found,
         }
     }
 
@@ -251,6 +270,7 @@ impl<'a, H: Host> Started<'a, H> {
     ///
     /// # Errors
     /// It is over: its child has no pipe ends, and was ended by force.
+    #[tactic(auto, using(crate::proofs::Told::same_child))]
     pub(crate) fn begin(
         self,
         attendant: &Attendant<'_, H::Runtime, H::Lines>,
@@ -266,10 +286,12 @@ impl<'a, H: Host> Started<'a, H> {
             serial,
             running,
             local,
+            peer,
+            found,
         } = self;
         match register.begin(attendant, serial, running, &local, line, chains) {
             Ok((running, upward, talk)) => {
-                let started = Started::of(register, serial, running, local);
+                let started = Started::of(register, serial, running, local, peer, found);
                 Ok((upward, started, talk))
             }
             Err(over) => Err(over),
@@ -286,6 +308,8 @@ impl<'a, H: Host> Started<'a, H> {
             serial,
             running,
             local,
+            peer: _,
+            found: _,
         } = self;
         let refusal = Mutex::new(None);
         let mut agent = register.agent(serial, &local, &refusal);
@@ -307,6 +331,8 @@ impl<'a, H: Host> Started<'a, H> {
             serial,
             running,
             local,
+            peer: _,
+            found: _,
         } = self;
         let refusal = Mutex::new(None);
         let mut agent = register.agent(serial, &local, &refusal);

@@ -19,6 +19,9 @@ use std::sync::Mutex;
 use tcp_connections::Endings;
 use ucspi_env::Local;
 
+/// What a connection found when it opened the rules, if it came to that.
+pub type Found<H> = Option<Snapshot<Pass<<H as Host>::Places, <H as Host>::File>>>;
+
 /// What an agent has of its site: each of its calls is a turn of one caller, which agents share. The event is made in turn, or it was not its turn; the
 /// last answer is kept, which says how far the connection has come, and what was found when the rules were opened.
 ///
@@ -34,7 +37,7 @@ pub struct SiteAgent<'a, H: Host> {
     // what the connection opened the rules by
     handle: Option<H::Handle>,
     // and what it found
-    found: Option<Snapshot<Pass<H::Places, H::File>>>,
+    found: Found<H>,
     // what the site answered last
     last: Option<Result<Made, OutOfTurn>>,
 }
@@ -61,6 +64,14 @@ impl<'a, H: Host> SiteAgent<'a, H> {
             found: None,
             last: None,
         }
+    }
+
+    /// What the connection found when it opened the rules, if it came to that.
+    pub(crate) fn into_found(self) -> Found<H>
+        ensures its { result ≡ self.entry.found }
+    {
+        let SiteAgent { found, .. } = self;
+        found
     }
 }
 
