@@ -165,6 +165,14 @@ pub fn print_port<R: Print, T: OpenListener>(rt: &R, listener: &T) -> Result<(),
     }
 }
 
+/// Where a socket listens, as far as the system tells it.
+pub fn end_of_listener<T: OpenListener>(listener: &T) -> Option<([u8; 4], u16)> {
+    match listener.local_addr() {
+        Ok(SocketAddr::V4(end)) => Some((end.ip().octets(), end.port())),
+        _ => None,
+    }
+}
+
 // Writes a port and a line feed.
 fn write_port<W: Write>(writer: &mut W, port: u16) -> io::Result<()> {
     let mut digits = itoa::Buffer::new();

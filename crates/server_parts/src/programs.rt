@@ -16,7 +16,7 @@ use std::sync::{Arc, Mutex, Wait};
 use std::time::{Clock, Duration};
 use std::{io, thread};
 use stream_tools::{NotStarted, OsJob, OsLauncher, SearchPath};
-use tcp_connections::{Reserve, Starter};
+use tcp_connections::{Process, Reserve, SignalNote, Starter};
 use ucspi_env::Environment;
 
 /// After so many milliseconds a write that waits looks whether its program is over.
@@ -78,7 +78,7 @@ impl<'a, R: Processes> HandingLauncher<'a, R> {
 }
 
 impl<'a, R: Processes + Wait + Clock, H: Wait> Starter<Handle<'a, H>> for HandingLauncher<'a, R> {
-    type Job = OsJob;
+    type Job = HandedJob<'a, R>;
 
     ghost refuses = { λ _ _ _ _ _. ⊤ };
 
@@ -89,17 +89,96 @@ impl<'a, R: Processes + Wait + Clock, H: Wait> Starter<Handle<'a, H>> for Handin
         connection: &Handle<'a, H>,
         program: &Program,
         environment: &Environment,
-    ) -> Result<OsJob, NotStarted> {
+    ) -> Result<HandedJob<'a, R>, NotStarted> {
         let stream = connection.take().ok_or(StartFault::Other)?;
+        let (rt, signal) = (self.rt, signal_note(alloc));
         for waits in 0..WAITS {
             match self.launcher.start_on(alloc, program, environment, &stream) {
                 Err(not_started) if wants_process(not_started) => {
                     wait_for_process(self.rt, self.reserve, waits);
                 }
-                outcome => return outcome,
+                Err(not_started) => return Err(not_started),
+                Ok(job) => return Ok(HandedJob { rt, job, signal }),
             }
         }
-        self.launcher.start_on(alloc, program, environment, &stream)
+        let job = self
+            .launcher
+            .start_on(alloc, program, environment, &stream)?;
+        Ok(HandedJob { rt, job, signal })
+    }
+
+    fn process_of(&self, job: &HandedJob<'a, R>) -> Option<Process> {
+        process_by(&job.job, job.signal.as_ref())
+    }
+}
+
+// Where the signal is noted that ends a program, if there is memory for it.
+fn signal_note(alloc: Global) -> Option<SignalNote> {
+    Arc::new(alloc, Mutex::new(None)).ok()
+}
+
+// The process of a program whose signal is noted there.
+fn process_by(job: &OsJob, signal: Option<&SignalNote>) -> Option<Process> {
+    let number = job.process()?;
+    let signal = Arc::try_clone(signal?).ok()?;
+    Some(Process { number, signal })
+}
+
+// Notes the signal that ended a program.
+fn note_signal<R: Wait>(rt: &R, note: Option<&SignalNote>, signal: Option<u32>) {
+    if let Some(note) = note {
+        *note.lock(rt) = signal;
+    }
+}
+
+/// A program that holds its connection itself. The language lets nobody drop it: it is waited for, or abandoned.
+pub struct HandedJob<'a, R> {
+    rt: &'a R,
+    job: OsJob,
+    signal: Option<SignalNote>,
+}
+
+impl<R: Wait> Job for HandedJob<'_, R> {
+    type Input = ChildStdin;
+
+    type Output = ChildStdout;
+
+    ghost program = { λ job. ⟦<OsJob as Job>⟧.program job.job };
+
+    ghost environment = { λ job. ⟦<OsJob as Job>⟧.environment job.job };
+
+    ghost has_ends = { λ job. ⟦<OsJob as Job>⟧.has_ends job.job };
+
+    ghost killed = { λ _ _ _. ⊤ };
+
+    ghost ended = { λ _ _. ⊤ };
+
+    fn ends(&mut self) -> Result<(ChildStdin, ChildStdout), NoEnds> {
+        self.job.ends()
+    }
+
+    fn kill(&mut self) -> Result<(), WaitFault> {
+        self.job.kill()
+    }
+
+    fn wait(self) -> Result<Status, (Self, WaitFault)> {
+        let HandedJob { rt, job, signal } = self;
+        match job.wait_for_signal() {
+            Ok((status, by)) => {
+                note_signal(rt, signal.as_ref(), by);
+                Ok(status)
+            }
+            Err((job, fault)) => Err((HandedJob { rt, job, signal }, fault)),
+        }
+    }
+
+    fn abandon(self) {
+        let HandedJob {
+            rt: _,
+            job,
+            signal: _,
+        } = self;
+        job.abandon();
     }
 }
 
@@ -120,6 +199,7 @@ pub struct ServiceJob<'a, R> {
     rt: &'a R,
     job: OsJob,
     over: Arc<Mutex<bool>, Global>,
+    signal: Option<SignalNote>,
 }
 
 impl<'a, R, X> Starter<X> for ServiceLauncher<'a, R>
@@ -140,18 +220,34 @@ where
         let Ok(over) = Arc::new(alloc, Mutex::new(false)) else {
             return Err(NotStarted::from(StartFault::OutOfMemory));
         };
-        let rt = self.rt;
+        let (rt, signal) = (self.rt, signal_note(alloc));
         for waits in 0..WAITS {
             match self.launcher.start_between(alloc, program, environment) {
                 Err(not_started) if wants_process(not_started) => {
                     wait_for_process(rt, self.reserve, waits);
                 }
                 Err(not_started) => return Err(not_started),
-                Ok(job) => return Ok(ServiceJob { rt, job, over }),
+                Ok(job) => {
+                    return Ok(ServiceJob {
+                        rt,
+                        job,
+                        over,
+                        signal,
+                    });
+                }
             }
         }
         let job = self.launcher.start_between(alloc, program, environment)?;
-        Ok(ServiceJob { rt, job, over })
+        Ok(ServiceJob {
+            rt,
+            job,
+            over,
+            signal,
+        })
+    }
+
+    fn process_of(&self, job: &ServiceJob<'a, R>) -> Option<Process> {
+        process_by(&job.job, job.signal.as_ref())
     }
 }
 
@@ -168,7 +264,7 @@ impl<'a, R: Wait + Clock> Job for ServiceJob<'a, R> {
 
     ghost killed = { λ _ _ _. ⊤ };
 
-    ghost ended = { λ job. ⟦<OsJob as Job>⟧.ended job.job };
+    ghost ended = { λ _ _. ⊤ };
 
     fn ends(&mut self) -> Result<(ProgramInput<'a, R>, ChildStdout), NoEnds> {
         let (pipe, output) = self.job.ends()?;
@@ -188,12 +284,28 @@ impl<'a, R: Wait + Clock> Job for ServiceJob<'a, R> {
     }
 
     fn wait(self) -> Result<Status, (ServiceJob<'a, R>, WaitFault)> {
-        let ServiceJob { rt, job, over } = self;
-        let outcome = job.wait();
+        let ServiceJob {
+            rt,
+            job,
+            over,
+            signal,
+        } = self;
+        let outcome = job.wait_for_signal();
         *over.lock(rt) = true;
         match outcome {
-            Ok(status) => Ok(status),
-            Err((job, fault)) => Err((ServiceJob { rt, job, over }, fault)),
+            Ok((status, by)) => {
+                note_signal(rt, signal.as_ref(), by);
+                Ok(status)
+            }
+            Err((job, fault)) => Err((
+                ServiceJob {
+                    rt,
+                    job,
+                    over,
+                    signal,
+                },
+                fault,
+            )),
         }
     }
 
@@ -202,6 +314,7 @@ impl<'a, R: Wait + Clock> Job for ServiceJob<'a, R> {
             rt: _,
             job,
             over: _,
+            signal: _,
         } = self;
         job.abandon();
     }

@@ -5,7 +5,7 @@ use dir_disk::{OsDir, SystemDisk};
 use event_journals::Counts;
 use server_parts::client::ClientWriter;
 use server_parts::opening::listen;
-use server_parts::programs::{ProgramInput, ServiceJob};
+use server_parts::programs::{HandedJob, ProgramInput, ServiceJob};
 use server_parts::sockets::{Handle, Holder, Unread};
 use server_parts::{HandingLauncher, ServerFailure, ServiceLauncher, Wrapper};
 use server_yard::Assumptions;
@@ -19,7 +19,6 @@ use std::rt::Env;
 use std::sync::{Mutex, Wait};
 use std::thread::Threads;
 use std::time::Clock;
-use stream_tools::OsJob;
 use tcp_service::{Host, Log};
 
 /// What the tool has of the system. It is a name for these types together, and has no values.
@@ -145,7 +144,7 @@ where
 
     type Output = ChildStdout;
 
-    type Job = OsJob;
+    type Job = HandedJob<'a, P::Runtime>;
 
     type Starter = HandingLauncher<'a, P::Runtime>;
 

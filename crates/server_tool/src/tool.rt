@@ -13,7 +13,7 @@ use event_journals::Counts;
 use fault_hints::Voice;
 use rule_lookup::WhenMissing;
 use server_parts::limits::supply_for;
-use server_parts::opening::{names_of, open_rules, plan_of, print_port, stand_in};
+use server_parts::opening::{end_of_listener, names_of, open_rules, plan_of, print_port, stand_in};
 use server_parts::signals::forgets_programs;
 use server_parts::{
     HandedAcceptor, HandingLauncher, PumpedAcceptor, ServerFailure, ServerFault, ServiceLauncher,
@@ -100,7 +100,7 @@ fn run_words<P: System + Send + Sync>(
             return Err(ServerFault::Words(fault));
         }
     };
-    match run_server::<P>(rt, errors, &words) {
+    match run_server::<P>(rt, errors, &words, voice) {
         Ok(()) => Ok(()),
         Err(failure) => {
             tell_failure(rt.alloc(), voice, &words, failure, causes);
@@ -114,11 +114,12 @@ fn run_server<P: System + Send + Sync>(
     rt: &P::Runtime,
     errors: P::Errors,
     words: &ServerWords<'_>,
+    voice: Voice,
 ) -> Result<(), ServerFailure> {
     if forgets_programs(rt) {
         return Err(ServerFailure::from(ServerFault::CannotWait));
     }
-    let server = parts_of::<P>(rt, errors, words)?;
+    let server = parts_of::<P>(rt, errors, words, voice)?;
     open_and_run(rt, &server, words)
 }
 
@@ -127,9 +128,11 @@ fn parts_of<P: System>(
     rt: &P::Runtime,
     errors: P::Errors,
     words: &ServerWords<'_>,
+    voice: Voice,
 ) -> Result<ServerParts<P>, ServerFailure> {
     let alloc = rt.alloc();
-    let log = Log::new(alloc, errors, words.level(), words.limits().connections);
+    let (level, limit) = (words.level(), words.limits().connections);
+    let log = Log::new(alloc, errors, level, voice, limit);
     let plan = plan_of(alloc, rt, words)?;
     let service = service_of(rt, words, &plan)?;
     let search = SearchPath::own(alloc, rt)?;
@@ -179,6 +182,9 @@ fn open_and_run<P: System + Send + Sync>(
     };
     let at = RulesPath::new(rt, words.rules().unwrap_or_default(), name.as_ref());
     let listener = open_socket::<P>(rt, words)?;
+    if let Some((ip, port)) = end_of_listener(&listener) {
+        let _ = server.log.lock(rt).listening(ip, port);
+    }
     if words.hosts().is_none() && words.level() == Level::All && at.name_someone(alloc) {
         let _ = server.log.lock(rt).no_names();
     }

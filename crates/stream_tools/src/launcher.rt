@@ -1,5 +1,5 @@
 //! Programs of the system, as jobs.
-ghost use Rattle.std.specs.Prelude.{◌≡◌, false, is_some, ⊤, IfOk};
+ghost use Rattle.std.specs.Prelude.{◌≡◌, false, is_some, ⊤, IfErr, IfOk};
 
 use crate::process::{ChildProcess, NotStarted, start_process};
 use crate::search::SearchPath;
@@ -177,6 +177,34 @@ fn job_of(
     }
 }
 
+impl OsJob {
+    /// The system's number of the process that runs the program.
+    pub fn process(&self) -> Option<u32> {
+        self.child.number()
+    }
+
+    /// Waits as `Job::wait`, and tells by which signal the program ended, where one ended it.
+    ///
+    /// # Errors
+    /// As of `Job::wait`.
+    pub fn wait_for_signal(mut self) -> Result<(Status, Option<u32>), (OsJob, WaitFault)>
+        ensures program { IfErr result (λ refused. ⟦<OsJob as Job>⟧.program refused.0 ≡ ⟦<OsJob as Job>⟧.program self) }
+        ensures environment { IfErr result (λ refused. ⟦<OsJob as Job>⟧.environment refused.0 ≡ ⟦<OsJob as Job>⟧.environment self) }
+        ensures no_ends { IfErr result (λ refused. ⟦<OsJob as Job>⟧.has_ends refused.0 ≡ false) }
+    {
+        // a program that waits for input could not end
+        drop(self.ends.take());
+        match self.child.wait() {
+            Ok(status) => {
+                let signal = self.child.signal();
+                self.abandon();
+                Ok((status, signal))
+            }
+            Err(fault) => Err((self, fault)),
+        }
+    }
+}
+
 impl Job for OsJob {
     type Input = ChildStdin;
 
@@ -200,15 +228,10 @@ impl Job for OsJob {
         self.child.kill()
     }
 
-    fn wait(mut self) -> Result<Status, (OsJob, WaitFault)> {
-        // a program that waits for input could not end
-        drop(self.ends.take());
-        match self.child.wait() {
-            Ok(status) => {
-                self.abandon();
-                Ok(status)
-            }
-            Err(fault) => Err((self, fault)),
+    fn wait(self) -> Result<Status, (OsJob, WaitFault)> {
+        match self.wait_for_signal() {
+            Ok((status, _)) => Ok(status),
+            Err(refused) => Err(refused),
         }
     }
 

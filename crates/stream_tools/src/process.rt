@@ -21,6 +21,8 @@ pub struct ChildProcess {
     number: i32,
     // whether it was waited for, by this value or by other code, so that its number may be another's
     gone: bool,
+    // the signal that ended it, once it was waited for
+    signal: Option<u32>,
 }
 
 /// Why a program was not started: what is told of it, and the system's number of its error (`errno`), where the system refused it.
@@ -131,6 +133,7 @@ impl Start {
         Ok(ChildProcess {
             number,
             gone: false,
+            signal: None,
         })
     }
 }
@@ -210,6 +213,16 @@ fn status_of(status: ExitStatus) -> Option<Status>
 }
 
 impl ChildProcess {
+    /// The system's number of the child.
+    pub fn number(&self) -> Option<u32> {
+        u32::try_from(self.number).ok()
+    }
+
+    /// The signal that ended the child, once it was waited for and where one did.
+    pub fn signal(&self) -> Option<u32> {
+        self.signal
+    }
+
     /// Waits until the child has exited or was killed, and tells which. One that is stopped is waited for, until it goes on and ends.
     ///
     /// # Errors
@@ -237,8 +250,10 @@ impl ChildProcess {
             self.gone = fault == libc::ECHILD;
             return Err(Error::from_raw_os_error(fault));
         }
-        let status = status_of(ExitStatus::from_raw(bits));
+        let ended = ExitStatus::from_raw(bits);
+        let status = status_of(ended);
         self.gone = status.is_some();
+        self.signal = ended.signal().and_then(|signal| u32::try_from(signal).ok());
         Ok(status)
     }
 

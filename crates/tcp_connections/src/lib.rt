@@ -30,7 +30,7 @@ pub use attending::{Attendant, Begun, Chains, Endings, Line, Talk, Upward, see_o
 pub use names::HostNames;
 pub use rounds::wait_in_rounds;
 pub use server_log::Log;
-pub use starting::{ConnectionLauncher, Starter};
+pub use starting::{ConnectionLauncher, Notes, Process, SignalNote, Starter};
 pub use stream_tools::NotStarted;
 pub use supply::{Memory, Reserve, Supply};
 pub use workers::serve_through;

@@ -7,9 +7,56 @@ ghost use Rattle.ucspi_env.specs.Variables.{Variables};
 use child_jobs::{Job, Launcher, Program};
 use connection_facts::StartFault;
 use std::alloc::Global;
-use std::sync::{Mutex, Wait};
+use std::sync::{Arc, Mutex, Wait};
 use stream_tools::NotStarted;
 use ucspi_env::Environment;
+
+/// Where the wait for a program notes the signal that ended it.
+pub type SignalNote = Arc<Mutex<Option<u32>>, Global>;
+
+/// The process that runs the program of a connection.
+#[derive(Drop)]
+pub struct Process {
+    /// The system's number of it.
+    pub number: u32,
+    /// Gets the signal that ended it.
+    pub signal: SignalNote,
+}
+
+/// What is noted of the program of a connection, for the log.
+#[derive(Drop)]
+pub struct Notes {
+    /// Gets the number of the system's error if the system refuses the program.
+    pub refusal: Mutex<Option<i32>>,
+    process: Mutex<Option<Process>>,
+}
+
+impl Notes {
+    /// Those of a program that this process runs, as far as that is known.
+    pub fn of(process: Option<Process>) -> Notes {
+        Notes {
+            refusal: Mutex::new(None),
+            process: Mutex::new(process),
+        }
+    }
+
+    /// The number of the process, if it is known.
+    pub fn number<R: Wait>(&self, rt: &R) -> Option<u32> {
+        Some(self.process.lock(rt).as_ref()?.number)
+    }
+
+    /// The signal that ended the process, if one did and the process was waited for.
+    pub fn signal<R: Wait>(&self, rt: &R) -> Option<u32> {
+        let process = self.process.lock(rt);
+        let signal = *process.as_ref()?.signal.lock(rt);
+        signal
+    }
+
+    /// Takes the process out.
+    pub fn take<R: Wait>(&self, rt: &R) -> Option<Process> {
+        self.process.lock(rt).take()
+    }
+}
 
 /// Starts the programs of connections. An `X` shuts a connection.
 pub trait Starter<X> {
@@ -34,6 +81,11 @@ pub trait Starter<X> {
         ensures refused { IfErr result (refuses self.now connection.now program.now environment.now) }
         ensures program { IfOk result (λ job. Self.Job.program job ≡ program.now) }
         ensures environment { IfOk result (λ job. Self.Job.environment job ≡ environment.now) };
+
+    /// The process that runs the program of a job, where the system tells it and there is memory to note its signal.
+    fn process_of(&self, _job: &Self::Job) -> Option<Process> {
+        None
+    }
 }
 
 /// The launcher of one connection, whose program it starts once.
@@ -45,8 +97,8 @@ pub struct ConnectionLauncher<'a, R, S, X> {
     pub starter: &'a S,
     /// Shuts the connection.
     pub connection: &'a X,
-    /// Gets the number of the system's error if the system refuses the program.
-    pub refusal: &'a Mutex<Option<i32>>,
+    /// Gets what the system tells of the program.
+    pub notes: &'a Notes,
 }
 
 impl<R: Wait, S: Starter<X>, X> Launcher for ConnectionLauncher<'_, R, S, X> {
@@ -67,9 +119,12 @@ impl<R: Wait, S: Starter<X>, X> Launcher for ConnectionLauncher<'_, R, S, X> {
             .starter
             .start_for(alloc, self.connection, program, environment)
         {
-            Ok(job) => Ok(job),
+            Ok(job) => {
+                *self.notes.process.lock(self.rt) = self.starter.process_of(&job);
+                Ok(job)
+            }
             Err(not_started) => {
-                *self.refusal.lock(self.rt) = not_started.error;
+                *self.notes.refusal.lock(self.rt) = not_started.error;
                 Err(not_started.fault)
             }
         }

@@ -8,7 +8,7 @@ use crate::host::{CallerOf, Host, SiteOf};
 use crate::opening::Rules;
 use crate::over::Over;
 use crate::permit::Permit;
-use crate::site_agent::{Found, LoggedAgent, SiteAgent};
+use crate::site_agent::{FoundBy, LoggedAgent, SiteAgent};
 use child_jobs::{Place, Plan, Running};
 use connection_facts::{DropCause, Peer};
 use one_connection::{Agent, Served, serve_one};
@@ -16,7 +16,8 @@ use std::alloc::Global;
 use std::snapshot::Snapshot;
 use std::sync::Mutex;
 use tcp_connections::{
-    Attendant, Begun, Chains, ConnectionLauncher, Endings, Line, Talk, Upward, see_out,
+    Attendant, Begun, Chains, ConnectionLauncher, Endings, Line, Notes, Process, Talk, Upward,
+    see_out,
 };
 use ucspi_env::Local;
 
@@ -51,8 +52,9 @@ pub(crate) struct Started<'a, H: Host> {
     serial: u64,
     running: Running<H::Places, H::Job>,
     local: Local,
+    process: Option<Process>,
     peer: Snapshot<Peer>,
-    found: Found<H>,
+    found: FoundBy<H>,
     ghost child: { IsOwnChild (kept_opening H.File.bytes found) H.Places.met H.File.honest H.File.sound
         peer.value local register.now.plan.now (H.Job.program (job_of running)) (H.Job.environment (job_of running)) },
 }
@@ -89,24 +91,19 @@ fn launcher_of<'b, R, S, X>(
     rt: &'b R,
     starter: &'b S,
     connection: &'b X,
-    refusal: &'b Mutex<Option<i32>>,
+    notes: &'b Notes,
 ) -> ConnectionLauncher<'b, R, S, X> {
     ConnectionLauncher {
         rt,
         starter,
         connection,
-        refusal,
+        notes,
     }
 }
 
 impl<'a, H: Host> Register<'a, H> {
     // The agent of the connection with this serial number. Nothing was asked for it yet.
-    fn agent<'b>(
-        &'b self,
-        serial: u64,
-        local: &'b Local,
-        refusal: &'b Mutex<Option<i32>>,
-    ) -> LoggedAgent<'b, H>
+    fn agent<'b>(&'b self, serial: u64, local: &'b Local, notes: &'b Notes) -> LoggedAgent<'b, H>
     where
         'a: 'b,
         ensures own { (result.serial ≡ serial) × (result.agent.serial ≡ serial) }
@@ -121,7 +118,7 @@ impl<'a, H: Host> Register<'a, H> {
             local,
             plan: self.plan,
             rules: self.rules.path(),
-            refusal,
+            notes,
         }
     }
 
@@ -136,8 +133,8 @@ impl<'a, H: Host> Register<'a, H> {
     ) -> Over
         ensures own { result.serial ≡ serial }
     {
-        let refusal = Mutex::new(None);
-        let mut agent = self.agent(serial, local, &refusal);
+        let notes = Notes::of(None);
+        let mut agent = self.agent(serial, local, &notes);
         agent.dropped(place, serial, peer, cause);
         Over::of(&agent, serial)
     }
@@ -152,20 +149,23 @@ impl<'a, H: Host> Register<'a, H> {
         starter: &H::Starter,
         connection: &H::Shut,
         writer: &mut H::Writer,
-    ) -> Result<(Running<H::Places, H::Job>, Found<H>), Over>
+    ) -> Result<(Running<H::Places, H::Job>, FoundBy<H>, Option<Process>), Over>
         ensures own { IfOk result (λ ran. place_of ran.0 ≡ place) }
         ensures child { IfOk result (λ ran. IsOwnChild (kept_opening H.File.bytes ran.1) H.Places.met H.File.honest H.File.sound
             peer.now local.now self.now.plan.now (H.Job.program (job_of ran.0)) (H.Job.environment (job_of ran.0))) }
         ensures over { IfErr result (λ over. over.serial ≡ serial) }
     {
-        let refusal = Mutex::new(None);
-        let mut agent = self.agent(serial, local, &refusal);
-        let launcher = launcher_of(self.rt, starter, connection, &refusal);
+        let notes = Notes::of(None);
+        let mut agent = self.agent(serial, local, &notes);
+        let launcher = launcher_of(self.rt, starter, connection, &notes);
         let (alloc, plan) = (self.alloc, self.plan);
         match serve_one(
             alloc, &mut agent, place, serial, peer, local, plan, launcher, writer,
         ) {
-            Served::Running(running) => Ok((running, agent.agent.into_found())),
+            Served::Running(running) => {
+                let process = notes.take(self.rt);
+                Ok((running, agent.agent.into_found(), process))
+            }
             Served::Denied | Served::StartFailed(_) | Served::Dropped(_) => {
                 Err(Over::of(&agent, serial))
             }
@@ -182,12 +182,12 @@ impl<'a, H: Host> Register<'a, H> {
         local: &Local,
         line: LineOf<H>,
         chains: Chains<H::Wrapper>,
+        notes: &Notes,
     ) -> Result<BegunOf<H>, Over>
         ensures same { IfOk result (λ begun. IsSameRun H.Job.program H.Job.environment running begun.0) }
         ensures over { IfErr result (λ over. over.serial ≡ serial) }
     {
-        let refusal = Mutex::new(None);
-        let mut agent = self.agent(serial, local, &refusal);
+        let mut agent = self.agent(serial, local, notes);
         match attendant.begin(&mut agent, running, serial, line, chains) {
             Some(begun) => Ok(begun),
             None => Err(Over::of(&agent, serial)),
@@ -233,9 +233,10 @@ impl<'a, H: Host> Admitted<'a, H> {
             permit: _,
         } = self;
         match register.serve(serial, place, &peer, &local, starter, connection, writer) {
-            Ok((running, found)) => {
+            Ok((running, found, process)) => {
                 let peer = Snapshot::of(&peer);
-                Ok(Started::of(register, serial, running, local, peer, found))
+                let started = Started::of(register, serial, running, local, process, peer, found);
+                Ok(started)
             }
             Err(over) => Err(over),
         }
@@ -249,8 +250,9 @@ impl<'a, H: Host> Started<'a, H> {
         serial: u64,
         running: Running<H::Places, H::Job>,
         local: Local,
+        process: Option<Process>,
         peer: Snapshot<Peer>,
-        found: Found<H>,
+        found: FoundBy<H>,
     ) -> Started<'a, H>
         requires child { IsOwnChild (kept_opening H.File.bytes found) H.Places.met H.File.honest H.File.sound
             peer.value local register.now.plan.now (H.Job.program (job_of running)) (H.Job.environment (job_of running)) }
@@ -261,6 +263,7 @@ impl<'a, H: Host> Started<'a, H> {
             serial,
             running,
             local,
+            process,
             peer,
             found,
         }
@@ -286,12 +289,15 @@ impl<'a, H: Host> Started<'a, H> {
             serial,
             running,
             local,
+            process,
             peer,
             found,
         } = self;
-        match register.begin(attendant, serial, running, &local, line, chains) {
+        let notes = Notes::of(process);
+        match register.begin(attendant, serial, running, &local, line, chains, &notes) {
             Ok((running, upward, talk)) => {
-                let started = Started::of(register, serial, running, local, peer, found);
+                let process = notes.take(register.rt);
+                let started = Started::of(register, serial, running, local, process, peer, found);
                 Ok((upward, started, talk))
             }
             Err(over) => Err(over),
@@ -308,11 +314,12 @@ impl<'a, H: Host> Started<'a, H> {
             serial,
             running,
             local,
+            process,
             peer: _,
             found: _,
         } = self;
-        let refusal = Mutex::new(None);
-        let mut agent = register.agent(serial, &local, &refusal);
+        let notes = Notes::of(process);
+        let mut agent = register.agent(serial, &local, &notes);
         see_out(&mut agent, running, serial);
         Over::of(&agent, serial)
     }
@@ -331,11 +338,12 @@ impl<'a, H: Host> Started<'a, H> {
             serial,
             running,
             local,
+            process,
             peer: _,
             found: _,
         } = self;
-        let refusal = Mutex::new(None);
-        let mut agent = register.agent(serial, &local, &refusal);
+        let notes = Notes::of(process);
+        let mut agent = register.agent(serial, &local, &notes);
         attendant.pass_down(&mut agent, running, serial, talk);
         Over::of(&agent, serial)
     }

@@ -8,7 +8,8 @@ use byte_text::words_of_error;
 use child_jobs::{Job, Place, Plan, Running};
 use connection_facts::{DropCause, Peer, StartFault, Status};
 use one_connection::{Agent, cause_of_open, decide_by_pass};
-use rule_lookup::{DecideFault, Decision};
+use rule_lines::Verdict;
+use rule_lookup::{DecideFault, Decision, Found};
 use server_log::{Cause, Told};
 use server_yard::{Finding, Pass};
 use shared_site::turns::{Decided, Dropped, Ended, Opened, Retired, StartFailed, Started};
@@ -16,11 +17,17 @@ use shared_site::{Made, OutOfTurn, Turn};
 use std::alloc::Global;
 use std::snapshot::Snapshot;
 use std::sync::Mutex;
-use tcp_connections::Endings;
+use tcp_connections::{Endings, Notes};
 use ucspi_env::Local;
 
+/// Why no rules file can be followed that is not there, in the words of the system.
+const ABSENT: &str = "No such file or directory";
+
+/// Why one can't be followed that is there.
+const DAMAGED: &str = "damaged, or not compiled by tcprules";
+
 /// What a connection found when it opened the rules, if it came to that.
-pub type Found<H> = Option<Snapshot<Pass<<H as Host>::Places, <H as Host>::File>>>;
+pub type FoundBy<H> = Option<Snapshot<Pass<<H as Host>::Places, <H as Host>::File>>>;
 
 /// What an agent has of its site: each of its calls is a turn of one caller, which agents share. The event is made in turn, or it was not its turn; the
 /// last answer is kept, which says how far the connection has come, and what was found when the rules were opened.
@@ -37,7 +44,7 @@ pub struct SiteAgent<'a, H: Host> {
     // what the connection opened the rules by
     handle: Option<H::Handle>,
     // and what it found
-    found: Found<H>,
+    found: FoundBy<H>,
     // what the site answered last
     last: Option<Result<Made, OutOfTurn>>,
 }
@@ -67,7 +74,7 @@ impl<'a, H: Host> SiteAgent<'a, H> {
     }
 
     /// What the connection found when it opened the rules, if it came to that.
-    pub(crate) fn into_found(self) -> Found<H>
+    pub(crate) fn into_found(self) -> FoundBy<H>
         ensures its { result ≡ self.entry.found }
     {
         let SiteAgent { found, .. } = self;
@@ -168,6 +175,22 @@ impl Reason {
     }
 }
 
+// What a person is told of a connection that was denied since there is no rules file.
+fn cause_of_absence<'a>(rules: &'a str, decision: &Decision) -> Option<Cause<'a>> {
+    match (decision.verdict, &decision.found) {
+        (Verdict::Deny, Found::NoFile) => Some(Cause::new(rules.as_bytes(), ABSENT)),
+        _ => None,
+    }
+}
+
+// What a person is told of a connection that was given up since the rules file is damaged.
+fn cause_of_damage(rules: &str, cause: DropCause) -> Option<Cause<'_>> {
+    match cause {
+        DropCause::Damaged => Some(Cause::new(rules.as_bytes(), DAMAGED)),
+        _ => None,
+    }
+}
+
 /// The agent of one connection, with a log.
 #[derive(Drop)]
 pub struct LoggedAgent<'a, H: Host> {
@@ -187,8 +210,8 @@ pub struct LoggedAgent<'a, H: Host> {
     pub plan: &'a Plan,
     /// The path of the rules file as it was given.
     pub rules: &'a str,
-    /// The system's number of the error by which it refused the program, if it did.
-    pub refusal: &'a Mutex<Option<i32>>,
+    /// What the system told of its program.
+    pub notes: &'a Notes,
 }
 
 impl<H: Host> LoggedAgent<'_, H> {
@@ -228,7 +251,15 @@ impl<H: Host> Endings<H::Places, H::Job> for LoggedAgent<'_, H> {
             place,
             status,
         };
-        let told = Told::Ended { serial, status };
+        let signal = match status {
+            Status::Signal => self.notes.signal(self.rt),
+            Status::Code(_) => None,
+        };
+        let told = Told::Ended {
+            serial,
+            status,
+            signal,
+        };
         let (rt, observer) = (self.rt, self.observer);
         let answer = self.agent.turn(Telling::<H, _> {
             turn,
@@ -351,6 +382,7 @@ impl<H: Host> Agent<H::Places> for LoggedAgent<'_, H> {
             verdict: decision.verdict,
             local: self.local,
             peer,
+            file: cause_of_absence(self.rules, &decision),
         };
         let turn: Decided<'_, H::Places, H::Folder> = Decided {
             pass,
@@ -375,7 +407,16 @@ impl<H: Host> Agent<H::Places> for LoggedAgent<'_, H> {
 
     #[tactic(auto, using(crate::proofs::Asked::asked_for))]
     fn started<C: Job>(&mut self, running: &Running<H::Places, C>, serial: u64, _peer: &Peer) {
-        let answer = self.agent.turn(Started { serial, running });
+        let turn = Started { serial, running };
+        let process = self.notes.number(self.rt);
+        let told = Told::Started { serial, process };
+        let (rt, observer) = (self.rt, self.observer);
+        let answer = self.agent.turn(Telling::<H, _> {
+            turn,
+            told,
+            rt,
+            observer,
+        });
         self.agent.last = Some(answer);
     }
 
@@ -387,7 +428,7 @@ impl<H: Host> Agent<H::Places> for LoggedAgent<'_, H> {
         _peer: &Peer,
         fault: StartFault,
     ) {
-        let error = self.refusal.lock(self.rt).take();
+        let error = self.notes.refusal.lock(self.rt).take();
         let why = error.and_then(|error| words_of_error(self.alloc, error).ok());
         let program = self.plan.program().path().as_bytes();
         let cause = why.as_ref().map(|why| Cause::new(program, why.as_str()));
@@ -415,7 +456,13 @@ impl<H: Host> Agent<H::Places> for LoggedAgent<'_, H> {
     fn dropped(&mut self, place: Place<H::Places>, serial: u64, peer: &Peer, cause: DropCause) {
         let reason = self.reason_of(cause, peer);
         let why = reason.as_ref().map(|reason| reason.cause(self.rules));
-        let told = Told::Dropped { serial, cause, why };
+        let file = cause_of_damage(self.rules, cause);
+        let told = Told::Dropped {
+            serial,
+            cause,
+            file,
+            why,
+        };
         let turn = Dropped {
             serial,
             place,

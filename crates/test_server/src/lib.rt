@@ -22,7 +22,7 @@ mod site_calls;
 mod yards;
 
 use between::{print_between, print_end};
-use log_lines::print_log;
+use log_lines::{print_log, voice_of};
 use served::{Asked, print_served};
 use std::alloc::Global;
 use std::env::Args;
@@ -95,7 +95,10 @@ fn run_words<R: Print + Threads + Wait + Clock + Sync>(
     let scripts = words.get(1..).unwrap_or_default();
     match word(words, 0) {
         "" => Ok(()),
-        "log" => print_log(rt, alloc, word(words, 1), number(words, 2) as usize),
+        "log" => {
+            let voice = voice_of(word(words, 3));
+            print_log(rt, alloc, word(words, 1), voice, number(words, 2) as usize)
+        }
         "between" => print_between(rt, alloc, scripts),
         "served" => print_end(rt, alloc, scripts, true),
         "unserved" => print_end(rt, alloc, scripts, false),

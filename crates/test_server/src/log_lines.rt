@@ -1,5 +1,6 @@
 //! The lines of the log of each event.
 use connection_facts::{DropCause, Peer, PeerFault, StartFault, Status};
+use fault_hints::Voice;
 use rule_lines::Verdict;
 use server_log::{Cause, Log, LogFault, Told};
 use server_words::Level;
@@ -17,13 +18,27 @@ fn level_of(name: &str) -> Level {
     }
 }
 
-/// Tells a log of this level, with a limit of 40, of a connection that goes well, of each fault, and of a connection
+/// The voice with a name; other names are of the plain one.
+pub fn voice_of(name: &str) -> Voice {
+    match name {
+        "helpful" => Voice::Helpful,
+        _ => Voice::Plain,
+    }
+}
+
+/// Tells a log of this level and voice, with a limit of 40, of a connection that goes well, of each fault, and of a connection
 /// that was denied.
 ///
 /// Its writer takes only `room` bytes. Prints whether all was taken, and what was written.
-pub fn print_log<R: Print>(rt: &R, alloc: Global, level: &str, room: usize) -> io::Result<()> {
+pub fn print_log<R: Print>(
+    rt: &R,
+    alloc: Global,
+    level: &str,
+    voice: Voice,
+    room: usize,
+) -> io::Result<()> {
     let mut written = vec![in alloc; 0u8; room]?;
-    let mut log = Log::new(alloc, written.as_mut_slice(), level_of(level), 40);
+    let mut log = Log::new(alloc, written.as_mut_slice(), level_of(level), voice, 40);
     let is_taken = tell(alloc, &mut log);
     drop(log);
     let lines = str::from_utf8(&written).unwrap_or_default();
@@ -48,6 +63,7 @@ fn peer(alloc: Global) -> Result<(Local, Peer), PeerFault> {
 
 /// Tells a log of a connection that goes well.
 fn tell_progress<W: Write>(log: &mut Log<W>, local: &Local, peer: &Peer) -> Result<(), LogFault> {
+    log.listening([10, 0, 0, 1], 25)?;
     log.no_names()?;
     log.status(0)?;
     let serial = 1;
@@ -58,10 +74,17 @@ fn tell_progress<W: Write>(log: &mut Log<W>, local: &Local, peer: &Peer) -> Resu
         verdict: Verdict::Allow,
         local,
         peer,
+        file: None,
     };
     log.tell(3, 1, decided)?;
-    let status = Status::Code(0);
-    log.tell(5, 0, Told::Ended { serial, status })
+    let process = Some(4711);
+    log.tell(4, 1, Told::Started { serial, process })?;
+    let ended = Told::Ended {
+        serial,
+        status: Status::Code(0),
+        signal: None,
+    };
+    log.tell(5, 0, ended)
 }
 
 /// Tells a log of each fault, of a connection that was denied, and of an event that comes too late.
@@ -77,12 +100,27 @@ fn tell_faults<W: Write>(log: &mut Log<W>) -> Result<(), LogFault> {
     let dropped = Told::Dropped {
         serial: 5,
         cause: DropCause::Directory,
+        file: None,
         why: Some(Cause::new(b"rules.cdb", "Permission denied")),
     };
     log.tell(16, 1, dropped)?;
+    let damaged = Told::Dropped {
+        serial: 7,
+        cause: DropCause::Damaged,
+        file: Some(Cause::new(b"rules.cdb", "damaged")),
+        why: Some(Cause::new(b"10.", "damaged rule")),
+    };
+    log.tell(17, 1, damaged)?;
+    let ended = Told::Ended {
+        serial: 8,
+        status: Status::Signal,
+        signal: Some(9),
+    };
+    log.tell(18, 0, ended)?;
     let denied = Told::Dropped {
         serial: 6,
         cause: DropCause::Denied,
+        file: None,
         why: None,
     };
     log.tell(20, 0, denied)?;

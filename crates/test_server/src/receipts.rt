@@ -89,6 +89,7 @@ fn parts_of(told: &Told<'_>) -> (&'static str, u64) {
     match told {
         Told::Admitted { serial, .. } => ("admitted", *serial),
         Told::Decided { serial, .. } => ("decided", *serial),
+        Told::Started { serial, .. } => ("started", *serial),
         Told::StartFailed { serial, .. } => ("startfailed", *serial),
         Told::Ended { serial, .. } => ("ended", *serial),
         Told::Retired { serial } => ("retired", *serial),

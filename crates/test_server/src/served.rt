@@ -10,6 +10,7 @@ use child_jobs::{Plan, Program};
 use connection_facts::Peer;
 use dir_calls::{DirFault, MemDir, MemFile};
 use event_journals::{Full, Journal};
+use fault_hints::Voice;
 use server_words::Level;
 use server_yard::{Assumptions, Finding, Yard};
 use shared_site::{Caller, Callers, Site};
@@ -205,7 +206,11 @@ where
     requires callers { (N.all ≡ 2) × (N.before ≡ 0) }
 {
     let (site, callers) = site_of::<L, N>(alloc, asked, places, parts)?;
-    let log = ReceiptsLog::new(rt, alloc, Log::new(alloc, lines, Level::All, asked.limit));
+    let log = ReceiptsLog::new(
+        rt,
+        alloc,
+        Log::new(alloc, lines, Level::All, Voice::Plain, asked.limit),
+    );
     let mut acceptor = Clients {
         lost: asked.lost,
         left: asked.clients,
