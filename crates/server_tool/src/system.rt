@@ -108,12 +108,8 @@ pub(crate) struct HandsOver<'a, P: System, L, N> {
     callers: PhantomData<N>,
 }
 
-impl<'a, P, L, N> Host for HandsOver<'a, P, L, N>
-where
-    P: System,
-    L: Assumptions + Send + Sync,
-    N: Callers + Send + Sync,
-{
+impl<'a, P: System, L: Assumptions + Send + Sync, N: Callers + Send + Sync> Host
+    for HandsOver<'a, P, L, N> {
     type Runtime = P::Runtime;
 
     type Places = L;
@@ -160,12 +156,8 @@ pub(crate) struct Pumps<'a, P: System, L, N> {
     callers: PhantomData<N>,
 }
 
-impl<'a, P, L, N> Host for Pumps<'a, P, L, N>
-where
-    P: System,
-    L: Assumptions + Send + Sync,
-    N: Callers + Send + Sync,
-{
+impl<'a, P: System, L: Assumptions + Send + Sync, N: Callers + Send + Sync> Host
+    for Pumps<'a, P, L, N> {
     type Runtime = P::Runtime;
 
     type Places = L;

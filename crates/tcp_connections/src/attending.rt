@@ -21,7 +21,7 @@ const MOST_READS: u64 = 1 << 40;
 
 /// The streams of a connection.
 #[derive(Drop)]
-pub struct Line<I, O, X> {
+pub struct ClientStreams<I, O, X> {
     /// The client's port.
     pub port: u16,
     /// What the client sends.
@@ -84,7 +84,7 @@ pub struct Talk<F, O, X, G> {
 }
 
 /// A child that runs, with the streams from the client and to it.
-pub type Begun<L, C, I, O, X, G> = (
+pub type Piped<L, C, I, O, X, G> = (
     Running<L, C>,
     Upward<I, <C as Job>::Input, G>,
     Talk<<C as Job>::Output, O, X, G>,
@@ -113,9 +113,9 @@ impl<R: Wait, W: Write> Attendant<'_, R, W> {
         endings: &mut E,
         mut running: Running<L, C>,
         serial: u64,
-        line: Line<I, O, X>,
+        streams: ClientStreams<I, O, X>,
         chains: Chains<G>,
-    ) -> Option<Begun<L, C, I, O, X, G>>
+    ) -> Option<Piped<L, C, I, O, X, G>>
     where
         G: Drop,
         L: Ledger,
@@ -130,12 +130,12 @@ impl<R: Wait, W: Write> Attendant<'_, R, W> {
         ensures untold { IfSome result (λ _. endings.new ≡ endings.old) }
         ensures told { IfNone result (IsEndTold E.tells_end E.tells_retired serial endings.old endings.new) }
     {
-        let Line {
+        let ClientStreams {
             port,
             reader,
             mut writer,
             shut,
-        } = line;
+        } = streams;
         let Ok((to, from)) = running.ends() else {
             let _ = self.log.lock(self.rt).no_pipe_ends(serial);
             end_child(endings, running, serial, true, &shut);

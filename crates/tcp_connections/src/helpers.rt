@@ -1,10 +1,10 @@
 //! Threads that are kept for later work.
-use crate::handover::Handover;
+use crate::mailbox::Mailbox;
 use std::alloc::Global;
 use std::sync::{Arc, Mutex, Wait};
 
-/// A kept thread: the handover from which it takes one piece of work after another.
-pub(crate) type Helper<T> = Arc<Handover<T>, Global>;
+/// A kept thread: the mailbox from which it takes one piece of work after another.
+pub(crate) type Helper<T> = Arc<Mailbox<T>, Global>;
 
 /// The kept threads that are idle.
 #[derive(Drop)]

@@ -15,8 +15,8 @@ pub mod attending;
 mod crew;
 mod door;
 mod going_on;
-mod handover;
 mod helpers;
+mod mailbox;
 pub mod names;
 pub mod rounds;
 pub mod starting;
@@ -26,7 +26,7 @@ pub mod workers;
 
 pub use accepting::{AcceptFault, Accepted, Acceptor, Follow, Patience, Shut};
 pub use admission::{Admission, AdmitOutcome, ServeEnd, Serving};
-pub use attending::{Attendant, Begun, Chains, Endings, Line, Talk, Upward, see_out};
+pub use attending::{Attendant, Chains, ClientStreams, Endings, Piped, Talk, Upward, see_out};
 pub use names::HostNames;
 pub use rounds::wait_in_rounds;
 pub use server_log::Log;

@@ -1,7 +1,7 @@
 //! The threads of connections.
 ghost use Rattle.std.specs.Thread.{IsSync};
 
-use crate::handover::Handover;
+use crate::mailbox::Mailbox;
 use crate::supply::Reserve;
 use std::sync::Wait;
 use std::thread;
@@ -38,7 +38,7 @@ where
 /// Whether this many processes could be made now. The system counts threads with processes, so this many threads are
 /// made, and end at once.
 pub(crate) fn has_processes<R: Threads + Wait + Sync>(rt: &R, count: u64) -> bool {
-    let leave = Handover::new();
+    let leave = Mailbox::new();
     let leave = &leave;
     thread::scope(
         thread::scope_env(),
@@ -59,7 +59,7 @@ pub(crate) fn has_processes<R: Threads + Wait + Sync>(rt: &R, count: u64) -> boo
 }
 
 // Starts a thread that ends once `leave` is closed. Whether the system had one.
-fn start_idle<'a: 's, 's, E, R>(scope: &Scope<'s, E>, rt: &'a R, leave: &'a Handover<()>) -> bool
+fn start_idle<'a: 's, 's, E, R>(scope: &Scope<'s, E>, rt: &'a R, leave: &'a Mailbox<()>) -> bool
 where
     R: Wait + Sync + 's,
 {

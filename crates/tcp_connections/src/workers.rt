@@ -9,8 +9,8 @@ use crate::admission::{Admission, ServeEnd, Serving};
 use crate::crew::Crew;
 use crate::door::{Door, Pause};
 use crate::going_on::GoingOn;
-use crate::handover::Handover;
 use crate::helpers::{Helper, Helpers};
+use crate::mailbox::Mailbox;
 use crate::supply::{Means, Reserve, Supply};
 use crate::threads::{connection_thread, has_processes, start_reserve};
 use std::alloc::Global;
@@ -64,8 +64,8 @@ where
         server,
         door: Mutex::new(Door::new(admission, count)),
         crew: Crew::new(most),
-        arrived: Handover::new(),
-        wanted: Handover::new(),
+        arrived: Mailbox::new(),
+        wanted: Mailbox::new(),
         seconds: &seconds,
         keepers: Helpers::new(alloc),
         supply,
@@ -92,8 +92,8 @@ struct Workers<'a, R: Wait, V: Serving<Q::Work, Upward = U>, Q: Admission, U: Dr
     door: Mutex<Door<Q>>,
     crew: Crew,
     // whether the worker that was made is there, with its second thread if it needs one; and then, whether it stays
-    arrived: Handover<bool>,
-    wanted: Handover<bool>,
+    arrived: Mailbox<bool>,
+    wanted: Mailbox<bool>,
     // the idle second threads, and the idle keepers
     seconds: &'a Helpers<U>,
     keepers: Helpers<GoingOn<'a, R, V, Q::Work, U>>,
@@ -173,7 +173,7 @@ where
     }
 
     // Passes on what each client sends, one after another, until no more come.
-    fn pass_up_in_turn(&self, second: &Handover<U>) {
+    fn pass_up_in_turn(&self, second: &Mailbox<U>) {
         for _ in self.rt.forever() {
             let Some(sent) = second.take(self.rt) else {
                 return;
@@ -332,7 +332,7 @@ where
     // Starts a second thread, if the system has one.
     fn start_second<'s, E>(&'s self, scope: &'s Scope<'s, E>) -> Option<Helper<U>> {
         let workers = self;
-        let second = Arc::new(workers.alloc, Handover::new()).ok()?;
+        let second = Arc::new(workers.alloc, Mailbox::new()).ok()?;
         let his = Arc::try_clone(&second).ok()?;
         let started = connection_thread().spawn_scoped(
             scope,
@@ -434,7 +434,7 @@ where
         scope: &'s Scope<'s, E>,
     ) -> Option<Helper<GoingOn<'a, R, V, Q::Work, U>>> {
         let workers = self;
-        let keeper = Arc::new(workers.alloc, Handover::new()).ok()?;
+        let keeper = Arc::new(workers.alloc, Mailbox::new()).ok()?;
         let his = Arc::try_clone(&keeper).ok()?;
         let started = connection_thread().spawn_scoped(
             scope,

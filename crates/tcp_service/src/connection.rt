@@ -2,7 +2,7 @@
 ghost use Rattle.std.specs.Prelude.{◌≡◌, IfOk, IfErr};
 
 use crate::host::Host;
-use crate::life::{Admitted, LineOf, Started, TalkOf, UpwardOf};
+use crate::life::{Admitted, Started, StreamsOf, TalkOf, UpwardOf};
 use crate::over::Over;
 use crate::service::ChainSource;
 use connection_facts::DropCause;
@@ -13,17 +13,17 @@ use tcp_connections::{Attendant, Chains, Serving, Shut};
 /// A connection that was let in, with its streams.
 pub(crate) struct NewConnection<'a, H: Host> {
     pub admitted: Admitted<'a, H>,
-    pub line: LineOf<H>,
+    pub streams: StreamsOf<H>,
 }
 
 /// A connection whose child runs, and what that says where it is passed on; else the child holds the connection itself.
-pub(crate) struct Begun<'a, H: Host> {
+pub(crate) struct Connected<'a, H: Host> {
     started: Started<'a, H>,
     talk: Option<TalkOf<H>>,
 }
 
 /// What the client of a connection sends, where that is passed on; and the connection.
-type Beginning<'a, H> = (Option<UpwardOf<H>>, Begun<'a, H>);
+type Beginning<'a, H> = (Option<UpwardOf<H>>, Connected<'a, H>);
 
 /// What the threads of all connections share.
 #[derive(Drop)]
@@ -47,7 +47,7 @@ impl<H: Host> Server<'_, H> {
     fn go_on<'b>(
         &self,
         started: Started<'b, H>,
-        line: LineOf<H>,
+        streams: StreamsOf<H>,
         chains: Option<Chains<H::Wrapper>>,
     ) -> Result<Beginning<'b, H>, Over>
         ensures own { IfOk result (λ begun. begun.1.started.serial ≡ started.entry.serial) }
@@ -55,15 +55,15 @@ impl<H: Host> Server<'_, H> {
     {
         match chains {
             None => {
-                let begun = Begun {
+                let begun = Connected {
                     started,
                     talk: None,
                 };
                 Ok((None, begun))
             }
-            Some(chains) => match started.begin(&self.attendant, line, chains) {
+            Some(chains) => match started.begin(&self.attendant, streams, chains) {
                 Ok((upward, started, talk)) => {
-                    let begun = Begun {
+                    let begun = Connected {
                         started,
                         talk: Some(talk),
                     };
@@ -79,16 +79,19 @@ impl<H: Host> Server<'_, H> {
         ensures own { IfOk result (λ begun. begun.1.started.serial ≡ work.entry.admitted.serial) }
         ensures over { IfErr result (λ over. over.serial ≡ work.entry.admitted.serial) }
     {
-        let NewConnection { admitted, mut line } = work;
+        let NewConnection {
+            admitted,
+            mut streams,
+        } = work;
         let Ok(chains) = self.chains() else {
             let over = admitted.give_up(DropCause::Memory);
-            line.shut.shut();
+            streams.shut.shut();
             return Err(over);
         };
-        match admitted.serve(self.starter, &line.shut, &mut line.writer) {
-            Ok(started) => self.go_on(started, line, chains),
+        match admitted.serve(self.starter, &streams.shut, &mut streams.writer) {
+            Ok(started) => self.go_on(started, streams, chains),
             Err(over) => {
-                line.shut.shut();
+                streams.shut.shut();
                 Err(over)
             }
         }
@@ -118,7 +121,7 @@ where
 {
     type Upward = UpwardOf<H>;
 
-    type Talk = Begun<'b, H>;
+    type Talk = Connected<'b, H>;
 
     type Over = Over;
 
@@ -140,8 +143,8 @@ where
         self.attendant.pass_up(upward);
     }
 
-    fn pass_down(&self, begun: Begun<'b, H>) -> Over {
-        let Begun { started, talk } = begun;
+    fn pass_down(&self, begun: Connected<'b, H>) -> Over {
+        let Connected { started, talk } = begun;
         match talk {
             None => started.see_out(),
             Some(talk) => started.pass_down(&self.attendant, talk),

@@ -7,7 +7,7 @@ ghost use Rattle.tcp_service.specs.Lives.{AdmitsOwn};
 
 use crate::connection::NewConnection;
 use crate::host::{CallerOf, Host, YardOf};
-use crate::life::{Admitted, LineOf, Register};
+use crate::life::{Admitted, Context, StreamsOf};
 use crate::observer::{Observer, tell};
 use crate::permit::Permit;
 use child_jobs::Place;
@@ -17,13 +17,15 @@ use server_yard::AdmitFault;
 use shared_site::turns::{Admit, Dropped};
 use shared_site::{Made, Room, Turn};
 use std::alloc::{AllocError, Global};
-use tcp_connections::{AcceptFault, Accepted, Acceptor, Admission, AdmitOutcome, HostNames, Line};
+use tcp_connections::{
+    AcceptFault, Accepted, Acceptor, Admission, AdmitOutcome, ClientStreams, HostNames,
+};
 use ucspi_env::Local;
 
 /// Lets the connections of an acceptor in, by a caller of a site that makes no other events: its share is how many were let in.
 #[derive(Drop)]
 pub(crate) struct SiteEntrance<'a, A, H: Host> {
-    pub register: &'a Register<'a, H>,
+    pub context: &'a Context<'a, H>,
     pub acceptor: &'a mut A,
     pub admitter: CallerOf<H>,
     pub names: &'a HostNames,
@@ -36,8 +38,8 @@ type AcceptedBy<H> = Accepted<<H as Host>::Reader, <H as Host>::Writer, <H as Ho
 type AdmittedBy<H> = (u64, Place<<H as Host>::Places>, Made);
 
 // The streams of an accepted connection, with the port of its client.
-fn line_of<H: Host>(accepted: AcceptedBy<H>, port: u16) -> LineOf<H> {
-    Line {
+fn streams_of<H: Host>(accepted: AcceptedBy<H>, port: u16) -> StreamsOf<H> {
+    ClientStreams {
         port,
         reader: accepted.reader,
         writer: accepted.writer,
@@ -57,10 +59,10 @@ fn ends_of<H: Host>(
 }
 
 // A connection has found no memory.
-fn refuse_for_memory<H: Host, T>(register: &Register<'_, H>) -> AdmitOutcome<T>
+fn refuse_for_memory<H: Host, T>(context: &Context<'_, H>) -> AdmitOutcome<T>
     ensures refused { result ≡ Refused }
 {
-    let _ = register.observer.log().lock(register.rt).out_of_memory();
+    let _ = context.observer.log().lock(context.rt).out_of_memory();
     AdmitOutcome::Refused
 }
 
@@ -74,14 +76,14 @@ where
     ghost let_in = { λ entrance. caller_share entrance.admitter };
 
     fn wait_for_room(&self) -> bool {
-        self.register.site.room(self.register.rt) == Room::Free
+        self.context.site.room(self.context.rt) == Room::Free
     }
 
     fn next(&mut self) -> Result<AdmitOutcome<NewConnection<'a, H>>, AcceptFault> {
-        let register = self.register;
+        let context = self.context;
         match self.acceptor.accept() {
-            Ok(accepted) => Ok(let_in(register, &mut self.admitter, self.names, accepted)),
-            Err(AcceptFault::OutOfMemory) => Ok(refuse_for_memory(register)),
+            Ok(accepted) => Ok(let_in(context, &mut self.admitter, self.names, accepted)),
+            Err(AcceptFault::OutOfMemory) => Ok(refuse_for_memory(context)),
             Err(fault) => Err(fault),
         }
     }
@@ -93,46 +95,46 @@ where
 
 // Lets a connection in; one that is refused is closed.
 fn let_in<'a, H: Host>(
-    register: &'a Register<'a, H>,
+    context: &'a Context<'a, H>,
     admitter: &mut CallerOf<H>,
     names: &HostNames,
     accepted: AcceptedBy<H>,
 ) -> AdmitOutcome<NewConnection<'a, H>>
     ensures came { LetsIn result (caller_share admitter.old) (caller_share admitter.new) }
 {
-    let Ok((peer, local)) = ends_of::<H>(register.alloc, names, &accepted) else {
-        return refuse_for_memory(register);
+    let Ok((peer, local)) = ends_of::<H>(context.alloc, names, &accepted) else {
+        return refuse_for_memory(context);
     };
     let port = peer.port();
-    let (serial, place, made) = match admit(register, admitter, &peer) {
+    let (serial, place, made) = match admit(context, admitter, &peer) {
         AdmitOutcome::In(admitted) => admitted,
         AdmitOutcome::Refused => return AdmitOutcome::Refused,
         AdmitOutcome::Spent => return AdmitOutcome::Spent,
     };
     AdmitOutcome::In(NewConnection {
         admitted: Admitted {
-            register,
+            context,
             permit: Permit::of(&made, serial, &peer),
             serial,
             place,
             peer,
             local,
         },
-        line: line_of::<H>(accepted, port),
+        streams: streams_of::<H>(accepted, port),
     })
 }
 
 // Counts a connection: its serial, and its place. Once the last number of an event is given nobody is let in any more.
 #[tactic(auto, using(crate::proofs::Shares::one_came, crate::proofs::Shares::none_came, crate::proofs::Shares::own_came))]
 fn admit<H: Host>(
-    register: &Register<'_, H>,
+    context: &Context<'_, H>,
     admitter: &mut CallerOf<H>,
     peer: &Peer,
 ) -> AdmitOutcome<AdmittedBy<H>>
     ensures came { LetsIn result (caller_share admitter.old) (caller_share admitter.new) }
     ensures own { AdmitsOwn result peer.now }
 {
-    let (rt, site, observer) = (register.rt, register.site, register.observer);
+    let (rt, site, observer) = (context.rt, context.site, context.observer);
     match site.turn(rt, admitter, TellingAdmission::<H> { peer, rt, observer }) {
         Ok((serial, place, made)) => {
             if made.at() == u64::MAX {

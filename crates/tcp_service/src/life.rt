@@ -16,14 +16,14 @@ use std::alloc::Global;
 use std::snapshot::Snapshot;
 use std::sync::Mutex;
 use tcp_connections::{
-    Attendant, Begun, Chains, ConnectionLauncher, Endings, Line, Notes, Process, Talk, Upward,
-    see_out,
+    Attendant, Chains, ClientStreams, ConnectionLauncher, Endings, Notes, Piped, Process, Talk,
+    Upward, see_out,
 };
 use ucspi_env::Local;
 
 /// Where the lives of connections are told: a site, by one caller of it, and who observes that.
 #[derive(Drop)]
-pub(crate) struct Register<'a, H: Host> {
+pub(crate) struct Context<'a, H: Host> {
     pub rt: &'a H::Runtime,
     pub alloc: Global,
     pub site: &'a SiteOf<H>,
@@ -36,7 +36,7 @@ pub(crate) struct Register<'a, H: Host> {
 /// A connection that was let in and whose child was not started yet: the right to what comes next. It is made of the place that its admission
 /// gave, and of the permit, which has its serial (`own`). It is served, or given up.
 pub(crate) struct Admitted<'a, H: Host> {
-    pub(crate) register: &'a Register<'a, H>,
+    pub(crate) context: &'a Context<'a, H>,
     pub(crate) serial: u64,
     pub(crate) place: Place<H::Places>,
     pub(crate) peer: Peer,
@@ -48,7 +48,7 @@ pub(crate) struct Admitted<'a, H: Host> {
 /// A connection whose child runs: the right to its end. It is made of one that was let in. The child is the connection's own (`child`): its program is
 /// the plan's, with the variables of the decision by what this connection found, for this client and this end.
 pub(crate) struct Started<'a, H: Host> {
-    register: &'a Register<'a, H>,
+    context: &'a Context<'a, H>,
     serial: u64,
     running: Running<H::Places, H::Job>,
     local: Local,
@@ -56,7 +56,7 @@ pub(crate) struct Started<'a, H: Host> {
     peer: Snapshot<Peer>,
     found: FoundBy<H>,
     ghost child: { IsOwnChild (kept_opening H.File.bytes found) H.Places.met H.File.honest H.File.sound
-        peer.value local register.now.plan.now (H.Job.program (job_of running)) (H.Job.environment (job_of running)) },
+        peer.value local context.now.plan.now (H.Job.program (job_of running)) (H.Job.environment (job_of running)) },
 }
 
 /// What a client sends, on its way to the child of its connection.
@@ -71,13 +71,17 @@ pub(crate) type TalkOf<H> = Talk<
 >;
 
 /// The streams of a connection.
-pub(crate) type LineOf<H> = Line<<H as Host>::Reader, <H as Host>::Writer, <H as Host>::Shut>;
+pub(crate) type StreamsOf<H> = ClientStreams<
+    <H as Host>::Reader,
+    <H as Host>::Writer,
+    <H as Host>::Shut,
+>;
 
 /// A connection whose streams are passed on: what its client sends, and the connection with what its child says.
 pub(crate) type Passed<'a, H> = (UpwardOf<H>, Started<'a, H>, TalkOf<H>);
 
 /// A child that runs, what its client sends and what it says.
-type BegunOf<H> = Begun<
+type PipedOf<H> = Piped<
     <H as Host>::Places,
     <H as Host>::Job,
     <H as Host>::Reader,
@@ -101,7 +105,7 @@ fn launcher_of<'b, R, S, X>(
     }
 }
 
-impl<'a, H: Host> Register<'a, H> {
+impl<'a, H: Host> Context<'a, H> {
     // The agent of the connection with this serial number. Nothing was asked for it yet.
     fn agent<'b>(&'b self, serial: u64, local: &'b Local, notes: &'b Notes) -> LoggedAgent<'b, H>
     where
@@ -180,15 +184,15 @@ impl<'a, H: Host> Register<'a, H> {
         serial: u64,
         running: Running<H::Places, H::Job>,
         local: &Local,
-        line: LineOf<H>,
+        streams: StreamsOf<H>,
         chains: Chains<H::Wrapper>,
         notes: &Notes,
-    ) -> Result<BegunOf<H>, Over>
+    ) -> Result<PipedOf<H>, Over>
         ensures same { IfOk result (λ begun. IsSameRun H.Job.program H.Job.environment running begun.0) }
         ensures over { IfErr result (λ over. over.serial ≡ serial) }
     {
         let mut agent = self.agent(serial, local, notes);
-        match attendant.begin(&mut agent, running, serial, line, chains) {
+        match attendant.begin(&mut agent, running, serial, streams, chains) {
             Some(begun) => Ok(begun),
             None => Err(Over::of(&agent, serial)),
         }
@@ -201,14 +205,14 @@ impl<'a, H: Host> Admitted<'a, H> {
         ensures own { result.serial ≡ self.entry.serial }
     {
         let Admitted {
-            register,
+            context,
             serial,
             place,
             peer,
             local,
             permit: _,
         } = self;
-        register.give_up(serial, place, &peer, &local, cause)
+        context.give_up(serial, place, &peer, &local, cause)
     }
 
     /// It is served up to the start of its child, by `serve_one`.
@@ -225,17 +229,17 @@ impl<'a, H: Host> Admitted<'a, H> {
         ensures over { IfErr result (λ over. over.serial ≡ self.entry.serial) }
     {
         let Admitted {
-            register,
+            context,
             serial,
             place,
             peer,
             local,
             permit: _,
         } = self;
-        match register.serve(serial, place, &peer, &local, starter, connection, writer) {
+        match context.serve(serial, place, &peer, &local, starter, connection, writer) {
             Ok((running, found, process)) => {
                 let peer = Snapshot::of(&peer);
-                let started = Started::of(register, serial, running, local, process, peer, found);
+                let started = Started::of(context, serial, running, local, process, peer, found);
                 Ok(started)
             }
             Err(over) => Err(over),
@@ -246,7 +250,7 @@ impl<'a, H: Host> Admitted<'a, H> {
 impl<'a, H: Host> Started<'a, H> {
     // One whose child was started.
     fn of(
-        register: &'a Register<'a, H>,
+        context: &'a Context<'a, H>,
         serial: u64,
         running: Running<H::Places, H::Job>,
         local: Local,
@@ -255,11 +259,11 @@ impl<'a, H: Host> Started<'a, H> {
         found: FoundBy<H>,
     ) -> Started<'a, H>
         requires child { IsOwnChild (kept_opening H.File.bytes found) H.Places.met H.File.honest H.File.sound
-            peer.value local register.now.plan.now (H.Job.program (job_of running)) (H.Job.environment (job_of running)) }
+            peer.value local context.now.plan.now (H.Job.program (job_of running)) (H.Job.environment (job_of running)) }
         ensures own { (result.serial ≡ serial) × (result.running ≡ running) }
     {
         Started {
-            register,
+            context,
             serial,
             running,
             local,
@@ -277,7 +281,7 @@ impl<'a, H: Host> Started<'a, H> {
     pub(crate) fn begin(
         self,
         attendant: &Attendant<'_, H::Runtime, H::Lines>,
-        line: LineOf<H>,
+        streams: StreamsOf<H>,
         chains: Chains<H::Wrapper>,
     ) -> Result<Passed<'a, H>, Over>
         ensures own { IfOk result (λ passed. passed.1.serial ≡ self.entry.serial) }
@@ -285,7 +289,7 @@ impl<'a, H: Host> Started<'a, H> {
         ensures over { IfErr result (λ over. over.serial ≡ self.entry.serial) }
     {
         let Started {
-            register,
+            context,
             serial,
             running,
             local,
@@ -294,10 +298,10 @@ impl<'a, H: Host> Started<'a, H> {
             found,
         } = self;
         let notes = Notes::of(process);
-        match register.begin(attendant, serial, running, &local, line, chains, &notes) {
+        match context.begin(attendant, serial, running, &local, streams, chains, &notes) {
             Ok((running, upward, talk)) => {
-                let process = notes.take(register.rt);
-                let started = Started::of(register, serial, running, local, process, peer, found);
+                let process = notes.take(context.rt);
+                let started = Started::of(context, serial, running, local, process, peer, found);
                 Ok((upward, started, talk))
             }
             Err(over) => Err(over),
@@ -310,7 +314,7 @@ impl<'a, H: Host> Started<'a, H> {
         ensures own { result.serial ≡ self.entry.serial }
     {
         let Started {
-            register,
+            context,
             serial,
             running,
             local,
@@ -319,7 +323,7 @@ impl<'a, H: Host> Started<'a, H> {
             found: _,
         } = self;
         let notes = Notes::of(process);
-        let mut agent = register.agent(serial, &local, &notes);
+        let mut agent = context.agent(serial, &local, &notes);
         see_out(&mut agent, running, serial);
         Over::of(&agent, serial)
     }
@@ -334,7 +338,7 @@ impl<'a, H: Host> Started<'a, H> {
         ensures own { result.serial ≡ self.entry.serial }
     {
         let Started {
-            register,
+            context,
             serial,
             running,
             local,
@@ -343,7 +347,7 @@ impl<'a, H: Host> Started<'a, H> {
             found: _,
         } = self;
         let notes = Notes::of(process);
-        let mut agent = register.agent(serial, &local, &notes);
+        let mut agent = context.agent(serial, &local, &notes);
         attendant.pass_down(&mut agent, running, serial, talk);
         Over::of(&agent, serial)
     }

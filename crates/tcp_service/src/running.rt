@@ -6,7 +6,7 @@ ghost use Rattle.tcp_connections.specs.Admissions.{IsServed};
 use crate::connection::Server;
 use crate::entrance::SiteEntrance;
 use crate::host::{CallerOf, Host};
-use crate::life::Register;
+use crate::life::Context;
 use crate::observer::Observer;
 use crate::service::Service;
 use tcp_connections::{Acceptor, Attendant, ServeEnd, serve_through};
@@ -14,7 +14,7 @@ use tcp_connections::{Acceptor, Attendant, ServeEnd, serve_through};
 /// Serves connections until it comes to an end: how it ended, and the caller that let them in.
 pub(crate) fn serve_by<A, H>(
     acceptor: &mut A,
-    register: &Register<'_, H>,
+    context: &Context<'_, H>,
     admitter: CallerOf<H>,
     wrapping: &H::Chains,
     starter: &H::Starter,
@@ -45,7 +45,7 @@ where
     requires idle { caller_share admitter ≡ 0 }
     ensures count { IsServed result.0 service.now.limits.count 0 (caller_share result.1) }
 {
-    let (rt, alloc, log) = (register.rt, register.alloc, register.observer.log());
+    let (rt, alloc, log) = (context.rt, context.alloc, context.observer.log());
     let server = Server::<H> {
         wrapping,
         starter,
@@ -59,7 +59,7 @@ where
         },
     };
     let entrance = SiteEntrance::<A, H> {
-        register,
+        context,
         acceptor,
         admitter,
         names: &service.names,
@@ -75,7 +75,7 @@ where
         &service.reserve,
     );
     let SiteEntrance {
-        register: _,
+        context: _,
         acceptor: _,
         admitter,
         names: _,

@@ -5,7 +5,7 @@ ghost use Rattle.shared_site.specs.Callers.{caller_share, total_share};
 ghost use Rattle.tcp_connections.specs.Admissions.{IsServed};
 
 use crate::host::{CallerOf, Host, SiteOf, YardOf};
-use crate::life::Register;
+use crate::life::Context;
 use crate::observer::Observer;
 use crate::running::serve_by;
 use crate::service::Service;
@@ -99,7 +99,7 @@ where
     let mut callers = callers;
     let (teller, admitter) = both(&mut callers);
     let teller = Mutex::new(teller);
-    let register = Register::<H> {
+    let context = Context::<H> {
         rt,
         alloc,
         site: &site,
@@ -108,7 +108,7 @@ where
         plan,
         observer,
     };
-    let (end, admitter) = serve_by(acceptor, &register, admitter, wrapping, starter, service);
+    let (end, admitter) = serve_by(acceptor, &context, admitter, wrapping, starter, service);
     close(end, site, callers, admitter, teller.into_inner())
 }
 

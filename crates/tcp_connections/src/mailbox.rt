@@ -3,14 +3,14 @@ use std::sync::{Condvar, Mutex, Wait};
 
 /// Hands one value at a time from one thread to a second one that waits for it.
 #[derive(Drop)]
-pub(crate) struct Handover<T> {
-    state: Mutex<HandoverState<T>>,
+pub(crate) struct Mailbox<T> {
+    state: Mutex<MailboxState<T>>,
     changed: Condvar,
 }
 
-// The state of a handover.
+// The state of a mailbox.
 #[derive(Drop)]
-struct HandoverState<T> {
+struct MailboxState<T> {
     // the value, until it is taken
     waiting: Option<T>,
     // whether the taker is not done with the last value
@@ -18,11 +18,11 @@ struct HandoverState<T> {
     is_closed: bool,
 }
 
-impl<T: Drop> Handover<T> {
-    /// An empty handover, whose taker is not there yet. It takes no memory.
-    pub fn new() -> Handover<T> {
-        Handover {
-            state: Mutex::new(HandoverState {
+impl<T: Drop> Mailbox<T> {
+    /// An empty mailbox, whose taker is not there yet. It takes no memory.
+    pub fn new() -> Mailbox<T> {
+        Mailbox {
+            state: Mutex::new(MailboxState {
                 waiting: None,
                 is_busy: true,
                 is_closed: false,
@@ -40,7 +40,7 @@ impl<T: Drop> Handover<T> {
         self.changed.notify_all();
     }
 
-    /// Waits for the next value, and takes it. `None` once the handover is closed and every value was taken.
+    /// Waits for the next value, and takes it. `None` once the mailbox is closed and every value was taken.
     pub fn take<R: Wait>(&self, rt: &R) -> Option<T> {
         let mut state = self.changed.wait_while(
             rt,
@@ -66,7 +66,7 @@ impl<T: Drop> Handover<T> {
         );
     }
 
-    /// Closes the handover: no value comes any more.
+    /// Closes the mailbox: no value comes any more.
     pub fn close<R: Wait>(&self, rt: &R) {
         self.state.lock(rt).is_closed = true;
         self.changed.notify_all();
