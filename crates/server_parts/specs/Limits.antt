@@ -1,5 +1,5 @@
 -- The limits on memory, and which of them are too small for a server.
-use Rattle.std.specs.Prelude.{ℕ, ◌+◌, ◌-◌, min, nat_lt, Option, Some, None, if◌then◌else◌}
+use Rattle.std.specs.Prelude.{ℕ, ◌+◌, ◌*◌, ◌-◌, min, nat_lt, Option, Some, None, if◌then◌else◌}
 use Rattle.server_words.specs.declared.mode.Mode.{Mode}
 use Rattle.server_words.specs.declared.mode.Mode.TheVariants.{HandedOver, Pumped}
 use Rattle.server_parts.specs.declared.limits.MemoryLimits.{MemoryLimits}
@@ -16,6 +16,10 @@ addresses_alone = 3500000
 -- what is left of the limits beside that
 abbrev pub room_of : MemoryLimits → ℕ
 room_of limits = min (limits.data - data_alone) (limits.addresses - addresses_alone)
+
+-- how many connections may start their programs at once, of which each takes so much: four where there is room for five, and else one
+abbrev pub at_once_in : MemoryLimits → ℕ → ℕ
+at_once_in limits start = if nat_lt (room_of limits) (5 * start) then 1 else 4
 
 -- what its first connection takes, whose program inherits no variables: 320 KiB, and, if it is pumped, 448 KiB for buffers and a second thread
 abbrev pub first_connection : Mode → ℕ

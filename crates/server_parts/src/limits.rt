@@ -1,6 +1,7 @@
 //! The limits that the system sets for this process, and what they leave a server for its connections.
-ghost use Rattle.std.specs.Prelude.{◌≡◌, ◌≢◌, ◌≤◌, ◌*◌};
-ghost use Rattle.server_parts.specs.Limits.{room_of, small_limit};
+ghost use Rattle.std.specs.Prelude.{◌≡◌};
+ghost use Rattle.server_parts.specs.Limits.{at_once_in, room_of, small_limit};
+ghost use Rattle.server_parts.specs.Services.{IsSupplyIn};
 
 use libc::net::POLLNVAL;
 use libc::types::{pollfd, rlimit};
@@ -105,7 +106,9 @@ const START_ALONE: u64 = 327_680;
 const PUMPED_ALONE: u64 = 458_752;
 
 /// What the system gives the connections of a server in this mode, of which so many may be alive, and whose programs inherit so many variables.
-pub fn supply_for(mode: Mode, connections: u64, variables: usize) -> Supply {
+pub fn supply_for(mode: Mode, connections: u64, variables: usize) -> Supply
+    ensures { IsSupplyIn mode result }
+{
     let most = connections.saturating_mul(PUMPED).saturating_add(BESIDE);
     let descriptors = free_descriptors(most).saturating_sub(OWN);
     let (to_begin, to_go_on, buffers) = match mode {
@@ -132,8 +135,7 @@ pub fn supply_for(mode: Mode, connections: u64, variables: usize) -> Supply {
 // How many connections may be there at once whose program is not started yet, where memory is limited and each takes so much: four where there is
 // room for five, and else one. Where it is one the server saves threads too.
 fn at_once_in(limits: MemoryLimits, start: usize) -> usize
-    ensures known { result ≢ 4 → result ≡ 1 }
-    ensures fits { result ≡ 4 → 5 * start ≤ room_of limits }
+    ensures { result ≡ at_once_in limits start }
 {
     if start as u64 <= limits.room() / 5 {
         4

@@ -1,6 +1,7 @@
 //! What a server opens before it begins: its files, folder, socket and program.
-ghost use Rattle.std.specs.Prelude.{◌≡◌, map, string_bytes, IfOk};
-ghost use Rattle.server_parts.specs.Services.{program_by};
+ghost use Rattle.std.specs.Prelude.{◌≡◌, map, option_map, string_bytes, IfOk};
+ghost use Rattle.server_parts.specs.Services.{AreNamesOf, AreRulesOf, program_by};
+ghost use Rattle.server_words.specs.OptionWords.{text_of};
 
 use crate::fault::{ServerFailure, ServerFault};
 use child_jobs::{Plan, Program};
@@ -41,21 +42,29 @@ pub fn names_of<F: Files + AllocGlobal>(
     alloc: Global,
     files: &F,
     words: &ServerWords<'_>,
-) -> Result<HostNames, ServerFailure> {
+) -> Result<HostNames, ServerFailure>
+    ensures { IfOk result (AreNamesOf words.now) }
+{
     let hosts = match words.hosts() {
         Some(path) => Some(read_hosts(alloc, files, path)?),
         None => None,
     };
-    let local = match words.local() {
-        Some(name) => Some(String::from_str(alloc, name)?),
-        None => None,
-    };
     Ok(HostNames {
         hosts,
-        local,
+        local: copy_of(alloc, words.local())?,
         remote: words.names_remote(),
         confirm: words.confirms(),
     })
+}
+
+// An equal text, where there is one.
+fn copy_of(alloc: Global, text: Option<&str>) -> Result<Option<String>, AllocError>
+    ensures { IfOk result (λ copy. option_map string_bytes copy ≡ text_of text.entry) }
+{
+    match text {
+        Some(text) => Ok(Some(String::from_str(alloc, text)?)),
+        None => Ok(None),
+    }
 }
 
 // The host table of a file.
@@ -94,6 +103,7 @@ pub fn open_rules<'a, R>(
 ) -> Result<(OsDir<&'a R>, Option<(Name, WhenMissing)>), ServerFailure>
 where
     R: Files<File = File>,
+    ensures { IfOk result (λ opened. AreRulesOf words.now opened.1) }
 {
     let Some(path) = words.rules() else {
         return Ok((open_folder(alloc, files, ROOT)?, None));
