@@ -2,7 +2,7 @@
 ghost use Rattle.std.specs.Prelude.{◌≡◌, IfOk, IfErr};
 
 use crate::host::Host;
-use crate::life::{Admitted, Started, StreamsOf, TalkOf, UpwardOf};
+use crate::life::{Admitted, Attended, StreamsOf, TalkOf, UpwardOf};
 use crate::over::Over;
 use crate::service::ChainSource;
 use connection_facts::DropCause;
@@ -18,7 +18,7 @@ pub(crate) struct NewConnection<'a, H: Host> {
 
 /// A connection whose child runs, and what that says where it is passed on; else the child holds the connection itself.
 pub(crate) struct Connected<'a, H: Host> {
-    started: Started<'a, H>,
+    attended: Attended<'a, H>,
     talk: Option<TalkOf<H>>,
 }
 
@@ -46,25 +46,25 @@ impl<H: Host> Server<'_, H> {
     // Goes on with a connection whose child runs: the child has it, or its streams are passed on.
     fn go_on<'b>(
         &self,
-        started: Started<'b, H>,
+        attended: Attended<'b, H>,
         streams: StreamsOf<H>,
         chains: Option<Chains<H::Wrapper>>,
     ) -> Result<Beginning<'b, H>, Over>
-        ensures own { IfOk result (λ begun. begun.1.started.serial ≡ started.entry.serial) }
-        ensures over { IfErr result (λ over. over.serial ≡ started.entry.serial) }
+        ensures own { IfOk result (λ begun. begun.1.attended.serial ≡ attended.entry.serial) }
+        ensures over { IfErr result (λ over. over.serial ≡ attended.entry.serial) }
     {
         match chains {
             None => {
                 let begun = Connected {
-                    started,
+                    attended,
                     talk: None,
                 };
                 Ok((None, begun))
             }
-            Some(chains) => match started.begin(&self.attendant, streams, chains) {
-                Ok((upward, started, talk)) => {
+            Some(chains) => match attended.begin(&self.attendant, streams, chains) {
+                Ok((upward, attended, talk)) => {
                     let begun = Connected {
-                        started,
+                        attended,
                         talk: Some(talk),
                     };
                     Ok((Some(upward), begun))
@@ -76,7 +76,7 @@ impl<H: Host> Server<'_, H> {
 
     // Begins to serve a connection.
     fn begin_with<'b>(&self, work: NewConnection<'b, H>) -> Result<Beginning<'b, H>, Over>
-        ensures own { IfOk result (λ begun. begun.1.started.serial ≡ work.entry.admitted.serial) }
+        ensures own { IfOk result (λ begun. begun.1.attended.serial ≡ work.entry.admitted.serial) }
         ensures over { IfErr result (λ over. over.serial ≡ work.entry.admitted.serial) }
     {
         let NewConnection {
@@ -89,7 +89,7 @@ impl<H: Host> Server<'_, H> {
             return Err(over);
         };
         match admitted.serve(self.starter, &streams.shut, &mut streams.writer) {
-            Ok(started) => self.go_on(started, streams, chains),
+            Ok(started) => self.go_on(started.go_on(), streams, chains),
             Err(over) => {
                 streams.shut.shut();
                 Err(over)
@@ -127,7 +127,7 @@ where
 
     ghost of_work = { λ work. work.admitted.serial };
 
-    ghost of_talk = { λ begun. begun.started.serial };
+    ghost of_talk = { λ begun. begun.attended.serial };
 
     ghost of_over = { λ over. over.serial };
 
@@ -144,10 +144,10 @@ where
     }
 
     fn pass_down(&self, begun: Connected<'b, H>) -> Over {
-        let Connected { started, talk } = begun;
+        let Connected { attended, talk } = begun;
         match talk {
-            None => started.see_out(),
-            Some(talk) => started.pass_down(&self.attendant, talk),
+            None => attended.see_out(),
+            Some(talk) => attended.pass_down(&self.attendant, talk),
         }
     }
 }

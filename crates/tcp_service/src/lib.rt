@@ -4,9 +4,9 @@
 //! The server uses `serve`. What it stands on is one type, a `Host`: its types are the runtime, the ledgers, the rules,
 //! the log, and the streams and programs of connections. At the end both callers are back and as many connections are
 //! alive as are retired; `serve` looks at the last, and answers `Unfinished` if it is not so. The life of a connection
-//! is one value after another: `Admitted`, `Started`, `Over`. Each tells its end itself if a thread lets it go, and an
-//! end can't be told twice. `LoggedAgent` is the agent over which `serve_one` runs. Tested only: bytes pass through the
-//! two pumps of their connection, and no event comes out of turn.
+//! is one value after another: `Admitted`, `Started`, `Attended`, `Over`. Each tells its end itself if a thread lets it
+//! go, and an end can't be told twice. `LoggedAgent` is the agent over which `serve_one` runs. Tested only: bytes pass
+//! through the two pumps of their connection, and no event comes out of turn.
 #![tactic(auto)]
 
 mod connection;

@@ -45,18 +45,23 @@ pub(crate) struct Admitted<'a, H: Host> {
     pub(crate) ghost own: { permit.serial ≡ serial },
 }
 
-/// A connection whose child runs: the right to its end. It is made of one that was let in. The child is the connection's own (`child`): its program is
-/// the plan's, with the variables of the decision by what this connection found, for this client and this end.
+/// A connection whose child was started, with what it runs by (`child`): the program is the plan's, with the variables of the decision by what this very
+/// connection found, for its client and its end. It goes on as an `Attended`, which no other value gives.
 pub(crate) struct Started<'a, H: Host> {
+    attended: Attended<'a, H>,
+    peer: Snapshot<Peer>,
+    found: FoundBy<H>,
+    ghost child: { IsOwnChild (kept_opening H.File.bytes found) H.Places.met H.File.honest H.File.sound peer.value attended.local
+        attended.context.now.plan.now (H.Job.program (job_of attended.running)) (H.Job.environment (job_of attended.running)) },
+}
+
+/// A connection whose child runs: the right to its end. One thread may give it to another.
+pub(crate) struct Attended<'a, H: Host> {
     context: &'a Context<'a, H>,
     serial: u64,
     running: Running<H::Places, H::Job>,
     local: Local,
     process: Option<Process>,
-    peer: Snapshot<Peer>,
-    found: FoundBy<H>,
-    ghost child: { IsOwnChild (kept_opening H.File.bytes found) H.Places.met H.File.honest H.File.sound
-        peer.value local context.now.plan.now (H.Job.program (job_of running)) (H.Job.environment (job_of running)) },
 }
 
 /// What a client sends, on its way to the child of its connection.
@@ -78,7 +83,7 @@ pub(crate) type StreamsOf<H> = ClientStreams<
 >;
 
 /// A connection whose streams are passed on: what its client sends, and the connection with what its child says.
-pub(crate) type Passed<'a, H> = (UpwardOf<H>, Started<'a, H>, TalkOf<H>);
+pub(crate) type Passed<'a, H> = (UpwardOf<H>, Attended<'a, H>, TalkOf<H>);
 
 /// A child that runs, what its client sends and what it says.
 type PipedOf<H> = Piped<
@@ -225,7 +230,7 @@ impl<'a, H: Host> Admitted<'a, H> {
         connection: &H::Shut,
         writer: &mut H::Writer,
     ) -> Result<Started<'a, H>, Over>
-        ensures own { IfOk result (λ started. (started.serial ≡ self.entry.serial) × (place_of started.running ≡ self.entry.place)) }
+        ensures own { IfOk result (λ started. (started.attended.serial ≡ self.entry.serial) × (place_of started.attended.running ≡ self.entry.place)) }
         ensures over { IfErr result (λ over. over.serial ≡ self.entry.serial) }
     {
         let Admitted {
@@ -237,47 +242,41 @@ impl<'a, H: Host> Admitted<'a, H> {
             permit: _,
         } = self;
         match context.serve(serial, place, &peer, &local, starter, connection, writer) {
-            Ok((running, found, process)) => {
-                let peer = Snapshot::of(&peer);
-                let started = Started::of(context, serial, running, local, process, peer, found);
-                Ok(started)
-            }
+            Ok((running, found, process)) => Ok(Started {
+                attended: Attended {
+                    context,
+                    serial,
+                    running,
+                    local,
+                    process,
+                },
+                peer: Snapshot::of(&peer),
+                found,
+            }),
             Err(over) => Err(over),
         }
     }
 }
 
 impl<'a, H: Host> Started<'a, H> {
-    // One whose child was started.
-    fn of(
-        context: &'a Context<'a, H>,
-        serial: u64,
-        running: Running<H::Places, H::Job>,
-        local: Local,
-        process: Option<Process>,
-        peer: Snapshot<Peer>,
-        found: FoundBy<H>,
-    ) -> Started<'a, H>
-        requires child { IsOwnChild (kept_opening H.File.bytes found) H.Places.met H.File.honest H.File.sound
-            peer.value local context.now.plan.now (H.Job.program (job_of running)) (H.Job.environment (job_of running)) }
-        ensures own { (result.serial ≡ serial) × (result.running ≡ running) }
+    /// It goes on, in this thread or another one.
+    pub(crate) fn go_on(self) -> Attended<'a, H>
+        ensures same { result ≡ self.entry.attended }
     {
-        Started {
-            context,
-            serial,
-            running,
-            local,
-            process,
-            peer,
-            found,
-        }
+        let Started {
+            attended,
+            peer: _,
+            found: _,
+        } = self;
+        attended
     }
+}
 
+impl<'a, H: Host> Attended<'a, H> {
     /// Its child's pipe ends are taken, and its streams are passed on from now on.
     ///
     /// # Errors
     /// It is over: its child has no pipe ends, and was ended by force.
-    #[tactic(auto, using(crate::proofs::Told::same_child))]
     pub(crate) fn begin(
         self,
         attendant: &Attendant<'_, H::Runtime, H::Lines>,
@@ -288,21 +287,25 @@ impl<'a, H: Host> Started<'a, H> {
         ensures same { IfOk result (λ passed. IsSameRun H.Job.program H.Job.environment self.entry.running passed.1.running) }
         ensures over { IfErr result (λ over. over.serial ≡ self.entry.serial) }
     {
-        let Started {
+        let Attended {
             context,
             serial,
             running,
             local,
             process,
-            peer,
-            found,
         } = self;
         let notes = Notes::of(process);
         match context.begin(attendant, serial, running, &local, streams, chains, &notes) {
             Ok((running, upward, talk)) => {
                 let process = notes.take(context.rt);
-                let started = Started::of(context, serial, running, local, process, peer, found);
-                Ok((upward, started, talk))
+                let attended = Attended {
+                    context,
+                    serial,
+                    running,
+                    local,
+                    process,
+                };
+                Ok((upward, attended, talk))
             }
             Err(over) => Err(over),
         }
@@ -313,14 +316,12 @@ impl<'a, H: Host> Started<'a, H> {
     pub(crate) fn see_out(self) -> Over
         ensures own { result.serial ≡ self.entry.serial }
     {
-        let Started {
+        let Attended {
             context,
             serial,
             running,
             local,
             process,
-            peer: _,
-            found: _,
         } = self;
         let notes = Notes::of(process);
         let mut agent = context.agent(serial, &local, &notes);
@@ -337,14 +338,12 @@ impl<'a, H: Host> Started<'a, H> {
     ) -> Over
         ensures own { result.serial ≡ self.entry.serial }
     {
-        let Started {
+        let Attended {
             context,
             serial,
             running,
             local,
             process,
-            peer: _,
-            found: _,
         } = self;
         let notes = Notes::of(process);
         let mut agent = context.agent(serial, &local, &notes);
