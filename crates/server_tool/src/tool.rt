@@ -182,9 +182,7 @@ fn open_and_run<P: System + Send + Sync>(
     };
     let at = RulesPath::new(rt, words.rules().unwrap_or_default(), name.as_ref());
     let listener = open_socket::<P>(rt, words)?;
-    if let Some((ip, port)) = end_of_listener(&listener) {
-        let _ = server.log.lock(rt).listening(ip, port);
-    }
+    tell_listening::<P>(rt, server, &listener);
     if words.hosts().is_none() && words.level() == Level::All && at.name_someone(alloc) {
         let _ = server.log.lock(rt).no_names();
     }
@@ -200,6 +198,14 @@ fn open_and_run<P: System + Send + Sync>(
         parts,
     );
     served
+}
+
+// Tells a person where the socket listens.
+fn tell_listening<P: System>(rt: &P::Runtime, server: &ServerParts<P>, listener: &P::Listener) {
+    if let Some(end) = end_of_listener(listener) {
+        let ip = end.0;
+        let _ = server.log.lock(rt).listening(ip, end.1);
+    }
 }
 
 // The socket that listens where the words say, its port printed where they ask for that.

@@ -62,7 +62,11 @@ fn peer(alloc: Global) -> Result<(Local, Peer), PeerFault> {
 }
 
 /// Tells a log of a connection that goes well.
-fn tell_progress<W: Write>(log: &mut Log<W>, local: &Local, peer: &Peer) -> Result<(), LogFault> {
+fn tell_progress<'a, W: Write>(
+    log: &mut Log<W>,
+    local: &'a Local,
+    peer: &'a Peer,
+) -> Result<(), LogFault> {
     log.listening([10, 0, 0, 1], 25)?;
     log.no_names()?;
     log.status(0)?;
