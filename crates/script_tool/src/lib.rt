@@ -3,7 +3,8 @@
 //!
 //! The tool uses `run_buffered`, which is `run_rulesim` over a buffered writer. What a script prints is defined by
 //! texts alone; the code installs compiled files in a directory in memory and stops it. After a fault a front of that
-//! text was written. That a fault is one of the reader, the writer or memory is tested only.
+//! text was written. That a fault is one of the reader, the writer or memory is tested only, and so is `run_script`,
+//! which lends the system's streams.
 #![tactic(auto)]
 
 mod replies;
@@ -14,4 +15,4 @@ mod verdicts;
 
 pub use script_words::{Command, LineEnd, read_command, script};
 pub use sim::{SimFault, run_rulesim};
-pub use standard::run_buffered;
+pub use standard::run_script;

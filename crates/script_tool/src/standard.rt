@@ -1,15 +1,29 @@
-//! `rulesim` over streams that are lent.
+//! `rulesim` over the standard streams.
 ghost use Rattle.std.specs.Prelude.{◌≡◌, ◌⊎◌, None, Err, IfSome};
 ghost use Rattle.script_tool.specs.Sim.{Prints, sim};
 
 use crate::sim::{SimFault, run_rulesim};
+use byte_streams::Patient;
 use std::alloc::Global;
+use std::io;
 use std::io::{BufReader, BufWriter, Read, Write};
+use std::time::Clock;
 
 /// The size of a buffer over a standard stream, in bytes.
 const BUFFER: usize = 64 * 1024;
 
 const _: () = prove!(BUFFER == 65_536);
+
+/// Runs the script on standard input, and writes what it prints on standard output. A stream that was left non-blocking
+/// is waited for.
+///
+/// # Errors
+/// Those of `run_buffered`.
+pub fn run_script<R: Input + Print + AllocGlobal + Clock>(rt: &R) -> Result<(), SimFault> {
+    let input = Patient::new(rt, rt.reader());
+    let output = Patient::new(rt, io::writer(rt));
+    run_buffered(rt.alloc(), input, output).0
+}
 
 /// Runs the script that a reader gives, over buffers.
 ///

@@ -1,23 +1,27 @@
 //! The tools over the system, and over the streams of the process.
-ghost use Rattle.std.specs.Prelude.{⊤};
 ghost use Rattle.ucspi_tools.specs.Systems.{anything};
 
 use byte_streams::Patient;
+use byte_text::NotingStream;
 use connection_facts::Status;
-use fault_hints::Voice;
-use rules_tools::{SystemFolders, SystemVariables};
+use fault_hints::{KeepingReader, Voice};
+use rules_tools::{
+    CheckFailure, ReviewFault, RulesFailure, SystemFolders, SystemVariables, TcprulesFault,
+    run_review, run_tcprules, run_tcprulescheck,
+};
+use script_tool::{SimFault, run_script};
 use server_parts::ServerFault;
 use std::fs::{File, Files};
-use std::io::{self, Printer, Write};
+use std::io;
+use std::io::{BufWriter, Write};
 use std::os::unix::fs::FileExt;
 use std::rt::Env;
 use std::time::Clock;
 use stream_tools::BetweenFault;
-use ucspi_tools::{Calls, Lends};
+use ucspi_tools::Calls;
 
-/// The tools over the system, and what the others are lent: its standard streams, each of which is waited for where it was left non-blocking, its
-/// folders and its variables. Those that start threads are lent as calls that may be made at any time, since the system has threads in `main`
-/// alone.
+/// The tools over the system, and over its standard streams, each of which is waited for where it was left non-blocking. Those that start
+/// threads are lent as calls that may be made at any time, since the system has threads in `main` alone.
 #[derive(Drop)]
 pub struct StandardCalls<'a, R, E, S, F, P> {
     /// The system.
@@ -34,6 +38,8 @@ pub struct StandardCalls<'a, R, E, S, F, P> {
 
 impl<R, E, S, F, P> Calls for StandardCalls<'_, R, E, S, F, P>
 where
+    R: Env + Input + Print + AllocGlobal + Files<File = File> + Clock,
+    E: Write + Copy + Drop,
     S: Fn(Voice, &[Vec<u8>], &mut Vec<u8>) -> Result<(), ServerFault>,
     F: Fn(&[Vec<u8>], &mut Option<i32>) -> Result<Status, BetweenFault>,
     P: Fn(&[Vec<u8>], &mut Option<i32>) -> Result<Status, BetweenFault>,
@@ -51,6 +57,46 @@ where
         (self.serve)(voice, words, causes)
     }
 
+    fn simulate(&self) -> Result<(), SimFault> {
+        run_script(self.rt)
+    }
+
+    fn install(&self, cdb: &str, tmp: &str, faulty: &mut Vec<u8>) -> Result<(), RulesFailure> {
+        let alloc = self.rt.alloc();
+        let mut reader = KeepingReader::new(alloc, Patient::new(self.rt, self.rt.reader()));
+        let mut folders = SystemFolders::new(self.rt, Patient::new(self.rt, self.errors));
+        let done = run_tcprules(alloc, &mut folders, &mut reader, cdb, tmp);
+        if let Err(failure) = done
+            && let TcprulesFault::Line(fault) = failure.fault
+        {
+            reader.copy_line(fault.line, faulty);
+        }
+        drop(folders);
+        drop(reader);
+        done
+    }
+
+    fn review(&self, faulty: &mut Vec<u8>) -> Result<bool, ReviewFault> {
+        let errors = Patient::new(self.rt, self.errors);
+        let Ok(mut lines) = BufWriter::new(self.rt.alloc(), errors) else {
+            return Err(ReviewFault::OutOfMemory);
+        };
+        let outcome = self.review_on(&mut lines, faulty);
+        drop(lines);
+        outcome
+    }
+
+    fn check(&self, cdb: &str) -> Result<(), CheckFailure> {
+        let alloc = self.rt.alloc();
+        let variables = SystemVariables(self.rt);
+        let mut folders = SystemFolders::new(self.rt, Patient::new(self.rt, self.errors));
+        let mut writer = NotingStream::new(Patient::new(self.rt, io::writer(self.rt)));
+        let told = run_tcprulescheck(alloc, &variables, &mut folders, &mut writer, cdb);
+        drop(writer);
+        drop(folders);
+        told
+    }
+
     fn fix(&self, words: &[Vec<u8>], error: &mut Option<i32>) -> Result<Status, BetweenFault> {
         (self.fix)(words, error)
     }
@@ -60,48 +106,23 @@ where
     }
 }
 
-impl<'a, R, E, S, F, P> Lends for StandardCalls<'a, R, E, S, F, P>
-where
-    R: Env + Input + Print + AllocGlobal + Files<File = File> + Clock,
-    E: Write + Copy + Drop,
-{
-    type Input = Patient<'a, R, R::Reader>;
-
-    type Output = Patient<'a, R, Printer<'a, R>>;
-
-    type Errors = Patient<'a, R, E>;
-
-    type Folders = SystemFolders<'a, R, Patient<'a, R, E>>;
-
-    type Variables = SystemVariables<'a, R>;
-
-    ghost is_input = { λ _ _. ⊤ };
-
-    ghost is_output = { λ _ _. ⊤ };
-
-    ghost is_errors = { λ _ _. ⊤ };
-
-    ghost are_folders = { λ _ _. ⊤ };
-
-    ghost are_variables = { λ _ _. ⊤ };
-
-    fn input(&self) -> Patient<'a, R, R::Reader> {
-        Patient::new(self.rt, self.rt.reader())
-    }
-
-    fn output(&self) -> Patient<'a, R, Printer<'a, R>> {
-        Patient::new(self.rt, io::writer(self.rt))
-    }
-
-    fn errors(&self) -> Patient<'a, R, E> {
-        Patient::new(self.rt, self.errors)
-    }
-
-    fn folders(&self) -> SystemFolders<'a, R, Patient<'a, R, E>> {
-        SystemFolders::new(self.rt, Patient::new(self.rt, self.errors))
-    }
-
-    fn variables(&self) -> SystemVariables<'a, R> {
-        SystemVariables(self.rt)
+impl<R: Input + AllocGlobal + Clock, E, S, F, P> StandardCalls<'_, R, E, S, F, P> {
+    // Looks over the rule text that standard input has, and writes all its warnings.
+    fn review_on<W: Write>(
+        &self,
+        lines: &mut W,
+        faulty: &mut Vec<u8>,
+    ) -> Result<bool, ReviewFault> {
+        let alloc = self.rt.alloc();
+        let mut reader = KeepingReader::new(alloc, Patient::new(self.rt, self.rt.reader()));
+        let outcome = run_review(alloc, &mut reader, lines);
+        if let Err(ReviewFault::Text(fault)) = outcome {
+            reader.copy_line(fault.line, faulty);
+        }
+        drop(reader);
+        match (outcome, lines.flush()) {
+            (Ok(_), Err(_)) => Err(ReviewFault::WriteFault),
+            (outcome, _) => outcome,
+        }
     }
 }

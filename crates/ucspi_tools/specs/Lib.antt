@@ -2,7 +2,6 @@
 pub mod Causes
 pub mod Choices
 pub mod Exits
-pub mod Lent
 pub mod Runs
 pub mod Spared
 pub mod Systems

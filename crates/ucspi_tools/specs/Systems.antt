@@ -44,6 +44,10 @@ Filtered made read left written holds own =
 -- what is known of the answers of calls that are lent, each with the words that it was given
 pub record Answers (C : Type 0) : Type 1 where
   pub serves : C → Voice → List (List ℕ) → Result (Unit {0}) ServerFault → Type 0
+  pub simulates : C → Result (Unit {0}) SimFault → Type 0
+  pub installs : C → List ℕ → List ℕ → Result (Unit {0}) RulesFailure → Type 0
+  pub reviews : C → Result Bool ReviewFault → Type 0
+  pub checks : C → List ℕ → Result (Unit {0}) CheckFailure → Type 0
   pub fixes : C → List (List ℕ) → Result Status BetweenFault → Type 0
   pub records : C → List (List ℕ) → Result Status BetweenFault → Type 0
 
@@ -52,6 +56,10 @@ abbrev pub anything : {C : Type 0} → Answers C
 anything =
     record {
       serves = λ calls voice words own. Unit {0};
+      simulates = λ calls own. Unit {0};
+      installs = λ calls cdb tmp own. Unit {0};
+      reviews = λ calls own. Unit {0};
+      checks = λ calls cdb own. Unit {0};
       fixes = λ calls words own. Unit {0};
       records = λ calls words own. Unit {0};
     }

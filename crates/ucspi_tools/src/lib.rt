@@ -3,23 +3,20 @@
 //!
 //! The program uses `run_program`: it runs the one tool that name and words choose, once, and exits by its answer
 //! (`runs`). What a tool does is a relation of its own, of which `run_program` knows nothing. `SystemTools` says it of
-//! each tool but `tcpserver`, `fixcrio` and `recordio`, which it takes as `Calls`. The streams, folders and variables
-//! of `tcprules`, `tcprulescheck` and `rulesim` are lent (`Lends`). What is told behind the line of a fault comes after
-//! that line (`TellsLines`), and a tool's help is the text of `fault_hints` (`HelpIsWritten`). The lines of faults, the
-//! version and the list of tools are tested only.
+//! `addcr` and `delcr`, and takes each other tool as one of the `Calls` that it is lent. What is told behind the line of
+//! a fault comes after that line (`TellsLines`), and a tool's help is the text of `fault_hints` (`HelpIsWritten`). The
+//! lines of faults, the version and the list of tools are tested only.
 #![tactic(auto)]
 
 mod about;
 mod causes;
 pub mod choice;
 pub mod fault;
-pub mod lent;
 pub mod program;
 pub mod system;
 pub mod tool;
 pub mod tools;
 
-pub use lent::Lends;
 pub use program::run_program;
 pub use system::{Calls, SystemTools};
 pub use tools::Tools;

@@ -5,26 +5,25 @@ ghost use Rattle.byte_streams.specs.Wrapped.{added, deleted};
 ghost use Rattle.std.specs.Prelude.{◌++◌, OnOk, codes};
 ghost use Rattle.std.specs.Io.KnownBytes.{Appends};
 ghost use Rattle.ucspi_tools.specs.Causes.{MayTellStart, TellsCause, TellsInstalling, TellsLines, TellsReview, check_cause_of, hint_of, usage_hint};
-ghost use Rattle.ucspi_tools.specs.Lent.{Checks, Installs, Reviews, Simulates};
 ghost use Rattle.ucspi_tools.specs.Systems.{Answers, Filtered, HelpIsWritten, does_by};
 ghost use Rattle.ucspi_tools.specs.Spared.{SparesAll};
 
 use crate::about::{tell_tools, tell_version, tell_words};
 use crate::causes::{append_cause, append_faulty, append_rules, append_start};
 use crate::fault::{FaultLine, ToolFault, status_code, warned_code};
-use crate::lent::{Lends, check, install, review, simulate};
 use crate::tool::Tool;
 use crate::tools::Tools;
 use connection_facts::Status;
 use fault_hints::{Detail, Voice};
-use rules_tools::ReviewFault;
+use rules_tools::{CheckFailure, ReviewFault, RulesFailure};
+use script_tool::SimFault;
 use server_parts::ServerFault;
 use std::alloc::Global;
 use std::io;
 use std::io::{Read, Write};
 use stream_tools::{BetweenFault, FilterFault, add_returns, delete_returns};
 
-/// The tools over the system's programs and sockets, each as one call.
+/// The other tools, over the system's files, programs and sockets, each as one call.
 pub trait Calls {
     /// Whether the calls may be made.
     ghost ready: { Self → Type 0 };
@@ -45,6 +44,38 @@ pub trait Calls {
         requires { ready self.now }
         ensures { parts.serves self.now voice (texts_of words.now) result };
 
+    /// `rulesim`.
+    ///
+    /// # Errors
+    /// A script was not run to its end.
+    fn simulate(&self) -> Result<(), SimFault>
+        requires { ready self.now }
+        ensures { parts.simulates self.now result };
+
+    /// `tcprules`, by the paths of the rules file and of the scratch file. A faulty line of the text is left in `faulty`, where it was kept.
+    ///
+    /// # Errors
+    /// Rules were not installed.
+    fn install(&self, cdb: &str, tmp: &str, faulty: &mut Vec<u8>) -> Result<(), RulesFailure>
+        requires { ready self.now }
+        ensures { parts.installs self.now cdb.now tmp.now result };
+
+    /// `tcprules` over a text alone, which answers whether there was a warning; `faulty` as for `install`.
+    ///
+    /// # Errors
+    /// The text was not looked over to its end.
+    fn review(&self, faulty: &mut Vec<u8>) -> Result<bool, ReviewFault>
+        requires { ready self.now }
+        ensures { parts.reviews self.now result };
+
+    /// `tcprulescheck`, by the path of the rules file.
+    ///
+    /// # Errors
+    /// No decision is told.
+    fn check(&self, cdb: &str) -> Result<(), CheckFailure>
+        requires { ready self.now }
+        ensures { parts.checks self.now cdb.now result };
+
     /// `fixcrio`, by the words of its program. The number of the system's error is left in `error` where it did not start it.
     ///
     /// # Errors
@@ -62,7 +93,7 @@ pub trait Calls {
         ensures { parts.records self.now (texts_of words.now) result };
 }
 
-/// The tools: `addcr` and `delcr` over two streams, those for rules and scripts over what is lent, and the others as calls.
+/// The tools: `addcr` and `delcr` over two streams, and the others as calls.
 #[derive(Drop)]
 pub struct SystemTools<I, O, E, C> {
     /// What memory is taken from.
@@ -75,31 +106,19 @@ pub struct SystemTools<I, O, E, C> {
     pub errors: E,
     /// The lines of causes, which stand behind that of a fault.
     pub causes: Vec<u8>,
-    /// The other tools, and what those for rules and scripts are lent.
+    /// The other tools.
     pub calls: C,
 }
 
-impl<I: Read, O: Write, E: Write, C: Calls + Lends> Tools for SystemTools<I, O, E, C> {
+impl<I: Read, O: Write, E: Write, C: Calls> Tools for SystemTools<I, O, E, C> {
     ghost does = { does_by (record {
       serves = λ voice words s t own. C.parts.serves s.calls voice words own;
-      simulates = λ s t own. Simulates (C.is_input s.calls) (C.is_output s.calls) C.Input.remaining C.Output.contents own × (t ≡ s);
-      installs = λ detail cdb tmp s t own. Installs (C.is_input s.calls) (C.are_folders s.calls) C.Input.remaining (record {
-        tells = C.Folders.Opened.Dir;
-        are_one = C.Folders.are_one;
-        opens = C.Folders.opens;
-        closes = C.Folders.closes;
-      }) cdb tmp own × SparesAll s t
+      simulates = λ s t own. C.parts.simulates s.calls own × (t ≡ s);
+      installs = λ detail cdb tmp s t own. C.parts.installs s.calls cdb tmp own × SparesAll s t
           × TellsInstalling detail cdb tmp own s.causes.items t.causes.items;
-      reviews = λ detail s t own. Reviews (C.is_input s.calls) (C.is_errors s.calls) C.Input.remaining C.Errors.contents own × SparesAll s t
+      reviews = λ detail s t own. C.parts.reviews s.calls own × SparesAll s t
           × TellsReview detail own s.causes.items t.causes.items;
-      checks = λ detail cdb s t own. Checks (C.are_variables s.calls) (C.are_folders s.calls) (C.is_output s.calls) (record {
-        known_variables = C.Variables.honest;
-        known_folders = C.Folders.honest;
-        value = C.Variables.value;
-        stands = C.Folders.stands;
-        told = C.Folders.told;
-        contents = C.Output.contents;
-      }) cdb own × SparesAll s t
+      checks = λ detail cdb s t own. C.parts.checks s.calls cdb own × SparesAll s t
           × TellsCause detail (codes "tcprulescheck") cdb cdb (check_cause_of own) s.causes.items t.causes.items;
       adds = λ s t own. Filtered added (I.remaining s.input) (I.remaining t.input) (O.contents s.output) (O.contents t.output) own;
       deletes = λ s t own. Filtered deleted (I.remaining s.input) (I.remaining t.input) (O.contents s.output) (O.contents t.output) own;
@@ -123,7 +142,7 @@ impl<I: Read, O: Write, E: Write, C: Calls + Lends> Tools for SystemTools<I, O, 
     }
 
     fn rulesim(&mut self) -> Result<u8, ToolFault> {
-        match simulate(self.alloc, &self.calls) {
+        match self.calls.simulate() {
             Ok(()) => Ok(0),
             Err(fault) => Err(ToolFault::Script(fault)),
         }
@@ -131,7 +150,7 @@ impl<I: Read, O: Write, E: Write, C: Calls + Lends> Tools for SystemTools<I, O, 
 
     fn tcprules(&mut self, detail: Detail, cdb: &str, tmp: &str) -> Result<u8, ToolFault> {
         let mut faulty = Vec::new(self.alloc);
-        match install(self.alloc, &self.calls, cdb, tmp, &mut faulty) {
+        match self.calls.install(cdb, tmp, &mut faulty) {
             Ok(()) => Ok(0),
             Err(failure) => {
                 append_rules(
@@ -149,7 +168,7 @@ impl<I: Read, O: Write, E: Write, C: Calls + Lends> Tools for SystemTools<I, O, 
 
     fn review(&mut self, detail: Detail, strict: bool) -> Result<u8, ToolFault> {
         let mut faulty = Vec::new(self.alloc);
-        match review(self.alloc, &self.calls, &mut faulty) {
+        match self.calls.review(&mut faulty) {
             Ok(warned) => Ok(warned_code(strict, warned)),
             Err(fault) => {
                 if let ReviewFault::Text(line) = fault {
@@ -161,7 +180,7 @@ impl<I: Read, O: Write, E: Write, C: Calls + Lends> Tools for SystemTools<I, O, 
     }
 
     fn tcprulescheck(&mut self, detail: Detail, cdb: &str) -> Result<u8, ToolFault> {
-        match check(self.alloc, &self.calls, cdb) {
+        match self.calls.check(cdb) {
             Ok(()) => Ok(0),
             Err(failure) => {
                 append_cause(
