@@ -87,14 +87,9 @@ where
     }
 
     fn check(&self, cdb: &str) -> Result<(), CheckFailure> {
-        let alloc = self.rt.alloc();
-        let variables = SystemVariables(self.rt);
-        let mut folders = SystemFolders::new(self.rt, Patient::new(self.rt, self.errors));
-        let mut writer = NotingStream::new(Patient::new(self.rt, io::writer(self.rt)));
-        let told = run_tcprulescheck(alloc, &variables, &mut folders, &mut writer, cdb);
-        drop(writer);
-        drop(folders);
-        told
+        let errors = Patient::new(self.rt, self.errors);
+        let output = Patient::new(self.rt, io::writer(self.rt));
+        check_over(self.rt, errors, output, cdb)
     }
 
     fn fix(&self, words: &[Vec<u8>], error: &mut Option<i32>) -> Result<Status, BetweenFault> {
@@ -104,6 +99,23 @@ where
     fn record(&self, words: &[Vec<u8>], error: &mut Option<i32>) -> Result<Status, BetweenFault> {
         (self.record)(words, error)
     }
+}
+
+// `tcprulescheck` over this system. (The prover takes it only where nothing is known of the system's files.)
+fn check_over<R, E, W>(system: &R, errors: E, output: W, cdb: &str) -> Result<(), CheckFailure>
+where
+    R: Env + AllocGlobal + Files,
+    R::File: FileExt,
+    E: Write + Drop,
+    W: Write + Drop,
+{
+    let variables = SystemVariables(system);
+    let mut folders = SystemFolders::new(system, errors);
+    let mut writer = NotingStream::new(output);
+    let told = run_tcprulescheck(system.alloc(), &variables, &mut folders, &mut writer, cdb);
+    drop(writer);
+    drop(folders);
+    told
 }
 
 impl<R: Input + AllocGlobal + Clock, E, S, F, P> StandardCalls<'_, R, E, S, F, P> {
