@@ -4,17 +4,15 @@ By its own name a tool names the path, the reason and what to do, on lines behin
 prints the line of the fault alone, and the cause where `-v` asks for it. Where 0.88 is installed it gets the same words, and has to tell the reason too.
 """
 import os
-import resource
-import signal
 import socket
 import subprocess
 import tempfile
 
 from shared import compiled_files, plain_words
 from shared.checks import LIMIT, TOP, Checks
+from shared.fewer_rights import as_nobody, at_most_1000_bytes
 from shared.server_runs import read_all
 
-NOBODY = 65534
 ORIGINAL = "/usr/bin"
 TOOLS = ("tcpserver", "tcprules", "tcprulescheck", "fixcrio", "recordio", "addcr", "delcr", "rulesim")
 SERVER_USAGE = "usage: tcpserver [options] host port prog [args]"
@@ -61,17 +59,6 @@ class Messages(Checks):
         self.expect(name + ", of ucspi", self.run(words, False), (100, "", "%s: %s\n" % (words[0], line)))
         causes = "".join("%s: cause: %s\n" % (words[0], cause) for cause in behind)
         self.expect(name + ", of ucspi -v", self.run(words[:1] + ["-v"] + words[1:], False), (100, "", "%s: %s\n%s" % (words[0], line, causes)))
-
-
-def as_nobody():
-    if os.geteuid() == 0:
-        os.setgid(NOBODY)
-        os.setuid(NOBODY)
-
-
-def at_most_1000_bytes():
-    signal.signal(signal.SIGXFSZ, signal.SIG_IGN)
-    resource.setrlimit(resource.RLIMIT_FSIZE, (1000, 1000))
 
 
 def put(folder, name, text, mode=0o644):

@@ -7,10 +7,9 @@ import socket
 import subprocess
 
 from shared import plain_words, server_runs
+from shared.fewer_rights import as_nobody
 from shared.plain_words import NUMBERS
 
-# the user of nobody, as whom root tries what may not be done
-NOBODY = 65534
 USAGE = "usage: tcpserver [options] host port prog [args]"
 SERVE = ["127.0.0.1", "0", "true"]
 TABLE = (
@@ -130,9 +129,7 @@ def closed_folder(suite):
 
     def close():
         os.chmod(folder, 0)
-        if os.geteuid() == 0:
-            os.setgid(NOBODY)
-            os.setuid(NOBODY)
+        as_nobody()
 
     before = suite.command
     suite.command = [program] + before[1:]
