@@ -55,7 +55,7 @@ module _ (line rest : List ℕ → List ℕ) where
 
 -- ---- a text that a search cuts at its first line feed
 
--- what stands behind the byte at a place, as a slice is cut
+-- what stands behind the byte at a position, as a slice is cut
 abbrev pub behind : List ℕ → ℕ → List ℕ
 behind text k = take (length text - (k + 1)) (drop (k + 1) text)
 

@@ -19,116 +19,116 @@ module _ {S : Type 0} (rest : S → List ℕ → List ℕ) where
   through-append [] two text = refl
   through-append (wrapper ∷ one) two text = through-append one two (rest wrapper text)
 
-  -- a piece went through the wrappers before a place, and what they wrote of it did not go further yet
+  -- a piece went through the wrappers before a position, and what they wrote of it did not go further yet
   abbrev pub Flows : (olds news : List S) → ℕ → (piece from : List ℕ) → Type 0
-  Flows olds news place piece from = (later : List ℕ) → through rest olds (piece ++ later) ≡ through rest (drop place news) (from ++ through rest (take place news) later)
+  Flows olds news position piece from = (later : List ℕ) → through rest olds (piece ++ later) ≡ through rest (drop position news) (from ++ through rest (take position news) later)
 
-  -- a wrapper at a place, and those behind it
-  wrapper_at : (wrappers : List S) (place : ℕ) (d : S) → place < length wrappers → (text : List ℕ) → through rest (drop place wrappers) text ≡ through rest (drop (place + 1) wrappers) (rest (get_or wrappers place d) text)
-  wrapper_at wrappers place d inside text =
-      ap (λ tail. through rest tail text) (drop-cons wrappers place d inside)
-      ∙ ap (λ n. through rest (drop n wrappers) (rest (get_or wrappers place d) text)) (sym (add-one place))
+  -- a wrapper at a position, and those behind it
+  wrapper_at : (wrappers : List S) (position : ℕ) (d : S) → position < length wrappers → (text : List ℕ) → through rest (drop position wrappers) text ≡ through rest (drop (position + 1) wrappers) (rest (get_or wrappers position d) text)
+  wrapper_at wrappers position d inside text =
+      ap (λ tail. through rest tail text) (drop-cons wrappers position d inside)
+      ∙ ap (λ n. through rest (drop n wrappers) (rest (get_or wrappers position d) text)) (sym (add-one position))
 
-  drop_behind : (wrappers : List S) (place : ℕ) (s : S) → drop (place + 1) (set wrappers place s) ≡ drop (place + 1) wrappers
-  drop_behind wrappers place s = drop-set-lt (place + 1) wrappers place s (omega arith)
+  drop_behind : (wrappers : List S) (position : ℕ) (s : S) → drop (position + 1) (set wrappers position s) ≡ drop (position + 1) wrappers
+  drop_behind wrappers position s = drop-set-lt (position + 1) wrappers position s (omega arith)
 
-  front_with : (wrappers : List S) (place : ℕ) (s : S) → place < length wrappers → (text : List ℕ) → through rest (take (place + 1) (set wrappers place s)) text ≡ rest s (through rest (take place wrappers) text)
-  front_with wrappers place s inside text =
-      ap (λ front. through rest front text) (ap (λ n. take n (set wrappers place s)) (add-one place) ∙ take-suc-set wrappers place s inside)
-      ∙ through-append (take place wrappers) (s ∷ []) text
+  front_with : (wrappers : List S) (position : ℕ) (s : S) → position < length wrappers → (text : List ℕ) → through rest (take (position + 1) (set wrappers position s)) text ≡ rest s (through rest (take position wrappers) text)
+  front_with wrappers position s inside text =
+      ap (λ front. through rest front text) (ap (λ n. take n (set wrappers position s)) (add-one position) ∙ take-suc-set wrappers position s inside)
+      ∙ through-append (take position wrappers) (s ∷ []) text
 
-  -- the wrapper at the place took what came so far
-  pub flows_more : (olds news : List S) (place : ℕ) (d s : S) (piece from into : List ℕ) → place < length news → Flows olds news place piece from → Feeds (rest (get_or news place d)) (rest s) from [] into → Flows olds (set news place s) (place + 1) piece into
-  flows_more olds news place d s piece from into inside flows feeds = λ later.
-      let front = through rest (take place news) later in
+  -- the wrapper at the position took what came so far
+  pub flows_more : (olds news : List S) (position : ℕ) (d s : S) (piece from into : List ℕ) → position < length news → Flows olds news position piece from → Feeds (rest (get_or news position d)) (rest s) from [] into → Flows olds (set news position s) (position + 1) piece into
+  flows_more olds news position d s piece from into inside flows feeds = λ later.
+      let front = through rest (take position news) later in
       let given_is : feeds.given ≡ into = sym feeds.added in
       flows later
-      ∙ wrapper_at news place d inside (from ++ front)
-      ∙ ap (through rest (drop (place + 1) news)) (feeds.gives front ∙ ap (λ x. x ++ rest s front) given_is)
-      ∙ ap (λ tail. through rest tail (into ++ rest s front)) (sym (drop_behind news place s))
-      ∙ ap (λ x. through rest (drop (place + 1) (set news place s)) (into ++ x)) (sym (front_with news place s inside later))
+      ∙ wrapper_at news position d inside (from ++ front)
+      ∙ ap (through rest (drop (position + 1) news)) (feeds.gives front ∙ ap (λ x. x ++ rest s front) given_is)
+      ∙ ap (λ tail. through rest tail (into ++ rest s front)) (sym (drop_behind news position s))
+      ∙ ap (λ x. through rest (drop (position + 1) (set news position s)) (into ++ x)) (sym (front_with news position s inside later))
 
   -- the last wrapper took it
-  pub flows_last : (olds news : List S) (place : ℕ) (d s : S) (piece from before after : List ℕ) → place + 1 ≡ length news → Flows olds news place piece from → Feeds (rest (get_or news place d)) (rest s) from before after → Feeds (through rest olds) (through rest (set news place s)) piece before after
-  flows_last olds news place d s piece from before after last flows feeds = record {
+  pub flows_last : (olds news : List S) (position : ℕ) (d s : S) (piece from before after : List ℕ) → position + 1 ≡ length news → Flows olds news position piece from → Feeds (rest (get_or news position d)) (rest s) from before after → Feeds (through rest olds) (through rest (set news position s)) piece before after
+  flows_last olds news position d s piece from before after last flows feeds = record {
     given = feeds.given;
     added = feeds.added;
     gives = λ later.
-        let inside : place < length news = omega arith in
-        let front = through rest (take place news) later in
+        let inside : position < length news = omega arith in
+        let front = through rest (take position news) later in
         flows later
-        ∙ wrapper_at news place d inside (from ++ front)
-        ∙ ap (λ tail. through rest tail (rest (get_or news place d) (from ++ front))) (drop_all (place + 1) news (omega arith))
+        ∙ wrapper_at news position d inside (from ++ front)
+        ∙ ap (λ tail. through rest tail (rest (get_or news position d) (from ++ front))) (drop_all (position + 1) news (omega arith))
         ∙ feeds.gives front
-        ∙ ap (λ x. feeds.given ++ x) (sym (front_with news place s inside later) ∙ ap (λ wrappers. through rest wrappers later) (take_all (place + 1) (set news place s) (omega (arith, length-set {A = S}))));
+        ∙ ap (λ x. feeds.given ++ x) (sym (front_with news position s inside later) ∙ ap (λ wrappers. through rest wrappers later) (take_all (position + 1) (set news position s) (omega (arith, length-set {A = S}))));
   }
 
   -- at the end of the text
-  pub ends_more : (olds news : List S) (place : ℕ) (d s : S) (from into before : List ℕ) → place < length news → through rest olds before ≡ through rest (drop place news) from → into ≡ rest (get_or news place d) from → through rest olds before ≡ through rest (drop (place + 1) (set news place s)) into
-  ends_more olds news place d s from into before inside so_far is =
-      so_far ∙ wrapper_at news place d inside from
-      ∙ ap (through rest (drop (place + 1) news)) (sym is)
-      ∙ ap (λ tail. through rest tail into) (sym (drop_behind news place s))
+  pub ends_more : (olds news : List S) (position : ℕ) (d s : S) (from into before : List ℕ) → position < length news → through rest olds before ≡ through rest (drop position news) from → into ≡ rest (get_or news position d) from → through rest olds before ≡ through rest (drop (position + 1) (set news position s)) into
+  ends_more olds news position d s from into before inside so_far is =
+      so_far ∙ wrapper_at news position d inside from
+      ∙ ap (through rest (drop (position + 1) news)) (sym is)
+      ∙ ap (λ tail. through rest tail into) (sym (drop_behind news position s))
 
 -- ---- one wrapper for another
 
 module _ {S : Type 0} {V : Type 0} (f : S → V) where
-  pub map-set : (wrappers : List S) (place : ℕ) (d s : S) → f s ≡ f (get_or wrappers place d) → map f (set wrappers place s) ≡ map f wrappers
-  map-set [] place d s same = refl
+  pub map-set : (wrappers : List S) (position : ℕ) (d s : S) → f s ≡ f (get_or wrappers position d) → map f (set wrappers position s) ≡ map f wrappers
+  map-set [] position d s same = refl
   map-set (wrapper ∷ wrappers) zero d s same = ap (λ v. v ∷ map f wrappers) same
-  map-set (wrapper ∷ wrappers) (suc place) d s same = ap (λ vs. f wrapper ∷ vs) (map-set wrappers place d s same)
+  map-set (wrapper ∷ wrappers) (suc position) d s same = ap (λ vs. f wrapper ∷ vs) (map-set wrappers position d s same)
 
 -- ---- the same, of a wrapper as a loop finds it
 
 module _ {S : Type 0} where
-  pub wholes_more : {V : Type 0} (olds news : List S) (place : ℕ) (d s : S) (f : S → V) → f s ≡ f (get_or news place d) → map f news ≡ map f olds → map f (set news place s) ≡ map f olds
-  wholes_more olds news place d s f same so_far = map-set f news place d s same ∙ so_far
+  pub wholes_more : {V : Type 0} (olds news : List S) (position : ℕ) (d s : S) (f : S → V) → f s ≡ f (get_or news position d) → map f news ≡ map f olds → map f (set news position s) ≡ map f olds
+  wholes_more olds news position d s f same so_far = map-set f news position d s same ∙ so_far
 
-  pub through_wholes : (olds news : List S) (place : ℕ) (d s : S) (f : S → List ℕ → List ℕ) → f s ≡ f (get_or news place d) → map f news ≡ map f olds → through f (set news place s) ≡ through f olds
-  through_wholes olds news place d s f same so_far =
-      through_same f f (set news place s) olds (wholes_more olds news place d s f same so_far)
+  pub through_wholes : (olds news : List S) (position : ℕ) (d s : S) (f : S → List ℕ → List ℕ) → f s ≡ f (get_or news position d) → map f news ≡ map f olds → through f (set news position s) ≡ through f olds
+  through_wholes olds news position d s f same so_far =
+      through_same f f (set news position s) olds (wholes_more olds news position d s f same so_far)
 
-  pub flow_step : (olds news : List S) (place : ℕ) (d s : S) (rest : S → List ℕ → List ℕ) (piece from lent empty into final : List ℕ) → place < length news → Flows rest olds news place piece from → lent ≡ from → empty ≡ [] → Feeds (rest (get_or news place d)) (rest s) lent empty into → final ≡ into → Flows rest olds (set news place s) (place + 1) piece final
-  flow_step olds news place d s rest piece from lent empty into final inside flows lent_is empty_is feeds final_is =
-      flows_more rest olds news place d s piece from final inside flows (record {
+  pub flow_step : (olds news : List S) (position : ℕ) (d s : S) (rest : S → List ℕ → List ℕ) (piece from lent empty into final : List ℕ) → position < length news → Flows rest olds news position piece from → lent ≡ from → empty ≡ [] → Feeds (rest (get_or news position d)) (rest s) lent empty into → final ≡ into → Flows rest olds (set news position s) (position + 1) piece final
+  flow_step olds news position d s rest piece from lent empty into final inside flows lent_is empty_is feeds final_is =
+      flows_more rest olds news position d s piece from final inside flows (record {
         given = feeds.given;
         added = final_is ∙ feeds.added ∙ ap (λ x. x ++ feeds.given) empty_is;
-        gives = λ later. ap (λ x. rest (get_or news place d) (x ++ later)) (sym lent_is) ∙ feeds.gives later;
+        gives = λ later. ap (λ x. rest (get_or news position d) (x ++ later)) (sym lent_is) ∙ feeds.gives later;
       })
 
-  pub flow_end : (result : Result (Unit {0}) AllocError) (olds news : List S) (place last : ℕ) (d s : S) (rest : S → List ℕ → List ℕ) (piece from lent before after : List ℕ) → place ≡ last → last + 1 ≡ length news → Flows rest olds news place piece from → lent ≡ from → OnOk result (Feeds (rest (get_or news last d)) (rest s) lent before after) → OnOk result (Feeds (through rest olds) (through rest (set news last s)) piece before after)
-  flow_end (Err _) olds news place last d s rest piece from lent before after here ends flows lent_is feeds = tt
-  flow_end (Ok _) olds news place last d s rest piece from lent before after here ends flows lent_is feeds =
+  pub flow_end : (result : Result (Unit {0}) AllocError) (olds news : List S) (position last : ℕ) (d s : S) (rest : S → List ℕ → List ℕ) (piece from lent before after : List ℕ) → position ≡ last → last + 1 ≡ length news → Flows rest olds news position piece from → lent ≡ from → OnOk result (Feeds (rest (get_or news last d)) (rest s) lent before after) → OnOk result (Feeds (through rest olds) (through rest (set news last s)) piece before after)
+  flow_end (Err _) olds news position last d s rest piece from lent before after here ends flows lent_is feeds = tt
+  flow_end (Ok _) olds news position last d s rest piece from lent before after here ends flows lent_is feeds =
       flows_last rest olds news last d s piece from before after ends (subst (λ n. Flows rest olds news n piece from) here flows) (record {
         given = feeds.given;
         added = feeds.added;
         gives = λ later. ap (λ x. rest (get_or news last d) (x ++ later)) (sym lent_is) ∙ feeds.gives later;
       })
 
-  pub ends_step : (olds news : List S) (place : ℕ) (d s : S) (rest : S → List ℕ → List ℕ) (before from lent empty into final : List ℕ) → place < length news → through rest olds before ≡ through rest (drop place news) from → lent ≡ from → empty ≡ [] → into ≡ empty ++ rest (get_or news place d) lent → final ≡ into → through rest olds before ≡ through rest (drop (place + 1) (set news place s)) final
-  ends_step olds news place d s rest before from lent empty into final inside so_far lent_is empty_is into_is final_is =
-      ends_more rest olds news place d s from final before inside so_far
-      (final_is ∙ into_is ∙ ap (λ x. x ++ rest (get_or news place d) lent) empty_is ∙ ap (rest (get_or news place d)) lent_is)
+  pub ends_step : (olds news : List S) (position : ℕ) (d s : S) (rest : S → List ℕ → List ℕ) (before from lent empty into final : List ℕ) → position < length news → through rest olds before ≡ through rest (drop position news) from → lent ≡ from → empty ≡ [] → into ≡ empty ++ rest (get_or news position d) lent → final ≡ into → through rest olds before ≡ through rest (drop (position + 1) (set news position s)) final
+  ends_step olds news position d s rest before from lent empty into final inside so_far lent_is empty_is into_is final_is =
+      ends_more rest olds news position d s from final before inside so_far
+      (final_is ∙ into_is ∙ ap (λ x. x ++ rest (get_or news position d) lent) empty_is ∙ ap (rest (get_or news position d)) lent_is)
 
-  -- the wrappers before the place are as at the beginning of a text
-  pub renewed_more : {V : Type 0} (olds news : List S) (place : ℕ) (d s : S) (rest whole : S → V) → place < length news → rest s ≡ whole (get_or news place d) → map rest (take place news) ++ map whole (drop place news) ≡ map whole olds → map rest (take (place + 1) (set news place s)) ++ map whole (drop (place + 1) (set news place s)) ≡ map whole olds
-  renewed_more olds news place d s rest whole inside same so_far =
-      let before = map rest (take place news) in
-      let behind = map whole (drop (place + 1) news) in
-      ap (λ l. map rest l ++ map whole (drop (place + 1) (set news place s))) (ap (λ n. take n (set news place s)) (add-one place) ∙ take-suc-set news place s inside)
-      ∙ ap (λ l. map rest (take place news ++ s ∷ []) ++ map whole l) (drop-set-lt (place + 1) news place s (omega arith))
-      ∙ ap (λ l. l ++ behind) (map-append rest (take place news) (s ∷ []))
+  -- the wrappers before the position are as at the beginning of a text
+  pub renewed_more : {V : Type 0} (olds news : List S) (position : ℕ) (d s : S) (rest whole : S → V) → position < length news → rest s ≡ whole (get_or news position d) → map rest (take position news) ++ map whole (drop position news) ≡ map whole olds → map rest (take (position + 1) (set news position s)) ++ map whole (drop (position + 1) (set news position s)) ≡ map whole olds
+  renewed_more olds news position d s rest whole inside same so_far =
+      let before = map rest (take position news) in
+      let behind = map whole (drop (position + 1) news) in
+      ap (λ l. map rest l ++ map whole (drop (position + 1) (set news position s))) (ap (λ n. take n (set news position s)) (add-one position) ∙ take-suc-set news position s inside)
+      ∙ ap (λ l. map rest (take position news ++ s ∷ []) ++ map whole l) (drop-set-lt (position + 1) news position s (omega arith))
+      ∙ ap (λ l. l ++ behind) (map-append rest (take position news) (s ∷ []))
       ∙ append_assoc before (rest s ∷ []) behind
       ∙ ap (λ v. before ++ v ∷ behind) same
-      ∙ ap (λ l. before ++ map whole l) (ap (λ n. get_or news place d ∷ drop n news) (add-one place) ∙ sym (drop-cons news place d inside))
+      ∙ ap (λ l. before ++ map whole l) (ap (λ n. get_or news position d ∷ drop n news) (add-one position) ∙ sym (drop-cons news position d inside))
       ∙ so_far
 
-  pub renewed_end : (olds news : List S) (place : ℕ) (rest whole : S → List ℕ → List ℕ) → length news ≤ place → map rest (take place news) ++ map whole (drop place news) ≡ map whole olds → through rest news ≡ through whole olds
-  renewed_end olds news place rest whole all so_far =
+  pub renewed_end : (olds news : List S) (position : ℕ) (rest whole : S → List ℕ → List ℕ) → length news ≤ position → map rest (take position news) ++ map whole (drop position news) ≡ map whole olds → through rest news ≡ through whole olds
+  renewed_end olds news position rest whole all so_far =
       through_same rest whole news olds
       (sym (append-nil (map rest news))
-      ∙ ap (λ l. map rest l ++ []) (sym (take_all place news all))
-      ∙ ap (λ l. map rest (take place news) ++ map whole l) (sym (drop_all place news all))
+      ∙ ap (λ l. map rest l ++ []) (sym (take_all position news all))
+      ∙ ap (λ l. map rest (take position news) ++ map whole l) (sym (drop_all position news all))
       ∙ so_far)
 
 -- what was lent of a vector stands in it again

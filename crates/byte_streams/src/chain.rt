@@ -151,9 +151,9 @@ fn feed_all<S: LineWrapper>(
     }
     from.clear();
     wrappers[0].feed(piece, from)?;
-    for place in 1..last {
+    for position in 1..last {
         into.clear();
-        wrappers[place].feed(from, into)?;
+        wrappers[position].feed(from, into)?;
         mem::swap(from, into);
     }
     wrappers[last].feed(from, out)
@@ -168,9 +168,9 @@ fn finish_through<S: LineWrapper>(
     ensures finished { OnOk result (from.new.items ≡ through S.rest wrappers.old from.old.items) }
     ensures wholes { through S.whole wrappers.new ≡ through S.whole wrappers.old }
 {
-    for place in 0..wrappers.len() {
+    for position in 0..wrappers.len() {
         into.clear();
-        finish_one(&mut wrappers[place], from, into)?;
+        finish_one(&mut wrappers[position], from, into)?;
         mem::swap(from, into);
     }
     Ok(())
@@ -180,8 +180,8 @@ fn renew_all<S: LineWrapper>(wrappers: &mut [S])
     ensures renewed { through S.rest wrappers.new ≡ through S.whole wrappers.old }
     ensures wholes { through S.whole wrappers.new ≡ through S.whole wrappers.old }
 {
-    for place in 0..wrappers.len() {
-        wrappers[place].renew();
+    for position in 0..wrappers.len() {
+        wrappers[position].renew();
     }
 }
 

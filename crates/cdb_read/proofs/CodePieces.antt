@@ -60,35 +60,35 @@ length-verdict_code Allow = omega arith
 length-verdict_code Deny = omega arith
 
 -- a value whose first two bytes were read, as its verdict and what they have of the codes behind it
-module _ (file : List ℕ) (place len : ℕ) (inside : place + len ≤ length file) (long : 2 ≤ len) (head codes : List ℕ) (verdict : Verdict) (is : head ≡ bytes_at file place 2) (begins : verdict ≡ verdict_in head) (follows : codes ≡ drop (length (verdict_code verdict)) head) where
-  length-value : length (bytes_at file place len) ≡ len
-  length-value = length-take-le len (drop place file) (omega (arith, length-drop place file))
+module _ (file : List ℕ) (position len : ℕ) (inside : position + len ≤ length file) (long : 2 ≤ len) (head codes : List ℕ) (verdict : Verdict) (is : head ≡ bytes_at file position 2) (begins : verdict ≡ verdict_in head) (follows : codes ≡ drop (length (verdict_code verdict)) head) where
+  length-value : length (bytes_at file position len) ≡ len
+  length-value = length-take-le len (drop position file) (omega (arith, length-drop position file))
 
-  verdict-same : verdict ≡ verdict_in (bytes_at file place len)
+  verdict-same : verdict ≡ verdict_in (bytes_at file position len)
   verdict-same =
       let more = len - 2 in
       let parts : 2 + more ≡ len = omega arith in
-      let front : take 2 (drop place file) ≡ take 2 (bytes_at file place len) =
-      sym (take-take 2 more (drop place file) (omega (arith, length-drop place file))) ∙ ap (λ n. take 2 (take n (drop place file))) parts in
-      begins ∙ ap verdict_in (is ∙ front) ∙ verdict_in-front (bytes_at file place len) (omega (arith, length-value))
+      let front : take 2 (drop position file) ≡ take 2 (bytes_at file position len) =
+      sym (take-take 2 more (drop position file) (omega (arith, length-drop position file))) ∙ ap (λ n. take 2 (take n (drop position file))) parts in
+      begins ∙ ap verdict_in (is ∙ front) ∙ verdict_in-front (bytes_at file position len) (omega (arith, length-value))
 
   begin-same : 2 - length codes ≡ length (verdict_code verdict)
   begin-same =
-      let two : length head ≡ 2 = ap length is ∙ length-take-le 2 (drop place file) (omega (arith, length-drop place file)) in
+      let two : length head ≡ 2 = ap length is ∙ length-take-le 2 (drop position file) (omega (arith, length-drop position file)) in
       omega (arith, ap length follows, length-drop (length (verdict_code verdict)) head, length-verdict_code verdict)
 
-  codes-behind : bytes_at file (place + (2 - length codes)) (len - (2 - length codes)) ≡ drop (length (verdict_code verdict)) (bytes_at file place len)
+  codes-behind : bytes_at file (position + (2 - length codes)) (len - (2 - length codes)) ≡ drop (length (verdict_code verdict)) (bytes_at file position len)
   codes-behind =
       let begin = 2 - length codes in
       let parts : begin + (len - begin) ≡ len = omega arith in
-      ap (take (len - begin)) (sym (drop-drop begin place file))
-      ∙ sym (drop-take begin (len - begin) (drop place file))
-      ∙ ap (λ n. drop begin (take n (drop place file))) parts
-      ∙ ap (λ n. drop n (bytes_at file place len)) begin-same
+      ap (take (len - begin)) (sym (drop-drop begin position file))
+      ∙ sym (drop-take begin (len - begin) (drop position file))
+      ∙ ap (λ n. drop begin (take n (drop position file))) parts
+      ∙ ap (λ n. drop n (bytes_at file position len)) begin-same
 
-  pub decoded-behind : (settings : List Assignment) → settings_in (pieces_of 0 (bytes_at file (place + (2 - length codes)) (len - (2 - length codes)))) ≡ Some settings → decoded (bytes_at file place len) ≡ Some (record { verdict = verdict; settings = settings })
+  pub decoded-behind : (settings : List Assignment) → settings_in (pieces_of 0 (bytes_at file (position + (2 - length codes)) (len - (2 - length codes)))) ≡ Some settings → decoded (bytes_at file position len) ≡ Some (record { verdict = verdict; settings = settings })
   decoded-behind settings found =
-      decoded-found (bytes_at file place len) _ verdict verdict-same codes-behind settings found
+      decoded-found (bytes_at file position len) _ verdict verdict-same codes-behind settings found
 
-  pub refused-behind : settings_in (pieces_of 0 (bytes_at file (place + (2 - length codes)) (len - (2 - length codes)))) ≡ None → decoded (bytes_at file place len) ≡ None
-  refused-behind none = decoded-refused (bytes_at file place len) _ verdict verdict-same codes-behind none
+  pub refused-behind : settings_in (pieces_of 0 (bytes_at file (position + (2 - length codes)) (len - (2 - length codes)))) ≡ None → decoded (bytes_at file position len) ≡ None
+  refused-behind none = decoded-refused (bytes_at file position len) _ verdict verdict-same codes-behind none

@@ -34,7 +34,7 @@ CodeFails-settings honest sound value codes (Find OutOfMemory) none fails = fail
 CodeFails-settings honest sound value codes (Code fault) none fails = λ h. none h (fails h)
 CodeFails-settings honest sound value codes NoMemory none fails = tt
 
--- a fault at one place is one of what is found there
+-- a fault at one position is one of what is found there
 pub IsFault-at : (honest sound : Bool) (found whole : Finding) (e : FindFault) → IsFault honest sound found e → (IsTrue honest → found ≡ Broken → whole ≡ Broken) → IsFault honest sound whole e
 IsFault-at honest sound found whole Short fault broken = λ h. broken h (fault h)
 IsFault-at honest sound found whole Device fault broken = fault

@@ -17,29 +17,29 @@ pub bytes_eq-other : (xs ys : List ℕ) → xs ≢ ys → bytes_eq xs ys ≡ fal
 bytes_eq-other xs ys other = false_from_ne_true (bytes_eq xs ys) (λ same. other ((bytes_eq-Decides xs ys).0 same))
 
 -- a record with the key is not seen to have another
-has_other_key-same : (file key : List ℕ) (place : ℕ) (pair : Pair) → IsReadAt file place pair → pair.key ≡ key → has_other_key file key place ≡ false
-has_other_key-same file key place pair read same =
-    let in_front : lies_in file place 8 ≡ true = le-leb (place + 8) (length file) (omega (arith, read.inside)) in
-    let long : (number_at file place == length key) ≡ true = eq-eqb (number_at file place) (length key) (read.key_length ∙ ap length same) in
-    let inside : lies_in file (place + 8) (length key) ≡ true = le-leb (place + 8 + length key) (length file) (omega (arith, read.inside, ap length same)) in
-    let text : bytes_eq (take (length key) (drop (place + 8) file)) key ≡ true =
-    bytes_eq-same (take (length key) (drop (place + 8) file)) key (ap (λ k. take (length k) (drop (place + 8) file)) (sym same) ∙ read.key ∙ same) in
+has_other_key-same : (file key : List ℕ) (position : ℕ) (pair : Pair) → IsReadAt file position pair → pair.key ≡ key → has_other_key file key position ≡ false
+has_other_key-same file key position pair read same =
+    let in_front : lies_in file position 8 ≡ true = le-leb (position + 8) (length file) (omega (arith, read.inside)) in
+    let long : (number_at file position == length key) ≡ true = eq-eqb (number_at file position) (length key) (read.key_length ∙ ap length same) in
+    let inside : lies_in file (position + 8) (length key) ≡ true = le-leb (position + 8 + length key) (length file) (omega (arith, read.inside, ap length same)) in
+    let text : bytes_eq (take (length key) (drop (position + 8) file)) key ≡ true =
+    bytes_eq-same (take (length key) (drop (position + 8) file)) key (ap (λ k. take (length k) (drop (position + 8) file)) (sym same) ∙ read.key ∙ same) in
     rw (in_front, long, inside, text) refl
 
 -- a record with another key is seen to have it
-has_other_key-other : (file key : List ℕ) (place : ℕ) (pair : Pair) → IsReadAt file place pair → pair.key ≢ key → has_other_key file key place ≡ true
-has_other_key-other file key place pair read other =
-    let in_front : lies_in file place 8 ≡ true = le-leb (place + 8) (length file) (omega (arith, read.inside)) in
+has_other_key-other : (file key : List ℕ) (position : ℕ) (pair : Pair) → IsReadAt file position pair → pair.key ≢ key → has_other_key file key position ≡ true
+has_other_key-other file key position pair read other =
+    let in_front : lies_in file position 8 ≡ true = le-leb (position + 8) (length file) (omega (arith, read.inside)) in
     elim (cases_eq (length pair.key) (length key)) [
       | inl as_long ↦
-          let long : (number_at file place == length key) ≡ true = eq-eqb (number_at file place) (length key) (read.key_length ∙ as_long) in
-          let inside : lies_in file (place + 8) (length key) ≡ true = le-leb (place + 8 + length key) (length file) (omega (arith, read.inside)) in
-          let bytes : take (length key) (drop (place + 8) file) ≡ pair.key = ap (λ n. take n (drop (place + 8) file)) (sym as_long) ∙ read.key in
-          let text : bytes_eq (take (length key) (drop (place + 8) file)) key ≡ false =
-          bytes_eq-other (take (length key) (drop (place + 8) file)) key (λ same. other (sym bytes ∙ same)) in
+          let long : (number_at file position == length key) ≡ true = eq-eqb (number_at file position) (length key) (read.key_length ∙ as_long) in
+          let inside : lies_in file (position + 8) (length key) ≡ true = le-leb (position + 8 + length key) (length file) (omega (arith, read.inside)) in
+          let bytes : take (length key) (drop (position + 8) file) ≡ pair.key = ap (λ n. take n (drop (position + 8) file)) (sym as_long) ∙ read.key in
+          let text : bytes_eq (take (length key) (drop (position + 8) file)) key ≡ false =
+          bytes_eq-other (take (length key) (drop (position + 8) file)) key (λ same. other (sym bytes ∙ same)) in
           rw (in_front, long, inside, text) refl
       | inr not_as_long ↦
-          let long : (number_at file place == length key) ≡ false = ne_eqb (number_at file place) (length key) (λ same. not_as_long (sym read.key_length ∙ same)) in
+          let long : (number_at file position == length key) ≡ false = ne_eqb (number_at file position) (length key) (λ same. not_as_long (sym read.key_length ∙ same)) in
           rw (in_front, long) refl
     ]
 
@@ -64,13 +64,13 @@ is_passed-same file key slot pair of same =
     (or_from (not (slot.0 == hash_of key)) (has_other_key file key slot.1) (not_from_true (slot.0 == hash_of key) hash) seen)
 
 -- and there its value is found
-pub value_at-same : (file key : List ℕ) (place : ℕ) (pair : Pair) → IsReadAt file place pair → pair.key ≡ key → value_at file key place ≡ Has pair.value
-value_at-same file key place pair read same =
-    let in_front : lies_in file place 8 ≡ true = le-leb (place + 8) (length file) (omega (arith, read.inside)) in
-    let inside : lies_in file (place + 8 + length key) (number_at file (place + 4)) ≡ true =
-    le-leb (place + 8 + length key + number_at file (place + 4)) (length file) (omega (arith, read.inside, read.value_length, ap length same)) in
-    let bytes : take (number_at file (place + 4)) (drop (place + 8 + length key) file) ≡ pair.value =
-    ap (λ n. take n (drop (place + 8 + length key) file)) read.value_length
-    ∙ ap (λ k. take (length pair.value) (drop (place + 8 + length k) file)) (sym same)
+pub value_at-same : (file key : List ℕ) (position : ℕ) (pair : Pair) → IsReadAt file position pair → pair.key ≡ key → value_at file key position ≡ Has pair.value
+value_at-same file key position pair read same =
+    let in_front : lies_in file position 8 ≡ true = le-leb (position + 8) (length file) (omega (arith, read.inside)) in
+    let inside : lies_in file (position + 8 + length key) (number_at file (position + 4)) ≡ true =
+    le-leb (position + 8 + length key + number_at file (position + 4)) (length file) (omega (arith, read.inside, read.value_length, ap length same)) in
+    let bytes : take (number_at file (position + 4)) (drop (position + 8 + length key) file) ≡ pair.value =
+    ap (λ n. take n (drop (position + 8 + length key) file)) read.value_length
+    ∙ ap (λ k. take (length pair.value) (drop (position + 8 + length k) file)) (sym same)
     ∙ read.value in
     rw (in_front, inside, bytes) refl

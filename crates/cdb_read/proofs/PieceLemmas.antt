@@ -37,14 +37,14 @@ pub take-take : (n m : ℕ) (xs : List ℕ) → n + m ≤ length xs → take n (
 take-take n m xs inside =
     ap (take n) (take-add n m xs) ∙ take_at (take n xs) (take m (drop n xs)) n (length-take-le n xs (omega arith))
 
--- a piece that was read at a place of a value is one of the value
-pub piece_of : (file : List ℕ) (place len done count : ℕ) → place + len ≤ length file → done + count ≤ len → bytes_at file (place + done) count ≡ take count (drop done (bytes_at file place len))
-piece_of file place len done count inside within =
+-- a piece that was read at a position of a value is one of the value
+pub piece_of : (file : List ℕ) (position len done count : ℕ) → position + len ≤ length file → done + count ≤ len → bytes_at file (position + done) count ≡ take count (drop done (bytes_at file position len))
+piece_of file position len done count inside within =
     let more = len - done - count in
     let parts : len ≡ done + (count + more) = omega arith in
-    let rest : drop done (bytes_at file place len) ≡ take (count + more) (drop (place + done) file) =
-    ap (λ n. drop done (take n (drop place file))) parts ∙ drop-take done (count + more) (drop place file) ∙ ap (take (count + more)) (drop-drop done place file) in
-    sym (ap (take count) rest ∙ take-take count more (drop (place + done) file) (omega (arith, length-drop (place + done) file)))
+    let rest : drop done (bytes_at file position len) ≡ take (count + more) (drop (position + done) file) =
+    ap (λ n. drop done (take n (drop position file))) parts ∙ drop-take done (count + more) (drop position file) ∙ ap (take (count + more)) (drop-drop done position file) in
+    sym (ap (take count) rest ∙ take-take count more (drop (position + done) file) (omega (arith, length-drop (position + done) file)))
 
 -- how far the bytes of a value, read so far, may be a code
 pub record GoesOn (value : List ℕ) (done : ℕ) (stage : Stage) : Type 0 where
@@ -111,53 +111,53 @@ pub refused-end : (value : List ℕ) (done : ℕ) (stage : Stage) → GoesOn val
 refused-end value done stage on past stops =
     decoded-stopped value (ap (λ bs. may_end (stage_from Nothing bs)) (sym (take_all done value past)) ∙ ap may_end (sym on.reached) ∙ stops)
 
--- the numbers at a place of bytes that were read together
-byte_there : (file : List ℕ) (place n k i : ℕ) → k + i < n → get_or (drop k (bytes_at file place n)) i 0 ≡ get_or (drop (place + k) file) i 0
-byte_there file place n k i below =
-    let sum : place + (k + i) ≡ place + k + i = omega arith in
-    get_or-drop k (bytes_at file place n) i 0
-    ∙ get_or-take n (drop place file) (k + i) 0 below
-    ∙ get_or-drop place file (k + i) 0
+-- the numbers at a position of bytes that were read together
+byte_there : (file : List ℕ) (position n k i : ℕ) → k + i < n → get_or (drop k (bytes_at file position n)) i 0 ≡ get_or (drop (position + k) file) i 0
+byte_there file position n k i below =
+    let sum : position + (k + i) ≡ position + k + i = omega arith in
+    get_or-drop k (bytes_at file position n) i 0
+    ∙ get_or-take n (drop position file) (k + i) 0 below
+    ∙ get_or-drop position file (k + i) 0
     ∙ ap (λ j. get_or file j 0) sum
-    ∙ sym (get_or-drop (place + k) file i 0)
+    ∙ sym (get_or-drop (position + k) file i 0)
 
-number_there : (file : List ℕ) (place n k : ℕ) → k + 4 ≤ n → number_at (bytes_at file place n) k ≡ number_at file (place + k)
-number_there file place n k inside =
-    let b0 = byte_there file place n k 0 (omega arith) in
-    let b1 = byte_there file place n k 1 (omega arith) in
-    let b2 = byte_there file place n k 2 (omega arith) in
-    let b3 = byte_there file place n k 3 (omega arith) in
+number_there : (file : List ℕ) (position n k : ℕ) → k + 4 ≤ n → number_at (bytes_at file position n) k ≡ number_at file (position + k)
+number_there file position n k inside =
+    let b0 = byte_there file position n k 0 (omega arith) in
+    let b1 = byte_there file position n k 1 (omega arith) in
+    let b2 = byte_there file position n k 2 (omega arith) in
+    let b3 = byte_there file position n k 3 (omega arith) in
     λ j. b0 j + 256 * (b1 j + 256 * (b2 j + 256 * (b3 j + 256 * 0)))
 
-pub two_numbers_there : (file : List ℕ) (place n k at : ℕ) → k + 8 ≤ n → place + k ≡ at → two_numbers_at (bytes_at file place n) k ≡ two_numbers_at file at
-two_numbers_there file place n k at inside sum =
-    let first = number_there file place n k (omega arith) ∙ ap (number_at file) sum in
-    let further : place + (k + 4) ≡ at + 4 = omega arith in
-    let second = number_there file place n (k + 4) (omega arith) ∙ ap (number_at file) further in
+pub two_numbers_there : (file : List ℕ) (position n k at : ℕ) → k + 8 ≤ n → position + k ≡ at → two_numbers_at (bytes_at file position n) k ≡ two_numbers_at file at
+two_numbers_there file position n k at inside sum =
+    let first = number_there file position n k (omega arith) ∙ ap (number_at file) sum in
+    let further : position + (k + 4) ≡ at + 4 = omega arith in
+    let second = number_there file position n (k + 4) (omega arith) ∙ ap (number_at file) further in
     λ j. (first j, second j)
 
 -- and those that a window has
-pub two_numbers_windowed : (file : List ℕ) (window : Window) (place : ℕ) (pair : ℕ × ℕ) → IsWindowOf file window → window.place ≤ place → place + 8 ≤ window.place + length window.bytes.items → pair ≡ two_numbers_at window.bytes.items (place - window.place) → pair ≡ two_numbers_at file place
-two_numbers_windowed file window place pair of begins ends is =
+pub two_numbers_windowed : (file : List ℕ) (window : Window) (position : ℕ) (pair : ℕ × ℕ) → IsWindowOf file window → window.position ≤ position → position + 8 ≤ window.position + length window.bytes.items → pair ≡ two_numbers_at window.bytes.items (position - window.position) → pair ≡ two_numbers_at file position
+two_numbers_windowed file window position pair of begins ends is =
     is
-    ∙ ap (λ bytes. two_numbers_at bytes (place - window.place)) of
-    ∙ two_numbers_there file window.place (length window.bytes.items) (place - window.place) place (omega arith) (omega arith)
+    ∙ ap (λ bytes. two_numbers_at bytes (position - window.position)) of
+    ∙ two_numbers_there file window.position (length window.bytes.items) (position - window.position) position (omega arith) (omega arith)
 
-pub part_windowed : (file : List ℕ) (window : Window) (place len : ℕ) → IsWindowOf file window → window.place ≤ place → place + len ≤ window.place + length window.bytes.items → bytes_at window.bytes.items (place - window.place) len ≡ bytes_at file place len
-part_windowed file window place len of begins ends =
+pub part_windowed : (file : List ℕ) (window : Window) (position len : ℕ) → IsWindowOf file window → window.position ≤ position → position + len ≤ window.position + length window.bytes.items → bytes_at window.bytes.items (position - window.position) len ≡ bytes_at file position len
+part_windowed file window position len of begins ends =
     let n = length window.bytes.items in
-    let k = place - window.place in
+    let k = position - window.position in
     let more = n - k - len in
     let parts : n ≡ k + (len + more) = omega arith in
-    let sum : window.place + k ≡ place = omega arith in
-    let long : n ≡ length (take n (drop window.place file)) = ap length of in
+    let sum : window.position + k ≡ position = omega arith in
+    let long : n ≡ length (take n (drop window.position file)) = ap length of in
     ap (λ bs. take len (drop k bs)) of
-    ∙ ap (λ m. take len (drop k (take m (drop window.place file)))) parts
-    ∙ ap (take len) (drop-take k (len + more) (drop window.place file))
-    ∙ take-take len more (drop k (drop window.place file)) (omega (arith, long, length-take n (drop window.place file), length-drop window.place file, length-drop k (drop window.place file)))
-    ∙ ap (take len) (drop-drop k window.place file)
+    ∙ ap (λ m. take len (drop k (take m (drop window.position file)))) parts
+    ∙ ap (take len) (drop-take k (len + more) (drop window.position file))
+    ∙ take-take len more (drop k (drop window.position file)) (omega (arith, long, length-take n (drop window.position file), length-drop window.position file, length-drop k (drop window.position file)))
+    ∙ ap (take len) (drop-drop k window.position file)
     ∙ ap (λ at. take len (drop at file)) sum
 
 -- a value inside a file is as long as its record says
-pub length-bytes_at : (file : List ℕ) (place len : ℕ) → place + len ≤ length file → length (bytes_at file place len) ≡ len
-length-bytes_at file place len inside = length-take-le len (drop place file) (omega (arith, length-drop place file))
+pub length-bytes_at : (file : List ℕ) (position len : ℕ) → position + len ≤ length file → length (bytes_at file position len) ≡ len
+length-bytes_at file position len inside = length-take-le len (drop position file) (omega (arith, length-drop position file))

@@ -12,7 +12,7 @@ use Rattle.cdb_read.specs.Parts.{found_in_probe, found_in_slots, record_at, slot
 use Rattle.rule_lines.specs.Lookups.{Finding}
 use Rattle.rule_lines.specs.Lookups.Finding.{Has, Absent, Broken}
 
--- a list turned round at a place, read at an index
+-- a list turned round at a position, read at an index
 get_or-turned : {X : Type 0} (xs : List X) (first k : ℕ) (d : X) → first < length xs → k < length xs → get_or (drop first xs ++ take first xs) k d ≡ get_or xs ((first + k) % length xs) d
 get_or-turned xs first k d f h =
     elim (cases_lt (first + k) (length xs)) [
@@ -52,8 +52,8 @@ module _ (hash : ℕ) (file : List ℕ) (table slots : ℕ) (some : 0 < slots) w
       ∙ at
 
   -- the slot that is read next is the first of those that are left
-  pub found_in_probe-drop : (key : List ℕ) (k place : ℕ) (slot : ℕ × ℕ) → k < slots → place ≡ table + 8 * ((hash / 256 % slots + k) % slots) → slot ≡ two_numbers_at file place → found_in_probe file key (drop k (probe hash (slots_from file (table, slots)))) ≡ found_in_probe file key (slot ∷ drop (k + 1) (probe hash (slots_from file (table, slots))))
-  found_in_probe-drop key k place slot h at is =
+  pub found_in_probe-drop : (key : List ℕ) (k position : ℕ) (slot : ℕ × ℕ) → k < slots → position ≡ table + 8 * ((hash / 256 % slots + k) % slots) → slot ≡ two_numbers_at file position → found_in_probe file key (drop k (probe hash (slots_from file (table, slots)))) ≡ found_in_probe file key (slot ∷ drop (k + 1) (probe hash (slots_from file (table, slots))))
+  found_in_probe-drop key k position slot h at is =
       let here : get_or (probe hash (slots_from file (table, slots))) k slot ≡ slot = get_or-probe k slot h ∙ ap (two_numbers_at file) (sym at) ∙ sym is in
       at_drop_more (found_in_probe file key) (probe hash (slots_from file (table, slots))) k slot (omega (arith, length-probe))
       ∙ ap (λ (s : ℕ × ℕ). found_in_probe file key (s ∷ drop (k + 1) (probe hash (slots_from file (table, slots))))) here

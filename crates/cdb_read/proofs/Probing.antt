@@ -39,7 +39,7 @@ length-probe_at file hash =
     omega (arith, length-append (drop first slots) (take first slots), sym (length-append (take first slots) (drop first slots)) ∙ ap length (take-append-drop first slots)) in
     parts ∙ length-map-range_with_len (λ i. two_numbers_at file (pointer.0 + 8 * i)) 0 pointer.1
 
--- what is counted has a first place
+-- what is counted has a first position
 pub position-below : {X : Type 0} (p : X → Bool) (xs : List X) → 0 < count_by p xs → position_or_len p xs < length xs
 position-below p [] counted = absurd (omega arith)
 position-below p (x ∷ xs) counted =
@@ -59,12 +59,12 @@ position-le p xs k d passes = elim (cases_lt k (position_or_len p xs)) [
   | inr at ↦ at
 ]
 
--- the first element that passes, by its place
+-- the first element that passes, by its position
 pub find-first : {X : Type 0} (p : X → Bool) (xs : List X) (k : ℕ) (d : X) → k < length xs → ((j : ℕ) → j < k → p (get_or xs j d) ≡ false)
     → p (get_or xs k d) ≡ true → find p xs ≡ Some (get_or xs k d)
 find-first p xs k d inside before here =
-    let place : position_or_len p xs ≡ k = position_or_len_is p xs k d (omega arith) before (λ _. here) in
-    find_at p xs ∙ ap (slice_get xs) place ∙ slice_get-get_or xs k d inside
+    let position : position_or_len p xs ≡ k = position_or_len_is p xs k d (omega arith) before (λ _. here) in
+    find_at p xs ∙ ap (slice_get xs) position ∙ slice_get-get_or xs k d inside
 
 -- and what holds of each that passes holds of it
 pub IfSome-find : {X : Type 0} (p : X → Bool) (P : X → Type 0) (xs : List X) → All (λ x. p x ≡ true → P x) xs → IfSome (find p xs) P
@@ -79,8 +79,8 @@ pub is_same-true : (e s : ℕ × ℕ) → is_same e s ≡ true → s ≡ e
 is_same-true e s same =
     let parts = and_parts (s.0 == e.0) (s.1 == e.1) same in
     let hash = eqb-true s.0 e.0 parts.0 in
-    let place = eqb-true s.1 e.1 parts.1 in
-    ap₂ (λ (h k : ℕ). (h, k)) hash place
+    let position = eqb-true s.1 e.1 parts.1 in
+    ap₂ (λ (h k : ℕ). (h, k)) hash position
 
 -- an entry is the same as itself
 pub is_same-itself : (e : ℕ × ℕ) → is_same e e ≡ true

@@ -15,13 +15,13 @@ use Rattle.rule_lookup.specs.declared.decision.DecideFault.TheVariants.{Find, Co
 use Rattle.cdb_read.specs.declared.cdb_file.Stored.{Stored}
 use Rattle.cdb_read.specs.declared.window.Window.{Window}
 
--- so many bytes from a place on
+-- so many bytes from a position on
 abbrev pub bytes_at : List ℕ → ℕ → ℕ → List ℕ
-bytes_at file place len = take len (drop place file)
+bytes_at file position len = take len (drop position file)
 
--- what the record at a place has for a key: nothing, if it is seen to have another key
+-- what the record at a position has for a key: nothing, if it is seen to have another key
 abbrev pub record_at : List ℕ → List ℕ → ℕ → Finding
-record_at file key place = if has_other_key file key place then Absent else value_at file key place
+record_at file key position = if has_other_key file key position then Absent else value_at file key position
 
 -- the slots that a pointer names: where they stand, and how many they are
 abbrev pub slots_from : List ℕ → ℕ × ℕ → List (ℕ × ℕ)
@@ -35,16 +35,16 @@ found_in_probe file key slots = found_at file key (find (λ (slot : ℕ × ℕ).
 abbrev pub found_in_slots : List ℕ → List ℕ → ℕ × ℕ → Finding
 found_in_slots file key pointer = found_in_probe file key (probe (hash_of key) (slots_from file pointer))
 
--- the place of a record's value, and the value
-abbrev pub value_place : Stored → ℕ
-value_place stored = stored.place + 8 + stored.key_len
+-- the position of a record's value, and the value
+abbrev pub value_position : Stored → ℕ
+value_position stored = stored.position + 8 + stored.key_len
 
 abbrev pub value_of : List ℕ → Stored → List ℕ
-value_of file stored = bytes_at file (value_place stored) stored.value_len
+value_of file stored = bytes_at file (value_position stored) stored.value_len
 
 -- a record's value lies in a file
 abbrev pub IsInside : List ℕ → Stored → Type 0
-IsInside file stored = value_place stored + stored.value_len ≤ length file
+IsInside file stored = value_position stored + stored.value_len ≤ length file
 
 -- an answer is a record whose value is what is found, and lies in the file
 abbrev pub IsRecord : List ℕ → Finding → Option Stored → Type 0
@@ -56,11 +56,11 @@ Tells file found result = IfOk result (IsRecord file found)
 
 -- bytes of a file that were read together
 abbrev pub IsWindowOf : List ℕ → Window → Type 0
-IsWindowOf file window = window.bytes.items ≡ bytes_at file window.place (length window.bytes.items)
+IsWindowOf file window = window.bytes.items ≡ bytes_at file window.position (length window.bytes.items)
 
--- that have so many bytes from a place on
+-- that have so many bytes from a position on
 abbrev pub Covers : Window → ℕ → ℕ → Type 0
-Covers window place len = (window.place ≤ place) × (place + len ≤ window.place + length window.bytes.items)
+Covers window position len = (window.position ≤ position) × (position + len ≤ window.position + length window.bytes.items)
 
 -- a fault where something is to be found in a file of which it is known, or not, that it is honest and that it is sound
 abbrev pub IsFault : Bool → Bool → Finding → FindFault → Type 0

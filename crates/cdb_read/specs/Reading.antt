@@ -5,37 +5,37 @@ use Rattle.cdb_write.specs.Slots.{is_empty, pointer_at, probe_at, table_of}
 use Rattle.rule_lines.specs.Lookups.{Finding}
 use Rattle.rule_lines.specs.Lookups.Finding.{Has, Absent, Broken}
 
--- so many bytes from a place on lie in a file
+-- so many bytes from a position on lie in a file
 abbrev pub lies_in : List ℕ → ℕ → ℕ → Bool
-lies_in file place len = nat_le (place + len) (length file)
+lies_in file position len = nat_le (position + len) (length file)
 
--- the lengths of the key and of the value of the record at a place
+-- the lengths of the key and of the value of the record at a position
 abbrev pub key_length : List ℕ → ℕ → ℕ
-key_length file place = number_at file place
+key_length file position = number_at file position
 
 abbrev pub value_length : List ℕ → ℕ → ℕ
-value_length file place = number_at file (place + 4)
+value_length file position = number_at file (position + 4)
 
--- where the key of the record at a place stands, other bytes can be read
+-- where the key of the record at a position stands, other bytes can be read
 abbrev pub has_other_bytes : List ℕ → List ℕ → ℕ → Bool
-has_other_bytes file key place =
-    lies_in file (place + 8) (length key) && not (bytes_eq (take (length key) (drop (place + 8) file)) key)
+has_other_bytes file key position =
+    lies_in file (position + 8) (length key) && not (bytes_eq (take (length key) (drop (position + 8) file)) key)
 
--- the record at a place can be read, and is seen to have another key
+-- the record at a position can be read, and is seen to have another key
 abbrev pub has_other_key : List ℕ → List ℕ → ℕ → Bool
-has_other_key file key place =
-    lies_in file place 8 && (not (key_length file place == length key) || has_other_bytes file key place)
+has_other_key file key position =
+    lies_in file position 8 && (not (key_length file position == length key) || has_other_bytes file key position)
 
 -- a slot with another hash, or of a record with another key, is passed
 abbrev pub is_passed : List ℕ → List ℕ → ℕ × ℕ → Bool
 is_passed file key slot =
     not (is_empty slot) && (not (slot.0 == hash_of key) || has_other_key file key slot.1)
 
--- the value of the record at a place, if its lengths, its key and its value lie in the file
+-- the value of the record at a position, if its lengths, its key and its value lie in the file
 abbrev pub value_at : List ℕ → List ℕ → ℕ → Finding
-value_at file key place =
-    if lies_in file place 8 && lies_in file (place + 8 + length key) (value_length file place)
-    then Has (take (value_length file place) (drop (place + 8 + length key) file))
+value_at file key position =
+    if lies_in file position 8 && lies_in file (position + 8 + length key) (value_length file position)
+    then Has (take (value_length file position) (drop (position + 8 + length key) file))
     else Broken
 
 -- the slot that is not passed decides: where it is empty, or where there is none, there is no such key

@@ -1,7 +1,7 @@
 //! Lookups in a compiled file.
 ghost use Rattle.std.specs.Prelude.{◌≡◌, ◌≢◌, ◌≤◌, ◌<◌, ◌+◌, ◌*◌, ◌^◌, ◌%◌, bytes_eq, length, Some, IsTrue, IfOk, IfErr, OnOk};
 ghost use Rattle.cdb_write.specs.Format.{two_numbers_at};
-ghost use Rattle.cdb_read.specs.Parts.{CodeFails, Covers, FailsOf, IsFault, IsInside, IsWindowOf, ReadFails, SettingsFail, Tells, bytes_at, found_in_slots, record_at, value_of, value_place};
+ghost use Rattle.cdb_read.specs.Parts.{CodeFails, Covers, FailsOf, IsFault, IsInside, IsWindowOf, ReadFails, SettingsFail, Tells, bytes_at, found_in_slots, record_at, value_of, value_position};
 ghost use Rattle.cdb_read.specs.Reading.{lies_in, reading};
 ghost use Rattle.cdb_read.specs.Sources.{trust_of};
 ghost use Rattle.rule_lines.specs.Codes.{decoded, settings_in};
@@ -20,20 +20,20 @@ use rule_lookup::{DecideFault, RuleSource};
 use std::alloc::Global;
 use std::marker::Model;
 
-/// Where a record stands: its place, and the lengths of its key and of its value.
+/// Where a record stands: its position, and the lengths of its key and of its value.
 #[derive(Clone, Copy)]
 struct Stored {
-    place: u32,
+    position: u32,
     key_len: u32,
     value_len: u32,
 }
 
 impl Stored {
-    /// The place of its value.
-    fn value_place(self) -> u64
-        ensures { result ≡ value_place self }
+    /// The position of its value.
+    fn value_position(self) -> u64
+        ensures { result ≡ value_position self }
     {
-        u64::from(self.place) + 8 + u64::from(self.key_len)
+        u64::from(self.position) + 8 + u64::from(self.key_len)
     }
 }
 
@@ -68,24 +68,24 @@ impl<F: RulesFile> CdbFile<F> {
         CdbFile { file }
     }
 
-    /// Whether so many bytes from a place on lie in the file.
-    fn holds(&self, place: u64, len: u64) -> bool
-        requires { place + len < 2 ^ 64 }
-        ensures { IsTrue F.honest → result ≡ lies_in (F.bytes self.now) place len }
+    /// Whether so many bytes from a position on lie in the file.
+    fn holds(&self, position: u64, len: u64) -> bool
+        requires { position + len < 2 ^ 64 }
+        ensures { IsTrue F.honest → result ≡ lies_in (F.bytes self.now) position len }
     {
-        place + len <= self.file.len()
+        position + len <= self.file.len()
     }
 
-    /// Fills `buf` with the bytes from a place on. After a fault `buf` may hold anything.
-    fn read_full(&self, place: u64, buf: &mut [u8]) -> Result<(), FindFault>
-        requires fits { place + length buf.old < 2 ^ 64 }
-        requires inside { IsTrue F.honest → place + length buf.old ≤ length (F.bytes self.now) }
-        ensures filled { IsTrue F.honest → OnOk result (buf.new ≡ bytes_at (F.bytes self.now) place (length buf.old)) }
+    /// Fills `buf` with the bytes from a position on. After a fault `buf` may hold anything.
+    fn read_full(&self, position: u64, buf: &mut [u8]) -> Result<(), FindFault>
+        requires fits { position + length buf.old < 2 ^ 64 }
+        requires inside { IsTrue F.honest → position + length buf.old ≤ length (F.bytes self.now) }
+        ensures filled { IsTrue F.honest → OnOk result (buf.new ≡ bytes_at (F.bytes self.now) position (length buf.old)) }
         ensures fault { IfErr result (ReadFails F.honest F.sound) }
     {
         let mut done = 0;
         while done < buf.len() {
-            match self.file.read_at(place + done as u64, &mut buf[done..]) {
+            match self.file.read_at(position + done as u64, &mut buf[done..]) {
                 Ok(0) => return Err(FindFault::Short),
                 Ok(count) => done += count,
                 Err(_) => return Err(FindFault::Device),
@@ -94,113 +94,113 @@ impl<F: RulesFile> CdbFile<F> {
         Ok(())
     }
 
-    /// So many bytes from a place on.
-    fn bytes_at(&self, alloc: Global, place: u64, len: usize) -> Result<Vec<u8>, FindFault>
-        requires fits { place + len < 2 ^ 64 }
-        requires inside { IsTrue F.honest → place + len ≤ length (F.bytes self.now) }
+    /// So many bytes from a position on.
+    fn bytes_at(&self, alloc: Global, position: u64, len: usize) -> Result<Vec<u8>, FindFault>
+        requires fits { position + len < 2 ^ 64 }
+        requires inside { IsTrue F.honest → position + len ≤ length (F.bytes self.now) }
         ensures length { IfOk result (λ v. length v.items ≡ len) }
-        ensures bytes { IsTrue F.honest → IfOk result (λ v. v.items ≡ bytes_at (F.bytes self.now) place len) }
+        ensures bytes { IsTrue F.honest → IfOk result (λ v. v.items ≡ bytes_at (F.bytes self.now) position len) }
         ensures fault { IfErr result (ReadFails F.honest F.sound) }
     {
         let mut bytes = vec![in alloc; 0; len]?;
-        self.read_full(place, bytes.as_mut_slice())?;
+        self.read_full(position, bytes.as_mut_slice())?;
         Ok(bytes)
     }
 
-    /// The two numbers at a place.
-    fn two_numbers(&self, place: u64) -> Result<(u32, u32), FindFault>
-        requires fits { place + 8 < 2 ^ 64 }
-        requires inside { IsTrue F.honest → place + 8 ≤ length (F.bytes self.now) }
-        ensures numbers { IsTrue F.honest → IfOk result (λ pair. pair ≡ two_numbers_at (F.bytes self.now) place) }
+    /// The two numbers at a position.
+    fn two_numbers(&self, position: u64) -> Result<(u32, u32), FindFault>
+        requires fits { position + 8 < 2 ^ 64 }
+        requires inside { IsTrue F.honest → position + 8 ≤ length (F.bytes self.now) }
+        ensures numbers { IsTrue F.honest → IfOk result (λ pair. pair ≡ two_numbers_at (F.bytes self.now) position) }
         ensures fault { IfErr result (ReadFails F.honest F.sound) }
     {
         let mut buf = [0; 8];
-        self.read_full(place, &mut buf)?;
+        self.read_full(position, &mut buf)?;
         let first = LittleEndian::read_u32(&buf);
         let second = LittleEndian::read_u32(&buf[4..]);
         Ok((first, second))
     }
 
-    /// Lets a window have so many bytes from a place on, read in its place where it has not, and no further than an end.
+    /// Lets a window have so many bytes from a position on, read in its place where it has not, and no further than an end.
     fn cover(
         &self,
         alloc: Global,
         window: &mut Window,
-        place: u64,
+        position: u64,
         len: usize,
         end: u64,
     ) -> Result<(), FindFault>
-        requires fits { place + len ≤ end }
+        requires fits { position + len ≤ end }
         requires inside { IsTrue F.honest → end ≤ length (F.bytes self.now) }
         requires read { IsTrue F.honest → IsWindowOf (F.bytes self.now) window.old }
-        ensures covers { OnOk result (Covers window.new place len) }
+        ensures covers { OnOk result (Covers window.new position len) }
         ensures read { IsTrue F.honest → OnOk result (IsWindowOf (F.bytes self.now) window.new) }
         ensures fault { IfErr result (ReadFails F.honest F.sound) }
     {
-        if window.has(place, len) {
+        if window.has(position, len) {
             window.answered();
             return Ok(());
         }
-        let bytes = self.bytes_at(alloc, place, window.next_len(len, end - place))?;
-        window.fill(place, bytes);
+        let bytes = self.bytes_at(alloc, position, window.next_len(len, end - position))?;
+        window.fill(position, bytes);
         Ok(())
     }
 
-    /// The two numbers at a place, by a window.
+    /// The two numbers at a position, by a window.
     fn windowed_numbers(
         &self,
         alloc: Global,
         window: &mut Window,
-        place: u64,
+        position: u64,
         end: u64,
     ) -> Result<(u32, u32), FindFault>
-        requires fits { place + 8 ≤ end }
+        requires fits { position + 8 ≤ end }
         requires inside { IsTrue F.honest → end ≤ length (F.bytes self.now) }
         requires read { IsTrue F.honest → IsWindowOf (F.bytes self.now) window.old }
-        ensures numbers { IsTrue F.honest → IfOk result (λ pair. pair ≡ two_numbers_at (F.bytes self.now) place) }
+        ensures numbers { IsTrue F.honest → IfOk result (λ pair. pair ≡ two_numbers_at (F.bytes self.now) position) }
         ensures read { IsTrue F.honest → IfOk result (λ pair. IsWindowOf (F.bytes self.now) window.new) }
         ensures fault { IfErr result (ReadFails F.honest F.sound) }
     {
-        self.cover(alloc, window, place, 8, end)?;
-        Ok(window.numbers(place))
+        self.cover(alloc, window, position, 8, end)?;
+        Ok(window.numbers(position))
     }
 
-    /// Whether a key stands at a place, by a window.
+    /// Whether a key stands at a position, by a window.
     fn has_key_at(
         &self,
         alloc: Global,
         window: &mut Window,
-        place: u64,
+        position: u64,
         key: &[u8],
         end: u64,
     ) -> Result<bool, FindFault>
-        requires fits { place + length key.now ≤ end }
+        requires fits { position + length key.now ≤ end }
         requires inside { IsTrue F.honest → end ≤ length (F.bytes self.now) }
         requires read { IsTrue F.honest → IsWindowOf (F.bytes self.now) window.old }
         ensures same { IsTrue F.honest
-            → IfOk result (λ same. same ≡ bytes_eq (bytes_at (F.bytes self.now) place (length key.now)) key.now) }
+            → IfOk result (λ same. same ≡ bytes_eq (bytes_at (F.bytes self.now) position (length key.now)) key.now) }
         ensures read { IsTrue F.honest → IfOk result (λ same. IsWindowOf (F.bytes self.now) window.new) }
         ensures fault { IfErr result (ReadFails F.honest F.sound) }
     {
-        self.cover(alloc, window, place, key.len(), end)?;
-        Ok(window.part(place, key.len()) == key)
+        self.cover(alloc, window, position, key.len(), end)?;
+        Ok(window.part(position, key.len()) == key)
     }
 
-    /// The record at a place, or `None` where it is seen to have another key.
+    /// The record at a position, or `None` where it is seen to have another key.
     fn record_at(
         &self,
         alloc: Global,
         window: &mut Window,
-        place: u32,
+        position: u32,
         key: &[u8],
     ) -> Result<Option<Stored>, FindFault>
         requires read { IsTrue F.honest → IsWindowOf (F.bytes self.now) window.old }
-        ensures found { IsTrue F.honest → Tells (F.bytes self.now) (record_at (F.bytes self.now) key.now place) result }
+        ensures found { IsTrue F.honest → Tells (F.bytes self.now) (record_at (F.bytes self.now) key.now position) result }
         ensures read { IsTrue F.honest → IfOk result (λ found. IsWindowOf (F.bytes self.now) window.new) }
-        ensures fault { IfErr result (IsFault F.honest F.sound (record_at (F.bytes self.now) key.now place)) }
+        ensures fault { IfErr result (IsFault F.honest F.sound (record_at (F.bytes self.now) key.now position)) }
     {
         let end = self.file.len();
-        let record = u64::from(place);
+        let record = u64::from(position);
         if record + 8 > end {
             return Err(FindFault::Short);
         }
@@ -218,7 +218,7 @@ impl<F: RulesFile> CdbFile<F> {
             return Err(FindFault::Short);
         }
         Ok(Some(Stored {
-            place,
+            position,
             key_len,
             value_len,
         }))
@@ -245,19 +245,19 @@ impl<F: RulesFile> CdbFile<F> {
         let mut record_window = Window::empty(alloc, FIRST_RECORD);
         for passed in 0..count {
             let slot = begin + 8 * turned(first, passed, count);
-            let (slot_hash, place) = self.windowed_numbers(
+            let (slot_hash, position) = self.windowed_numbers(
                 alloc,
                 &mut slot_window,
                 slot,
                 begin + 8 * count,
             )?;
-            if place == 0 {
+            if position == 0 {
                 return Ok(None);
             }
             if slot_hash != key_hash {
                 continue;
             }
-            if let Some(stored) = self.record_at(alloc, &mut record_window, place, key)? {
+            if let Some(stored) = self.record_at(alloc, &mut record_window, position, key)? {
                 return Ok(Some(stored));
             }
         }
@@ -288,7 +288,7 @@ impl<F: RulesFile> CdbFile<F> {
         ensures value { IsTrue F.honest → IfOk result (λ v. v.items ≡ value_of (F.bytes self.now) stored) }
         ensures fault { IfErr result (ReadFails F.honest F.sound) }
     {
-        self.bytes_at(alloc, stored.value_place(), stored.value_len as usize)
+        self.bytes_at(alloc, stored.value_position(), stored.value_len as usize)
     }
 
     /// Refuses a value that is no code by the piece that shows it; one that it lets pass may still be none.
@@ -301,7 +301,7 @@ impl<F: RulesFile> CdbFile<F> {
         let mut done = 0;
         while done < len {
             let count = (len - done).min(VALUE_PIECE);
-            let piece = match self.bytes_at(alloc, stored.value_place() + done as u64, count) {
+            let piece = match self.bytes_at(alloc, stored.value_position() + done as u64, count) {
                 Ok(piece) => piece,
                 Err(fault) => return Err(DecideFault::of_look_up(fault)),
             };
@@ -321,21 +321,21 @@ impl<F: RulesFile> CdbFile<F> {
         }
     }
 
-    /// The settings whose codes so many bytes from a place on are, decoded as they are read: of these bytes no more is held than a piece and
+    /// The settings whose codes so many bytes from a position on are, decoded as they are read: of these bytes no more is held than a piece and
     /// the setting that it goes on with.
-    fn settings_at(&self, alloc: Global, place: u64, len: usize) -> Result<Settings, DecideFault>
-        requires fits { place + len < 2 ^ 64 }
-        requires inside { IsTrue F.honest → place + len ≤ length (F.bytes self.now) }
+    fn settings_at(&self, alloc: Global, position: u64, len: usize) -> Result<Settings, DecideFault>
+        requires fits { position + len < 2 ^ 64 }
+        requires inside { IsTrue F.honest → position + len ≤ length (F.bytes self.now) }
         ensures found { IsTrue F.honest → IfOk result (λ settings.
-            settings_in (pieces_of 0 (bytes_at (F.bytes self.now) place len)) ≡ Some settings) }
-        ensures refused { IfErr result (SettingsFail F.honest F.sound (bytes_at (F.bytes self.now) place len)) }
+            settings_in (pieces_of 0 (bytes_at (F.bytes self.now) position len)) ≡ Some settings) }
+        ensures refused { IfErr result (SettingsFail F.honest F.sound (bytes_at (F.bytes self.now) position len)) }
     {
         let mut settings = Settings::new(alloc);
         let mut held = Vec::new(alloc);
         let mut done = 0;
         while done < len {
             let count = (len - done).min(VALUE_PIECE);
-            let piece = match self.bytes_at(alloc, place + done as u64, count) {
+            let piece = match self.bytes_at(alloc, position + done as u64, count) {
                 Ok(piece) => piece,
                 Err(fault) => return Err(DecideFault::of_look_up(fault)),
             };
@@ -359,7 +359,7 @@ impl<F: RulesFile> CdbFile<F> {
             → IfOk result (λ instr. decoded (value_of (F.bytes self.now) stored) ≡ Some instr) }
         ensures refused { IfErr result (CodeFails F.honest F.sound (value_of (F.bytes self.now) stored)) }
     {
-        let head = match self.bytes_at(alloc, stored.value_place(), 2) {
+        let head = match self.bytes_at(alloc, stored.value_position(), 2) {
             Ok(head) => head,
             Err(fault) => return Err(DecideFault::of_look_up(fault)),
         };
@@ -367,7 +367,7 @@ impl<F: RulesFile> CdbFile<F> {
         let begin = 2 - codes.len();
         let settings = self.settings_at(
             alloc,
-            stored.value_place() + begin as u64,
+            stored.value_position() + begin as u64,
             stored.value_len as usize - begin,
         )?;
         Ok(Instr { verdict, settings })

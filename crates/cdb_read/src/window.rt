@@ -21,10 +21,10 @@ pub(crate) const VALUE_PIECE: usize = 4096;
 /// How much longer the next read is for each answer of the last: less than it costs to read again.
 const MORE: usize = 1024;
 
-/// The bytes from a place on.
+/// The bytes from a position on.
 #[derive(Drop)]
 pub(crate) struct Window {
-    pub(crate) place: u64,
+    pub(crate) position: u64,
     pub(crate) bytes: Vec<u8>,
     first: usize,
     next: usize,
@@ -36,38 +36,38 @@ impl Window {
         ensures { result.bytes.items ≡ [] }
     {
         Window {
-            place: 0,
+            position: 0,
             bytes: Vec::new(alloc),
             first,
             next: first,
         }
     }
 
-    /// Whether it has so many bytes from a place on.
-    pub(crate) fn has(&self, place: u64, len: usize) -> bool
-        ensures { IsTrue result → Covers self.now place len }
+    /// Whether it has so many bytes from a position on.
+    pub(crate) fn has(&self, position: u64, len: usize) -> bool
+        ensures { IsTrue result → Covers self.now position len }
     {
-        match place.checked_sub(self.place) {
+        match position.checked_sub(self.position) {
             Some(at) => len <= self.bytes.len() && at <= (self.bytes.len() - len) as u64,
             None => false,
         }
     }
 
-    /// So many bytes from a place on that it has.
-    pub(crate) fn part(&self, place: u64, len: usize) -> &[u8]
-        requires { Covers self.now place len }
-        ensures { result.now ≡ bytes_at self.now.bytes.items (place - self.now.place) len }
+    /// So many bytes from a position on that it has.
+    pub(crate) fn part(&self, position: u64, len: usize) -> &[u8]
+        requires { Covers self.now position len }
+        ensures { result.now ≡ bytes_at self.now.bytes.items (position - self.now.position) len }
     {
-        let at = (place - self.place) as usize;
+        let at = (position - self.position) as usize;
         &self.bytes[at..at + len]
     }
 
-    /// The two numbers at a place that it has.
-    pub(crate) fn numbers(&self, place: u64) -> (u32, u32)
-        requires { Covers self.now place 8 }
-        ensures { result ≡ two_numbers_at self.now.bytes.items (place - self.now.place) }
+    /// The two numbers at a position that it has.
+    pub(crate) fn numbers(&self, position: u64) -> (u32, u32)
+        requires { Covers self.now position 8 }
+        ensures { result ≡ two_numbers_at self.now.bytes.items (position - self.now.position) }
     {
-        let at = (place - self.place) as usize;
+        let at = (position - self.position) as usize;
         let first = LittleEndian::read_u32(&self.bytes[at..]);
         let second = LittleEndian::read_u32(&self.bytes[at + 4..]);
         (first, second)
@@ -75,7 +75,7 @@ impl Window {
 
     /// Lets the next read be longer, after an answer.
     pub(crate) fn answered(&mut self)
-        ensures place { self.new.place ≡ self.old.place }
+        ensures position { self.new.position ≡ self.old.position }
         ensures bytes { self.new.bytes ≡ self.old.bytes }
     {
         if self.next < PIECE {
@@ -92,12 +92,12 @@ impl Window {
         left.min(self.next as u64).max(needed as u64) as usize
     }
 
-    /// Takes bytes from a place on.
-    pub(crate) fn fill(&mut self, place: u64, bytes: Vec<u8>)
-        ensures place { self.new.place ≡ place }
+    /// Takes bytes from a position on.
+    pub(crate) fn fill(&mut self, position: u64, bytes: Vec<u8>)
+        ensures position { self.new.position ≡ position }
         ensures bytes { self.new.bytes ≡ bytes }
     {
-        self.place = place;
+        self.position = position;
         self.bytes = bytes;
         self.next = self.first;
     }

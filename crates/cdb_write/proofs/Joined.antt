@@ -11,7 +11,7 @@ use Rattle.cdb_write.specs.Written.{IsPastEarlier, Written}
 use Rattle.cdb_write.proofs.Probing.{empty}
 use Rattle.cdb_write.proofs.Placing.{IsBefore, entry, slots_placed}
 use Rattle.cdb_write.proofs.Entries.{hash-entries, length-entries, rising_table}
-use Rattle.cdb_write.proofs.Places.{file_of, header-file, inside-file, length-file, pointer-file, records-file, slots-file}
+use Rattle.cdb_write.proofs.Positions.{file_of, header-file, inside-file, length-file, pointer-file, records-file, slots-file}
 use Rattle.cdb_write.proofs.Standing.{earlier_lower, entry_of, met_first, passes_earlier, probe_of, stands}
 
 -- the slots of each table in a file are those of its records

@@ -1,6 +1,6 @@
 pub mod Entries
 pub mod Joined
-pub mod Places
+pub mod Positions
 pub mod Placing
 pub mod Probing
 pub mod Reading

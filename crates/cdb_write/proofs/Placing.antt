@@ -22,12 +22,12 @@ pub record Rising (es : List (ℕ × ℕ)) : Type 0 where
 abbrev pub IsBefore : List (ℕ × ℕ) → ℕ → ℕ × ℕ → Type 0
 IsBefore es i s = (j : ℕ) × (j < i) × (s ≡ entry es j)
 
--- the i-th entry stands at some place of its probe, and earlier ones before it
+-- the i-th entry stands at some position of its probe, and earlier ones before it
 pub record Found (es : List (ℕ × ℕ)) (i : ℕ) (slots : List (ℕ × ℕ)) : Type 0 where
-  pub place : ℕ
-  pub inside : place < length slots
-  pub here : get_or (probe (entry es i).0 slots) place empty ≡ entry es i
-  pub passed : (k : ℕ) → k < place → IsBefore es i (get_or (probe (entry es i).0 slots) k empty)
+  pub position : ℕ
+  pub inside : position < length slots
+  pub here : get_or (probe (entry es i).0 slots) position empty ≡ entry es i
+  pub passed : (k : ℕ) → k < position → IsBefore es i (get_or (probe (entry es i).0 slots) k empty)
 
 -- what holds of the slots once the first i entries are placed
 pub record Placing (es : List (ℕ × ℕ)) (i : ℕ) (slots : List (ℕ × ℕ)) : Type 0 where
@@ -54,10 +54,10 @@ placing_none es =
 free_was : (es : List (ℕ × ℕ)) (i : ℕ) (slots : List (ℕ × ℕ)) → Rising es → i < length es → Placing es i slots
     → (hash : ℕ) → get_or slots (free_slot hash slots) empty ≡ empty
 free_was es i slots r h p hash =
-    let zero_place = free_slot-empty hash slots (omega (arith, p.room)) in
+    let zero_position = free_slot-empty hash slots (omega (arith, p.room)) in
     elim (p.holds (free_slot hash slots) (free_slot-lt hash slots (omega (arith, p.size)))) [
       | inl none ↦ none
-      | inr held ↦ absurd (omega (arith, zero_place, r.above held.0 (omega (arith, held.1)), ap (λ (s : ℕ × ℕ). s.1) held.2))
+      | inr held ↦ absurd (omega (arith, zero_position, r.above held.0 (omega (arith, held.1)), ap (λ (s : ℕ × ℕ). s.1) held.2))
     ]
 
 -- one empty slot less
@@ -121,7 +121,7 @@ more_once es i slots r h p j l =
           omega (arith, change, was, new, none)
     ]
 
--- an entry that was found is found at the same place
+-- an entry that was found is found at the same position
 still_found : (es : List (ℕ × ℕ)) (i : ℕ) (slots : List (ℕ × ℕ)) → Rising es → i < length es → Placing es i slots
     → (j : ℕ) → j < i → Found es j (with_entry slots (entry es i))
 still_found es i slots r h p j l =
@@ -132,9 +132,9 @@ still_found es i slots r h p j l =
     let old = p.found j l in
     let size = length-set slots f e in
     record {
-      place = old.place;
+      position = old.position;
       inside = omega (arith, old.inside, size);
-      here = probe-set hash old.place f slots e old.inside free (omega (arith, r.above j (omega arith), ap (λ (s : ℕ × ℕ). s.1) old.here)) ∙ old.here;
+      here = probe-set hash old.position f slots e old.inside free (omega (arith, r.above j (omega arith), ap (λ (s : ℕ × ℕ). s.1) old.here)) ∙ old.here;
       passed = λ k m.
           let held = old.passed k m in
           (held.0, held.1, probe-set hash k f slots e (omega (arith, old.inside)) free (omega (arith, r.above held.0 (omega (arith, held.1)), ap (λ (s : ℕ × ℕ). s.1) held.2)) ∙ held.2);
@@ -152,7 +152,7 @@ new_found es i slots r h p =
     let size = length-set slots f e in
     let moved : nth e.0 d (set slots f e) ≡ f = ap (λ (n : ℕ). (e.0 / 256 + d) % n) size in
     record {
-      place = d;
+      position = d;
       inside = omega (arith, inside, size);
       here = get_or-probe e.0 d (set slots f e) empty (omega (arith, inside, size))
           ∙ ap (λ (g : ℕ). get_or (set slots f e) g empty) moved

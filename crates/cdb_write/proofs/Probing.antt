@@ -1,4 +1,4 @@
--- The probe of a table, place by place, and its first empty slot.
+-- The probe of a table, position by position, and its first empty slot.
 use Rattle.std.proofs.Common.{◌≡◌, ℕ, suc, ◌+◌, ◌-◌, ◌/◌, ◌%◌, ◌<◌, Bool, true, false, cond, List, [], ◌∷◌, length, get_or, take, drop, set, refl, sym, ap, ◌∙◌, inl, inr, arith, length-append, length-drop, length-take, length-set, mod-lt, mod-eq_of_lt}
 use Rattle.std.proofs.Math.Nat.{mod-add-mod, mod-eq-sub-mod}
 use Rattle.std.proofs.lemmas.Bool.{and_from, and_parts, and_right, cases_lt, eq-eqb, eqb-false, eqb-true, ne_eqb}
@@ -35,20 +35,20 @@ get_or-probe hash k slots d h =
     let n = length slots in
     let r = hash / 256 % n in
     let first : r < n = mod-lt (hash / 256) (omega arith) in
-    let place : (r + k) % n ≡ nth hash k slots = mod-add-mod (hash / 256) n k in
+    let position : (r + k) % n ≡ nth hash k slots = mod-add-mod (hash / 256) n k in
     let back = length-drop r slots in
     elim (cases_lt k (n - r)) [
       | inl upward ↦
           let here : (r + k) % n ≡ r + k = mod-eq_of_lt (omega arith) in
           get_or_append_left (drop r slots) (take r slots) d k (omega arith)
-          ∙ get_or-drop r slots k d ∙ ap (λ (g : ℕ). get_or slots g d) (sym here ∙ place)
+          ∙ get_or-drop r slots k d ∙ ap (λ (g : ℕ). get_or slots g d) (sym here ∙ position)
       | inr around ↦
           let less : (r + k) % n ≡ (r + k - n) % n = mod-eq-sub-mod (omega arith) in
           let here : (r + k - n) % n ≡ r + k - n = mod-eq_of_lt (omega arith) in
           let same : k - (n - r) ≡ r + k - n = omega arith in
           get_or-append_right (drop r slots) (take r slots) (n - r) k d (omega arith) around
           ∙ get_or-take r slots (k - (n - r)) d (omega arith)
-          ∙ ap (λ (g : ℕ). get_or slots g d) (same ∙ sym here ∙ sym less ∙ place)
+          ∙ ap (λ (g : ℕ). get_or slots g d) (same ∙ sym here ∙ sym less ∙ position)
     ]
 
 -- a count over a probe is the count over the table
@@ -111,7 +111,7 @@ probe-set hash k f slots e h was holds =
 pub is_same-self : (e : ℕ × ℕ) → is_same e e ≡ true
 is_same-self e = and_from _ _ (eq-eqb e.0 e.0 refl) (eq-eqb e.1 e.1 refl)
 
--- slots at other places are not the same
+-- slots at other positions are not the same
 pub is_same-other : (e s : ℕ × ℕ) → (s.1 ≡ e.1 → ⊥) → is_same e s ≡ false
 is_same-other e s h = and_right _ _ (ne_eqb s.1 e.1 h)
 
@@ -120,5 +120,5 @@ pub same_from_is_same : (e s : ℕ × ℕ) → is_same e s ≡ true → s ≡ e
 same_from_is_same e s h =
     let parts = and_parts _ _ h in
     let hash = eqb-true s.0 e.0 parts.0 in
-    let place = eqb-true s.1 e.1 parts.1 in
-    λ i. (hash i, place i)
+    let position = eqb-true s.1 e.1 parts.1 in
+    λ i. (hash i, position i)

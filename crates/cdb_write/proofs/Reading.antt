@@ -28,13 +28,13 @@ pub reads_nth : (xs : List (ℕ × ℕ)) (before after : List ℕ) (i : ℕ) →
     → two_numbers_at (before ++ (flat_map two_numbers xs ++ after)) (length before + 8 * i) ≡ entry xs i
 reads_nth [] before after i fit l = absurd (omega arith)
 reads_nth (x ∷ xs) before after zero fit l =
-    let place : length before + 8 * 0 ≡ length before = omega arith in
-    ap (two_numbers_at (before ++ (two_numbers x ++ (flat_map two_numbers xs ++ after)))) place
+    let position : length before + 8 * 0 ≡ length before = omega arith in
+    ap (two_numbers_at (before ++ (two_numbers x ++ (flat_map two_numbers xs ++ after)))) position
     ∙ reads_two before (flat_map two_numbers xs ++ after) x (fit 0 (omega arith))
 reads_nth (x ∷ xs) before after (suc i) fit l =
     let rest = flat_map two_numbers xs ++ after in
     let size = length-append before (two_numbers x) in
-    let place : length before + 8 * suc i ≡ length (before ++ two_numbers x) + 8 * i = omega (arith, size) in
-    ap (two_numbers_at (before ++ (two_numbers x ++ rest))) place
+    let position : length before + 8 * suc i ≡ length (before ++ two_numbers x) + 8 * i = omega (arith, size) in
+    ap (two_numbers_at (before ++ (two_numbers x ++ rest))) position
     ∙ ap (λ (file : List ℕ). two_numbers_at file (length (before ++ two_numbers x) + 8 * i)) (sym (append_assoc before (two_numbers x) rest))
     ∙ reads_nth xs (before ++ two_numbers x) after i (λ k m. fit (suc k) (omega arith)) (omega arith)

@@ -10,22 +10,22 @@ use Rattle.cdb_write.specs.Making.{Stores, pairs_in}
 pub length-record_bytes : (key value : List ℕ) → length (record_bytes key value) ≡ 8 + length key + length value
 length-record_bytes key value = omega (arith, length-append key value)
 
-pub length-entries_from : (pairs : List Pair) (place : ℕ) → length (entries_from place pairs) ≡ length pairs
-length-entries_from [] place = refl
-length-entries_from (p ∷ pairs) place = ap suc (length-entries_from pairs (place + 8 + length p.key + length p.value))
+pub length-entries_from : (pairs : List Pair) (position : ℕ) → length (entries_from position pairs) ≡ length pairs
+length-entries_from [] position = refl
+length-entries_from (p ∷ pairs) position = ap suc (length-entries_from pairs (position + 8 + length p.key + length p.value))
 
 -- a record more, and its entry
 pub records_of-push : (pairs : List Pair) (p : Pair) → records_of (pairs ++ p ∷ []) ≡ records_of pairs ++ record_of p
 records_of-push pairs p =
     flat_map-append record_of pairs (p ∷ []) ∙ ap (λ bytes. records_of pairs ++ bytes) (append-nil (record_of p))
 
-pub entries_from-push : (pairs : List Pair) (place : ℕ) (p : Pair) → entries_from place (pairs ++ p ∷ []) ≡ entries_from place pairs ++ (hash_of p.key, place + length (records_of pairs)) ∷ []
-entries_from-push [] place p =
-    let here : place ≡ place + 0 = omega arith in ap (λ at. (hash_of p.key, at) ∷ []) here
-entries_from-push (q ∷ pairs) place p =
-    let next = place + 8 + length q.key + length q.value in
-    let behind : next + length (records_of pairs) ≡ place + length (records_of (q ∷ pairs)) = omega (arith, length-append (record_of q) (records_of pairs), length-record_bytes q.key q.value) in
-    ap (λ es. (hash_of q.key, place) ∷ es) (entries_from-push pairs next p ∙ ap (λ at. entries_from next pairs ++ (hash_of p.key, at) ∷ []) behind)
+pub entries_from-push : (pairs : List Pair) (position : ℕ) (p : Pair) → entries_from position (pairs ++ p ∷ []) ≡ entries_from position pairs ++ (hash_of p.key, position + length (records_of pairs)) ∷ []
+entries_from-push [] position p =
+    let here : position ≡ position + 0 = omega arith in ap (λ at. (hash_of p.key, at) ∷ []) here
+entries_from-push (q ∷ pairs) position p =
+    let next = position + 8 + length q.key + length q.value in
+    let behind : next + length (records_of pairs) ≡ position + length (records_of (q ∷ pairs)) = omega (arith, length-append (record_of q) (records_of pairs), length-record_bytes q.key q.value) in
+    ap (λ es. (hash_of q.key, position) ∷ es) (entries_from-push pairs next p ∙ ap (λ at. entries_from next pairs ++ (hash_of p.key, at) ∷ []) behind)
 
 -- what the first record's lengths cut off
 cut : (k v : ℕ) (key value rest : List ℕ) → k ≡ length key → v ≡ length value → (take k ((key ++ value) ++ rest) ≡ key) × (take v (drop k ((key ++ value) ++ rest)) ≡ value) × (drop v (drop k ((key ++ value) ++ rest)) ≡ rest)

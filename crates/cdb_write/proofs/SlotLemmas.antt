@@ -34,7 +34,7 @@ pub position_or_len_second : {X : Type 0} (p : X → Bool) (xs ys : List X) → 
 position_or_len_second p xs ys past =
     prefix_len-append (λ x. not (p x)) xs ys ∙ cond-true (eqb (position_or_len p xs) (length xs)) _ _ (eq-eqb _ _ past)
 
--- a place behind a remainder, with no turn and with one
+-- a position behind a remainder, with no turn and with one
 pub mod-below : (q n a : ℕ) → q % n + a < n → (q + a) % n ≡ q % n + a
 mod-below q n a within =
     let parts : q + a ≡ n * (q / n) + (q % n + a) = omega (arith, div-add-mod q n) in

@@ -20,12 +20,12 @@ probe_of pairs hash = probe hash (slots_of (table_entries (table_of hash) pairs)
 abbrev pub entry_of : List Pair → ℕ → ℕ × ℕ
 entry_of pairs i = entry (entries_of pairs) i
 
--- it stands at one place, and before it in its probe stand earlier ones
+-- it stands at one position, and before it in its probe stand earlier ones
 pub record Stands (pairs : List Pair) (i : ℕ) : Type 0 where
-  pub place : ℕ
-  pub inside : place < length (probe_of pairs (entry_of pairs i).0)
-  pub here : get_or (probe_of pairs (entry_of pairs i).0) place empty ≡ entry_of pairs i
-  pub passed : (k : ℕ) → k < place → IsAmong (take i (entries_of pairs)) (get_or (probe_of pairs (entry_of pairs i).0) k empty)
+  pub position : ℕ
+  pub inside : position < length (probe_of pairs (entry_of pairs i).0)
+  pub here : get_or (probe_of pairs (entry_of pairs i).0) position empty ≡ entry_of pairs i
+  pub passed : (k : ℕ) → k < position → IsAmong (take i (entries_of pairs)) (get_or (probe_of pairs (entry_of pairs i).0) k empty)
   pub once : count_by (is_same (entry_of pairs i)) (slots_of (table_entries (table_of (entry_of pairs i).0) pairs)) ≡ 1
 
 -- each record's entry stands so
@@ -40,9 +40,9 @@ stands pairs i l =
     let placed = slots_placed (table_entries t pairs) (rising_table t pairs) in
     let found = placed.found own.at own.inside in
     record {
-      place = found.place;
+      position = found.position;
       inside = omega (arith, found.inside, length-probe e.0 slots);
-      here = subst (λ (x : ℕ × ℕ). get_or (probe x.0 slots) found.place empty ≡ x) own.here found.here;
+      here = subst (λ (x : ℕ × ℕ). get_or (probe x.0 slots) found.position empty ≡ x) own.here found.here;
       passed = λ k m. among_earlier test es i (get_or (probe e.0 slots) k empty) own
           (subst (λ (x : ℕ × ℕ). IsBefore (table_entries t pairs) own.at (get_or (probe x.0 slots) k empty)) own.here (found.passed k m));
       once = subst (λ (x : ℕ × ℕ). count_by (is_same x) slots ≡ 1) own.here (placed.once own.at own.inside);
@@ -60,12 +60,12 @@ earlier_lower pairs i s l a =
     let same : s.1 ≡ (entry es j).1 = ap (λ (x : ℕ × ℕ). x.1) (a.1.1 ∙ get_or-take i es j s within ∙ get_or_default es j s empty (omega (arith, l))) in
     ((omega (arith, same, rising.above j (omega (arith, l)))), (omega (arith, same, rising.rising j i within l)))
 
--- its place is the first at which the probe has it
-pub place_is : (pairs : List Pair) (i : ℕ) → i < length (entries_of pairs) → (s : Stands pairs i)
-    → position_or_len (is_same (entry_of pairs i)) (probe_of pairs (entry_of pairs i).0) ≡ s.place
-place_is pairs i l s =
+-- its position is the first at which the probe has it
+pub position_is : (pairs : List Pair) (i : ℕ) → i < length (entries_of pairs) → (s : Stands pairs i)
+    → position_or_len (is_same (entry_of pairs i)) (probe_of pairs (entry_of pairs i).0) ≡ s.position
+position_is pairs i l s =
     let e = entry_of pairs i in
-    position_or_len_is (is_same e) (probe_of pairs e.0) s.place empty (omega (arith, s.inside))
+    position_or_len_is (is_same e) (probe_of pairs e.0) s.position empty (omega (arith, s.inside))
     (λ k m. is_same-other e (get_or (probe_of pairs e.0) k empty) (λ z. absurd (omega (arith, z, (earlier_lower pairs i (get_or (probe_of pairs e.0) k empty) l (s.passed k m)).1))))
     (λ _. ap (is_same e) s.here ∙ is_same-self e)
 
@@ -76,10 +76,10 @@ passes_earlier pairs i l =
     let among : ℕ × ℕ → Type 0 = IsAmong (take i (entries_of pairs)) in
     let slots = probe_of pairs (entry_of pairs i).0 in
     let s = stands pairs i l in
-    let passed : All among (take s.place slots) = All-from_get_or among (take s.place slots) empty (λ k m.
-    let before : k < s.place = omega (arith, m, length-take s.place slots) in
-    subst among (sym (get_or-take s.place slots k empty before)) (s.passed k before)) in
-    subst (λ (n : ℕ). All among (take n slots)) (sym (place_is pairs i l s)) passed
+    let passed : All among (take s.position slots) = All-from_get_or among (take s.position slots) empty (λ k m.
+    let before : k < s.position = omega (arith, m, length-take s.position slots) in
+    subst among (sym (get_or-take s.position slots k empty before)) (s.passed k before)) in
+    subst (λ (n : ℕ). All among (take n slots)) (sym (position_is pairs i l s)) passed
 
 -- of two entries with one hash the earlier is met first
 pub met_first : (pairs : List Pair) (i j : ℕ) → i < j → j < length (entries_of pairs) → (entry_of pairs i).0 ≡ (entry_of pairs j).0
@@ -88,18 +88,18 @@ met_first pairs i j ij l same =
     let a = stands pairs i (omega arith) in
     let b = stands pairs j l in
     let rises = (rising_all pairs).rising i j ij l in
-    let first = place_is pairs i (omega arith) a in
-    let second = place_is pairs j l b in
-    let there : get_or (probe_of pairs (entry_of pairs i).0) b.place empty ≡ entry_of pairs j =
-    ap (λ (h : ℕ). get_or (probe_of pairs h) b.place empty) same ∙ b.here in
-    elim (cases_lt a.place b.place) [
+    let first = position_is pairs i (omega arith) a in
+    let second = position_is pairs j l b in
+    let there : get_or (probe_of pairs (entry_of pairs i).0) b.position empty ≡ entry_of pairs j =
+    ap (λ (h : ℕ). get_or (probe_of pairs h) b.position empty) same ∙ b.here in
+    elim (cases_lt a.position b.position) [
       | inl before ↦ omega arith
-      | inr after ↦ absurd (elim (cases_lt b.place a.place) [
+      | inr after ↦ absurd (elim (cases_lt b.position a.position) [
         | inl earlier ↦
-            let lower = earlier_lower pairs i (get_or (probe_of pairs (entry_of pairs i).0) b.place empty) (omega arith) (a.passed b.place earlier) in
+            let lower = earlier_lower pairs i (get_or (probe_of pairs (entry_of pairs i).0) b.position empty) (omega arith) (a.passed b.position earlier) in
             omega (arith, lower.1, rises, ap (λ (s : ℕ × ℕ). s.1) there)
         | inr level ↦
-            let one : a.place ≡ b.place = omega arith in
+            let one : a.position ≡ b.position = omega arith in
             let both : entry_of pairs i ≡ entry_of pairs j = sym a.here ∙ ap (λ (k : ℕ). get_or (probe_of pairs (entry_of pairs i).0) k empty) one ∙ there in
             omega (arith, rises, ap (λ (s : ℕ × ℕ). s.1) both)
       ])

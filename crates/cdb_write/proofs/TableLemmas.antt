@@ -8,7 +8,7 @@ use Rattle.std.proofs.lemmas.List.{append-nil, flat_map_more, get_or-map, get_or
 use Rattle.std.proofs.lemmas.List.Elements.{filter-append}
 use Rattle.std.proofs.lemmas.List.Sums.{count_by-le-length, length-filter, sum_by-cons}
 use Rattle.cdb_write.specs.Format.{Pair, entries_of, records_of, two_numbers}
-use Rattle.cdb_write.specs.Image.{finished_length, image_of, pointers_of, table_place, tables_of}
+use Rattle.cdb_write.specs.Image.{finished_length, image_of, pointers_of, table_position, tables_of}
 use Rattle.cdb_write.specs.Slots.{table_entries, table_of, entries_in}
 use Rattle.cdb_write.specs.Tables.{HoldsByTable}
 use Rattle.cdb_write.proofs.RecordLemmas.{length-entries_from}
@@ -45,12 +45,12 @@ count_by-before_more t (e ∷ entries) =
     one_before_more a t = grind (arith, nat_tests)
 
 -- a table begins where the one before it ends
-pub table_place-more : (pairs : List Pair) (t : ℕ) → table_place pairs t + 16 * length (table_entries t pairs) ≡ table_place pairs (t + 1)
-table_place-more pairs t =
+pub table_position-more : (pairs : List Pair) (t : ℕ) → table_position pairs t + 16 * length (table_entries t pairs) ≡ table_position pairs (t + 1)
+table_position-more pairs t =
     omega (arith, count_by-before_more t (entries_of pairs), length-filter (λ (e : ℕ × ℕ). eqb (table_of e.0) t) (entries_of pairs))
 
-pub table_place-le : (pairs : List Pair) (t : ℕ) → table_place pairs t ≤ finished_length pairs
-table_place-le pairs t =
+pub table_position-le : (pairs : List Pair) (t : ℕ) → table_position pairs t ≤ finished_length pairs
+table_position-le pairs t =
     omega (arith, count_by-le-length (λ (e : ℕ × ℕ). ltb (table_of e.0) t) (entries_of pairs), length-entries_from pairs 2048)
 
 range_with_len-more : (n a : ℕ) → range_with_len a (suc n) ≡ range_with_len a n ++ (a + n) ∷ []
@@ -85,17 +85,17 @@ pub replicate-push : {X : Type 0} (n : ℕ) (x : X) → replicate (n + 1) x ≡ 
 replicate-push n x = sym (replicate-append-replicate n 1 x)
 
 -- the first table stands behind the records
-pub table_place-zero : (pairs : List Pair) → table_place pairs 0 ≡ 2048 + length (records_of pairs)
-table_place-zero pairs = omega (arith, none_before_zero (entries_of pairs))
+pub table_position-zero : (pairs : List Pair) → table_position pairs 0 ≡ 2048 + length (records_of pairs)
+table_position-zero pairs = omega (arith, none_before_zero (entries_of pairs))
   where
     none_before_zero : (entries : List (ℕ × ℕ)) → count_by (λ (e : ℕ × ℕ). ltb (table_of e.0) 0) entries ≡ 0
     none_before_zero [] = refl
     none_before_zero (e ∷ entries) = omega (arith, none_before_zero entries, sum_by-cons (λ (x : ℕ × ℕ). cond (ltb (table_of x.0) 0) 1 0) e entries, cond-false {A = ℕ} (ltb (table_of e.0) 0) 1 0 (le-ltb (table_of e.0) 0 (omega arith)))
 
 -- a table ends inside the finished file
-pub table_fits : (pairs : List Pair) (t : ℕ) (entries : List (ℕ × ℕ)) → finished_length pairs < 2 ^ 32 → entries ≡ table_entries t pairs → table_place pairs t + 16 * length entries < 2 ^ 32
+pub table_fits : (pairs : List Pair) (t : ℕ) (entries : List (ℕ × ℕ)) → finished_length pairs < 2 ^ 32 → entries ≡ table_entries t pairs → table_position pairs t + 16 * length entries < 2 ^ 32
 table_fits pairs t entries fits e =
-    omega (arith, fits, ap length e, table_place-more pairs t, table_place-le pairs (t + 1))
+    omega (arith, fits, ap length e, table_position-more pairs t, table_position-le pairs (t + 1))
 
 -- the parts of the file, joined
 pub image_of-parts : (pairs : List Pair) (pointers : List (ℕ × ℕ)) (records head front file : List ℕ) → pointers ≡ pointers_of pairs → records ≡ records_of pairs → head ≡ flat_map two_numbers pointers → front ≡ head ++ records → file ≡ front ++ tables_of pairs → file ≡ image_of pairs

@@ -14,22 +14,22 @@ use Rattle.cdb_write.proofs.Placing.{entry}
 use Rattle.cdb_write.proofs.Probing.{count_by-probe, empty, first_inside, get_or-probe, is_same-self, length-probe, nth, same_from_is_same}
 use Rattle.cdb_write.proofs.Standing.{entry_of}
 
--- ---- one place where an element passes
+-- ---- one position where an element passes
 
 count_pos : (p : ℕ × ℕ → Bool) (xs : List (ℕ × ℕ)) (k : ℕ) → k < length xs → p (get_or xs k empty) ≡ true → 0 < count_by p xs
 count_pos p [] k l h = absurd (omega arith)
 count_pos p (x ∷ xs) zero l h = omega (arith, sum_by-cons (λ (s : ℕ × ℕ). cond (p s) 1 0) x xs, ap {B = ℕ} (λ (b : Bool). cond b 1 0) h)
 count_pos p (x ∷ xs) (suc k) l h = omega (arith, sum_by-cons (λ (s : ℕ × ℕ). cond (p s) 1 0) x xs, count_pos p xs k (omega arith) h)
 
-one_place : (p : ℕ × ℕ → Bool) (xs : List (ℕ × ℕ)) (k l : ℕ) → count_by p xs ≤ 1 → k < length xs → l < length xs → p (get_or xs k empty) ≡ true → p (get_or xs l empty) ≡ true → k ≡ l
-one_place p [] k l once inside there here same = absurd (omega arith)
-one_place p (x ∷ xs) zero zero once inside there here same = refl
-one_place p (x ∷ xs) zero (suc l) once inside there here same =
+one_position : (p : ℕ × ℕ → Bool) (xs : List (ℕ × ℕ)) (k l : ℕ) → count_by p xs ≤ 1 → k < length xs → l < length xs → p (get_or xs k empty) ≡ true → p (get_or xs l empty) ≡ true → k ≡ l
+one_position p [] k l once inside there here same = absurd (omega arith)
+one_position p (x ∷ xs) zero zero once inside there here same = refl
+one_position p (x ∷ xs) zero (suc l) once inside there here same =
     absurd (omega (arith, once, sum_by-cons (λ (s : ℕ × ℕ). cond (p s) 1 0) x xs, ap {B = ℕ} (λ (b : Bool). cond b 1 0) here, count_pos p xs l (omega arith) same))
-one_place p (x ∷ xs) (suc k) zero once inside there here same =
+one_position p (x ∷ xs) (suc k) zero once inside there here same =
     absurd (omega (arith, once, sum_by-cons (λ (s : ℕ × ℕ). cond (p s) 1 0) x xs, ap {B = ℕ} (λ (b : Bool). cond b 1 0) same, count_pos p xs k (omega arith) here))
-one_place p (x ∷ xs) (suc k) (suc l) once inside there here same =
-    ap suc (one_place p xs k l (omega (arith, once, sum_by-cons (λ (s : ℕ × ℕ). cond (p s) 1 0) x xs)) (omega arith) (omega arith) here same)
+one_position p (x ∷ xs) (suc k) (suc l) once inside there here same =
+    ap suc (one_position p xs k l (omega (arith, once, sum_by-cons (λ (s : ℕ × ℕ). cond (p s) 1 0) x xs)) (omega arith) (omega arith) here same)
 
 -- ---- what a written file has in its slots
 
@@ -46,10 +46,10 @@ table-lt pairs i = mod-lt (entry_of pairs i).0 {m = 256} (omega arith)
 
 -- where the entry of a record stands in its probe
 record At (pairs : List Pair) (file : List ℕ) (i : ℕ) : Type 0 where
-  place : ℕ
-  inside : place < length (slots_at file (table_at pairs i))
-  here : get_or (probe_at file (entry_of pairs i).0) place empty ≡ entry_of pairs i
-  passed : (k : ℕ) → k < place → IsAmong (take i (entries_of pairs)) (get_or (probe_at file (entry_of pairs i).0) k empty)
+  position : ℕ
+  inside : position < length (slots_at file (table_at pairs i))
+  here : get_or (probe_at file (entry_of pairs i).0) position empty ≡ entry_of pairs i
+  passed : (k : ℕ) → k < position → IsAmong (take i (entries_of pairs)) (get_or (probe_at file (entry_of pairs i).0) k empty)
   once : count_by (is_same (entry_of pairs i)) (slots_at file (table_at pairs i)) ≡ 1
 
 stands_at : (pairs : List Pair) (file : List ℕ) (i : ℕ) → Written file pairs → i < length (entries_of pairs) → At pairs file i
@@ -62,7 +62,7 @@ stands_at pairs file i w l =
     let first : position_or_len (is_same e) probed < length probed = first_inside (is_same e) probed (omega (arith, once, count_by-probe (is_same e) e.0 slots)) in
     let before = w.past_earlier i empty (omega (arith, l, length-entries pairs)) in
     record {
-      place = position_or_len (is_same e) probed;
+      position = position_or_len (is_same e) probed;
       inside = omega (arith, first, length-probe e.0 slots);
       here = same_from_is_same e (get_or probed (position_or_len (is_same e) probed) empty) (passes_at_first (is_same e) probed empty first);
       passed = λ k m. subst (IsAmong (take i es)) (get_or-take (position_or_len (is_same e) probed) probed k empty m)
@@ -128,16 +128,16 @@ module _ (pairs : List Pair) (a b : List ℕ) (wa : Written a pairs) (wb : Writt
   same_size t l = length-slots pairs a t wa l ∙ sym (length-slots pairs b t wb l)
 
   -- the next entry does not stand earlier in the probe of the one
-  not_before : (i : ℕ) → i < length (entries_of pairs) → Agree pairs b a i → (x : At pairs a i) (y : At pairs b i) → x.place < y.place → ⊥
+  not_before : (i : ℕ) → i < length (entries_of pairs) → Agree pairs b a i → (x : At pairs a i) (y : At pairs b i) → x.position < y.position → ⊥
   not_before i l agree x y less =
       let e = entry_of pairs i in
       let t = table_at pairs i in
       let size = same_size t (table-lt pairs i) in
-      let q = nth e.0 x.place (slots_at b t) in
-      let inside : x.place < length (slots_at b t) = omega (arith, x.inside, size) in
-      let q_in : q < length (slots_at b t) = mod-lt (e.0 / 256 + x.place) (omega (arith, inside)) in
-      let old = earlier pairs i (get_or (probe_at b e.0) x.place empty) l (y.passed x.place less) in
-      let slot : get_or (slots_at b t) q empty ≡ entry_of pairs old.j = sym (get_or-probe e.0 x.place (slots_at b t) empty inside) ∙ old.is in
+      let q = nth e.0 x.position (slots_at b t) in
+      let inside : x.position < length (slots_at b t) = omega (arith, x.inside, size) in
+      let q_in : q < length (slots_at b t) = mod-lt (e.0 / 256 + x.position) (omega (arith, inside)) in
+      let old = earlier pairs i (get_or (probe_at b e.0) x.position empty) l (y.passed x.position less) in
+      let slot : get_or (slots_at b t) q empty ≡ entry_of pairs old.j = sym (get_or-probe e.0 x.position (slots_at b t) empty inside) ∙ old.is in
       let old_in : old.j < length (entries_of pairs) = omega (arith, old.before, l) in
       let table : table_at pairs old.j ≡ t = elim (held pairs b t q wb (table-lt pairs i) q_in) [
         | inl none ↦ absurd (filled pairs old.j old_in (sym slot ∙ none))
@@ -146,30 +146,30 @@ module _ (pairs : List Pair) (a b : List ℕ) (wa : Written a pairs) (wb : Writt
       let there : get_or (slots_at a t) q empty ≡ entry_of pairs old.j =
       subst (λ (u : ℕ). q < length (slots_at b u) → get_or (slots_at b u) q empty ≡ entry_of pairs old.j → get_or (slots_at a u) q empty ≡ entry_of pairs old.j) table (agree old.j old.before q) q_in slot in
       let own : get_or (slots_at a t) q empty ≡ e =
-      ap (λ (n : ℕ). get_or (slots_at a t) ((e.0 / 256 + x.place) % n) empty) (sym size) ∙ sym (get_or-probe e.0 x.place (slots_at a t) empty x.inside) ∙ x.here in
+      ap (λ (n : ℕ). get_or (slots_at a t) ((e.0 / 256 + x.position) % n) empty) (sym size) ∙ sym (get_or-probe e.0 x.position (slots_at a t) empty x.inside) ∙ x.here in
       omega (arith, (rising_all pairs).rising old.j i old.before l, ap (λ (s : ℕ × ℕ). s.1) (sym there ∙ own))
 
-  -- where both stand at one place of the probe, the other has it where the one has it
-  at_one : (i : ℕ) → (x : At pairs a i) (y : At pairs b i) → x.place ≡ y.place → (k : ℕ) → k < length (slots_at a (table_at pairs i))
+  -- where both stand at one position of the probe, the other has it where the one has it
+  at_one : (i : ℕ) → (x : At pairs a i) (y : At pairs b i) → x.position ≡ y.position → (k : ℕ) → k < length (slots_at a (table_at pairs i))
       → get_or (slots_at a (table_at pairs i)) k empty ≡ entry_of pairs i → get_or (slots_at b (table_at pairs i)) k empty ≡ entry_of pairs i
   at_one i x y level k inside has =
       let e = entry_of pairs i in
       let t = table_at pairs i in
       let size = same_size t (table-lt pairs i) in
-      let q = nth e.0 x.place (slots_at a t) in
-      let q_in : q < length (slots_at a t) = mod-lt (e.0 / 256 + x.place) (omega (arith, inside)) in
-      let own : get_or (slots_at a t) q empty ≡ e = sym (get_or-probe e.0 x.place (slots_at a t) empty x.inside) ∙ x.here in
-      let same : k ≡ q = one_place (is_same e) (slots_at a t) k q (omega (arith, x.once)) inside q_in (ap (is_same e) has ∙ is_same-self e) (ap (is_same e) own ∙ is_same-self e) in
-      let moved : q ≡ nth e.0 y.place (slots_at b t) = ap (λ (n : ℕ). (e.0 / 256 + n) % length (slots_at a t)) level ∙ ap (λ (n : ℕ). (e.0 / 256 + y.place) % n) size in
-      ap (λ (n : ℕ). get_or (slots_at b t) n empty) (same ∙ moved) ∙ sym (get_or-probe e.0 y.place (slots_at b t) empty y.inside) ∙ y.here
+      let q = nth e.0 x.position (slots_at a t) in
+      let q_in : q < length (slots_at a t) = mod-lt (e.0 / 256 + x.position) (omega (arith, inside)) in
+      let own : get_or (slots_at a t) q empty ≡ e = sym (get_or-probe e.0 x.position (slots_at a t) empty x.inside) ∙ x.here in
+      let same : k ≡ q = one_position (is_same e) (slots_at a t) k q (omega (arith, x.once)) inside q_in (ap (is_same e) has ∙ is_same-self e) (ap (is_same e) own ∙ is_same-self e) in
+      let moved : q ≡ nth e.0 y.position (slots_at b t) = ap (λ (n : ℕ). (e.0 / 256 + n) % length (slots_at a t)) level ∙ ap (λ (n : ℕ). (e.0 / 256 + y.position) % n) size in
+      ap (λ (n : ℕ). get_or (slots_at b t) n empty) (same ∙ moved) ∙ sym (get_or-probe e.0 y.position (slots_at b t) empty y.inside) ∙ y.here
 
 module _ (pairs : List Pair) (a b : List ℕ) (wa : Written a pairs) (wb : Written b pairs) where
-  -- both stand at one place of the probe
-  level : (i : ℕ) → i < length (entries_of pairs) → Agree pairs a b i → Agree pairs b a i → (x : At pairs a i) (y : At pairs b i) → x.place ≡ y.place
+  -- both stand at one position of the probe
+  level : (i : ℕ) → i < length (entries_of pairs) → Agree pairs a b i → Agree pairs b a i → (x : At pairs a i) (y : At pairs b i) → x.position ≡ y.position
   level i l ab ba x y =
-      elim (cases_lt x.place y.place) [
+      elim (cases_lt x.position y.position) [
         | inl less ↦ absurd (not_before pairs a b wa wb i l ba x y less)
-        | inr le ↦ elim (cases_lt y.place x.place) [
+        | inr le ↦ elim (cases_lt y.position x.position) [
           | inl less ↦ absurd (not_before pairs b a wb wa i l ab y x less)
           | inr ge ↦ omega arith
         ]

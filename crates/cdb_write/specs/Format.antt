@@ -7,16 +7,16 @@ use Rattle.byteorder.specs.Endian.{little_bytes, little_number}
 abbrev pub number : ℕ → List ℕ
 number n = little_bytes 4 n
 
--- the number at a place of a file
+-- the number at a position of a file
 abbrev pub number_at : List ℕ → ℕ → ℕ
-number_at file place = little_number 4 (drop place file)
+number_at file position = little_number 4 (drop position file)
 
 -- two numbers, one after the other: a pointer (position, number of slots), or a slot (hash, position)
 abbrev pub two_numbers : ℕ × ℕ → List ℕ
 two_numbers p = number p.0 ++ number p.1
 
 abbrev pub two_numbers_at : List ℕ → ℕ → ℕ × ℕ
-two_numbers_at file place = (number_at file place, number_at file (place + 4))
+two_numbers_at file position = (number_at file position, number_at file (position + 4))
 
 -- the hash of one byte more
 abbrev pub hash_step : ℕ → ℕ → ℕ
@@ -41,11 +41,11 @@ record_of pair = record_bytes pair.key pair.value
 abbrev pub records_of : List Pair → List ℕ
 records_of pairs = flat_map record_of pairs
 
--- the slots that stand for records from a place on: each the hash of its key, and its place
+-- the slots that stand for records from a position on: each the hash of its key, and its position
 abbrev pub entries_from : ℕ → List Pair → List (ℕ × ℕ)
-entries_from place [] = []
-entries_from place (pair ∷ pairs) =
-    (hash_of pair.key, place) ∷ entries_from (place + 8 + length pair.key + length pair.value) pairs
+entries_from position [] = []
+entries_from position (pair ∷ pairs) =
+    (hash_of pair.key, position) ∷ entries_from (position + 8 + length pair.key + length pair.value) pairs
 
 -- records stand after the pointers
 abbrev pub entries_of : List Pair → List (ℕ × ℕ)

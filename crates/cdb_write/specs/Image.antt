@@ -25,12 +25,12 @@ abbrev pub records_length : List Pair → ℕ
 records_length pairs = length (records_of pairs)
 
 -- where a table stands: behind the pointers, the records, and the tables before it
-abbrev pub table_place : List Pair → ℕ → ℕ
-table_place pairs t =
+abbrev pub table_position : List Pair → ℕ → ℕ
+table_position pairs t =
     2048 + records_length pairs + 16 * count_by (λ (e : ℕ × ℕ). nat_lt (table_of e.0) t) (entries_of pairs)
 
 abbrev pub pointer_of : List Pair → ℕ → ℕ × ℕ
-pointer_of pairs t = (table_place pairs t, 2 * length (table_entries t pairs))
+pointer_of pairs t = (table_position pairs t, 2 * length (table_entries t pairs))
 
 abbrev pub pointers_of : List Pair → List (ℕ × ℕ)
 pointers_of pairs = map (pointer_of pairs) (range_with_len 0 256)

@@ -4,7 +4,7 @@ use Rattle.std.specs.List.{IsAmong, before_first, count_by, position_or_len}
 use Rattle.cdb_write.specs.Format.{Pair, entries_of, records_of}
 use Rattle.cdb_write.specs.Slots.{is_same, pointer_at, probe_at, slots_at, table_entries, table_of}
 
--- the entry at a place, or another if there is none
+-- the entry at a position, or another if there is none
 abbrev pub entry_or : List Pair → ℕ → ℕ × ℕ → ℕ × ℕ
 entry_or pairs i other = get_or (entries_of pairs) i other
 
@@ -19,7 +19,7 @@ IsEarlierFirst file pairs =
     → probe_length file (entry_or pairs i e) < probe_length file (entry_or pairs j e)
 
 pub record IsCdb (file : List ℕ) (pairs : List Pair) : Type 0 where
-  -- numbers reach each place of the file, and the pointers are there
+  -- numbers reach each position of the file, and the pointers are there
   pub fits : length file < 2 ^ 32
   pub header : 2048 ≤ length file
   -- the records stand after the pointers, in order

@@ -50,7 +50,7 @@ pub struct Maker {
     limit: u64,
     /// The records, as they will stand behind the pointers.
     records: Vec<u8>,
-    /// The hash of each key, and the place of its record in the file.
+    /// The hash of each key, and the position of its record in the file.
     entries: Vec<(u32, u32)>,
 }
 
@@ -96,10 +96,10 @@ impl Maker {
         if finished as u64 > self.limit {
             return Err(AddFault::TooLarge);
         }
-        let place = HEADER_LENGTH + self.records.len();
+        let position = HEADER_LENGTH + self.records.len();
         self.entries.reserve(1)?;
         append_record(&mut self.records, key, value)?;
-        self.entries.push((hash(key), place as u32))?;
+        self.entries.push((hash(key), position as u32))?;
         Ok(())
     }
 

@@ -6,13 +6,13 @@ ghost use Rattle.cdb_write.specs.Slots.{is_empty};
 
 use std::alloc::{AllocError, Global};
 
-/// The place of the first empty slot, or the number of slots if none is empty.
+/// The position of the first empty slot, or the number of slots if none is empty.
 fn empty_slot(slots: &[(u32, u32)]) -> usize
     ensures { result ≡ position_or_len is_empty slots.now }
 {
-    for (place, slot) in slots.iter().enumerate() {
+    for (position, slot) in slots.iter().enumerate() {
         if slot.1 == 0 {
-            return place;
+            return position;
         }
     }
     slots.len()
@@ -20,7 +20,7 @@ fn empty_slot(slots: &[(u32, u32)]) -> usize
 
 /// Puts an entry into the first empty slot of its probe: upward from the slot that its hash names, and then from the
 /// first slot.
-fn place(slots: &mut [(u32, u32)], entry: (u32, u32))
+fn fill(slots: &mut [(u32, u32)], entry: (u32, u32))
     requires { 0 < count_by is_empty slots.old }
     ensures { slots.new ≡ with_entry slots.old entry }
 {
@@ -43,7 +43,7 @@ pub(crate) fn filled_slots(
 {
     let mut slots = vec![in alloc; (0u32, 0u32); 2 * entries.len()]?;
     for entry in entries {
-        place(&mut slots, *entry);
+        fill(&mut slots, *entry);
     }
     Ok(slots)
 }

@@ -70,11 +70,11 @@ impl Tables {
         ensures { IfOk result (λ found. ArePointers self.now first found.items) }
     {
         let mut pointers = Vec::with_capacity(alloc, TABLE_COUNT)?;
-        let mut place = first;
+        let mut position = first;
         for table in 0..TABLE_COUNT {
             let slots = 2 * self.get(table).len() as u32;
-            pointers.push((place, slots))?;
-            place += 8 * slots;
+            pointers.push((position, slots))?;
+            position += 8 * slots;
         }
         Ok(pointers)
     }

@@ -18,7 +18,7 @@ same_names settles d = record { count = 0; settled = refl; pending = refl }
 same_names (makes name) d = (d, passes_start (makes name) d, refl)
 same_names (renews name) d = inl (d, passes_start (renews name) d, refl)
 same_names (appends piece) d = (d, passes_start (appends piece) d, refl)
-same_names (patches place bytes) d = (d, passes_start (patches place bytes) d, refl)
+same_names (patches position bytes) d = (d, passes_start (patches position bytes) d, refl)
 same_names syncs d = (d, passes_start syncs d, refl)
 same_names (renames from to) d = (d, passes_start (renames from to) d, refl)
 

@@ -16,16 +16,16 @@ at_last : (calls : List PastCall) (last : PastCall) → slice_get (calls ++ last
 at_last [] last = refl
 at_last (c ∷ calls) last = at_last calls last
 
-at_earlier : (calls : List PastCall) (last call : PastCall) (place : ℕ) → slice_get calls place ≡ Some call → slice_get (calls ++ last ∷ []) place ≡ Some call
-at_earlier [] last call place there = absurd (cc)
+at_earlier : (calls : List PastCall) (last call : PastCall) (position : ℕ) → slice_get calls position ≡ Some call → slice_get (calls ++ last ∷ []) position ≡ Some call
+at_earlier [] last call position there = absurd (cc)
 at_earlier (c ∷ calls) last call zero there = there
-at_earlier (c ∷ calls) last call (suc place) there = at_earlier calls last call place there
+at_earlier (c ∷ calls) last call (suc position) there = at_earlier calls last call position there
 
-at_either : (calls : List PastCall) (last call : PastCall) (place : ℕ) → slice_get (calls ++ last ∷ []) place ≡ Some call → (slice_get calls place ≡ Some call) ⊎ (call ≡ last)
+at_either : (calls : List PastCall) (last call : PastCall) (position : ℕ) → slice_get (calls ++ last ∷ []) position ≡ Some call → (slice_get calls position ≡ Some call) ⊎ (call ≡ last)
 at_either [] last call zero there = inr (cc)
-at_either [] last call (suc place) there = absurd (cc)
+at_either [] last call (suc position) there = absurd (cc)
 at_either (c ∷ calls) last call zero there = inl there
-at_either (c ∷ calls) last call (suc place) there = at_either calls last call place there
+at_either (c ∷ calls) last call (suc position) there = at_either calls last call position there
 
 -- What is kept of a call that led from one directory to another stands for each stop within it, and for no other.
 pub record Records (kept : PastCall) (call : Call) (old new : Directory) : Type 0 where
@@ -65,12 +65,12 @@ module _ (calls : List PastCall) (kept : PastCall) (call : Call) (old new : Dire
     where
       nothing_else : (moment : ℕ) (image : Directory) → moment ≤ length calls → LeftSince (calls ++ kept ∷ []) new moment image → LeftSince calls old moment image ⊎ LeftBy call old new image
       nothing_else moment image le (inl now) = inr (inr now)
-      nothing_else moment image le (inr (place, late, past, there, left)) =
-          ⊎_elim (λ was. inl (inr (place, late, past, was, left))) (λ last. ⊎_elim (λ first. inl (inl first)) (λ within. inr within) (records.only image (subst (λ p. LeftIn p image) last left))) (at_either calls kept past place there)
+      nothing_else moment image le (inr (position, late, past, there, left)) =
+          ⊎_elim (λ was. inl (inr (position, late, past, was, left))) (λ last. ⊎_elim (λ first. inl (inl first)) (λ within. inr within) (records.only image (subst (λ p. LeftIn p image) last left))) (at_either calls kept past position there)
 
       keeps : (moment : ℕ) (image : Directory) → moment ≤ length calls → LeftSince calls old moment image → LeftSince (calls ++ kept ∷ []) new moment image
       keeps moment image le (inl now) = inr (length calls, le, kept, at_last calls kept, records.start image now)
-      keeps moment image le (inr (place, late, past, there, left)) = inr (place, late, past, at_earlier calls kept past place there, left)
+      keeps moment image le (inr (position, late, past, there, left)) = inr (position, late, past, at_earlier calls kept past position there, left)
 
   pub includes_push : Includes (length calls) (LeftSince (calls ++ kept ∷ []) new) (LeftBy call old new)
   includes_push moment image le left = ⊎_elim (λ within. inr (length calls, le, kept, at_last calls kept, within)) (λ now. inl now) (records.all image left)
@@ -89,12 +89,12 @@ module _ (calls : List PastCall) (old new : Directory) where
 
       nothing_else : (moment : ℕ) (image : Directory) → moment ≤ length calls → LeftSince (calls ++ kept_step ∷ []) new moment image → LeftSince calls old moment image ⊎ (IsImage old image ⊎ IsImage new image)
       nothing_else moment image le (inl now) = inr (inr now)
-      nothing_else moment image le (inr (place, late, past, there, left)) =
-          ⊎_elim (λ was. inl (inr (place, late, past, was, left))) (λ last. inr (inl (within image (subst (λ p. LeftIn p image) last left)))) (at_either calls kept_step past place there)
+      nothing_else moment image le (inr (position, late, past, there, left)) =
+          ⊎_elim (λ was. inl (inr (position, late, past, was, left))) (λ last. inr (inl (within image (subst (λ p. LeftIn p image) last left)))) (at_either calls kept_step past position there)
 
       keeps : (moment : ℕ) (image : Directory) → moment ≤ length calls → LeftSince calls old moment image → LeftSince (calls ++ kept_step ∷ []) new moment image
       keeps moment image le (inl now) = inr (length calls, le, kept_step, at_last calls kept_step, inl now)
-      keeps moment image le (inr (place, late, past, there, left)) = inr (place, late, past, at_earlier calls kept_step past place there, left)
+      keeps moment image le (inr (position, late, past, there, left)) = inr (position, late, past, at_earlier calls kept_step past position there, left)
 
 -- the same of the entries
 module _ (entries later : List (Folder × Option (List ℕ))) (folder : Folder) (new : Directory) (pushed : later ≡ entries ++ (folder, None) ∷ []) where

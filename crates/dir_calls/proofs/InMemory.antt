@@ -85,26 +85,26 @@ after_changes-putting origin changes name number None = fold-append after_change
 after_changes-putting origin changes name number (Some old) = fold-append after_change origin changes (takes name ∷ puts name number ∷ [])
 
 -- what the scratch file has room for, an open file at its number has room for
-pub scratch_room : (files : List Stored) (scratch : Option ℕ) (k place count : ℕ) (stored : Stored) (old : Vec ℕ Global) → scratch ≡ Some k → k < length files → stored ≡ get_or files k stored → stored ≡ Open old
-    → ForSome (option_and_then (λ number. slice_get (map file_of files) number) scratch) (λ file. place + count ≤ length file.bytes) → place + count ≤ length old.items
-scratch_room files scratch k place count stored old scratch_is lt at_k is holds =
+pub scratch_room : (files : List Stored) (scratch : Option ℕ) (k position count : ℕ) (stored : Stored) (old : Vec ℕ Global) → scratch ≡ Some k → k < length files → stored ≡ get_or files k stored → stored ≡ Open old
+    → ForSome (option_and_then (λ number. slice_get (map file_of files) number) scratch) (λ file. position + count ≤ length file.bytes) → position + count ≤ length old.items
+scratch_room files scratch k position count stored old scratch_is lt at_k is holds =
     holds (file_of (Open old)) (ap (option_and_then (λ number. slice_get (map file_of files) number)) scratch_is ∙ slice_get-map file_of files k ∙ ap (option_map file_of) (slice_get_read files (length files) k stored refl lt at_k ∙ ap Some is))
 
 -- bytes are written into those of an open file
-module _ (old : Vec ℕ Global) (place : ℕ) (bytes : List ℕ) (inside : place + length bytes ≤ length old.items) where
-  whole-length : length (take place old.items ++ bytes ++ drop (place + length bytes) old.items) ≡ length old.items
+module _ (old : Vec ℕ Global) (position : ℕ) (bytes : List ℕ) (inside : position + length bytes ≤ length old.items) where
+  whole-length : length (take position old.items ++ bytes ++ drop (position + length bytes) old.items) ≡ length old.items
   whole-length = simp (length-append, length-take, length-drop) (omega arith)
 
   pub patched_items : (now copied : List ℕ) → now ≡ old.items → copied ≡ bytes
-      → (with_items old (take place now ++ (copied ++ drop (place + length bytes - place) (drop place now)))).items ≡ take place old.items ++ bytes ++ drop (place + length bytes) old.items
+      → (with_items old (take position now ++ (copied ++ drop (position + length bytes - position) (drop position now)))).items ≡ take position old.items ++ bytes ++ drop (position + length bytes) old.items
   patched_items now copied now_is copied_is =
       ap (λ ws. (with_items old ws).items) (
-      (λ i. take place (now_is i) ++ (copied_is i ++ drop (place + length bytes - place) (drop place (now_is i))))
-      ∙ sym (append_assoc (take place old.items) bytes _)
-      ∙ ap (λ l. take place old.items ++ bytes ++ l) (drop-drop (place + length bytes - place) place old.items ∙ ap (λ n. drop n old.items) total))
+      (λ i. take position (now_is i) ++ (copied_is i ++ drop (position + length bytes - position) (drop position (now_is i))))
+      ∙ sym (append_assoc (take position old.items) bytes _)
+      ∙ ap (λ l. take position old.items ++ bytes ++ l) (drop-drop (position + length bytes - position) position old.items ∙ ap (λ n. drop n old.items) total))
       ∙ with_items_is old _ (whole-length ∙ sym old.ok.0)
     where
-      total : place + (place + length bytes - place) ≡ place + length bytes
+      total : position + (position + length bytes - position) ≡ position + length bytes
       total = omega arith
 
 -- ---- what stands under a name

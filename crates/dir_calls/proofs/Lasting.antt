@@ -78,7 +78,7 @@ pub after_keeps : (call : Call) (d : Directory) → KeepsSynced d.files (after c
 after_keeps (makes name) d = more_files d.files _
 after_keeps (renews name) d = more_files d.files _
 after_keeps (appends piece) d = scratch_changed (longer piece) d d.scratch (rewritten_spares (λ file. file.bytes ++ piece))
-after_keeps (patches place bytes) d = scratch_changed (patched place bytes) d d.scratch (rewritten_spares _)
+after_keeps (patches position bytes) d = scratch_changed (patched position bytes) d d.scratch (rewritten_spares _)
 after_keeps syncs d = scratch_changed lasting d d.scratch lasting_spares
 after_keeps (renames from to) d = by (number_of d from)
   where
@@ -104,7 +104,7 @@ passes_keeps (renews name) d state (inr (inl is)) = subst (λ (s : Directory). K
 passes_keeps (renews name) d state (inr (inr (inl is))) = subst (λ (s : Directory). KeepsSynced d.files s.files) (sym is) (same_files d.files)
 passes_keeps (renews name) d state (inr (inr (inr is))) = subst (λ (s : Directory). KeepsSynced d.files s.files) (sym is) (after_keeps (renews name) d)
 passes_keeps (appends piece) d state passes = either (appends piece) d state passes
-passes_keeps (patches place bytes) d state passes = either (patches place bytes) d state passes
+passes_keeps (patches position bytes) d state passes = either (patches position bytes) d state passes
 passes_keeps syncs d state passes = either syncs d state passes
 passes_keeps (renames from to) d state passes = either (renames from to) d state passes
 passes_keeps settles d state passes = either settles d state passes
@@ -123,7 +123,7 @@ failed_left (makes name) d table names leaves left = (leaves.0, leaves.1, subst 
 failed_left (renews name) d table names (inl leaves) left = (leaves.0, leaves.1, subst (λ (t : NameTable). CanBeLeft t names) leaves.2 left)
 failed_left (renews name) d table names (inr some) left = (without d name, inr (inl refl), left_some (without d name).names table names some left)
 failed_left (appends piece) d table names leaves left = (leaves.0, leaves.1, subst (λ (t : NameTable). CanBeLeft t names) leaves.2 left)
-failed_left (patches place bytes) d table names leaves left = (leaves.0, leaves.1, subst (λ (t : NameTable). CanBeLeft t names) leaves.2 left)
+failed_left (patches position bytes) d table names leaves left = (leaves.0, leaves.1, subst (λ (t : NameTable). CanBeLeft t names) leaves.2 left)
 failed_left syncs d table names leaves left = (leaves.0, leaves.1, subst (λ (t : NameTable). CanBeLeft t names) leaves.2 left)
 failed_left (renames from to) d table names leaves left = (leaves.0, leaves.1, subst (λ (t : NameTable). CanBeLeft t names) leaves.2 left)
 
@@ -185,8 +185,8 @@ module _ (d : Directory) (name : List ℕ) (contents : List (Option (List ℕ)))
   pub appends_keeps : (piece : List ℕ) → CallKeeps (appends piece) d name contents
   appends_keeps piece = record { numbers = scratch_keeps (longer piece) }
 
-  pub patches_keeps : (place : ℕ) (bytes : List ℕ) → CallKeeps (patches place bytes) d name contents
-  patches_keeps place bytes = record { numbers = scratch_keeps (patched place bytes) }
+  pub patches_keeps : (position : ℕ) (bytes : List ℕ) → CallKeeps (patches position bytes) d name contents
+  patches_keeps position bytes = record { numbers = scratch_keeps (patched position bytes) }
 
   pub syncs_keeps : CallKeeps syncs d name contents
   syncs_keeps = record { numbers = numbers }

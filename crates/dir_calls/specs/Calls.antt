@@ -22,9 +22,9 @@ rewritten file bytes = record { bytes = if file.synced then file.bytes else byte
 abbrev pub longer : List ℕ → FileState → FileState
 longer piece file = rewritten file (file.bytes ++ piece)
 
--- the file with bytes in place of those from a place on
+-- the file with bytes in place of those from a position on
 abbrev pub patched : ℕ → List ℕ → FileState → FileState
-patched place bytes file = rewritten file (take place file.bytes ++ bytes ++ drop (place + length bytes) file.bytes)
+patched position bytes file = rewritten file (take position file.bytes ++ bytes ++ drop (position + length bytes) file.bytes)
 
 abbrev pub lasting : FileState → FileState
 lasting file = record { bytes = file.bytes; synced = true }
@@ -83,7 +83,7 @@ abbrev pub after : Call → Directory → Directory
 after (makes name) d = made d name
 after (renews name) d = made (cleared d name) name
 after (appends piece) d = with_scratch (longer piece) d.scratch d
-after (patches place bytes) d = with_scratch (patched place bytes) d.scratch d
+after (patches position bytes) d = with_scratch (patched position bytes) d.scratch d
 after syncs d = closed (with_scratch lasting d.scratch d)
 after (renames from to) d = moved d from to (number_of d from)
 after settles d = with_names d (all_settled d.names)

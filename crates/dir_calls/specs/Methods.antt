@@ -34,6 +34,6 @@ abbrev pub OpenElapses : {D : Type 0} → (state : D → Directory) → (moment 
     → (old new : D) → Type 0
 OpenElapses state moment left_since old new = Elapses (moment old) (moment new) (left_since old) (left_since new) (IsImage (state old))
 
--- if there is a scratch file, these bytes from this place on lie inside it
+-- if there is a scratch file, these bytes from this position on lie inside it
 abbrev pub IsInside : ℕ → List ℕ → Option FileState → Type 0
-IsInside place bytes scratch = ForSome scratch (λ file. place + length bytes ≤ length file.bytes)
+IsInside position bytes scratch = ForSome scratch (λ file. position + length bytes ≤ length file.bytes)

@@ -25,9 +25,9 @@ LeftIn call image = IsImage call.before image ⊎ ((name : List ℕ) × (call.ma
 -- made since that moment
 abbrev pub LeftSince : List PastCall → Directory → ℕ → Directory → Type 0
 LeftSince calls now moment image = IsImage now image
-    ⊎ ((place : ℕ) × (moment ≤ place) × (call : PastCall) × (slice_get calls place ≡ Some call) × LeftIn call image)
+    ⊎ ((position : ℕ) × (moment ≤ position) × (call : PastCall) × (slice_get calls position ≡ Some call) × LeftIn call image)
 
 -- since the moment after the last call, a stop can leave only an image of the directory now
 pub left_now : (calls : List PastCall) (now image : Directory) → LeftSince calls now (length calls) image → IsImage now image
 left_now calls now image (inl is) = is
-left_now calls now image (inr (place, late, call, there, left)) = absurd (omega (arith, late, slice_get_within calls place call there))
+left_now calls now image (inr (position, late, call, there, left)) = absurd (omega (arith, late, slice_get_within calls position call there))

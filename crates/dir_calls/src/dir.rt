@@ -59,20 +59,20 @@ pub trait Dir {
         ensures within { IsTrue honest → OnOk result
             (CallIncludes state moment left_since (appends piece.now) self.old self.new) };
 
-    /// Overwrites bytes of the scratch file from a place on, all of them. They have to lie inside the file. After a
+    /// Overwrites bytes of the scratch file from a position on, all of them. They have to lie inside the file. After a
     /// device fault it may hold any bytes.
-    fn patch(&mut self, alloc: Global, place: u64, bytes: &[u8]) -> Result<(), DirFault>
-        requires inside { IsTrue honest → IsInside place bytes.now (scratch_of (state self.old)) }
-        ensures does { IsTrue honest → DoesCall state (patches place bytes.now) self.old self.new result }
+    fn patch(&mut self, alloc: Global, position: u64, bytes: &[u8]) -> Result<(), DirFault>
+        requires inside { IsTrue honest → IsInside position bytes.now (scratch_of (state self.old)) }
+        ensures does { IsTrue honest → DoesCall state (patches position bytes.now) self.old self.new result }
         ensures scratch { IsTrue honest → OnOk result (IsSome (state self.old).scratch) }
         ensures no_scratch { IsTrue honest → result ≡ Err DirFault.NoScratch → (state self.old).scratch ≡ None }
         ensures no_memory { IsTrue honest → result ≡ Err DirFault.OutOfMemory → IsSome (state self.old).scratch }
         ensures faults { IfErr result (Contains (DirFault.NoScratch ∷ DirFault.Device ∷ DirFault.OutOfMemory ∷ [])) }
         ensures counted { CountsFault (failed self.old) (failed self.new) result }
 
-        ensures time { IsTrue honest → CallElapses state moment left_since (patches place bytes.now) self.old self.new }
+        ensures time { IsTrue honest → CallElapses state moment left_since (patches position bytes.now) self.old self.new }
         ensures within { IsTrue honest → OnOk result
-            (CallIncludes state moment left_since (patches place bytes.now) self.old self.new) };
+            (CallIncludes state moment left_since (patches position bytes.now) self.old self.new) };
 
     /// Makes the scratch file lasting, and closes it.
     fn sync(&mut self, alloc: Global) -> Result<(), DirFault>

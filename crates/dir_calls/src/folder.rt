@@ -176,14 +176,14 @@ impl Folder {
         Ok(())
     }
 
-    /// Overwrites bytes of the scratch file from a place on.
-    pub fn patch(&mut self, number: usize, place: usize, bytes: &[u8])
+    /// Overwrites bytes of the scratch file from a position on.
+    pub fn patch(&mut self, number: usize, position: usize, bytes: &[u8])
         requires scratch { self.old.scratch ≡ Some number }
-        requires inside { IsInside place bytes.now (scratch_of (directory_of self.old)) }
-        ensures { directory_of self.new ≡ after (patches place bytes.now) (directory_of self.old) }
+        requires inside { IsInside position bytes.now (scratch_of (directory_of self.old)) }
+        ensures { directory_of self.new ≡ after (patches position bytes.now) (directory_of self.old) }
     {
         if let Stored::Open(old) = &mut self.files[number] {
-            old[place..place + bytes.len()].copy_from_slice(bytes);
+            old[position..position + bytes.len()].copy_from_slice(bytes);
         }
     }
 

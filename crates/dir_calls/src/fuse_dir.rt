@@ -126,9 +126,9 @@ impl<D: Dir> Dir for FuseDir<D> {
         self.inner.append(alloc, piece)
     }
 
-    fn patch(&mut self, alloc: Global, place: u64, bytes: &[u8]) -> Result<(), DirFault>
-        requires inside { IsTrue D.honest → IsInside place bytes.now (scratch_of (fuse_state self.old)) }
-        ensures does { IsTrue D.honest → DoesCall fuse_state (patches place bytes.now) self.old self.new result }
+    fn patch(&mut self, alloc: Global, position: u64, bytes: &[u8]) -> Result<(), DirFault>
+        requires inside { IsTrue D.honest → IsInside position bytes.now (scratch_of (fuse_state self.old)) }
+        ensures does { IsTrue D.honest → DoesCall fuse_state (patches position bytes.now) self.old self.new result }
         ensures scratch { IsTrue D.honest → OnOk result (IsSome (fuse_state self.old).scratch) }
         ensures no_scratch { IsTrue D.honest → result ≡ Err DirFault.NoScratch
             → (fuse_state self.old).scratch ≡ None }
@@ -139,13 +139,13 @@ impl<D: Dir> Dir for FuseDir<D> {
         ensures counts { fuse_left self.new ≡ fuse_left self.old - 1 }
         ensures burns { FuseBurns self.old self.new result }
         ensures passes { FusePasses self.old self.new result }
-        ensures time { IsTrue D.honest → FuseElapses (patches place bytes.now) self.old self.new }
-        ensures within { IsTrue D.honest → OnOk result (FuseIncludes (patches place bytes.now) self.old self.new) }
+        ensures time { IsTrue D.honest → FuseElapses (patches position bytes.now) self.old self.new }
+        ensures within { IsTrue D.honest → OnOk result (FuseIncludes (patches position bytes.now) self.old self.new) }
     {
         if burns(&mut self.left, &mut self.burnt) {
             return Err(DirFault::Device);
         }
-        self.inner.patch(alloc, place, bytes)
+        self.inner.patch(alloc, position, bytes)
     }
 
     fn sync(&mut self, alloc: Global) -> Result<(), DirFault>

@@ -119,12 +119,12 @@ impl Dir for MemDir {
         Ok(piece.len())
     }
 
-    fn patch(&mut self, alloc: Global, place: u64, bytes: &[u8]) -> Result<(), DirFault> {
+    fn patch(&mut self, alloc: Global, position: u64, bytes: &[u8]) -> Result<(), DirFault> {
         let Some(number) = self.folder.scratch else {
             return Err(DirFault::NoScratch);
         };
         let past = self.past.and(&self.folder, &None);
-        self.folder.patch(number, place as usize, bytes);
+        self.folder.patch(number, position as usize, bytes);
         self.past = past;
         Ok(())
     }

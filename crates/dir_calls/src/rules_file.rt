@@ -28,12 +28,12 @@ pub trait RulesFile {
     fn len(&self) -> u64
         ensures { IsTrue honest → result ≡ length (bytes self.now) };
 
-    /// Reads bytes from a place on into the front of `buf`, and answers how many. It is 0 only behind the file's end or
+    /// Reads bytes from a position on into the front of `buf`, and answers how many. It is 0 only behind the file's end or
     /// for an empty `buf`, and may be fewer than there are. After a fault `buf` may hold anything.
-    fn read_at(&self, place: u64, buf: &mut [u8]) -> Result<usize, DeviceFault>
+    fn read_at(&self, position: u64, buf: &mut [u8]) -> Result<usize, DeviceFault>
         ensures room { IfOk result (λ n. n ≤ length buf.old) }
         ensures same_length { length buf.new ≡ length buf.old }
-        ensures gives { IsTrue honest → IfOk result (λ n. Gives (bytes self.now) place n buf.old buf.new) }
+        ensures gives { IsTrue honest → IfOk result (λ n. Gives (bytes self.now) position n buf.old buf.new) }
         ensures sound { IsTrue sound → IsOk result };
 
     /// A sound file is honest.
@@ -88,12 +88,12 @@ impl RulesFile for MemFile {
         self.bytes.as_slice().len() as u64
     }
 
-    fn read_at(&self, place: u64, buf: &mut [u8]) -> Result<usize, DeviceFault> {
-        let Ok(place) = usize::try_from(place) else {
+    fn read_at(&self, position: u64, buf: &mut [u8]) -> Result<usize, DeviceFault> {
+        let Ok(position) = usize::try_from(position) else {
             return Ok(0);
         };
         let bytes = self.bytes.as_slice();
-        let Some(rest) = bytes.get(place..) else {
+        let Some(rest) = bytes.get(position..) else {
             return Ok(0);
         };
         let count = rest.len().min(buf.len());

@@ -12,58 +12,58 @@ use Rattle.dir_calls.proofs.ChangedFiles.{file_is, image_with, image_without}
 use Rattle.dir_calls.proofs.WithFiles.{twice, idle, changed, changed_some, scratch_kept, names_kept}
 
 -- two writes, the second from the end of the first on
-bytes_twice : (place : ℕ) (p q b : List ℕ) → place ≤ length b
-    → take (place + length p) (take place b ++ (p ++ drop (place + length p) b)) ++ (q ++ drop (place + length p + length q) (take place b ++ (p ++ drop (place + length p) b)))
-    ≡ take place b ++ ((p ++ q) ++ drop (place + length (p ++ q)) b)
-bytes_twice place p q b le =
-    ap (λ (m : List ℕ). take (place + length p) m ++ (q ++ drop (place + length p + length q) m)) (sym (append_assoc (take place b) p (drop (place + length p) b)))
-    ∙ ap (λ n. take n ((take place b ++ p) ++ drop (place + length p) b) ++ (q ++ drop (n + length q) ((take place b ++ p) ++ drop (place + length p) b))) seam
-    ∙ ap (λ (t : List ℕ). t ++ (q ++ drop (length (take place b ++ p) + length q) ((take place b ++ p) ++ drop (place + length p) b))) (take-append_seam (take place b ++ p) (drop (place + length p) b))
-    ∙ ap (λ (t : List ℕ). (take place b ++ p) ++ (q ++ t)) rest
-    ∙ append_assoc (take place b) p (q ++ drop (place + length (p ++ q)) b)
-    ∙ ap (λ (t : List ℕ). take place b ++ t) (sym (append_assoc p q (drop (place + length (p ++ q)) b)))
+bytes_twice : (position : ℕ) (p q b : List ℕ) → position ≤ length b
+    → take (position + length p) (take position b ++ (p ++ drop (position + length p) b)) ++ (q ++ drop (position + length p + length q) (take position b ++ (p ++ drop (position + length p) b)))
+    ≡ take position b ++ ((p ++ q) ++ drop (position + length (p ++ q)) b)
+bytes_twice position p q b le =
+    ap (λ (m : List ℕ). take (position + length p) m ++ (q ++ drop (position + length p + length q) m)) (sym (append_assoc (take position b) p (drop (position + length p) b)))
+    ∙ ap (λ n. take n ((take position b ++ p) ++ drop (position + length p) b) ++ (q ++ drop (n + length q) ((take position b ++ p) ++ drop (position + length p) b))) seam
+    ∙ ap (λ (t : List ℕ). t ++ (q ++ drop (length (take position b ++ p) + length q) ((take position b ++ p) ++ drop (position + length p) b))) (take-append_seam (take position b ++ p) (drop (position + length p) b))
+    ∙ ap (λ (t : List ℕ). (take position b ++ p) ++ (q ++ t)) rest
+    ∙ append_assoc (take position b) p (q ++ drop (position + length (p ++ q)) b)
+    ∙ ap (λ (t : List ℕ). take position b ++ t) (sym (append_assoc p q (drop (position + length (p ++ q)) b)))
   where
-    seam : place + length p ≡ length (take place b ++ p)
-    seam = omega (arith, length-append (take place b) p, length-take-le place b le)
+    seam : position + length p ≡ length (take position b ++ p)
+    seam = omega (arith, length-append (take position b) p, length-take-le position b le)
 
-    rest : drop (length (take place b ++ p) + length q) ((take place b ++ p) ++ drop (place + length p) b) ≡ drop (place + length (p ++ q)) b
-    rest = drop-append-add (take place b ++ p) (drop (place + length p) b) (length q) ∙ drop-drop (length q) (place + length p) b ∙ ap (λ n. drop n b) (omega (arith, length-append p q))
+    rest : drop (length (take position b ++ p) + length q) ((take position b ++ p) ++ drop (position + length p) b) ≡ drop (position + length (p ++ q)) b
+    rest = drop-append-add (take position b ++ p) (drop (position + length p) b) (length q) ∙ drop-drop (length q) (position + length p) b ∙ ap (λ n. drop n b) (omega (arith, length-append p q))
 
-file_twice : (place k : ℕ) (rest : List ℕ) (file : FileState) → place ≤ length file.bytes → k ≤ length rest
-    → rewritten_at (place + k) (drop k rest) (rewritten_at place (take k rest) file) ≡ rewritten_at place rest file
-file_twice place k rest file le fits =
-    ap (λ n. rewritten_at (place + n) (drop k rest) (rewritten_at place (take k rest) file)) (sym (length-take-le k rest fits))
-    ∙ ap (λ (b : List ℕ). record { bytes = b; synced = false }) (bytes_twice place (take k rest) (drop k rest) file.bytes le)
-    ∙ ap (λ (l : List ℕ). rewritten_at place l file) (take-append-drop k rest)
+file_twice : (position k : ℕ) (rest : List ℕ) (file : FileState) → position ≤ length file.bytes → k ≤ length rest
+    → rewritten_at (position + k) (drop k rest) (rewritten_at position (take k rest) file) ≡ rewritten_at position rest file
+file_twice position k rest file le fits =
+    ap (λ n. rewritten_at (position + n) (drop k rest) (rewritten_at position (take k rest) file)) (sym (length-take-le k rest fits))
+    ∙ ap (λ (b : List ℕ). record { bytes = b; synced = false }) (bytes_twice position (take k rest) (drop k rest) file.bytes le)
+    ∙ ap (λ (l : List ℕ). rewritten_at position l file) (take-append-drop k rest)
 
-pub write_twice : (place k : ℕ) (rest : List ℕ) (d : Directory) → ForSome (scratch_of d) (λ file. place ≤ length file.bytes) → k ≤ length rest
-    → after_write (place + k) (drop k rest) (after_write place (take k rest) d) ≡ after_write place rest d
-write_twice place k rest d inside fits = twice (rewritten_at place (take k rest)) (rewritten_at (place + k) (drop k rest)) (rewritten_at place rest) d (λ file there. file_twice place k rest file (inside file there) fits)
+pub write_twice : (position k : ℕ) (rest : List ℕ) (d : Directory) → ForSome (scratch_of d) (λ file. position ≤ length file.bytes) → k ≤ length rest
+    → after_write (position + k) (drop k rest) (after_write position (take k rest) d) ≡ after_write position rest d
+write_twice position k rest d inside fits = twice (rewritten_at position (take k rest)) (rewritten_at (position + k) (drop k rest)) (rewritten_at position rest) d (λ file there. file_twice position k rest file (inside file there) fits)
 
 -- a write of nothing
-pub write_none : (place : ℕ) (d : Directory) → ForSome (scratch_of d) (λ file. file.synced ≡ false) → after_write place [] d ≡ d
-write_none place d unsynced = idle (rewritten_at place []) d (λ file there. same file (unsynced file there))
+pub write_none : (position : ℕ) (d : Directory) → ForSome (scratch_of d) (λ file. file.synced ≡ false) → after_write position [] d ≡ d
+write_none position d unsynced = idle (rewritten_at position []) d (λ file there. same file (unsynced file there))
   where
     bytes : (n : ℕ) (b : List ℕ) → take n b ++ ([] ++ drop (n + length {A = ℕ} []) b) ≡ b
     bytes n b = ap (λ m. take n b ++ drop m b) (omega arith) ∙ take-append-drop n b
 
-    same : (file : FileState) → file.synced ≡ false → rewritten_at place [] file ≡ file
-    same file unsynced = ap (λ (b : List ℕ). record { bytes = b; synced = false }) (bytes place file.bytes) ∙ ap (λ s. record { bytes = file.bytes; synced = s }) (sym unsynced)
+    same : (file : FileState) → file.synced ≡ false → rewritten_at position [] file ≡ file
+    same file unsynced = ap (λ (b : List ℕ). record { bytes = b; synced = false }) (bytes position file.bytes) ∙ ap (λ s. record { bytes = file.bytes; synced = s }) (sym unsynced)
 
 -- how many bytes a written file has
-written_length : (place : ℕ) (p b : List ℕ) → place ≤ length b → place + length p ≤ length (take place b ++ (p ++ drop (place + length p) b))
-written_length place p b le = omega (arith, length-append (take place b) (p ++ drop (place + length p) b), length-append p (drop (place + length p) b), length-take-le place b le)
+written_length : (position : ℕ) (p b : List ℕ) → position ≤ length b → position + length p ≤ length (take position b ++ (p ++ drop (position + length p) b))
+written_length position p b le = omega (arith, length-append (take position b) (p ++ drop (position + length p) b), length-append p (drop (position + length p) b), length-take-le position b le)
 
--- the next place
-pub may_on : (place : ℕ) (p : List ℕ) (number : ℕ) (d : Directory) → MayWrite d number place → MayWrite (after_write place p d) number (place + length p)
-may_on place p number d may = record {
-  last = scratch_kept (rewritten_at place p) d.scratch d ∙ may.last;
-  inside = λ now is. let was = changed_some (rewritten_at place p) (scratch_of d) now (sym (changed (rewritten_at place p) d) ∙ is) in
-      subst (λ (f : FileState). place + length p ≤ length f.bytes) (sym was.2) (written_length place p was.0.bytes (may.inside was.0 was.1));
+-- the next position
+pub may_on : (position : ℕ) (p : List ℕ) (number : ℕ) (d : Directory) → MayWrite d number position → MayWrite (after_write position p d) number (position + length p)
+may_on position p number d may = record {
+  last = scratch_kept (rewritten_at position p) d.scratch d ∙ may.last;
+  inside = λ now is. let was = changed_some (rewritten_at position p) (scratch_of d) now (sym (changed (rewritten_at position p) d) ∙ is) in
+      subst (λ (f : FileState). position + length p ≤ length f.bytes) (sym was.2) (written_length position p was.0.bytes (may.inside was.0 was.1));
 }
 
-pub unsynced_on : (place : ℕ) (p : List ℕ) (d : Directory) → ForSome (scratch_of (after_write place p d)) (λ file. file.synced ≡ false)
-unsynced_on place p d = λ now is. ap (λ (f : FileState). f.synced) (changed_some (rewritten_at place p) (scratch_of d) now (sym (changed (rewritten_at place p) d) ∙ is)).2
+pub unsynced_on : (position : ℕ) (p : List ℕ) (d : Directory) → ForSome (scratch_of (after_write position p d)) (λ file. file.synced ≡ false)
+unsynced_on position p d = λ now is. ap (λ (f : FileState). f.synced) (changed_some (rewritten_at position p) (scratch_of d) now (sym (changed (rewritten_at position p) d) ∙ is)).2
 
 -- the scratch file is not synced before a change, nor after it
 pub record StaysOpen (change : FileState → FileState) (d : Directory) : Type 0 where
@@ -90,11 +90,11 @@ spoils_none d = record { names = refl; files = record { each = λ number file th
 pub spoils_more : (a b c : Directory) → Spoils a b → Spoils b c → Spoils a c
 spoils_more a b c one two = record { names = two.names ∙ one.names; files = keeps_more a.files b.files c.files one.files two.files; scratch = two.scratch ∙ one.scratch }
 
-pub spoils_write : (place : ℕ) (p : List ℕ) (d : Directory) → ForSome (scratch_of d) (λ file. file.synced ≡ false) → Spoils d (after_write place p d)
-spoils_write place p d unsynced = record {
-  names = names_kept (rewritten_at place p) d.scratch d;
-  files = keeps_with (rewritten_at place p) d unsynced;
-  scratch = scratch_kept (rewritten_at place p) d.scratch d;
+pub spoils_write : (position : ℕ) (p : List ℕ) (d : Directory) → ForSome (scratch_of d) (λ file. file.synced ≡ false) → Spoils d (after_write position p d)
+spoils_write position p d unsynced = record {
+  names = names_kept (rewritten_at position p) d.scratch d;
+  files = keeps_with (rewritten_at position p) d unsynced;
+  scratch = scratch_kept (rewritten_at position p) d.scratch d;
 }
 
 -- images
@@ -114,8 +114,8 @@ images_from change d stays image is = images_at change d.scratch d image stays.e
 pub images_into : (change : FileState → FileState) (d : Directory) → StaysOpen change d → (image : Directory) → IsImage d image → IsImage (with_scratch change d.scratch d) image
 images_into change d stays image is = images_to change d.scratch d image stays.each is
 
-pub stays_written : (place : ℕ) (p : List ℕ) (d : Directory) → ForSome (scratch_of d) (λ file. file.synced ≡ false) → StaysOpen (rewritten_at place p) d
-stays_written place p d unsynced = record { each = λ file there. (unsynced file there, refl) }
+pub stays_written : (position : ℕ) (p : List ℕ) (d : Directory) → ForSome (scratch_of d) (λ file. file.synced ≡ false) → StaysOpen (rewritten_at position p) d
+stays_written position p d unsynced = record { each = λ file there. (unsynced file there, refl) }
 
 -- a run of writes goes on by one that wrote so many bytes, or none
 pub record Next (number at more : ℕ) (rest less : List ℕ) (mid now : Directory) (whole : Directory) : Type 0 where

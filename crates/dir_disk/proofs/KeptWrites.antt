@@ -46,8 +46,8 @@ writable_unsynced d number count is = λ file there. let w = writable d number c
 pub writable_long : (d : Directory) (number count : ℕ) → IsWritable d number count → ForSome (scratch_of d) (λ file. length file.bytes ≡ count)
 writable_long d number count is = λ file there. let w = writable d number count is in ap (λ (f : FileState). length f.bytes) (is_some file w.file (sym there ∙ w.there)) ∙ w.long
 
-pub may_write : (d : Directory) (number count place : ℕ) → IsWritable d number count → place ≤ count → MayWrite d number place
-may_write d number count place is le = record { last = is.0; inside = λ file there. omega (arith, le, writable_long d number count is file there) }
+pub may_write : (d : Directory) (number count position : ℕ) → IsWritable d number count → position ≤ count → MayWrite d number position
+may_write d number count position is le = record { last = is.0; inside = λ file there. omega (arith, le, writable_long d number count is file there) }
 
 -- nothing is kept back
 longer_none : (file : FileState) (s : Bool) → s ≡ file.synced → longer [] file ≡ file
@@ -79,26 +79,26 @@ writable_end d number count more p is long =
     (ap (λ (b : List ℕ). length b) (end_bytes p w.file.bytes count w.long) ∙ omega (arith, length-append w.file.bytes p, w.long, long))
 
 -- a write inside it
-pub writable_inside : (d : Directory) (number count place : ℕ) (p : List ℕ) → IsWritable d number count → place + length p ≤ count → IsWritable (after_write place p d) number count
-writable_inside d number count place p is le =
+pub writable_inside : (d : Directory) (number count position : ℕ) (p : List ℕ) → IsWritable d number count → position + length p ≤ count → IsWritable (after_write position p d) number count
+writable_inside d number count position p is le =
     let w = writable d number count is in
     let b = w.file.bytes in
-    is_writable (after_write place p d) number count (rewritten_at place p w.file) (scratch_kept (rewritten_at place p) d.scratch d ∙ w.last)
-    (changed (rewritten_at place p) d ∙ ap (option_map (rewritten_at place p)) w.there) refl
-    (omega (arith, le, w.long, length-append (take place b) (p ++ drop (place + length p) b), length-append p (drop (place + length p) b), length-take-le place b (omega (arith, le, w.long)), length-drop (place + length p) b))
+    is_writable (after_write position p d) number count (rewritten_at position p w.file) (scratch_kept (rewritten_at position p) d.scratch d ∙ w.last)
+    (changed (rewritten_at position p) d ∙ ap (option_map (rewritten_at position p)) w.there) refl
+    (omega (arith, le, w.long, length-append (take position b) (p ++ drop (position + length p) b), length-append p (drop (position + length p) b), length-take-le position b (omega (arith, le, w.long)), length-drop (position + length p) b))
 
-patch_file : (place : ℕ) (p : List ℕ) (file : FileState) → file.synced ≡ false → patched place p (longer [] file) ≡ rewritten_at place p file
-patch_file place p file unsynced =
-    ap (patched place p) (longer_none file file.synced refl)
-    ∙ ap (λ s. record { bytes = if s then file.bytes else take place file.bytes ++ p ++ drop (place + length p) file.bytes; synced = s }) unsynced
-    ∙ ap (λ (b : List ℕ). record { bytes = b; synced = false }) (append_assoc (take place file.bytes) p (drop (place + length p) file.bytes))
+patch_file : (position : ℕ) (p : List ℕ) (file : FileState) → file.synced ≡ false → patched position p (longer [] file) ≡ rewritten_at position p file
+patch_file position p file unsynced =
+    ap (patched position p) (longer_none file file.synced refl)
+    ∙ ap (λ s. record { bytes = if s then file.bytes else take position file.bytes ++ p ++ drop (position + length p) file.bytes; synced = s }) unsynced
+    ∙ ap (λ (b : List ℕ). record { bytes = b; synced = false }) (append_assoc (take position file.bytes) p (drop (position + length p) file.bytes))
 
-pub kept_patched : (d e : Directory) (number count place : ℕ) (pending p : List ℕ) → IsWritable e number count → kept_back [] e ≡ kept_back pending d
-    → kept_back [] (after_write place p e) ≡ after (patches place p) (kept_back pending d)
-kept_patched d e number count place pending p is kept =
-    kept_none (after_write place p e)
-    ∙ sym (twice (longer []) (patched place p) (rewritten_at place p) e (λ file there. patch_file place p file (writable_unsynced e number count is file there)))
-    ∙ ap (after (patches place p)) kept
+pub kept_patched : (d e : Directory) (number count position : ℕ) (pending p : List ℕ) → IsWritable e number count → kept_back [] e ≡ kept_back pending d
+    → kept_back [] (after_write position p e) ≡ after (patches position p) (kept_back pending d)
+kept_patched d e number count position pending p is kept =
+    kept_none (after_write position p e)
+    ∙ sym (twice (longer []) (patched position p) (rewritten_at position p) e (λ file there. patch_file position p file (writable_unsynced e number count is file there)))
+    ∙ ap (after (patches position p)) kept
 
 -- a sync
 last_file : (file : FileState) → lasting (longer [] file) ≡ lasting file

@@ -30,6 +30,6 @@ open_writable d number size last is = (last, of (slice_get d.files number) is)
 pub append_writes : (d : Directory) (number size : ℕ) (p : List ℕ) → IsWritable d number size → after (appends p) d ≡ after_write size p d
 append_writes d number size p is = sym (sym (kept_none (after_write size p d)) ∙ kept_written d number size p is)
 
-pub patch_writes : (d : Directory) (number size place : ℕ) (p : List ℕ) → IsWritable d number size → after (patches place p) d ≡ after_write place p d
-patch_writes d number size place p is =
-    ap (after (patches place p)) (sym (kept_none d)) ∙ sym (kept_patched d d number size place [] p is refl) ∙ kept_none (after_write place p d)
+pub patch_writes : (d : Directory) (number size position : ℕ) (p : List ℕ) → IsWritable d number size → after (patches position p) d ≡ after_write position p d
+patch_writes d number size position p is =
+    ap (after (patches position p)) (sym (kept_none d)) ∙ sym (kept_patched d d number size position [] p is refl) ∙ kept_none (after_write position p d)

@@ -8,13 +8,13 @@ use Rattle.dir_calls.specs.Images.{IsImage}
 use Rattle.dir_calls.specs.Calls.{renames, after, lasting, with_scratch, without}
 use Rattle.dir_calls.specs.Moments.{Elapses}
 
--- the file with bytes in place of those from a place on, or at its end: what is written is not synced
+-- the file with bytes in place of those from a position on, or at its end: what is written is not synced
 abbrev pub rewritten_at : ℕ → List ℕ → FileState → FileState
-rewritten_at place piece file = record { bytes = take place file.bytes ++ (piece ++ drop (place + length piece) file.bytes); synced = false }
+rewritten_at position piece file = record { bytes = take position file.bytes ++ (piece ++ drop (position + length piece) file.bytes); synced = false }
 
 -- the disk after a write of the file that may be written
 abbrev pub after_write : ℕ → List ℕ → Directory → Directory
-after_write place piece d = with_scratch (rewritten_at place piece) d.scratch d
+after_write position piece d = with_scratch (rewritten_at position piece) d.scratch d
 
 -- the disk after a sync of it
 abbrev pub after_sync : Directory → Directory
@@ -60,10 +60,10 @@ MovesNoOther number from old new = (new ≡ old) ⊎ (number_of old from ≡ num
 abbrev pub FindsNone : List ℕ → Directory → Directory → Type 0
 FindsNone name old new = (number_of old name ≡ None) × (new ≡ old)
 
--- the file with this number is the one that may be written, and the place is inside it or at its end
-pub record MayWrite (d : Directory) (number place : ℕ) : Type 0 where
+-- the file with this number is the one that may be written, and the position is inside it or at its end
+pub record MayWrite (d : Directory) (number position : ℕ) : Type 0 where
   pub last : d.scratch ≡ Some number
-  pub inside : ForSome (scratch_of d) (λ file. place ≤ length file.bytes)
+  pub inside : ForSome (scratch_of d) (λ file. position ≤ length file.bytes)
 
 -- time goes on by one call of a disk: a stop since an earlier moment may have left what it may have left before, or what a stop
 -- before the call or after it leaves, and nothing else

@@ -33,14 +33,14 @@ pub trait DiskFile {
     /// Whether its reads are known to give these bytes.
     ghost honest: { Bool };
 
-    /// Reads bytes from a place on into the front of `buf`, and answers how many. Fewer than there are may be read.
+    /// Reads bytes from a position on into the front of `buf`, and answers how many. Fewer than there are may be read.
     ///
     /// # Errors
     /// Those of the system. If a signal interrupted the read, nothing was read.
-    fn read_at(&self, place: u64, buf: &mut [u8]) -> io::Result<usize>
+    fn read_at(&self, position: u64, buf: &mut [u8]) -> io::Result<usize>
         ensures room { IfOk result (λ n. n ≤ length buf.old) }
         ensures same_length { length buf.new ≡ length buf.old }
-        ensures gives { IsTrue honest → IfOk result (λ n. Gives (bytes self.now) place n buf.old buf.new) }
+        ensures gives { IsTrue honest → IfOk result (λ n. Gives (bytes self.now) position n buf.old buf.new) }
         ensures interrupted { IsTrue honest → OnInterrupted result (buf.new ≡ buf.old) };
 }
 
@@ -143,17 +143,17 @@ pub trait Disk {
             (AllOrNone (state self.old) (closed (created (state self.old) (named path.now))) (state self.new)) }
         ensures time { IsTrue honest → StepElapses state moment left_since self.old self.new };
 
-    /// Writes bytes from a place on, perhaps not all, and answers how many (pwrite).
+    /// Writes bytes from a position on, perhaps not all, and answers how many (pwrite).
     ///
     /// # Errors
     /// Those of the system. After any but an interruption the file may hold any bytes, and it is not known that a later
     /// sync makes them last.
-    fn write_at(&mut self, file: &Self::Handle, place: u64, bytes: &[u8]) -> io::Result<usize>
-        requires may { IsTrue honest → MayWrite (state self.old) (number file.now) place }
+    fn write_at(&mut self, file: &Self::Handle, position: u64, bytes: &[u8]) -> io::Result<usize>
+        requires may { IsTrue honest → MayWrite (state self.old) (number file.now) position }
         ensures count { IfOk result (λ n. n ≤ length bytes.now) }
-        ensures fits { IsTrue honest → IfOk result (λ n. place + n < 2 ^ 63) }
+        ensures fits { IsTrue honest → IfOk result (λ n. position + n < 2 ^ 63) }
         ensures done { IsTrue honest → IfOk result (λ n.
-            state self.new ≡ after_write place (take n bytes.now) (state self.old)) }
+            state self.new ≡ after_write position (take n bytes.now) (state self.old)) }
         ensures interrupted { IsTrue honest → OnInterrupted result (state self.new ≡ state self.old) }
         ensures failed { IsTrue honest → OnErr result (Spoils (state self.old) (state self.new)) }
         ensures time { IsTrue honest → StepElapses state moment left_since self.old self.new };

@@ -82,35 +82,35 @@ fn no_memory(_: AllocError) -> io::Error
     io::Error::from(ErrorKind::OutOfMemory)
 }
 
-// Writes bytes into the scratch file from a place on, over those that stand there or at its end. The answer is how
+// Writes bytes into the scratch file from a position on, over those that stand there or at its end. The answer is how
 // many.
 fn write(
     folder: &mut Folder,
     number: usize,
     size: usize,
-    place: u64,
+    position: u64,
     bytes: &[u8],
 ) -> io::Result<usize>
     requires last { (directory_of folder.old).scratch ≡ Some number }
     requires open { open_length (slice_get (directory_of folder.old).files number) ≡ Some size }
-    requires inside { place ≤ size }
+    requires inside { position ≤ size }
     ensures count { IfOk result (λ n. n ≤ length bytes.now) }
-    ensures fits { IfOk result (λ n. place + n < 2 ^ 63) }
+    ensures fits { IfOk result (λ n. position + n < 2 ^ 63) }
     ensures done { IfOk result (λ n.
-        directory_of folder.new ≡ after_write place (take n bytes.now) (directory_of folder.old)) }
+        directory_of folder.new ≡ after_write position (take n bytes.now) (directory_of folder.old)) }
     ensures failed { OnErr result (directory_of folder.new ≡ directory_of folder.old) }
     ensures fault { IfErr result (λ error. error_kind error ≢ ErrorKind.Interrupted) }
 {
-    if place.saturating_add(bytes.len() as u64) >= 1 << 63 {
+    if position.saturating_add(bytes.len() as u64) >= 1 << 63 {
         return Err(not_opened());
     }
-    let place = place as usize;
-    if place == size {
+    let position = position as usize;
+    if position == size {
         folder.append(number, bytes).map_err(no_memory)?;
         return Ok(bytes.len());
     }
-    let count = bytes.len().min(size - place);
-    folder.patch(number, place, &bytes[..count]);
+    let count = bytes.len().min(size - position);
+    folder.patch(number, position, &bytes[..count]);
     Ok(count)
 }
 
@@ -119,8 +119,8 @@ impl DiskFile for MemDiskFile {
 
     ghost honest = { true };
 
-    fn read_at(&self, place: u64, buf: &mut [u8]) -> io::Result<usize> {
-        match self.file.read_at(place, buf) {
+    fn read_at(&self, position: u64, buf: &mut [u8]) -> io::Result<usize> {
+        match self.file.read_at(position, buf) {
             Ok(count) => Ok(count),
             Err(_) => Err(not_opened()),
         }
@@ -216,12 +216,12 @@ impl Disk for MemDisk {
         }
     }
 
-    fn write_at(&mut self, file: &MemHandle, place: u64, bytes: &[u8]) -> io::Result<usize> {
+    fn write_at(&mut self, file: &MemHandle, position: u64, bytes: &[u8]) -> io::Result<usize> {
         let Some(size) = self.folder.open_length(file.number) else {
             return Err(not_opened());
         };
         let past = self.past.and(&self.folder, &None);
-        let count = write(&mut self.folder, file.number, size, place, bytes)?;
+        let count = write(&mut self.folder, file.number, size, position, bytes)?;
         self.past = past;
         Ok(count)
     }

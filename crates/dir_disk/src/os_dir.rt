@@ -402,7 +402,7 @@ impl<D: Disk + Drop> Dir for DiskDir<D> {
         Ok(count)
     }
 
-    fn patch(&mut self, alloc: Global, place: u64, bytes: &[u8]) -> Result<(), DirFault> {
+    fn patch(&mut self, alloc: Global, position: u64, bytes: &[u8]) -> Result<(), DirFault> {
         let Some(file) = self.scratch.take() else {
             return Err(DirFault::NoScratch);
         };
@@ -411,7 +411,7 @@ impl<D: Disk + Drop> Dir for DiskDir<D> {
             file,
             self.written,
             &mut self.pending,
-            place,
+            position,
             bytes,
         );
         let (file, written) = told(&mut self.failures, outcome)?;

@@ -41,9 +41,9 @@ impl<F: DiskFile + Drop> RulesFile for OsFile<F> {
         self.len
     }
 
-    fn read_at(&self, place: u64, buf: &mut [u8]) -> Result<usize, DeviceFault> {
+    fn read_at(&self, position: u64, buf: &mut [u8]) -> Result<usize, DeviceFault> {
         for _ in 0..TRIES {
-            match self.file.read_at(place, buf) {
+            match self.file.read_at(position, buf) {
                 Ok(count) => return Ok(count),
                 Err(error) if error.kind() == ErrorKind::Interrupted => {}
                 Err(_) => return Err(DeviceFault),

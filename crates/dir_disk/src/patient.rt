@@ -207,21 +207,21 @@ pub(crate) fn sync<D: Disk>(disk: &mut D, file: &D::Handle) -> io::Result<()>
     Err(interrupted())
 }
 
-/// Writes all of these bytes from a place on.
+/// Writes all of these bytes from a position on.
 pub(crate) fn write_all<D: Disk>(
     disk: &mut D,
     file: &D::Handle,
-    place: u64,
+    position: u64,
     bytes: &[u8],
 ) -> io::Result<()>
-    requires may { IsTrue D.honest → MayWrite (D.state disk.old) (D.number file.now) place }
+    requires may { IsTrue D.honest → MayWrite (D.state disk.old) (D.number file.now) position }
     requires unsynced { IsTrue D.honest → ForSome (scratch_of (D.state disk.old)) (λ stands. stands.synced ≡ false) }
-    ensures done { IsTrue D.honest → OnOk result (D.state disk.new ≡ after_write place bytes.now (D.state disk.old)) }
-    ensures fits { IsTrue D.honest → OnOk result (place + length bytes.now < 2 ^ 64) }
+    ensures done { IsTrue D.honest → OnOk result (D.state disk.new ≡ after_write position bytes.now (D.state disk.old)) }
+    ensures fits { IsTrue D.honest → OnOk result (position + length bytes.now < 2 ^ 64) }
     ensures failed { IsTrue D.honest → OnErr result (Spoils (D.state disk.old) (D.state disk.new)) }
     ensures time { IsTrue D.honest → StepElapses D.state D.moment D.left_since disk.old disk.new }
 {
-    let mut at = place;
+    let mut at = position;
     let mut rest = bytes;
     for _ in 0..u64::MAX {
         if rest.is_empty() {

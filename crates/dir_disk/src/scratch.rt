@@ -77,20 +77,20 @@ pub(crate) fn overwrite<D: Disk>(
     file: D::Handle,
     written: u64,
     pending: &mut Vec<u8>,
-    place: u64,
+    position: u64,
     bytes: &[u8],
 ) -> io::Result<(D::Handle, u64)>
     requires writable { IsTrue D.honest → IsWritable (D.state disk.old) (D.number file) written }
-    requires inside { IsTrue D.honest → place + length bytes.now ≤ written + length pending.old.items }
+    requires inside { IsTrue D.honest → position + length bytes.now ≤ written + length pending.old.items }
     ensures done { IsTrue D.honest → OnOk result (kept_back [] (D.state disk.new)
-        ≡ after (patches place bytes.now) (kept_back pending.old.items (D.state disk.old))) }
+        ≡ after (patches position bytes.now) (kept_back pending.old.items (D.state disk.old))) }
     ensures empty { OnOk result (pending.new.items ≡ []) }
     ensures writable { IsTrue D.honest → IfOk result (λ now. IsWritable (D.state disk.new) (D.number now.0) now.1) }
     ensures failed { IsTrue D.honest → OnErr result (GivesUp (D.state disk.old) (D.state disk.new)) }
     ensures time { IsTrue D.honest → StepElapses D.state D.moment D.left_since disk.old disk.new }
 {
     let (file, written) = write_kept(disk, file, written, pending)?;
-    match write_all(disk, &file, place, bytes) {
+    match write_all(disk, &file, position, bytes) {
         Ok(()) => Ok((file, written)),
         Err(error) => {
             disk.close(&file);

@@ -181,8 +181,8 @@ impl<F: FileExt + Drop> DiskFile for SystemFile<F> {
 
     ghost honest = { false };
 
-    fn read_at(&self, place: u64, buf: &mut [u8]) -> io::Result<usize> {
-        let outcome = self.file.read_at(buf, place);
+    fn read_at(&self, position: u64, buf: &mut [u8]) -> io::Result<usize> {
+        let outcome = self.file.read_at(buf, position);
         if let Some(notes) = &self.notes {
             notes.note(&outcome);
         }
@@ -286,8 +286,8 @@ where
         Err(no_room())
     }
 
-    fn write_at(&mut self, file: &R::File, place: u64, bytes: &[u8]) -> io::Result<usize> {
-        self.note(FailedOn::Name, file.write_at(bytes, place))
+    fn write_at(&mut self, file: &R::File, position: u64, bytes: &[u8]) -> io::Result<usize> {
+        self.note(FailedOn::Name, file.write_at(bytes, position))
     }
 
     fn sync(&mut self, file: &R::File) -> io::Result<()> {

@@ -28,7 +28,7 @@ reports a b admitted live retired most =
     ∙ ap (λ (x : ℕ). record { admitted = b.admitted; live = b.live; retired = x; most = a.most }) retired
     ∙ ap (λ (x : ℕ). record { admitted = b.admitted; live = b.live; retired = b.retired; most = x }) most
 
--- the most that were alive up to a place within the first of two lists
+-- the most that were alive up to a position within the first of two lists
 most_first : (n : ℕ) (h more : List Event) → n ≤ length h → most_up_to n (h ++ more) ≡ most_up_to n h
 most_first zero h more le = refl
 most_first (suc n) h more le =
@@ -40,7 +40,7 @@ most_first (suc n) h more le =
     ∙ sym (most_next n h)
     ∙ sym (ap (λ (k : ℕ). most_up_to k h) next)
 
--- those alive at a place are at most the most up to there
+-- those alive at a position are at most the most up to there
 live_most : (n : ℕ) (h : List Event) → live_len (take n h) ≤ most_up_to n h
 live_most zero h = omega arith
 live_most (suc n) h =

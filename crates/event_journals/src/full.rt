@@ -37,7 +37,7 @@ impl Full {
         }
     }
 
-    /// The event at a place, counted from 1, with its caller.
+    /// The event at a position, counted from 1, with its caller.
     pub fn get(&self, at: u64) -> Option<&Noted>
         ensures { option_copied result ≡ (if at == 0 then None else slice_get (full_notes self.now) (at - 1)) }
     {

@@ -24,14 +24,14 @@ pieces_of-stop separator (b ∷ bs) rest without =
     let parts = or_parts (eqb b separator) (has_byte separator bs) without in
     rw (parts.0, pieces_of-stop separator bs rest parts.1) refl
 
--- the first place of a byte is behind what has none
+-- the first position of a byte is behind what has none
 pub position_or_len-stop : (b : ℕ) (before after : List ℕ) → has_byte b before ≡ false → position_or_len (λ x. x == b) (before ++ b ∷ after) ≡ length before
 position_or_len-stop b [] after without = rw (eq-eqb b b refl) refl
 position_or_len-stop b (x ∷ xs) after without =
     let parts = or_parts (eqb x b) (has_byte b xs) without in
     rw (parts.0, position_or_len-stop b xs after parts.1) (omega arith)
 
--- what stands before the first place of a byte
+-- what stands before the first position of a byte
 pub before_first-stop : (b : ℕ) (before after : List ℕ) → has_byte b before ≡ false → before_first (λ x. x == b) (before ++ b ∷ after) ≡ before
 before_first-stop b before after without =
     ap (λ n. take n (before ++ b ∷ after)) (position_or_len-stop b before after without) ∙ take_at before (b ∷ after) _ refl
@@ -41,7 +41,7 @@ pub after_first-stop : (b : ℕ) (before after : List ℕ) → has_byte b before
 after_first-stop b before after without =
     ap (λ n. drop (n + 1) (before ++ b ∷ after)) (position_or_len-stop b before after without) ∙ drop-append-add before (b ∷ after) 1
 
--- a byte that stands somewhere has a first place
+-- a byte that stands somewhere has a first position
 pub position_or_len-within : (b : ℕ) (bytes : List ℕ) → has_byte b bytes ≡ true → position_or_len (λ x. x == b) bytes < length bytes
 position_or_len-within b [] has = absurd (false≢true has)
 position_or_len-within b (x ∷ xs) has =

@@ -1,4 +1,4 @@
--- Bytes cut at the first place of a mark.
+-- Bytes cut at the first position of a mark.
 use Rattle.std.proofs.Common.{◌≡◌, ℕ, zero, suc, ◌+◌, ◌-◌, ◌<◌, ◌≤◌, true, false, eqb, List, [], ◌∷◌, ◌++◌, length, take, drop, get_or, Bor, MatchOption, Option, Some, None, refl, sym, ap, ◌∙◌, subst, arith, eq-eqb, zero-add, ⊎_elim}
 use Rattle.std.specs.Prelude.{nat_eq, option_map}
 use Rattle.std.specs.List.{starts_with}
@@ -13,36 +13,36 @@ use Rattle.rule_lines.specs.Lines.{has_byte}
 use Rattle.rule_lines.specs.Settings.{Cut, cut_at}
 use Rattle.rule_lines.proofs.CodeLemmas.{option_map_found}
 
--- a mark at place 0 is what the bytes begin with
+-- a mark at position 0 is what the bytes begin with
 starts_with-front : (mark bytes : List ℕ) → OccursAt bytes mark 0 → starts_with nat_eq bytes mark ≡ true
 starts_with-front mark bytes occurs =
     let fits : length mark ≤ length bytes = omega (arith, occurs.fits) in
     (starts_is Decides-eqb bytes mark _ refl).1 _ (front_from_reads 0 bytes mark fits (λ i within. rw zero-add at (occurs.reads i within)))
 
--- what the bytes begin with is a mark at place 0
+-- what the bytes begin with is a mark at position 0
 OccursAt-front : (mark bytes : List ℕ) → starts_with nat_eq bytes mark ≡ true → OccursAt bytes mark 0
 OccursAt-front mark bytes starts =
     let is = (starts_is Decides-eqb bytes mark _ refl).0 starts in
     record { fits = omega (arith, front_fits bytes mark _ is); reads = λ j within. rw zero-add (front_reads 0 bytes mark _ is j within) }
 
--- a place in the bytes after the first
+-- a position in the bytes after the first
 module _ (mark : List ℕ) (b : ℕ) (bs : List ℕ) (k : ℕ) where
-  -- a place behind the next one
-  next_place : (j : ℕ) → suc k + j ≡ suc (k + j)
-  next_place j = omega arith
+  -- a position behind the next one
+  next_position : (j : ℕ) → suc k + j ≡ suc (k + j)
+  next_position j = omega arith
 
-  -- a mark behind the first byte stands one place earlier after it
+  -- a mark behind the first byte stands one position earlier after it
   OccursAt-later : OccursAt (b ∷ bs) mark (suc k) → OccursAt bs mark k
   OccursAt-later occurs = record {
     fits = omega (arith, occurs.fits);
-    reads = λ j within. subst (λ n. get_or (b ∷ bs) n 0 ≡ get_or mark j 0) (next_place j) (occurs.reads j within);
+    reads = λ j within. subst (λ n. get_or (b ∷ bs) n 0 ≡ get_or mark j 0) (next_position j) (occurs.reads j within);
   }
 
-  -- and one place later with a byte before
+  -- and one position later with a byte before
   OccursAt-earlier : OccursAt bs mark k → OccursAt (b ∷ bs) mark (suc k)
   OccursAt-earlier occurs = record {
     fits = omega (arith, occurs.fits);
-    reads = λ j within. subst (λ n. get_or (b ∷ bs) n 0 ≡ get_or mark j 0) (sym (next_place j)) (occurs.reads j within);
+    reads = λ j within. subst (λ n. get_or (b ∷ bs) n 0 ≡ get_or mark j 0) (sym (next_position j)) (occurs.reads j within);
   }
 
 -- with a byte put before it
@@ -58,25 +58,25 @@ cut_at-nowhere mark (b ∷ bs) nowhere =
     let later = cut_at-nowhere mark bs (λ k low high occurs. nowhere (suc k) (omega arith) (omega arith) (OccursAt-earlier mark b bs k occurs)) in
     rw not_here (ap (option_map (onto_cut b)) later)
 
--- the first place of a mark
-pub cut_at-first : (mark bytes : List ℕ) (place : ℕ) → 0 < length mark → Nowhere (OccursAt bytes mark) 0 place → OccursAt bytes mark place → cut_at mark bytes ≡ Some (record { before = take place bytes; after = drop (place + length mark) bytes })
-cut_at-first mark [] place some before occurs = absurd (omega (arith, occurs.fits))
+-- the first position of a mark
+pub cut_at-first : (mark bytes : List ℕ) (position : ℕ) → 0 < length mark → Nowhere (OccursAt bytes mark) 0 position → OccursAt bytes mark position → cut_at mark bytes ≡ Some (record { before = take position bytes; after = drop (position + length mark) bytes })
+cut_at-first mark [] position some before occurs = absurd (omega (arith, occurs.fits))
 cut_at-first mark (b ∷ bs) zero some before occurs =
     rw (starts_with-front mark (b ∷ bs) occurs)
     (ap (λ n. let cut : Cut = record { before = []; after = drop n (b ∷ bs) } in Some cut) (sym (zero-add (length mark))))
-cut_at-first mark (b ∷ bs) (suc place) some before occurs =
+cut_at-first mark (b ∷ bs) (suc position) some before occurs =
     let not_here : starts_with nat_eq (b ∷ bs) mark ≡ false =
     false_from_ne_true _ (λ starts. before 0 (omega arith) (omega arith) (OccursAt-front mark (b ∷ bs) starts)) in
-    let later = cut_at-first mark bs place some (λ k low high at. before (suc k) (omega arith) (omega arith) (OccursAt-earlier mark b bs k at)) (OccursAt-later mark b bs place occurs) in
+    let later = cut_at-first mark bs position some (λ k low high at. before (suc k) (omega arith) (omega arith) (OccursAt-earlier mark b bs k at)) (OccursAt-later mark b bs position occurs) in
     rw not_here
     (ap (option_map (onto_cut b)) later
-    ∙ ap (λ n. let cut : Cut = record { before = b ∷ take place bs; after = drop n (b ∷ bs) } in Some cut) (sym (next_place mark b bs place (length mark))))
+    ∙ ap (λ n. let cut : Cut = record { before = b ∷ take position bs; after = drop n (b ∷ bs) } in Some cut) (sym (next_position mark b bs position (length mark))))
 
 -- the same, where the rest is taken up to its end
-pub cut_at-place : (mark bytes : List ℕ) (place : ℕ) → 0 < length mark → Nowhere (OccursAt bytes mark) 0 place → OccursAt bytes mark place → cut_at mark bytes ≡ Some (record { before = take place bytes; after = take (length bytes - (place + length mark)) (drop (place + length mark) bytes) })
-cut_at-place mark bytes place some before occurs =
-    cut_at-first mark bytes place some before occurs
-    ∙ ap (λ after. let cut : Cut = record { before = take place bytes; after = after } in Some cut) (sym (take_rest bytes (place + length mark)))
+pub cut_at-position : (mark bytes : List ℕ) (position : ℕ) → 0 < length mark → Nowhere (OccursAt bytes mark) 0 position → OccursAt bytes mark position → cut_at mark bytes ≡ Some (record { before = take position bytes; after = take (length bytes - (position + length mark)) (drop (position + length mark) bytes) })
+cut_at-position mark bytes position some before occurs =
+    cut_at-first mark bytes position some before occurs
+    ∙ ap (λ after. let cut : Cut = record { before = take position bytes; after = after } in Some cut) (sym (take_rest bytes (position + length mark)))
 
 -- bytes are what stands before a mark, the mark, and what follows it
 pub cut_at-parts : (mark bytes : List ℕ) (cut : Cut) → cut_at mark bytes ≡ Some cut → bytes ≡ cut.before ++ (mark ++ cut.after)
@@ -121,7 +121,7 @@ cut_at-found mark b bytes None is without = ap (λ m. cut_at m bytes) is ∙ cut
 cut_at-found mark b bytes (Some parts) is found =
     ap (λ m. cut_at m bytes) is ∙ ap (cut_at (b ∷ [])) found.1 ∙ cut_at-byte b parts.0.now parts.1.now found.0
 
--- what stands before the first place of a byte has none
+-- what stands before the first position of a byte has none
 pub cut_at-before : (b : ℕ) (bytes : List ℕ) (cut : Cut) → cut_at (b ∷ []) bytes ≡ Some cut → has_byte b cut.before ≡ false
 cut_at-before b [] cut is = absurd (none-some cut is)
 cut_at-before b (x ∷ xs) cut is =

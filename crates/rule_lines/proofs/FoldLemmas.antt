@@ -10,23 +10,23 @@ use borrow.Rule.Slice.PartMut.{put_mid}
 -- putting letters into lower case leaves their number
 pub length-folded : (address : List ℕ) → length (folded address) ≡ length address
 length-folded address =
-    let place = position_or_len (λ b. eqb b 61) address in
-    let tail = length-map (drop place address) to_ascii_lowercase in
-    let joined = length-append (take place address) (map to_ascii_lowercase (drop place address)) in
-    let whole = length-append (take place address) (drop place address) in
-    let same = ap length (take-append-drop place address) in
+    let position = position_or_len (λ b. eqb b 61) address in
+    let tail = length-map (drop position address) to_ascii_lowercase in
+    let joined = length-append (take position address) (map to_ascii_lowercase (drop position address)) in
+    let whole = length-append (take position address) (drop position address) in
+    let same = ap length (take-append-drop position address) in
     omega arith
 
 -- the end of a list put into lower case from the first `=` of the address that stands there
 pub put_mid-folded : (out address : List ℕ) (at count : ℕ) → at ≡ length out + position_or_len (λ b. eqb b 61) address → count ≡ length (out ++ address) - at → put_mid at count (out ++ address) (map to_ascii_lowercase (take count (drop at (out ++ address)))) ≡ out ++ folded address
 put_mid-folded out address at count at_is count_is =
-    let place = position_or_len (λ b. eqb b 61) address in
-    let front : take at (out ++ address) ≡ out ++ take place address = ap (λ n. take n (out ++ address)) at_is ∙ take-append-add out address place in
-    let tail : drop at (out ++ address) ≡ drop place address = ap (λ n. drop n (out ++ address)) at_is ∙ drop-append-add out address place in
+    let position = position_or_len (λ b. eqb b 61) address in
+    let front : take at (out ++ address) ≡ out ++ take position address = ap (λ n. take n (out ++ address)) at_is ∙ take-append-add out address position in
+    let tail : drop at (out ++ address) ≡ drop position address = ap (λ n. drop n (out ++ address)) at_is ∙ drop-append-add out address position in
     let enough : length (drop at (out ++ address)) ≤ count = omega (arith, length-drop at (out ++ address)) in
-    let whole : take count (drop at (out ++ address)) ≡ drop place address = take_all count (drop at (out ++ address)) enough ∙ tail in
+    let whole : take count (drop at (out ++ address)) ≡ drop position address = take_all count (drop at (out ++ address)) enough ∙ tail in
     let nothing : drop count (drop at (out ++ address)) ≡ [] = drop_all count (drop at (out ++ address)) enough in
-    rw (front, whole, nothing, append-nil) (append_assoc out (take place address) (map to_ascii_lowercase (drop place address)))
+    rw (front, whole, nothing, append-nil) (append_assoc out (take position address) (map to_ascii_lowercase (drop position address)))
 
 -- the same list, cut to its length
 pub take-folded : (out address items rest : List ℕ) (n : ℕ) → items ≡ out ++ folded address → n ≡ length (out ++ address) → take n (items ++ rest) ≡ out ++ folded address
@@ -44,7 +44,7 @@ pub length-put_mid : (at count : ℕ) (held written : List ℕ) → length writt
 length-put_mid at count held written long inside =
     omega (arith, length-append (take at held) (written ++ drop count (drop at held)), length-append written (drop count (drop at held)), length-take-le at held (omega arith), length-drop count (drop at held), length-drop at held)
 
--- a first place is within the bytes
+-- a first position is within the bytes
 first-bound : (b : Bool) (r n : ℕ) → r ≤ n → cond (not b) (1 + r) 0 ≤ suc n
 first-bound true r n within = omega arith
 first-bound false r n within = omega arith

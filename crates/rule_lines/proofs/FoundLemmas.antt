@@ -8,7 +8,7 @@ use Rattle.std.proofs.lemmas.List.{get_or_default}
 use Rattle.std.proofs.Math.Nat.{add-sub_cancel}
 use Rattle.memchr.specs.Find.{IsFirstByte, NoneBefore, NoneAfter, Nowhere, Passes}
 
--- the place that a search from the front finds is the first
+-- the position that a search from the front finds is the first
 pub position_or_len-found : (p : ℕ → Bool) (bs : List ℕ) (k : ℕ) → NoneBefore (Passes p bs) 0 (length bs) k × Passes p bs k → position_or_len p bs ≡ k
 position_or_len-found p bs k found =
     position_or_len_is p bs k 0 (omega (arith, found.0.high)) (λ i below. false_from_ne_true _ (found.0.before i (omega arith) below)) (λ _. found.1)
@@ -23,7 +23,7 @@ pub position_or_len-search : (p : ℕ → Bool) (bs : List ℕ) (r : Option ℕ)
 position_or_len-search p bs None none = sym (position_or_len-nowhere p bs none)
 position_or_len-search p bs (Some k) found = sym (position_or_len-found p bs k found)
 
--- what follows the place that a search from the back finds starts after it
+-- what follows the position that a search from the back finds starts after it
 pub suffix_len-found : (p : ℕ → Bool) (bs : List ℕ) (k : ℕ) → NoneAfter (Passes p bs) 0 (length bs) k × Passes p bs k → length bs - suffix_len (λ b. not (p b)) bs ≡ k + 1
 suffix_len-found p bs k found =
     let tail = suffix_len_is (λ b. not (p b)) bs (k + 1) 0 (omega (arith, found.0.high)) (λ i from below. ap not (false_from_ne_true _ (found.0.after i from below))) (λ _. ap not (ap (λ n. p (get_or bs n 0)) (add-sub_cancel k 1) ∙ found.1)) in

@@ -28,7 +28,7 @@ use Rattle.rule_lines.proofs.TallyLemmas.{Tallies-append, stored_length-pairs_wi
 
 -- ---- one line
 
--- what stands before the first place of a byte does not have it
+-- what stands before the first position of a byte does not have it
 has_byte-before_first : (b : ℕ) (bytes : List ℕ) → has_byte b (before_first (λ x. x == b) bytes) ≡ false
 has_byte-before_first b [] = refl
 has_byte-before_first b (x ∷ xs) =
@@ -131,7 +131,7 @@ module _ (limit : ℕ) (line front new all : List ℕ) (addresses : ReadAddress)
 
 -- ---- line after line
 
--- the lines of a text up to a place were read, and what is kept of them stands at the front
+-- the lines of a text up to a position were read, and what is kept of them stands at the front
 pub record IsKeptUpTo (plain : Bool) (limit : ℕ) (old text : List ℕ) (start end number : ℕ) (tally : Tally) : Type 0 where
   pub lines : AreKept (take end text)
   pub rules : rules_in (take end text) ++ pairs_of (drop start old) ≡ pairs_of old

@@ -6,7 +6,7 @@ use Rattle.std.proofs.lemmas.List.{drop_at, get_or_append_left, get_or-drop, get
 use Rattle.std.proofs.lemmas.List.Concat.{flat_map-append}
 use Rattle.std.proofs.lemmas.Option.{slice_get-get_or}
 use Rattle.rule_lines.specs.declared.kept.KeptLine.{KeptLine}
-use Rattle.rule_lines.specs.declared.kept.LinePlace.{LinePlace}
+use Rattle.rule_lines.specs.declared.kept.LinePosition.{LinePosition}
 use Rattle.rule_lines.specs.Kept.{AreKept, IsKeptLine, IsLineAt, rule_of_line, rules_at, rules_in, rules_under, the_instr}
 use Rattle.rule_lines.specs.Lines.{IsFirstLine, Line, empty_line, lines_of, onto_line}
 use Rattle.rule_lines.specs.ReadAddresses.{addresses_read}
@@ -85,7 +85,7 @@ module _ (kept line rest : List ℕ) (first : IsFirstLine kept line rest) (are :
 -- ---- line after line
 
 -- the front is a line
-pub IsLineAt-front : (kept : List ℕ) (line : LinePlace) → line.start ≡ 0 → line.before ≡ 0 → AreKept kept → IsLineAt kept line
+pub IsLineAt-front : (kept : List ℕ) (line : LinePosition) → line.start ≡ 0 → line.before ≡ 0 → AreKept kept → IsLineAt kept line
 IsLineAt-front kept line start before are = record {
   start_in = omega (arith, start);
   before_in = omega (arith, before);
@@ -97,7 +97,7 @@ IsLineAt-front kept line start before are = record {
 pub length-rules_under : (line : KeptLine) → length (rules_under line) ≡ length (addresses_read line.addresses)
 length-rules_under line = length-map (addresses_read line.addresses) (rule_of (the_instr line.code.now))
 
-module _ (kept : List ℕ) (here next : LinePlace) (is : IsLineAt kept here) (line : KeptLine) (after : List ℕ) (rules : rules_in (drop here.start kept) ≡ rules_under line ++ rules_in after)
+module _ (kept : List ℕ) (here next : LinePosition) (is : IsLineAt kept here) (line : KeptLine) (after : List ℕ) (rules : rules_in (drop here.start kept) ≡ rules_under line ++ rules_in after)
     (follows : after ≡ drop (length (drop here.start kept) - length after) (drop here.start kept)) (shorter : length after < length (drop here.start kept)) (are : AreKept after)
     (start : next.start ≡ length kept - length after) (before : next.before ≡ here.before + length (addresses_read line.addresses)) where
   -- what follows the line is what is kept from the next line on
@@ -106,7 +106,7 @@ module _ (kept : List ℕ) (here next : LinePlace) (is : IsLineAt kept here) (li
       follows ∙ drop-drop (length (drop here.start kept) - length after) here.start kept
       ∙ ap (λ n. drop n kept) (let at : here.start + (length (drop here.start kept) - length after) ≡ next.start = omega (arith, start, shorter, length-drop here.start kept, is.start_in) in at)
 
-  -- the rules of the line and of those after it are those from its place on
+  -- the rules of the line and of those after it are those from its position on
   whole : rules_under line ++ rules_in after ≡ drop here.before (rules_in kept)
   whole = sym rules ∙ is.rest
 
@@ -127,27 +127,27 @@ module _ (kept : List ℕ) (here next : LinePlace) (is : IsLineAt kept here) (li
     lines = subst AreKept after_is are;
   }
 
-  -- the rule at a place of the line
+  -- the rule at a position of the line
   module _ (i : ℕ) (behind : here.before ≤ i) (below : i < next.before) where
-    place-in : i - here.before < length (addresses_read line.addresses)
-    place-in = omega (arith, before)
+    position-in : i - here.before < length (addresses_read line.addresses)
+    position-in = omega (arith, before)
 
     pub slice_get-line : (slice_get (rules_in kept) i ≡ Some (rule_of_line line (i - here.before))) × (i - here.before < length (addresses_read line.addresses))
     slice_get-line =
-        let place = i - here.before in
-        let rule = rule_of_line line place in
-        let at : here.before + place ≡ i = omega arith in (
+        let position = i - here.before in
+        let rule = rule_of_line line position in
+        let at : here.before + position ≡ i = omega arith in (
           slice_get-get_or (rules_in kept) i rule (omega (arith, before, count-le))
               ∙ ap Some (ap (λ n. get_or (rules_in kept) n rule) (sym at)
-              ∙ sym (get_or-drop here.before (rules_in kept) place rule)
-              ∙ ap (λ rs. get_or rs place rule) (sym whole)
-              ∙ get_or_append_left (rules_under line) (rules_in after) rule place (omega (arith, length-rules_under line, place-in))
-              ∙ get_or-map (rule_of (the_instr line.code.now)) (addresses_read line.addresses) place [] rule place-in),
-          place-in,
+              ∙ sym (get_or-drop here.before (rules_in kept) position rule)
+              ∙ ap (λ rs. get_or rs position rule) (sym whole)
+              ∙ get_or_append_left (rules_under line) (rules_in after) rule position (omega (arith, length-rules_under line, position-in))
+              ∙ get_or-map (rule_of (the_instr line.code.now)) (addresses_read line.addresses) position [] rule position-in),
+          position-in,
         )
 
   -- the rule with an address of the line
   pub slice_get-at : (n : ℕ) → n < length (addresses_read line.addresses) → slice_get (rules_in kept) (here.before + n) ≡ Some (rule_of_line line n)
   slice_get-at n inside =
-      let place : here.before + n - here.before ≡ n = omega arith in
-      (slice_get-line (here.before + n) (omega arith) (omega (arith, before, inside))).0 ∙ ap (λ p. Some (rule_of_line line p)) place
+      let position : here.before + n - here.before ≡ n = omega arith in
+      (slice_get-line (here.before + n) (omega arith) (omega (arith, before, inside))).0 ∙ ap (λ p. Some (rule_of_line line p)) position

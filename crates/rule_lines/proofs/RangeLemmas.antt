@@ -1,4 +1,4 @@
--- Ranges: the value of a part that is read digit by digit, and the places at which an address is cut.
+-- Ranges: the value of a part that is read digit by digit, and the positions at which an address is cut.
 use Rattle.std.proofs.Common.{◌≡◌, ℕ, ◌+◌, ◌-◌, ◌*◌, ◌^◌, ◌<◌, ◌≤◌, true, false, ◌&&◌, ⊎_elim, Option, None, Some, is_some, MatchOption, ◌==◌, not, min, List, [], ◌∷◌, ◌++◌, map, decimal, length, take, drop, get_or, length-drop, sym, ap, ◌∙◌, arith}
 use Rattle.std.specs.Char.{digit_value, is_ascii_digit}
 use Rattle.std.specs.List.{position_or_len, suffix_len, before_first, after_first, after_last, range_with_len}

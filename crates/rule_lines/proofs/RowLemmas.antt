@@ -1,4 +1,4 @@
--- The addresses that a line was read with: how many they are, which stands at a place, and what a look-up finds among rules that have them.
+-- The addresses that a line was read with: how many they are, which stands at a position, and what a look-up finds among rules that have them.
 use Rattle.std.proofs.Common.{◌≡◌, ℕ, zero, suc, ◌+◌, ◌<◌, Bool, true, cond, is_some, List, [], ◌∷◌, ◌++◌, length, get_or, Option, None, Some, unwrap_or, Bor, decimal, bytes_eq, inl, inr, refl, ap, ◌∙◌, arith}
 use Rattle.std.specs.Option.{SomeIff}
 use Rattle.std.specs.List.{find, Contains}
@@ -22,18 +22,18 @@ use Rattle.rule_lines.proofs.CodeLemmas.{IsInstr-decoded, code_of-decoded}
 pub length-addresses_under : (front : List ℕ) (numbers : Numbers) (back : List ℕ) → length (addresses_under front numbers back) ≡ numbers.count
 length-addresses_under front numbers back = length-map-range_with_len (λ n. front ++ decimal n ++ back) numbers.first numbers.count
 
--- the address at a place
-pub get_or-addresses_under : (front : List ℕ) (numbers : Numbers) (back : List ℕ) (place : ℕ) (d : List ℕ) → place < numbers.count → get_or (addresses_under front numbers back) place d ≡ front ++ decimal (numbers.first + place) ++ back
-get_or-addresses_under front numbers back place d inside =
-    get_or-map-range_with_len (λ n. front ++ decimal n ++ back) numbers.first numbers.count place (numbers.first + place) d inside refl
+-- the address at a position
+pub get_or-addresses_under : (front : List ℕ) (numbers : Numbers) (back : List ℕ) (position : ℕ) (d : List ℕ) → position < numbers.count → get_or (addresses_under front numbers back) position d ≡ front ++ decimal (numbers.first + position) ++ back
+get_or-addresses_under front numbers back position d inside =
+    get_or-map-range_with_len (λ n. front ++ decimal n ++ back) numbers.first numbers.count position (numbers.first + position) d inside refl
 
 -- the same of an address that was read
-module _ (addresses : ReadAddress) (front : Bor (List ℕ)) (numbers : Numbers) (back : Bor (List ℕ)) (is : addresses ≡ Range front numbers back) (place : ℕ) (inside : place < length (addresses_read addresses)) where
-  pub place-range : place < numbers.count
-  place-range = omega (arith, ap (λ a. length (addresses_read a)) is, length-addresses_under front.now numbers back.now)
+module _ (addresses : ReadAddress) (front : Bor (List ℕ)) (numbers : Numbers) (back : Bor (List ℕ)) (is : addresses ≡ Range front numbers back) (position : ℕ) (inside : position < length (addresses_read addresses)) where
+  pub position-range : position < numbers.count
+  position-range = omega (arith, ap (λ a. length (addresses_read a)) is, length-addresses_under front.now numbers back.now)
 
-  pub get_or-range : get_or (addresses_read addresses) place [] ≡ front.now ++ decimal (numbers.first + place) ++ back.now
-  get_or-range = ap (λ a. get_or (addresses_read a) place []) is ∙ get_or-addresses_under front.now numbers back.now place [] place-range
+  pub get_or-range : get_or (addresses_read addresses) position [] ≡ front.now ++ decimal (numbers.first + position) ++ back.now
+  get_or-range = ap (λ a. get_or (addresses_read a) position []) is ∙ get_or-addresses_under front.now numbers back.now position [] position-range
 
 -- the rule of an address
 abbrev pub rule_of : Instr → List ℕ → Rule

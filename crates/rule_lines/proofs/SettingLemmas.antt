@@ -37,12 +37,12 @@ has_byte-parts b xs ys without =
 IsUtf8-around : (before after : List ℕ) (b : ℕ) → b < 128 → IsUtf8 (before ++ b ∷ after) → IsUtf8 before × IsUtf8 after
 IsUtf8-around before after b ascii text =
     let bytes = before ++ b ∷ after in
-    let place = length before in
-    let stands : get_or bytes place 0 ≡ b = get_or_at before b after 0 place refl in
-    let low : get_or bytes place 0 < 128 = omega arith in
-    let within : place < length bytes = omega (arith, length-append before (b ∷ after)) in (
-      subst IsUtf8 (take_at before (b ∷ after) place refl) (IsUtf8-take bytes place text (IsCharBoundary-before_ascii bytes place within low)),
-      subst IsUtf8 (drop-append-add before (b ∷ after) 1) (IsUtf8-drop bytes (place + 1) text (IsCharBoundary-after_ascii bytes place text within low)),
+    let position = length before in
+    let stands : get_or bytes position 0 ≡ b = get_or_at before b after 0 position refl in
+    let low : get_or bytes position 0 < 128 = omega arith in
+    let within : position < length bytes = omega (arith, length-append before (b ∷ after)) in (
+      subst IsUtf8 (take_at before (b ∷ after) position refl) (IsUtf8-take bytes position text (IsCharBoundary-before_ascii bytes position within low)),
+      subst IsUtf8 (drop-append-add before (b ∷ after) 1) (IsUtf8-drop bytes (position + 1) text (IsCharBoundary-after_ascii bytes position text within low)),
     )
 
 -- the same of text without a zero byte
@@ -104,12 +104,12 @@ IsUtf8-around_character : (before after : List ℕ) (c : ℕ) → IsUtf8 (before
 IsUtf8-around_character before after c text =
     let leads = Leads-encode c in
     let bytes = before ++ (encode c ++ after) in
-    let place = length before in
-    let stands : get_or bytes place 0 ≡ leads.lead =
-    ap (λ xs. get_or (before ++ (xs ++ after)) place 0) leads.is ∙ get_or_at before leads.lead (leads.more ++ after) 0 place refl in
-    let boundary : IsCharBoundary bytes place = (omega (arith, length-append before (encode c ++ after)), λ within high. omega (arith, leads.high (omega arith))) in (
-      subst IsUtf8 (take_at before (encode c ++ after) place refl) (IsUtf8-take bytes place text boundary),
-      IsUtf8-past_char (encode c ++ after) after c (subst IsUtf8 (drop_at before (encode c ++ after) place refl) (IsUtf8-drop bytes place text boundary)) refl,
+    let position = length before in
+    let stands : get_or bytes position 0 ≡ leads.lead =
+    ap (λ xs. get_or (before ++ (xs ++ after)) position 0) leads.is ∙ get_or_at before leads.lead (leads.more ++ after) 0 position refl in
+    let boundary : IsCharBoundary bytes position = (omega (arith, length-append before (encode c ++ after)), λ within high. omega (arith, leads.high (omega arith))) in (
+      subst IsUtf8 (take_at before (encode c ++ after) position refl) (IsUtf8-take bytes position text boundary),
+      IsUtf8-past_char (encode c ++ after) after c (subst IsUtf8 (drop_at before (encode c ++ after) position refl) (IsUtf8-drop bytes position text boundary)) refl,
     )
 
 -- the same of text without a zero byte

@@ -1,4 +1,4 @@
--- Bytes split at the first place of a byte.
+-- Bytes split at the first position of a byte.
 use Rattle.std.proofs.Common.{◌≡◌, ℕ, ◌+◌, ◌-◌, ◌<◌, false, List, ◌∷◌, ◌++◌, length, take, drop, get_or, sym, ap, ◌∙◌, arith, length-take}
 use Rattle.std.specs.Prelude.{◌==◌}
 use Rattle.std.proofs.lemmas.Bool.{eqb-true}
@@ -7,16 +7,16 @@ use Rattle.memchr.specs.Find.{Nowhere, Passes, is_byte}
 use Rattle.rule_lines.specs.Lines.{has_byte}
 use Rattle.rule_lines.proofs.FoundLemmas.{list_any-nowhere}
 
--- the bytes before the first place of a byte have none
-pub has_byte-before : (b place : ℕ) (bytes : List ℕ) → Nowhere (Passes (is_byte b) bytes) 0 place → has_byte b (take place bytes) ≡ false
-has_byte-before b place bytes before =
-    list_any-nowhere (is_byte b) (take place bytes)
+-- the bytes before the first position of a byte have none
+pub has_byte-before : (b position : ℕ) (bytes : List ℕ) → Nowhere (Passes (is_byte b) bytes) 0 position → has_byte b (take position bytes) ≡ false
+has_byte-before b position bytes before =
+    list_any-nowhere (is_byte b) (take position bytes)
     (λ k low high passes.
-    let below : k < place = omega (arith, length-take place bytes) in
-    before k low below (ap (λ x. x == b) (sym (get_or-take place bytes k 0 below)) ∙ passes))
+    let below : k < position = omega (arith, length-take position bytes) in
+    before k low below (ap (λ x. x == b) (sym (get_or-take position bytes k 0 below)) ∙ passes))
 
--- bytes are those before a place, the one there, and those after it
-pub split_at_place : (b place : ℕ) (bytes : List ℕ) → place < length bytes → Passes (is_byte b) bytes place → bytes ≡ take place bytes ++ b ∷ take (length bytes - (place + 1)) (drop (place + 1) bytes)
-split_at_place b place bytes within here =
-    sym (take-append-drop place bytes)
-    ∙ ap (λ xs. take place bytes ++ xs) (drop_more bytes place 0 within ∙ (λ i. eqb-true (get_or bytes place 0) b here i ∷ sym (take_rest bytes (place + 1)) i))
+-- bytes are those before a position, the one there, and those after it
+pub split_at_position : (b position : ℕ) (bytes : List ℕ) → position < length bytes → Passes (is_byte b) bytes position → bytes ≡ take position bytes ++ b ∷ take (length bytes - (position + 1)) (drop (position + 1) bytes)
+split_at_position b position bytes within here =
+    sym (take-append-drop position bytes)
+    ∙ ap (λ xs. take position bytes ++ xs) (drop_more bytes position 0 within ∙ (λ i. eqb-true (get_or bytes position 0) b here i ∷ sym (take_rest bytes (position + 1)) i))

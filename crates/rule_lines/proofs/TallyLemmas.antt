@@ -27,15 +27,15 @@ Tallies-append rules more tally other both first second counted measured = recor
 }
 
 -- one address of a range more
-pub length_with-more : (code : ℕ) (front : List ℕ) (numbers : Numbers) (back : List ℕ) (place : ℕ) → place < numbers.count
-    → length_with code (take (place + 1) (addresses_under front numbers back))
-    ≡ length_with code (take place (addresses_under front numbers back)) + (length front + length back + code + length (decimal (numbers.first + place)))
-length_with-more code front numbers back place inside =
-    let number = decimal (numbers.first + place) in
+pub length_with-more : (code : ℕ) (front : List ℕ) (numbers : Numbers) (back : List ℕ) (position : ℕ) → position < numbers.count
+    → length_with code (take (position + 1) (addresses_under front numbers back))
+    ≡ length_with code (take position (addresses_under front numbers back)) + (length front + length back + code + length (decimal (numbers.first + position)))
+length_with-more code front numbers back position inside =
+    let number = decimal (numbers.first + position) in
     let address = front ++ number ++ back in
-    sum_by_more (λ (a : List ℕ). length a + code) (addresses_under front numbers back) place [] (omega (arith, inside, length-addresses_under front numbers back))
-    ∙ ap (λ (a : List ℕ). length_with code (take place (addresses_under front numbers back)) + (length a + code)) (get_or-addresses_under front numbers back place [] inside)
-    ∙ ap (λ n. length_with code (take place (addresses_under front numbers back)) + n)
+    sum_by_more (λ (a : List ℕ). length a + code) (addresses_under front numbers back) position [] (omega (arith, inside, length-addresses_under front numbers back))
+    ∙ ap (λ (a : List ℕ). length_with code (take position (addresses_under front numbers back)) + (length a + code)) (get_or-addresses_under front numbers back position [] inside)
+    ∙ ap (λ n. length_with code (take position (addresses_under front numbers back)) + n)
     (let long : length address + code ≡ length front + length back + code + length number = omega (arith, length-append (front ++ number) back, length-append front number) in long)
 
 -- what is so of a value that there is

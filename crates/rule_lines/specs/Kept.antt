@@ -5,7 +5,7 @@ use Rattle.rule_lines.specs.declared.instr.Instr.{Instr}
 use Rattle.rule_lines.specs.declared.instr.Verdict.TheVariants.{Allow}
 use Rattle.rule_lines.specs.declared.kept.FoundRule.{FoundRule}
 use Rattle.rule_lines.specs.declared.kept.KeptLine.{KeptLine}
-use Rattle.rule_lines.specs.declared.kept.LinePlace.{LinePlace}
+use Rattle.rule_lines.specs.declared.kept.LinePosition.{LinePosition}
 use Rattle.rule_lines.specs.declared.kept.Tally.{Tally}
 use Rattle.rule_lines.specs.declared.open_range.OpenRange.{OpenRange}
 use Rattle.rule_lines.specs.Codes.{code_of, decoded}
@@ -64,39 +64,39 @@ rules_under line = pairs_with (the_instr line.code.now) (addresses_read line.add
 abbrev pub rule_count : KeptLine → ℕ
 rule_count line = length (addresses_read line.addresses)
 
--- the rule at a place of it
+-- the rule at a position of it
 abbrev pub rule_of_line : KeptLine → ℕ → Rule
-rule_of_line line place = record { address = get_or (addresses_read line.addresses) place []; instr = the_instr line.code.now }
+rule_of_line line position = record { address = get_or (addresses_read line.addresses) position []; instr = the_instr line.code.now }
 
 -- a line begins there, behind so many rules
-pub record IsLineAt (kept : List ℕ) (line : LinePlace) : Type 0 where
+pub record IsLineAt (kept : List ℕ) (line : LinePosition) : Type 0 where
   pub start_in : line.start ≤ length kept
   pub before_in : line.before ≤ length (rules_in kept)
   pub rest : rules_in (drop line.start kept) ≡ drop line.before (rules_in kept)
   pub lines : AreKept (drop line.start kept)
 
--- the rule at place i was found, and a line from which the next one is found
+-- the rule at position i was found, and a line from which the next one is found
 pub record IsFound (kept : List ℕ) (i : ℕ) (found : FoundRule) : Type 0 where
-  pub rule : slice_get (rules_in kept) i ≡ Some (rule_of_line found.line found.place)
-  pub place : found.place < rule_count found.line
-  pub place_by : found.place ≤ i
-  pub others : (n : ℕ) → n < rule_count found.line → slice_get (rules_in kept) (i - found.place + n) ≡ Some (rule_of_line found.line n)
+  pub rule : slice_get (rules_in kept) i ≡ Some (rule_of_line found.line found.position)
+  pub position : found.position < rule_count found.line
+  pub position_by : found.position ≤ i
+  pub others : (n : ℕ) → n < rule_count found.line → slice_get (rules_in kept) (i - found.position + n) ≡ Some (rule_of_line found.line n)
   pub decodes : is_some (decoded found.line.code.now) ≡ true
   pub resume : IsLineAt kept found.resume
   pub resume_by : found.resume.before ≤ i + 1
 
--- the rule with the address at a place of an open range
+-- the rule with the address at a position of an open range
 abbrev pub rule_of_range : OpenRange → ℕ → Rule
-rule_of_range range place =
-    record { address = range.front.items ++ decimal (range.numbers.first + place) ++ range.back.items; instr = the_instr range.code.items }
+rule_of_range range position =
+    record { address = range.front.items ++ decimal (range.numbers.first + position) ++ range.back.items; instr = the_instr range.code.items }
 
 -- its rules stand among those of kept lines
 pub record IsOpenAmong (kept : List ℕ) (range : OpenRange) : Type 0 where
-  pub rules : (place : ℕ) → place < range.numbers.count → slice_get (rules_in kept) (range.before + place) ≡ Some (rule_of_range range place)
+  pub rules : (position : ℕ) → position < range.numbers.count → slice_get (rules_in kept) (range.before + position) ≡ Some (rule_of_range range position)
   pub decodes : 0 < range.numbers.count → is_some (decoded range.code.items) ≡ true
 
 -- kept lines, the tally of their rules, which are those of an accepted text, one of the lines, and an open range
-pub record Keeps (kept : List ℕ) (tally : Tally) (near : LinePlace) (range : OpenRange) : Type 0 where
+pub record Keeps (kept : List ℕ) (tally : Tally) (near : LinePosition) (range : OpenRange) : Type 0 where
   pub tallied : Tallies (rules_in kept) tally
   pub lines : AreKept kept
   pub near_is : IsLineAt kept near

@@ -30,7 +30,7 @@ pub record Cut : Type 0 where
   pub before : List ℕ
   pub after : List ℕ
 
--- the bytes cut at the first place where the mark stands; nothing where it stands nowhere
+-- the bytes cut at the first position where the mark stands; nothing where it stands nowhere
 abbrev pub cut_at : List ℕ → List ℕ → Option Cut
 cut_at mark [] = None
 cut_at mark (b ∷ bs) =

@@ -45,8 +45,8 @@ addresses_of range =
 -- with the letters from the first `=` on in lower case
 abbrev pub folded : List ℕ → List ℕ
 folded address =
-    let place = position_or_len (λ b. b == 61) address in
-    take place address ++ map to_ascii_lowercase (drop place address)
+    let position = position_or_len (λ b. b == 61) address in
+    take position address ++ map to_ascii_lowercase (drop position address)
 
 -- what an address stands for
 abbrev pub spread : List ℕ → List (List ℕ)

@@ -76,14 +76,14 @@ pub(crate) fn append_setting(
     Ok(())
 }
 
-/// What stands before the first place of a byte, and after it.
+/// What stands before the first position of a byte, and after it.
 pub(crate) fn split_at_byte(byte: u8, bytes: &[u8]) -> Option<(&[u8], &[u8])>
     ensures { MatchOption result
         (has_byte byte bytes.now ≡ false)
         (λ parts. (has_byte byte parts.0.now ≡ false) × (bytes.now ≡ parts.0.now ++ byte ∷ parts.1.now)) }
 {
-    let place = memchr(byte, bytes)?;
-    Some((&bytes[..place], &bytes[place + 1..]))
+    let position = memchr(byte, bytes)?;
+    Some((&bytes[..position], &bytes[position + 1..]))
 }
 
 /// The code of an instruction: `D` and a zero byte for deny, nothing for allow, then `+NAME=VALUE` and a zero byte for each

@@ -25,7 +25,7 @@ struct FirstSetting<'a> {
     rest: &'a [u8],
 }
 
-/// What stands before the first place of a mark, and after it.
+/// What stands before the first position of a mark, and after it.
 fn split_at_mark<'a>(mark: &[u8], bytes: &'a [u8]) -> Option<(&'a [u8], &'a [u8])>
     requires { 0 < length mark.now }
     ensures { MatchOption result
@@ -36,8 +36,8 @@ fn split_at_mark<'a>(mark: &[u8], bytes: &'a [u8]) -> Option<(&'a [u8], &'a [u8]
     if let [byte] = mark {
         return split_at_byte(*byte, bytes);
     }
-    let place = memmem::find(bytes, mark)?;
-    Some((&bytes[..place], &bytes[place + mark.len()..]))
+    let position = memmem::find(bytes, mark)?;
+    Some((&bytes[..position], &bytes[position + mark.len()..]))
 }
 
 /// How long the first character is: in a text it is one of UTF-8, and else a byte.

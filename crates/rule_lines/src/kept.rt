@@ -19,27 +19,27 @@ pub(crate) struct KeptLine<'a> {
 
 /// Where a kept line begins, and how many rules the lines before it have.
 #[derive(Clone, Copy)]
-pub(crate) struct LinePlace {
+pub(crate) struct LinePosition {
     pub(crate) start: usize,
     pub(crate) before: usize,
 }
 
-impl LinePlace {
+impl LinePosition {
     /// The first line.
-    pub(crate) const FRONT: LinePlace = LinePlace {
+    pub(crate) const FRONT: LinePosition = LinePosition {
         start: 0,
         before: 0,
     };
 
-    /// This line, or the first one where the rule at place `i` stands before this.
-    pub(crate) fn not_behind(self, i: usize) -> LinePlace
+    /// This line, or the first one where the rule at position `i` stands before this.
+    pub(crate) fn not_behind(self, i: usize) -> LinePosition
         ensures line { (kept : List ℕ) → AreKept kept → IsLineAt kept self → IsLineAt kept result }
         ensures before { result.before ≤ i }
     {
         if self.before <= i {
             self
         } else {
-            LinePlace::FRONT
+            LinePosition::FRONT
         }
     }
 }
@@ -48,8 +48,8 @@ impl LinePlace {
 #[derive(Clone, Copy)]
 pub(crate) struct FoundRule<'a> {
     pub(crate) line: KeptLine<'a>,
-    pub(crate) place: usize,
-    pub(crate) resume: LinePlace,
+    pub(crate) position: usize,
+    pub(crate) resume: LinePosition,
 }
 
 /// A kept line, read.
@@ -145,16 +145,18 @@ fn range_length(front: &[u8], numbers: Numbers, back: &[u8], code_length: usize)
         .checked_add(back.len())?
         .checked_add(code_length)?;
     let mut bytes = 0usize;
-    for place in 0..numbers.count {
+    for position in 0..numbers.count {
         let mut buffer = Buffer::new();
-        let digits = buffer.format(number_at(numbers, usize::from(place))).len();
+        let digits = buffer
+            .format(number_at(numbers, usize::from(position)))
+            .len();
         bytes = bytes.checked_add(around)?.checked_add(digits)?;
     }
     Some(bytes)
 }
 
-/// The rule at place `i` of kept lines, looked for from a line on.
-pub(crate) fn rule_at(kept: &[u8], from: LinePlace, i: usize) -> Option<FoundRule<'_>>
+/// The rule at position `i` of kept lines, looked for from a line on.
+pub(crate) fn rule_at(kept: &[u8], from: LinePosition, i: usize) -> Option<FoundRule<'_>>
     requires fits { length (rules_in kept.now) < 2 ^ 64 }
     requires from { IsLineAt kept.now from }
     requires behind { from.before ≤ i }
@@ -163,7 +165,7 @@ pub(crate) fn rule_at(kept: &[u8], from: LinePlace, i: usize) -> Option<FoundRul
     let mut here = from;
     while here.start < kept.len() {
         let (line, after) = first_kept(&kept[here.start..]);
-        let next = LinePlace {
+        let next = LinePosition {
             start: kept.len() - after.len(),
             before: here.before + count_in(&line.addresses),
         };
@@ -171,7 +173,7 @@ pub(crate) fn rule_at(kept: &[u8], from: LinePlace, i: usize) -> Option<FoundRul
             let is_last = i + 1 == next.before;
             return Some(FoundRule {
                 line,
-                place: i - here.before,
+                position: i - here.before,
                 resume: if is_last { next } else { here },
             });
         }

@@ -13,7 +13,7 @@ ghost use Rattle.rule_lines.specs.ReadAddresses.{addresses_read};
 
 use crate::code::{DecodeFault, decode_instr};
 use crate::instr::Instr;
-use crate::kept::{KeptLine, LinePlace, Tally, first_kept, rule_at};
+use crate::kept::{KeptLine, LinePosition, Tally, first_kept, rule_at};
 use crate::open_range::{OpenRange, append_numbered};
 use crate::spread::{Numbers, ReadAddress, number_at};
 use byte_text::whole_or_none;
@@ -30,7 +30,7 @@ pub struct RuleList {
     kept: Vec<u8>,
     tally: Tally,
     /// A line from which the rules at and after it are looked for.
-    near: LinePlace,
+    near: LinePosition,
     /// The range whose rules are being written.
     range: OpenRange,
 }
@@ -53,7 +53,7 @@ impl Model for RuleList {
 pub struct Pair<'a> {
     line: KeptLine<'a>,
     /// Which of the line's addresses it has.
-    place: usize,
+    position: usize,
 }
 
 impl<'a> Model for Pair<'a> {
@@ -66,9 +66,9 @@ impl<'a> Model for Pair<'a> {
     ghost use Rattle.rule_lines.specs.Kept.{rule_of_line};
     ghost use Rattle.rule_lines.specs.ReadAddresses.{addresses_read};
 
-    ghost view = { λ p. rule_of_line p.line p.place };
+    ghost view = { λ p. rule_of_line p.line p.position };
 
-    ghost invariant = { λ p. (is_some (decoded p.line.code.now) ≡ true) × (p.place < length (addresses_read p.line.addresses)) };
+    ghost invariant = { λ p. (is_some (decoded p.line.code.now) ≡ true) × (p.position < length (addresses_read p.line.addresses)) };
 }
 
 impl<'a> Pair<'a> {
@@ -93,7 +93,7 @@ impl<'a> Pair<'a> {
                 numbers,
                 back,
             } => {
-                let number = number_at(numbers, self.place);
+                let number = number_at(numbers, self.position);
                 append_numbered(out, front, number, back)?;
             }
         }
@@ -152,7 +152,7 @@ impl RuleList {
         RuleList {
             kept,
             tally,
-            near: LinePlace::FRONT,
+            near: LinePosition::FRONT,
             range,
         }
     }
@@ -187,7 +187,7 @@ impl RuleList {
         self.tally.rules == 0
     }
 
-    /// The rule at place `i`, from 0, or `None` past the end. The lines before it are gone over, but for those before a place that was
+    /// The rule at position `i`, from 0, or `None` past the end. The lines before it are gone over, but for those before a position that was
     /// written last (`write_rule`), where that is not behind it.
     pub fn get(&self, i: usize) -> Option<Pair<'_>>
         ensures { result ≡ slice_get self.now i }
@@ -198,11 +198,11 @@ impl RuleList {
         let found = rule_at(&self.kept, self.near.not_behind(i), i)?;
         Some(Pair {
             line: found.line,
-            place: found.place,
+            position: found.position,
         })
     }
 
-    /// Puts the rule at place `i`, from 0, into `rule`, and says whether there is one. Where rules are written one after another, each
+    /// Puts the rule at position `i`, from 0, into `rule`, and says whether there is one. Where rules are written one after another, each
     /// line is read once for each of its rules.
     ///
     /// # Errors
@@ -212,8 +212,8 @@ impl RuleList {
         ensures written { IfOk result (λ found.
             IsStored (slice_get self.old i) found rule.new.key.items rule.new.code.items) }
     {
-        if let Some(place) = self.range.place_of(i) {
-            self.range.write(place, rule)?;
+        if let Some(position) = self.range.position_of(i) {
+            self.range.write(position, rule)?;
             return Ok(true);
         }
         if i >= self.tally.rules {
@@ -226,7 +226,7 @@ impl RuleList {
         self.range.take_up(i, &found)?;
         let pair = Pair {
             line: found.line,
-            place: found.place,
+            position: found.position,
         };
         rule.key.clear();
         pair.append_address(&mut rule.key)?;
@@ -287,9 +287,9 @@ fn append_folded(out: &mut Vec<u8>, address: &[u8]) -> Result<(), AllocError>
     ensures err { OnErr result (out.new.items ≡ out.old.items) }
 {
     let start = out.len();
-    let place = memchr(b'=', address).unwrap_or(address.len());
+    let position = memchr(b'=', address).unwrap_or(address.len());
     out.extend_from_slice(address)?;
-    out[start + place..].make_ascii_lowercase();
+    out[start + position..].make_ascii_lowercase();
     Ok(())
 }
 
@@ -307,10 +307,10 @@ fn is_named(front: &[u8], numbers: Numbers, back: &[u8], address: &[u8]) -> bool
 fn is_folded(address: &[u8], bytes: &[u8]) -> bool
     ensures { IsTrue result ↔ (folded address.now ≡ bytes.now) }
 {
-    let place = memchr(b'=', address).unwrap_or(address.len());
+    let position = memchr(b'=', address).unwrap_or(address.len());
     address.len() == bytes.len()
-        && address[..place] == bytes[..place]
-        && is_lowered(&address[place..], &bytes[place..])
+        && address[..position] == bytes[..position]
+        && is_lowered(&address[position..], &bytes[position..])
 }
 
 /// Whether bytes are others with their letters in lower case.
@@ -318,8 +318,8 @@ fn is_lowered(bytes: &[u8], lowered: &[u8]) -> bool
     requires { length bytes.now ≡ length lowered.now }
     ensures { IsTrue result ↔ (map to_ascii_lowercase bytes.now ≡ lowered.now) }
 {
-    for place in 0..bytes.len() {
-        if bytes[place].to_ascii_lowercase() != lowered[place] {
+    for position in 0..bytes.len() {
+        if bytes[position].to_ascii_lowercase() != lowered[position] {
             return false;
         }
     }

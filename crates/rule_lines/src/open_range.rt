@@ -61,9 +61,9 @@ impl OpenRange {
         Ok(())
     }
 
-    /// Opens the range of a rule at place `i` that was found, if it has more rules. After an `Err` it is closed.
+    /// Opens the range of a rule at position `i` that was found, if it has more rules. After an `Err` it is closed.
     pub(crate) fn take_up(&mut self, i: usize, found: &FoundRule<'_>) -> Result<(), AllocError>
-        requires { found.now.place ≤ i }
+        requires { found.now.position ≤ i }
         ensures { (kept : List ℕ) → IsFound kept i found.now → IsOpenAmong kept self.old → IsOpenAmong kept self.new }
     {
         match found.line.addresses {
@@ -72,32 +72,32 @@ impl OpenRange {
                 numbers,
                 back,
             } if numbers.count > 1 => {
-                self.begin(i - found.place, front, numbers, back, found.line.code)
+                self.begin(i - found.position, front, numbers, back, found.line.code)
             }
             _ => Ok(()),
         }
     }
 
-    /// Which of its addresses the rule at place `i` has, if it is one of its rules.
-    pub(crate) fn place_of(&self, i: usize) -> Option<usize>
-        ensures { IfSome result (λ place. (place < self.now.numbers.count) × (self.now.before + place ≡ i)) }
+    /// Which of its addresses the rule at position `i` has, if it is one of its rules.
+    pub(crate) fn position_of(&self, i: usize) -> Option<usize>
+        ensures { IfSome result (λ position. (position < self.now.numbers.count) × (self.now.before + position ≡ i)) }
     {
-        let place = i.checked_sub(self.before)?;
-        if place < usize::from(self.numbers.count) {
-            Some(place)
+        let position = i.checked_sub(self.before)?;
+        if position < usize::from(self.numbers.count) {
+            Some(position)
         } else {
             None
         }
     }
 
-    /// Writes the rule with the address at a place in place of the bytes of `rule`. After an `Err` any bytes stand there.
-    pub(crate) fn write(&self, place: usize, rule: &mut StoredRule) -> Result<(), AllocError>
-        requires { place < self.now.numbers.count }
+    /// Writes the rule with the address at a position in place of the bytes of `rule`. After an `Err` any bytes stand there.
+    pub(crate) fn write(&self, position: usize, rule: &mut StoredRule) -> Result<(), AllocError>
+        requires { position < self.now.numbers.count }
         ensures key { OnOk result (rule.new.key.items
-            ≡ self.now.front.items ++ decimal (self.now.numbers.first + place) ++ self.now.back.items) }
+            ≡ self.now.front.items ++ decimal (self.now.numbers.first + position) ++ self.now.back.items) }
         ensures code { OnOk result (rule.new.code.items ≡ self.now.code.items) }
     {
-        let number = number_at(self.numbers, place);
+        let number = number_at(self.numbers, position);
         rule.key.clear();
         append_numbered(&mut rule.key, &self.front, number, &self.back)?;
         overwrite(&mut rule.code, &self.code)

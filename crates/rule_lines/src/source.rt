@@ -12,7 +12,7 @@ use thiserror::Error;
 /// Why a look-up has no answer.
 #[derive(Clone, Copy, Debug, Error)]
 pub enum FindFault {
-    /// The source is damaged: it points to a place outside of itself.
+    /// The source is damaged: it points to a position outside of itself.
     #[error("damaged")]
     Short,
     /// The source could not be read.

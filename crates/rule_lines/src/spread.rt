@@ -115,12 +115,12 @@ fn next_dot(bytes: &[u8]) -> usize
     memchr(b'.', bytes).unwrap_or(bytes.len())
 }
 
-/// The number in the address at a place of a range, from 0.
-pub(crate) fn number_at(numbers: Numbers, place: usize) -> u32
-    requires { place < numbers.count }
-    ensures { result ≡ numbers.first + place }
+/// The number in the address at a position of a range, from 0.
+pub(crate) fn number_at(numbers: Numbers, position: usize) -> u32
+    requires { position < numbers.count }
+    ensures { result ≡ numbers.first + position }
 {
-    u32::from(numbers.first) + place as u32
+    u32::from(numbers.first) + position as u32
 }
 
 /// The numbers from `low` to `high` that are not above 255.

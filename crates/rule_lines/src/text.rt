@@ -125,14 +125,14 @@ fn keep_lines(text: &mut Vec<u8>, plain: bool, limit: u64) -> Result<Tally, Pars
     Ok(tally)
 }
 
-/// Puts bytes over others, from a place on.
-fn overwrite(text: &mut Vec<u8>, place: usize, bytes: &[u8])
-    requires inside { place + length bytes.now ≤ length text.old.items }
-    ensures front { take (place + length bytes.now) text.new.items ≡ take place text.old.items ++ bytes.now }
-    ensures rest { (n : ℕ) → place + length bytes.now ≤ n → drop n text.new.items ≡ drop n text.old.items }
+/// Puts bytes over others, from a position on.
+fn overwrite(text: &mut Vec<u8>, position: usize, bytes: &[u8])
+    requires inside { position + length bytes.now ≤ length text.old.items }
+    ensures front { take (position + length bytes.now) text.new.items ≡ take position text.old.items ++ bytes.now }
+    ensures rest { (n : ℕ) → position + length bytes.now ≤ n → drop n text.new.items ≡ drop n text.old.items }
     ensures len { length text.new.items ≡ length text.old.items }
 {
-    text[place..place + bytes.len()].copy_from_slice(bytes);
+    text[position..position + bytes.len()].copy_from_slice(bytes);
 }
 
 /// Puts what is kept of a trimmed line in place of the bytes of `kept`, and tells the tally of its rules. A line that is `plain` is text without

@@ -124,7 +124,7 @@ no_device r memory is = absurd (device_no_memory (subst (λ (r : Result Decision
 -- a form that is read from a list of texts is one of the forms that they are
 pub form_at : (texts : List (String Global)) (forms : List (List ℕ)) (i : ℕ) (text : String Global) → map string_bytes texts ≡ forms → i < length texts → text ≡ get_or texts i text → (i < length forms) × (string_bytes text ≡ get_or forms i (string_bytes text))
 form_at texts forms i text all inside at =
-    let places : length texts ≡ length forms = sym (length-map texts string_bytes) ∙ ap length all in (
+    let positions : length texts ≡ length forms = sym (length-map texts string_bytes) ∙ ap length all in (
       omega arith,
       ap string_bytes at ∙ sym (get_or-map string_bytes texts i text (string_bytes text) inside) ∙ ap (λ (fs : List (List ℕ)). get_or fs i (string_bytes text)) all,
     )
@@ -139,6 +139,6 @@ memory_no_device r fault fails memory is = absurd (cc)
 -- where no form is left the default decides
 pub decided-default : (finds : List ℕ → Finding) (t : Trust) (texts : List (String Global)) (forms : List (List ℕ)) (i : ℕ) (decision : Decision) → map string_bytes texts ≡ forms → length texts ≤ i → decision ≡ by_default → WhereKnown t (find (λ f. is_there (finds f)) (drop i forms) ≡ find (λ f. is_there (finds f)) forms) → WhereKnown t (by_first finds (find (λ f. is_there (finds f)) forms) ≡ Ok decision)
 decided-default finds t texts forms i decision all past is so_far =
-    let places : length texts ≡ length forms = sym (length-map texts string_bytes) ∙ ap length all in
+    let positions : length texts ≡ length forms = sym (length-map texts string_bytes) ∙ ap length all in
     let none = at_drop_all (find (λ f. is_there (finds f))) forms i (omega arith) in
     WhereKnown-map t (λ s. sym (ap (by_first finds) (sym none ∙ s)) ∙ ap (λ (d : Decision). Ok d) (sym is)) so_far

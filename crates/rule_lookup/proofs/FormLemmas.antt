@@ -34,13 +34,13 @@ dotted_fronts-push (x ∷ xs) b =
     ∙ append_assoc (map (λ (rest : List ℕ). x ∷ rest) (last_front (eqb b 46) (xs ++ b ∷ []))) (map (λ (rest : List ℕ). x ∷ rest) (dotted_fronts xs)) (last_front (eqb x 46) (x ∷ []))
     ∙ ap (λ (fronts : List (List ℕ)). fronts ++ (map (λ (rest : List ℕ). x ∷ rest) (dotted_fronts xs) ++ last_front (eqb x 46) (x ∷ []))) (map-last_front (eqb b 46) x (xs ++ b ∷ []))
 
--- a place further, a dot there makes one more prefix
+-- a position further, a dot there makes one more prefix
 pub dotted_fronts-more : (ip : List ℕ) (i : ℕ) → i < length ip → dotted_fronts (take (i + 1) ip) ≡ last_front (eqb (get_or ip i 0) 46) (take (i + 1) ip) ++ dotted_fronts (take i ip)
 dotted_fronts-more ip i inside =
     ap dotted_fronts (take_more ip i 0 inside) ∙ dotted_fronts-push (take i ip) (get_or ip i 0)
     ∙ ap (λ (front : List ℕ). last_front (eqb (get_or ip i 0) 46) front ++ dotted_fronts (take i ip)) (sym (take_more ip i 0 inside))
 
--- the forms so far and those to come, a place back, where a dot stands there and where none does
+-- the forms so far and those to come, a position back, where a dot stands there and where none does
 pub fronts_kept-dot : (forms more : List (List ℕ)) (ip : List ℕ) (i n : ℕ) → i + 1 ≡ n → n ≤ length ip → eqb (get_or ip i 0) 46 ≡ true → more ≡ forms ++ folded (take n ip) ∷ [] → more ++ map folded (dotted_fronts (take i ip)) ≡ forms ++ map folded (dotted_fronts (take n ip))
 fronts_kept-dot forms more ip i n next inside dot pushed =
     ap (λ (fs : List (List ℕ)). fs ++ map folded (dotted_fronts (take i ip))) pushed

@@ -99,12 +99,12 @@ has_zero-folded (b ∷ bs) =
 abbrev pub has_capitals : List ℕ → Bool
 has_capitals bytes = list_any is_ascii_uppercase (drop (position_or_len (λ b. b == 61) bytes) bytes)
 
-by_place : (t : Bool) (n b : ℕ) (bs : List ℕ) → list_any is_ascii_uppercase (drop (cond (not t) (1 + n) 0) (b ∷ bs)) ≡ cond t (list_any is_ascii_uppercase (b ∷ bs)) (list_any is_ascii_uppercase (drop n bs))
-by_place true n b bs = refl
-by_place false n b bs = ap (λ k. list_any is_ascii_uppercase (drop k (b ∷ bs))) (one-add n)
+by_position : (t : Bool) (n b : ℕ) (bs : List ℕ) → list_any is_ascii_uppercase (drop (cond (not t) (1 + n) 0) (b ∷ bs)) ≡ cond t (list_any is_ascii_uppercase (b ∷ bs)) (list_any is_ascii_uppercase (drop n bs))
+by_position true n b bs = refl
+by_position false n b bs = ap (λ k. list_any is_ascii_uppercase (drop k (b ∷ bs))) (one-add n)
 
 pub has_capitals-cons : (b : ℕ) (bs : List ℕ) → has_capitals (b ∷ bs) ≡ cond (b == 61) (list_any is_ascii_uppercase (b ∷ bs)) (has_capitals bs)
-has_capitals-cons b bs = by_place (b == 61) (position_or_len (λ b. b == 61) bs) b bs
+has_capitals-cons b bs = by_position (b == 61) (position_or_len (λ b. b == 61) bs) b bs
 
 -- a letter in lower case is no capital
 upper-lower : (c : ℕ) → is_ascii_uppercase (to_ascii_lowercase c) ≡ false

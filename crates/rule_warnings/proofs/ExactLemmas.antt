@@ -17,7 +17,7 @@ use Rattle.connection_facts.specs.Peers.{Client, HasNames, fits, is_peer_name}
 use Rattle.rule_warnings.proofs.CaseLemmas.{IsLow, behind_equals, folded-append, folded-low, folded_from_no_capitals, has_capitals, has_capitals-folded, has_zero-folded, low-cons, low_from_no_capitals}
 use Rattle.rule_warnings.proofs.FrontLemmas.{Contains-map, EndsWithDot, IsTame, IsTameEnd, IsTameFront, ends_of, ends_with_dot, front_of, fronts_of, one, tame-drop, tame_whole}
 use Rattle.rule_warnings.proofs.WholeLemmas.{Dotted-is_whole, is_whole-IsDotted}
-use Rattle.rule_warnings.specs.Clients.{IsPeer, IsSomePeers, has_user_after, is_form, is_front, is_host, is_place, is_plain, is_users, is_whole}
+use Rattle.rule_warnings.specs.Clients.{IsPeer, IsSomePeers, has_user_after, is_form, is_front, is_host, is_end, is_plain, is_users, is_whole}
 
 -- ---- each form of a peer is told to be one
 
@@ -67,14 +67,14 @@ told_host : (host : List ℕ) → length host ≤ 255 → IsTame host → Told (
 told_host host short tame =
     told (61 ∷ host) tame.none (ap kinds (folded-low (61 ∷ host) (tame_equals host tame).low) ∙ by_host (61 ∷ host) (host_is host short))
 
--- a user at a place
-user_before : (n : ℕ) (user place : List ℕ) → 0 < n + length user → n + length user ≤ 255 → is_place place ≡ true → has_user_after n (user ++ 64 ∷ place) ≡ true
-user_before n [] place some short is =
-    or_left (64 == 64 && nat_lt 0 n && nat_le n 255 && is_place place) (has_user_after (n + 1) place)
-    (and_from (64 == 64 && nat_lt 0 n && nat_le n 255) (is_place place) (and_from (64 == 64 && nat_lt 0 n) (nat_le n 255) (lt-ltb 0 n (omega (arith, some))) (le-leb n 255 (omega (arith, short)))) is)
-user_before n (b ∷ bs) place some short is =
-    or_right (b == 64 && nat_lt 0 n && nat_le n 255 && is_place (bs ++ 64 ∷ place)) (has_user_after (n + 1) (bs ++ 64 ∷ place))
-    (user_before (n + 1) bs place (omega (arith, some)) (omega (arith, short)) is)
+-- a user at a position
+user_before : (n : ℕ) (user end : List ℕ) → 0 < n + length user → n + length user ≤ 255 → is_end end ≡ true → has_user_after n (user ++ 64 ∷ end) ≡ true
+user_before n [] end some short is =
+    or_left (64 == 64 && nat_lt 0 n && nat_le n 255 && is_end end) (has_user_after (n + 1) end)
+    (and_from (64 == 64 && nat_lt 0 n && nat_le n 255) (is_end end) (and_from (64 == 64 && nat_lt 0 n) (nat_le n 255) (lt-ltb 0 n (omega (arith, some))) (le-leb n 255 (omega (arith, short)))) is)
+user_before n (b ∷ bs) end some short is =
+    or_right (b == 64 && nat_lt 0 n && nat_le n 255 && is_end (bs ++ 64 ∷ end)) (has_user_after (n + 1) (bs ++ 64 ∷ end))
+    (user_before (n + 1) bs end (omega (arith, some)) (omega (arith, short)) is)
 
 -- what a name that may be is
 pub record IsName (name : List ℕ) : Type 0 where
@@ -92,12 +92,12 @@ name_from : (name : List ℕ) → IsName name → is_peer_name name ≡ true
 name_from name is =
     and_from (nat_lt 0 (length name) && nat_le (length name) 255) (not (has_byte 0 name)) (and_from (nat_lt 0 (length name)) (nat_le (length name) 255) (lt-ltb 0 (length name) is.some) (le-leb (length name) 255 is.short)) (not_from_false (has_byte 0 name) is.none)
 
-told_user : (user place : List ℕ) → IsName user → IsTame place → is_place place ≡ true → Told (user ++ 64 ∷ place)
-told_user user place name tame is =
-    let low : IsLow (64 ∷ place) = low-cons 64 place refl tame.low in
+told_user : (user end : List ℕ) → IsName user → IsTame end → is_end end ≡ true → Told (user ++ 64 ∷ end)
+told_user user end name tame is =
+    let low : IsLow (64 ∷ end) = low-cons 64 end refl tame.low in
     let long = length-folded user in
-    told (user ++ 64 ∷ place) (list_any-append (λ b. b == 0) user (64 ∷ place) ∙ or_from (has_byte 0 user) (has_byte 0 (64 ∷ place)) name.none tame.none)
-    (ap kinds (folded-append user (64 ∷ place) low) ∙ by_users (folded user ++ 64 ∷ place) (user_before 0 (folded user) place (omega (arith, long, name.some)) (omega (arith, long, name.short)) is))
+    told (user ++ 64 ∷ end) (list_any-append (λ b. b == 0) user (64 ∷ end) ∙ or_from (has_byte 0 user) (has_byte 0 (64 ∷ end)) name.none tame.none)
+    (ap kinds (folded-append user (64 ∷ end) low) ∙ by_users (folded user ++ 64 ∷ end) (user_before 0 (folded user) end (omega (arith, long, name.some)) (omega (arith, long, name.short)) is))
 
 -- the host of a peer
 some_low : (name other : List ℕ) → Some name ≡ Some other → name ≡ other
@@ -109,7 +109,7 @@ some_low name other is = ap (λ (o : Option (List ℕ)). by_option o) is where
 tame_host : (host : List ℕ) → IsName host → map to_ascii_lowercase host ≡ host → IsTame host
 tame_host host name low = record { low = low; none = name.none }
 
-place_host : (host : List ℕ) → IsName host → is_place (61 ∷ host) ≡ true
+place_host : (host : List ℕ) → IsName host → is_end (61 ∷ host) ≡ true
 place_host host name =
     or_right (is_whole (61 ∷ host)) (is_host (61 ∷ host) && nat_lt 1 (length (61 ∷ host)))
     (and_from (is_host (61 ∷ host)) (nat_lt 1 (length (61 ∷ host))) (host_is host name.short) (lt-ltb 1 (length (61 ∷ host)) (omega (arith, name.some))))
@@ -314,12 +314,12 @@ some_front address rest ip ends dotted same =
 user_fits : (user : List ℕ) → IsName user → fits (Some user) ≡ true
 user_fits user name = name_from user name
 
-some_user : (user place ip : List ℕ) → IsName user → IsDotted place ip → folded (user ++ 64 ∷ place) ≡ user ++ 64 ∷ place → IsSomePeers (user ++ 64 ∷ place)
-some_user user place ip name dotted same =
-    let address = user ++ 64 ∷ place in
-    some_peers address ip place None (Some user) dotted (record { host_fits = refl; info_fits = user_fits user name; lower = refl }) same
+some_user : (user end ip : List ℕ) → IsName user → IsDotted end ip → folded (user ++ 64 ∷ end) ≡ user ++ 64 ∷ end → IsSomePeers (user ++ 64 ∷ end)
+some_user user end ip name dotted same =
+    let address = user ++ 64 ∷ end in
+    some_peers address ip end None (Some user) dotted (record { host_fits = refl; info_fits = user_fits user name; lower = refl }) same
     (user_kind ((user ++ 64 ∷ ipv4_text ip) ∷ []) [] (ipv4_text ip ∷ []) [] (dotted_fronts (ipv4_text ip)) [] [] ([] ∷ []) address
-    (subst (Contains ((user ++ 64 ∷ ipv4_text ip) ∷ [])) (ap (λ (l : List ℕ). user ++ 64 ∷ l) (text_is place ip dotted)) (one (user ++ 64 ∷ ipv4_text ip))))
+    (subst (Contains ((user ++ 64 ∷ ipv4_text ip) ∷ [])) (ap (λ (l : List ℕ). user ++ 64 ∷ l) (text_is end ip dotted)) (one (user ++ 64 ∷ ipv4_text ip))))
 
 some_user_host : (user host : List ℕ) → IsName user → IsName host → IsLow host → folded (user ++ 64 ∷ 61 ∷ host) ≡ user ++ 64 ∷ 61 ∷ host → IsSomePeers (user ++ 64 ∷ 61 ∷ host)
 some_user_host user host name host_name low same =
@@ -331,23 +331,23 @@ some_user_host user host name host_name low same =
 -- where a user ends
 record UserAt (n : ℕ) (address : List ℕ) : Type 0 where
   user : List ℕ
-  place : List ℕ
-  is : address ≡ user ++ 64 ∷ place
+  end : List ℕ
+  is : address ≡ user ++ 64 ∷ end
   some : 0 < n + length user
   short : n + length user ≤ 255
-  placed : is_place place ≡ true
+  with_end : is_end end ≡ true
 
 user_at : (n : ℕ) (address : List ℕ) → has_user_after n address ≡ true → UserAt n address
 user_at n [] has = absurd (cc)
-user_at n (b ∷ bs) has = elim (or_cases (b == 64 && nat_lt 0 n && nat_le n 255 && is_place bs) (has_user_after (n + 1) bs) has) [
+user_at n (b ∷ bs) has = elim (or_cases (b == 64 && nat_lt 0 n && nat_le n 255 && is_end bs) (has_user_after (n + 1) bs) has) [
   | inl here ↦
-      let (sizes, placed) = and_parts (b == 64 && nat_lt 0 n && nat_le n 255) (is_place bs) here in
+      let (sizes, with_end) = and_parts (b == 64 && nat_lt 0 n && nat_le n 255) (is_end bs) here in
       let (some, short) = and_parts (b == 64 && nat_lt 0 n) (nat_le n 255) sizes in
       let (at, more) = and_parts (b == 64) (nat_lt 0 n) some in
-      record { user = []; place = bs; is = ap (λ c. c ∷ bs) (eqb-true b 64 at); some = omega (arith, ltb-true 0 n more); short = omega (arith, leb-true n 255 short); placed = placed }
+      record { user = []; end = bs; is = ap (λ c. c ∷ bs) (eqb-true b 64 at); some = omega (arith, ltb-true 0 n more); short = omega (arith, leb-true n 255 short); with_end = with_end }
   | inr later ↦
       let found = user_at (n + 1) bs later in
-      record { user = b ∷ found.user; place = found.place; is = ap (λ (l : List ℕ). b ∷ l) found.is; some = omega arith; short = omega (arith, found.short); placed = found.placed }
+      record { user = b ∷ found.user; end = found.end; is = ap (λ (l : List ℕ). b ∷ l) found.is; some = omega arith; short = omega (arith, found.short); with_end = found.with_end }
 ]
 
 -- an address without zero bytes and without capitals from its first `=` on
@@ -396,9 +396,9 @@ from_front address is plain =
       | inr three ↦ up_to address (codes "0.0.0") ends three plain
     ]
 
-placed_host : (user place : List ℕ) → IsName user → is_host place ≡ true → 1 < length place → IsPlain (user ++ 64 ∷ place) → IsSomePeers (user ++ 64 ∷ place)
-placed_host user [] name is some plain = absurd (cc)
-placed_host user (b ∷ host) name is some plain =
+with_host : (user end : List ℕ) → IsName user → is_host end ≡ true → 1 < length end → IsPlain (user ++ 64 ∷ end) → IsSomePeers (user ++ 64 ∷ end)
+with_host user [] name is some plain = absurd (cc)
+with_host user (b ∷ host) name is some plain =
     let (equals, short) = and_parts (b == 61) (nat_le (length host) 255) is in
     let here = eqb-true b 61 equals in
     let moved : user ++ 64 ∷ 61 ∷ host ≡ (user ++ 64 ∷ []) ++ 61 ∷ host = sym (append_assoc user (64 ∷ []) (61 ∷ host)) in
@@ -408,19 +408,19 @@ placed_host user (b ∷ host) name is some plain =
     subst (λ c. IsSomePeers (user ++ 64 ∷ c ∷ host)) (sym here)
     (some_user_host user host name (record { some = omega (arith, some); short = leb-true (length host) 255 short; none = none.1 }) low there.same)
 
-placed : (user place : List ℕ) → IsName user → is_place place ≡ true → IsPlain (user ++ 64 ∷ place) → IsSomePeers (user ++ 64 ∷ place)
-placed user place name is plain = elim (or_cases (is_whole place) (is_host place && nat_lt 1 (length place)) is) [
-  | inl whole ↦ let found = Dotted-is_whole place whole in some_user user place found.octets name found.dotted plain.same
-  | inr host ↦ let (one, more) = and_parts (is_host place) (nat_lt 1 (length place)) host in placed_host user place name one (ltb-true 1 (length place) more) plain
+with_end : (user end : List ℕ) → IsName user → is_end end ≡ true → IsPlain (user ++ 64 ∷ end) → IsSomePeers (user ++ 64 ∷ end)
+with_end user end name is plain = elim (or_cases (is_whole end) (is_host end && nat_lt 1 (length end)) is) [
+  | inl whole ↦ let found = Dotted-is_whole end whole in some_user user end found.octets name found.dotted plain.same
+  | inr host ↦ let (one, more) = and_parts (is_host end) (nat_lt 1 (length end)) host in with_host user end name one (ltb-true 1 (length end) more) plain
 ]
 
 from_users : (address : List ℕ) → is_users address ≡ true → IsPlain address → IsSomePeers address
 from_users address is plain =
     let found = user_at 0 address is in
-    let there : IsPlain (found.user ++ 64 ∷ found.place) = subst IsPlain found.is plain in
-    let none = or_parts (has_byte 0 found.user) (has_byte 0 (64 ∷ found.place)) (sym (list_any-append (λ b. b == 0) found.user (64 ∷ found.place)) ∙ there.none) in
+    let there : IsPlain (found.user ++ 64 ∷ found.end) = subst IsPlain found.is plain in
+    let none = or_parts (has_byte 0 found.user) (has_byte 0 (64 ∷ found.end)) (sym (list_any-append (λ b. b == 0) found.user (64 ∷ found.end)) ∙ there.none) in
     let name : IsName found.user = record { some = omega (arith, found.some); short = omega (arith, found.short); none = none.0 } in
-    subst IsSomePeers (sym found.is) (placed found.user found.place name found.placed there)
+    subst IsSomePeers (sym found.is) (with_end found.user found.end name found.with_end there)
 
 -- an address that is told to be a form is one of some peer
 pub some_peer : (address : List ℕ) → is_form address ≡ true → IsSomePeers address

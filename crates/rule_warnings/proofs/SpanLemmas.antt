@@ -54,12 +54,12 @@ soonest-at line xs i d so_far here now inside before is step =
     step ∙ ap (λ o. sooner o here) before ∙ ap (sooner (soonest line (take i xs))) is
     ∙ sym (ap (soonest line) (take_more xs i d inside) ∙ soonest-push line (take i xs) (get_or xs i d))
 
--- and of a loop over all places
-pub soonest-place : (line : ℕ → Option ℕ) (place : ℕ) (so_far here now : Option ℕ) → so_far ≡ soonest line (range_with_len 0 place) → here ≡ line place → now ≡ sooner so_far here → now ≡ soonest line (range_with_len 0 (place + 1))
-soonest-place line place so_far here now before is step =
-    let more : range_with_len 0 (place + 1) ≡ range_with_len 0 place ++ place ∷ [] = sym (map-id _) ∙ map-range_with_len_more (λ n. n) 0 place place (zero-add place) ∙ ap (λ (l : List ℕ). l ++ place ∷ []) (map-id _) in
-    step ∙ ap (λ o. sooner o here) before ∙ ap (sooner (soonest line (range_with_len 0 place))) is
-    ∙ sym (ap (soonest line) more ∙ soonest-push line (range_with_len 0 place) place)
+-- and of a loop over all positions
+pub soonest-position : (line : ℕ → Option ℕ) (position : ℕ) (so_far here now : Option ℕ) → so_far ≡ soonest line (range_with_len 0 position) → here ≡ line position → now ≡ sooner so_far here → now ≡ soonest line (range_with_len 0 (position + 1))
+soonest-position line position so_far here now before is step =
+    let more : range_with_len 0 (position + 1) ≡ range_with_len 0 position ++ position ∷ [] = sym (map-id _) ∙ map-range_with_len_more (λ n. n) 0 position position (zero-add position) ∙ ap (λ (l : List ℕ). l ++ position ∷ []) (map-id _) in
+    step ∙ ap (λ o. sooner o here) before ∙ ap (sooner (soonest line (range_with_len 0 position))) is
+    ∙ sym (ap (soonest line) more ∙ soonest-push line (range_with_len 0 position) position)
 
 soonest-alike : {A : Type 0} (f g : A → Option ℕ) → ((x : A) → f x ≡ g x) → (xs : List A) → soonest f xs ≡ soonest g xs
 soonest-alike f g alike [] = refl
@@ -71,7 +71,7 @@ either_there true false line = refl
 either_there false true line = refl
 either_there false false line = refl
 
--- a line more at some places
+-- a line more at some positions
 soonest-more : {A : Type 0} (f : A → Option ℕ) (h : A → Bool) (line : ℕ) (xs : List A) → soonest (λ x. sooner (f x) (cond (h x) (Some line) None)) xs ≡ sooner (soonest f xs) (cond (list_any h xs) (Some line) None)
 soonest-more f h line [] = refl
 soonest-more f h line (x ∷ xs) =
@@ -209,13 +209,13 @@ from-pushed old new key span p (Some cut) =
           ∙ ap (λ b. sooner (line_among (old k) n) (cond (b && has_number span.numbers n) (Some span.line) None)) (sym differs)
     ]
 
-abbrev places : List ℕ → List ℕ
-places address = range_with_len 0 (length address + 1)
+abbrev positions : List ℕ → List ℕ
+positions address = range_with_len 0 (length address + 1)
 
-spanned-pushed : (old new : List ℕ → List Span) (key : List ℕ) (span : Span) → IsPushed old new key span → (other : List ℕ) → line_spanned new other ≡ sooner (line_spanned old other) (cond (list_any (λ start. hits key span.numbers (cut_at other start)) (places other)) (Some span.line) None)
+spanned-pushed : (old new : List ℕ → List Span) (key : List ℕ) (span : Span) → IsPushed old new key span → (other : List ℕ) → line_spanned new other ≡ sooner (line_spanned old other) (cond (list_any (λ start. hits key span.numbers (cut_at other start)) (positions other)) (Some span.line) None)
 spanned-pushed old new key span p other =
-    soonest-alike (line_from new other) (λ start. sooner (line_from old other start) (cond (hits key span.numbers (cut_at other start)) (Some span.line) None)) (λ start. from-pushed old new key span p (cut_at other start)) (places other)
-    ∙ soonest-more (line_from old other) (λ start. hits key span.numbers (cut_at other start)) span.line (places other)
+    soonest-alike (line_from new other) (λ start. sooner (line_from old other start) (cond (hits key span.numbers (cut_at other start)) (Some span.line) None)) (λ start. from-pushed old new key span p (cut_at other start)) (positions other)
+    ∙ soonest-more (line_from old other) (λ start. hits key span.numbers (cut_at other start)) span.line (positions other)
 
 -- ---- which addresses are those of a range
 
@@ -252,10 +252,10 @@ module _ (front back : List ℕ) (numbers : Numbers) (other : List ℕ) where
   in_range n has is =
       let above = has.above in
       let below = has.below in
-      let place = n - numbers.first in
-      let within : place < numbers.count = omega arith in
-      list_any_at (bytes_eq other) (addresses_under front numbers back) place [] (rw (length-map-range_with_len text numbers.first numbers.count) within)
-      ((bytes_eq-Decides other _).1 (is ∙ sym (get_or-map-range_with_len text numbers.first numbers.count place n [] within (omega arith))))
+      let position = n - numbers.first in
+      let within : position < numbers.count = omega arith in
+      list_any_at (bytes_eq other) (addresses_under front numbers back) position [] (rw (length-map-range_with_len text numbers.first numbers.count) within)
+      ((bytes_eq-Decides other _).1 (is ∙ sym (get_or-map-range_with_len text numbers.first numbers.count position n [] within (omega arith))))
 
   hit-is : (plain : is_front front ≡ true) (start : ℕ) (o : Option CutParts) → cut_at other start ≡ o → hits (around front back) numbers o ≡ true → list_any (bytes_eq other) (addresses_under front numbers back) ≡ true
   hit-is plain start None is hit = absurd (cc)
@@ -266,7 +266,7 @@ module _ (front back : List ℕ) (numbers : Numbers) (other : List ℕ) where
       in_range cut.number (has_number-is numbers cut.number parts.1)
       (sound.whole ∙ ap (λ (l : List ℕ). l ++ decimal cut.number ++ cut.back) (sym same.0) ∙ ap (λ (l : List ℕ). front ++ decimal cut.number ++ l) (sym same.1))
 
-  is-hit : is_front front ≡ true → is_back back ≡ true → numbers.first + numbers.count ≤ 256 → (i : ℕ) → i < length (addresses_under front numbers back) → bytes_eq other (get_or (addresses_under front numbers back) i []) ≡ true → list_any (λ start. hits (around front back) numbers (cut_at other start)) (places other) ≡ true
+  is-hit : is_front front ≡ true → is_back back ≡ true → numbers.first + numbers.count ≤ 256 → (i : ℕ) → i < length (addresses_under front numbers back) → bytes_eq other (get_or (addresses_under front numbers back) i []) ≡ true → list_any (λ start. hits (around front back) numbers (cut_at other start)) (positions other) ≡ true
   is-hit first last fits i within same =
       let n = numbers.first + i in
       let inside : i < numbers.count = rw (length-map-range_with_len text numbers.first numbers.count) at within in
@@ -276,17 +276,17 @@ module _ (front back : List ℕ) (numbers : Numbers) (other : List ℕ) where
       let key : bytes_eq (around front back) (around front back) ≡ true = (bytes_eq-Decides (around front back) (around front back)).1 refl in
       let number : has_number numbers n ≡ true = is-has_number numbers n (omega arith) (omega arith) in
       let hit : hits (around front back) numbers (cut_at other (length front)) ≡ true = ap (hits (around front back) numbers) cut ∙ ap (λ b. b && has_number numbers n) key ∙ number in
-      list_any_at (λ start. hits (around front back) numbers (cut_at other start)) (places other) (length front) 0 (rw (length-range_with_len 0 (length other + 1)) (omega arith))
+      list_any_at (λ start. hits (around front back) numbers (cut_at other start)) (positions other) (length front) 0 (rw (length-range_with_len 0 (length other + 1)) (omega arith))
       (ap (λ start. hits (around front back) numbers (cut_at other start)) (get_or-range_with_len 0 (length other + 1) (length front) 0 (omega arith)) ∙ ap (λ start. hits (around front back) numbers (cut_at other start)) (zero-add (length front)) ∙ hit)
 
   -- an address is one of a range exactly where it is cut around one of its numbers
-  hits-exactly : is_cut front numbers back ≡ true → list_any (λ start. hits (around front back) numbers (cut_at other start)) (places other) ≡ list_any (bytes_eq other) (addresses_under front numbers back)
+  hits-exactly : is_cut front numbers back ≡ true → list_any (λ start. hits (around front back) numbers (cut_at other start)) (positions other) ≡ list_any (bytes_eq other) (addresses_under front numbers back)
   hits-exactly cut =
       let three = and_parts (is_front front && is_back back && nat_lt 0 numbers.count) (nat_le (numbers.first + numbers.count) 256) cut in
       let two = and_parts (is_front front && is_back back) (nat_lt 0 numbers.count) three.0 in
       let one = and_parts (is_front front) (is_back back) two.0 in
       same_tests _ _
-      (λ any. found_at (λ start. hits (around front back) numbers (cut_at other start)) (places other) 0 any (λ i within hit. hit-is one.0 (get_or (places other) i 0) _ refl hit))
+      (λ any. found_at (λ start. hits (around front back) numbers (cut_at other start)) (positions other) 0 any (λ i within hit. hit-is one.0 (get_or (positions other) i 0) _ refl hit))
       (λ any. found_at (bytes_eq other) (addresses_under front numbers back) [] any (λ i within same. is-hit one.0 one.1 (leb-true _ _ three.1) i within same))
 
 -- ---- so the addresses of a range are noted
@@ -308,7 +308,7 @@ noted-range old new front back numbers line cut earlier alone p other =
 
 -- no ranges
 pub spanned-none : (spans : List ℕ → List Span) → ((key : List ℕ) → spans key ≡ []) → (address : List ℕ) → line_spanned spans address ≡ None
-spanned-none spans none address = at_none (places address) where
+spanned-none spans none address = at_none (positions address) where
   from_none : (o : Option CutParts) → option_and_then (λ cut. line_among (spans (around cut.front cut.back)) cut.number) o ≡ None
   from_none None = refl
   from_none (Some cut) = ap (λ (l : List Span). line_among l cut.number) (none (around cut.front cut.back))

@@ -41,15 +41,15 @@ is_host [] = false
 is_host (b ∷ host) = b == 61 && nat_le (length host) 255
 
 -- where a user may be: at a whole IPv4 address, or at `=` and a host
-abbrev pub is_place : List ℕ → Bool
-is_place place = is_whole place || (is_host place && nat_lt 1 (length place))
+abbrev pub is_end : List ℕ → Bool
+is_end end = is_whole end || (is_host end && nat_lt 1 (length end))
 
--- with n bytes before it, it has an `@` behind a user of 1 to 255 bytes, and before a place
+-- with n bytes before it, it has an `@` behind a user of 1 to 255 bytes, and before a host or an IP address
 abbrev pub has_user_after : ℕ → List ℕ → Bool
 has_user_after n [] = false
-has_user_after n (b ∷ bs) = (b == 64 && nat_lt 0 n && nat_le n 255 && is_place bs) || has_user_after (n + 1) bs
+has_user_after n (b ∷ bs) = (b == 64 && nat_lt 0 n && nat_le n 255 && is_end bs) || has_user_after (n + 1) bs
 
--- a user of 1 to 255 bytes, `@`, and a place
+-- a user of 1 to 255 bytes, `@`, and a host or an IP address
 abbrev pub is_users : List ℕ → Bool
 is_users address = has_user_after 0 address
 

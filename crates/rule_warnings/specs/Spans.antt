@@ -68,7 +68,7 @@ with_part front rest len = option_map (λ n. record { front = front; number = n;
 abbrev pub cut_in : List ℕ → List ℕ → Option CutParts
 cut_in front rest = if is_front front then with_part front rest (position_or_len (λ b. b == 46) rest) else None
 
--- an address, cut around the number that begins at a place
+-- an address, cut around the number that begins at a position
 abbrev pub cut_at : List ℕ → ℕ → Option CutParts
 cut_at address start = cut_in (take start address) (drop start address)
 
@@ -76,7 +76,7 @@ cut_at address start = cut_in (take start address) (drop start address)
 abbrev pub around : List ℕ → List ℕ → List ℕ
 around front back = front ++ 45 ∷ back
 
--- the first line of the ranges that have an address by the number at a place, by the spans of what stands around it
+-- the first line of the ranges that have an address by the number at a position, by the spans of what stands around it
 abbrev pub line_from : (List ℕ → List Span) → List ℕ → ℕ → Option ℕ
 line_from spans address start = option_and_then (λ cut. line_among (spans (around cut.front cut.back)) cut.number) (cut_at address start)
 

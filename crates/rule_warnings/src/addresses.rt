@@ -18,14 +18,14 @@ pub fn count(addresses: &ReadAddress<'_>) -> usize
     }
 }
 
-/// Writes the address at a place, in place of the bytes of `out`. After an `Err` any bytes stand there.
+/// Writes the address at a position, in place of the bytes of `out`. After an `Err` any bytes stand there.
 pub fn write_address(
     addresses: &ReadAddress<'_>,
-    place: usize,
+    position: usize,
     out: &mut Vec<u8>,
 ) -> Result<(), AllocError>
-    requires { place < length (addresses_read addresses.now) }
-    ensures { OnOk result (out.new.items ≡ get_or (addresses_read addresses.now) place []) }
+    requires { position < length (addresses_read addresses.now) }
+    ensures { OnOk result (out.new.items ≡ get_or (addresses_read addresses.now) position []) }
 {
     out.clear();
     match addresses {
@@ -35,18 +35,18 @@ pub fn write_address(
             numbers,
             back,
         } => {
-            let number = number_at(*numbers, place);
+            let number = number_at(*numbers, position);
             push_numbered(front, number, back, out)
         }
     }
 }
 
-/// The number at a place of a range, from 0.
-fn number_at(numbers: Numbers, place: usize) -> u64
-    requires { place < numbers.count }
-    ensures { result ≡ numbers.first + place }
+/// The number at a position of a range, from 0.
+fn number_at(numbers: Numbers, position: usize) -> u64
+    requires { position < numbers.count }
+    ensures { result ≡ numbers.first + position }
 {
-    u64::from(numbers.first) + place as u64
+    u64::from(numbers.first) + position as u64
 }
 
 /// Adds an address of a range: what stands before the number, the number, and what stands after it.

@@ -4,7 +4,7 @@ ghost use Rattle.std.specs.Char.{is_ascii_uppercase};
 ghost use Rattle.std.specs.List.{list_any, position_or_len};
 ghost use Rattle.rule_lines.specs.Lines.{has_byte};
 ghost use Rattle.rule_lookup.specs.Addresses.{ipv4_in};
-ghost use Rattle.rule_warnings.specs.Clients.{is_form, is_plain, is_whole, is_front, is_host, is_place, is_users, asks_user};
+ghost use Rattle.rule_warnings.specs.Clients.{is_form, is_plain, is_whole, is_front, is_host, is_end, is_users, asks_user};
 
 use arrayvec::ArrayVec;
 use memchr::memchr;
@@ -116,14 +116,14 @@ fn is_host(address: &[u8]) -> bool
     }
 }
 
-/// Whether it is a place where a user may be.
-fn is_place(place: &[u8]) -> bool
-    ensures { result ≡ is_place place.now }
+/// Whether it is a host or an IP address, at which a user may be.
+fn is_end(end: &[u8]) -> bool
+    ensures { result ≡ is_end end.now }
 {
-    is_whole(place) || (is_host(place) && place.len() > 1)
+    is_whole(end) || (is_host(end) && end.len() > 1)
 }
 
-/// Whether it is a user at a place.
+/// Whether it is a user at a host or an IP address.
 fn is_users(address: &[u8]) -> bool
     ensures { result ≡ is_users address.now }
 {
@@ -138,12 +138,12 @@ fn is_users(address: &[u8]) -> bool
     false
 }
 
-/// Whether an `@` stands at this place, behind a user and before a place where a user may be.
+/// Whether an `@` stands at this position, behind a user and before a host or an IP address, at which a user may be.
 fn is_user_at(address: &[u8], before: usize) -> bool
     requires inside { before < length address.now }
     requires fits { before ≤ 255 }
     ensures { result ≡ (get_or address.now before 0 == 64 && nat_lt 0 before && nat_le before 255
-        && is_place (drop (before + 1) address.now)) }
+        && is_end (drop (before + 1) address.now)) }
 {
-    address[before] == b'@' && before > 0 && is_place(&address[before + 1..])
+    address[before] == b'@' && before > 0 && is_end(&address[before + 1..])
 }

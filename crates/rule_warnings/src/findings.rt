@@ -147,8 +147,8 @@ fn look_at_address<'a>(
 fn has_client(addresses: &ReadAddress<'_>, buffer: &mut Vec<u8>) -> Result<bool, AllocError>
     ensures { IfOk result (λ has. has ≡ list_any is_form (addresses_read addresses.now)) }
 {
-    for place in 0..count(addresses) {
-        write_address(addresses, place, buffer)?;
+    for position in 0..count(addresses) {
+        write_address(addresses, position, buffer)?;
         if is_form(buffer) {
             return Ok(true);
         }
@@ -167,8 +167,8 @@ fn decider(
         line ≡ decided_by (line_under seen.now) (addresses_read addresses.now)) }
 {
     let mut least = None;
-    for place in 0..count(addresses) {
-        write_address(addresses, place, buffer)?;
+    for position in 0..count(addresses) {
+        write_address(addresses, position, buffer)?;
         match seen.line_of(alloc, buffer)? {
             Some(line) => least = Some(lesser(least, line)),
             None => return Ok(None),
@@ -245,8 +245,8 @@ fn note_each(
     ensures { OnOk result ((other : List ℕ) → line_under seen.new other
         ≡ noted_all (line_under seen.old) (addresses_read addresses.now) number other) }
 {
-    for place in 0..count(addresses) {
-        write_address(addresses, place, buffer)?;
+    for position in 0..count(addresses) {
+        write_address(addresses, position, buffer)?;
         seen.note_made(alloc, buffer, number)?;
     }
     Ok(())

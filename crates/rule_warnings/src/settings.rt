@@ -149,23 +149,23 @@ fn character_len(first: u8) -> usize
     }
 }
 
-/// What stands before the first place of a mark, and after it.
+/// What stands before the first position of a mark, and after it.
 fn split_at_mark<'a>(mark: &[u8], bytes: &'a [u8]) -> Option<(&'a [u8], &'a [u8])>
     requires { 0 < length mark.now }
     ensures { MatchOption result
         (cut_at mark.now bytes.now ≡ None)
         (λ parts. cut_at mark.now bytes.now ≡ Some (record { before = parts.0.now; after = parts.1.now })) }
 {
-    let place = memmem::find(bytes, mark)?;
-    Some((&bytes[..place], &bytes[place + mark.len()..]))
+    let position = memmem::find(bytes, mark)?;
+    Some((&bytes[..position], &bytes[position + mark.len()..]))
 }
 
-/// What stands before the first place of a byte, and after it.
+/// What stands before the first position of a byte, and after it.
 fn split_at_byte(byte: u8, bytes: &[u8]) -> Option<(&[u8], &[u8])>
     ensures { MatchOption result
         (has_byte byte bytes.now ≡ false)
         (λ parts. (has_byte byte parts.0.now ≡ false) × (bytes.now ≡ parts.0.now ++ byte ∷ parts.1.now)) }
 {
-    let place = memchr(byte, bytes)?;
-    Some((&bytes[..place], &bytes[place + 1..]))
+    let position = memchr(byte, bytes)?;
+    Some((&bytes[..position], &bytes[position + 1..]))
 }

@@ -99,7 +99,7 @@ filling_own r files reached (inr is) has = subst (λ p. OwnPhase r files p) is h
 
 fill_scratch : (s : Installing) (call : Call) (d : Directory) → IsCallOf s Filling call → (after call d).scratch ≡ d.scratch
 fill_scratch s call d (inl (piece, is)) = subst (λ (k : Call). (after k d).scratch ≡ d.scratch) (sym is) (scratch_kept (longer piece) d.scratch d)
-fill_scratch s call d (inr (place, bytes, is)) = subst (λ (k : Call). (after k d).scratch ≡ d.scratch) (sym is) (scratch_kept (patched place bytes) d.scratch d)
+fill_scratch s call d (inr (position, bytes, is)) = subst (λ (k : Call). (after k d).scratch ≡ d.scratch) (sym is) (scratch_kept (patched position bytes) d.scratch d)
 
 module _ (w v : Shared) (i : ℕ) (has : HasOwn (w.run i) w.files) where
   abbrev r : Run
@@ -176,7 +176,7 @@ Ends call d e = (e ≡ after call d) ⊎ Fails call d e
 
 quiet_fills : (s : Installing) (call : Call) (d : Directory) → IsCallOf s Filling call → (after call d).names ≡ d.names
 quiet_fills s call d (inl (piece, is)) = subst (λ (k : Call). (after k d).names ≡ d.names) (sym is) (names_kept (longer piece) d.scratch d)
-quiet_fills s call d (inr (place, bytes, is)) = subst (λ (k : Call). (after k d).names ≡ d.names) (sym is) (names_kept (patched place bytes) d.scratch d)
+quiet_fills s call d (inr (position, bytes, is)) = subst (λ (k : Call). (after k d).names ≡ d.names) (sym is) (names_kept (patched position bytes) d.scratch d)
 
 -- the names within a call that is one step
 abbrev TwoNames : Call → Directory → Directory → Type 0
@@ -191,9 +191,9 @@ fill_names s call d e is_call (inl is) = inr (ap (λ (x : Directory). x.names) i
 fill_names s call d e (inl (piece, is)) (inr fails) =
     subst (λ (k : Call). TwoNames k d e) (sym is)
     (let names = (subst (λ (k : Call). Fails k d e) is fails).names in two_names (appends piece) d e names.0 names.1 names.2)
-fill_names s call d e (inr (place, bytes, is)) (inr fails) =
+fill_names s call d e (inr (position, bytes, is)) (inr fails) =
     subst (λ (k : Call). TwoNames k d e) (sym is)
-    (let names = (subst (λ (k : Call). Fails k d e) is fails).names in two_names (patches place bytes) d e names.0 names.1 names.2)
+    (let names = (subst (λ (k : Call). Fails k d e) is fails).names in two_names (patches position bytes) d e names.0 names.1 names.2)
 
 abbrev NotNamed : Phase → Type 0
 NotNamed Named = ⊥

@@ -103,11 +103,11 @@ appended_has d e tmp bytes piece new has same is =
     changed (longer piece) d e tmp bytes new has (ap (λ (l : List ℕ). record { bytes = l; synced = false }) same) is
 
 -- after a patch
-pub patched_has : (d e : Directory) (tmp bytes : List ℕ) (place : ℕ) (over new : List ℕ) → IsScratch d tmp bytes
-    → take place bytes ++ over ++ drop (place + length over) bytes ≡ new
-    → e ≡ after (patches place over) d → IsScratch e tmp new
-patched_has d e tmp bytes place over new has same is =
-    changed (patched place over) d e tmp bytes new has (ap (λ (l : List ℕ). record { bytes = l; synced = false }) same) is
+pub patched_has : (d e : Directory) (tmp bytes : List ℕ) (position : ℕ) (over new : List ℕ) → IsScratch d tmp bytes
+    → take position bytes ++ over ++ drop (position + length over) bytes ≡ new
+    → e ≡ after (patches position over) d → IsScratch e tmp new
+patched_has d e tmp bytes position over new has same is =
+    changed (patched position over) d e tmp bytes new has (ap (λ (l : List ℕ). record { bytes = l; synced = false }) same) is
 
 -- in the step to another filling
 pub filling_has : (s : Installing) (d : Directory) → next_phase s ≡ Filling → FitsPhase s d s.reached → HasScratch s d

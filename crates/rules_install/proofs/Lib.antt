@@ -2,7 +2,7 @@ pub mod BesideLemmas
 pub mod FillBytes
 pub mod FillSteps
 pub mod PieceLemmas
-pub mod PlaceLemmas
+pub mod LayoutLemmas
 pub mod StepBegins
 pub mod StepCalls
 pub mod StepEnds

@@ -44,9 +44,9 @@ rule-fits rules i rule at =
     get_or-map pair_of rules i rule (pair_of rule) inside ∙ ap pair_of (get_or_from_slice_get rules i rule rule at) in
     omega (arith, length-flat_map-take record_of (stored rules) i (pair_of rule) long, ap (λ (p : Pair). length (record_of p)) here, length-record_bytes rule.address (code_of rule.instr))
 
--- the place of a rule is below the length of the file
-pub place-fits : (rules : List Rule) (i : ℕ) (rule : Rule) → slice_get rules i ≡ Some rule → i + 1 ≤ finished_length (stored rules)
-place-fits rules i rule at = omega (arith, slice_get_within rules i rule at, length-map rules pair_of)
+-- the position of a rule is below the length of the file
+pub position-fits : (rules : List Rule) (i : ℕ) (rule : Rule) → slice_get rules i ≡ Some rule → i + 1 ≤ finished_length (stored rules)
+position-fits rules i rule at = omega (arith, slice_get_within rules i rule at, length-map rules pair_of)
 
 -- bytes before others, however they are joined
 pub behind : (first second front records tables : List ℕ) → front ≡ first → records ≡ second

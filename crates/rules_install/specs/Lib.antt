@@ -7,7 +7,7 @@ pub mod NamePair
 pub mod ParseFaults
 pub mod PhaseWords
 pub mod Pieces
-pub mod Places
+pub mod Layout
 pub mod Series
 pub mod Steps
 pub mod Whole

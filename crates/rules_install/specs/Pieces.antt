@@ -20,8 +20,8 @@ from_piece rules (Table t) = flat_map (λ u. table_bytes (table_entries u (store
 abbrev pub IsLeft : List Rule → List ℕ → ℕ → Piece → ℕ → Type 0
 IsLeft rules piece taken next filled = drop taken piece ++ from_piece rules next ≡ drop filled (blank_file rules)
 
--- a piece at a place, and all after it from the next place on; or nothing is left there
+-- a piece at a position, and all after it from the next position on; or nothing is left there
 abbrev pub Continues : List Rule → Piece → List ℕ → Option Piece → Type 0
-Continues rules place piece next =
-    MatchOption next ((from_piece rules place ≡ []) × (piece ≡ []))
-    (λ n. (0 < length piece) × (from_piece rules place ≡ piece ++ from_piece rules n))
+Continues rules position piece next =
+    MatchOption next ((from_piece rules position ≡ []) × (piece ≡ []))
+    (λ n. (0 < length piece) × (from_piece rules position ≡ piece ++ from_piece rules n))

@@ -18,7 +18,7 @@ use Rattle.rules_install.specs.declared.fault.InstallFault.TheVariants.{Disk, Ou
 -- the one call of the directory on the way to a phase
 abbrev pub IsCallOf : Installing → Phase → Call → Type 0
 IsCallOf s Fresh call = call ≡ makes s.names.tmp
-IsCallOf s Filling call = ((piece : List ℕ) × (call ≡ appends piece)) ⊎ ((place : ℕ) × (bytes : List ℕ) × (call ≡ patches place bytes))
+IsCallOf s Filling call = ((piece : List ℕ) × (call ≡ appends piece)) ⊎ ((position : ℕ) × (bytes : List ℕ) × (call ≡ patches position bytes))
 IsCallOf s Synced call = call ≡ syncs
 IsCallOf s Named call = call ≡ renames s.names.tmp s.names.cdb
 IsCallOf s Done call = call ≡ settles

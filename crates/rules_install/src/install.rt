@@ -23,7 +23,7 @@ pub struct Install {
     names: FileNames,
     // the rule whose record is under way
     rule: StoredRule,
-    // the piece under way, how much of it was appended, and the place of the next piece
+    // the piece under way, how much of it was appended, and the position of the next piece
     rest: Vec<u8>,
     taken: usize,
     next: Piece,

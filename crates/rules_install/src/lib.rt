@@ -9,9 +9,9 @@
 pub mod fault;
 pub mod install;
 pub mod laws;
+mod layout;
 pub mod names;
 mod pieces;
-mod places;
 pub mod whole;
 
 ghost use Rattle.std.specs.Prelude.{◌≡◌};

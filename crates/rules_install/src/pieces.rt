@@ -9,7 +9,7 @@ ghost use Rattle.rule_lines.specs.Pairs.{Rule};
 ghost use Rattle.rules_install.specs.Pieces.{Continues};
 
 use crate::InstallFault;
-use crate::places::{Places, place_all, place_record};
+use crate::layout::{Layout, place_all, place_record};
 use cdb_write::layout::{HEADER_LENGTH, LENGTHS_LENGTH, SLOTS_LENGTH, TABLE_COUNT, file_limit};
 use cdb_write::{Tables, append_record, header, table_piece};
 use rule_lines::{RuleList, StoredRule};
@@ -21,7 +21,7 @@ use std::marker::Model;
 /// let in.
 const UNSET: u8 = 255;
 
-/// A piece: the place of the pointers, the record of a rule, or a table.
+/// A piece: the position of the pointers, the record of a rule, or a table.
 #[derive(Clone, Copy)]
 pub enum Piece {
     Unset,
@@ -29,23 +29,23 @@ pub enum Piece {
     Table(usize),
 }
 
-/// The pieces of the file of a list of rules. It keeps the list, and the place of each record once that is made.
+/// The pieces of the file of a list of rules. It keeps the list, and the position of each record once that is made.
 #[derive(Drop)]
 pub struct Pieces {
     list: RuleList,
-    places: Places,
+    layout: Layout,
 }
 
 impl Model for Pieces {
     ghost use Rattle.std.specs.Prelude.{List};
     ghost use Rattle.rule_lines.specs.Pairs.{Rule};
-    ghost use Rattle.rules_install.specs.Places.{ArePlaced};
+    ghost use Rattle.rules_install.specs.Layout.{ArePlaced};
 
     ghost Value = { List Rule };
 
     ghost view = { λ p. p.list };
 
-    ghost invariant = { λ p. ArePlaced p.list p.places };
+    ghost invariant = { λ p. ArePlaced p.list p.layout };
 }
 
 /// Whether the finished file of a list keeps the limit.
@@ -70,12 +70,12 @@ impl Pieces {
         if !keeps_to(&list, limit) {
             return Err(InstallFault::TooLarge);
         }
-        let places = Places {
+        let layout = Layout {
             tables: Tables::new(alloc)?,
             placed: 0,
             end: HEADER_LENGTH as u32,
         };
-        Ok(Pieces { list, places })
+        Ok(Pieces { list, layout })
     }
 
     /// The list.
@@ -85,7 +85,7 @@ impl Pieces {
         &self.list
     }
 
-    /// Replaces the bytes of `piece` by those of the piece at a place, if there is one, and answers the place of the
+    /// Replaces the bytes of `piece` by those of the piece at a position, if there is one, and answers the position of the
     /// next. The bytes of `rule` are overwritten.
     ///
     /// # Errors
@@ -93,24 +93,24 @@ impl Pieces {
     pub fn make(
         &mut self,
         alloc: Global,
-        place: Piece,
+        position: Piece,
         rule: &mut StoredRule,
         piece: &mut Vec<u8>,
     ) -> Result<Option<Piece>, AllocError>
         ensures same { self.new ≡ self.old }
-        ensures made { IfOk result (Continues self.old place piece.new.items) }
+        ensures made { IfOk result (Continues self.old position piece.new.items) }
         ensures unmade { OnErr result (piece.new.items ≡ []) }
     {
         piece.clear();
-        match place {
+        match position {
             Piece::Unset => {
                 *piece = vec![in alloc; UNSET; HEADER_LENGTH]?;
                 Ok(Some(Piece::Record(0)))
             }
             Piece::Record(i) => {
                 if self.list.write_rule(i, rule)? {
-                    if i == self.places.placed {
-                        place_record(&mut self.places, rule)?;
+                    if i == self.layout.placed {
+                        place_record(&mut self.layout, rule)?;
                     }
                     append_record(piece, &rule.key, &rule.code)?;
                     Ok(Some(Piece::Record(i + 1)))
@@ -135,8 +135,8 @@ impl Pieces {
         ensures made { IfOk result (Continues self.old (Piece.Table first) piece.new.items) }
         ensures unmade { OnErr result (piece.new.items ≡ []) }
     {
-        place_all(&mut self.list, &mut self.places, rule)?;
-        next_table(alloc, &self.places.tables, first, piece)
+        place_all(&mut self.list, &mut self.layout, rule)?;
+        next_table(alloc, &self.layout.tables, first, piece)
     }
 
     /// The pointers of all tables. The bytes of `rule` are overwritten.
@@ -144,14 +144,14 @@ impl Pieces {
         ensures same { self.new ≡ self.old }
         ensures header { IfOk result (λ header. header.items ≡ header_bytes (pointers_of (stored self.old))) }
     {
-        place_all(&mut self.list, &mut self.places, rule)?;
-        let pointers = self.places.tables.pointers(alloc, self.places.end)?;
+        place_all(&mut self.list, &mut self.layout, rule)?;
+        let pointers = self.layout.tables.pointers(alloc, self.layout.end)?;
         header(alloc, &pointers)
     }
 }
 
-/// The piece of the first table from this one on that has records, and the place of the next piece. All rules have a
-/// place by then.
+/// The piece of the first table from this one on that has records, and the position of the next piece. All rules have a
+/// position by then.
 fn next_table(
     alloc: Global,
     tables: &Tables,

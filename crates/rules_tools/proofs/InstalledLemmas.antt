@@ -33,7 +33,7 @@ use Rattle.rules_install.specs.declared.fault.InstallFault.TheVariants as instal
 use Rattle.rules_install.proofs.WholeLemmas.{none_left, stands_now}
 use Rattle.rules_tools.specs.Installed.{Answers, Blames, CompilesTo, FailsInput, FailsText, FolderRun, Installs, IsRefusal, LastsAfter, LeavesNoScratch, PassesPaths, Tells, WasRead, ended}
 use Rattle.rules_tools.specs.Disks.{BlamesDisk, EndsOnDisk}
-use Rattle.rules_tools.specs.Paths.{IsPlaced, paths_fault}
+use Rattle.rules_tools.specs.Paths.{AreSplit, paths_fault}
 use Rattle.rules_tools.specs.Reviews.{profile}
 use Rattle.rules_tools.specs.Rules.{line_fault, told_fault}
 use Rattle.rules_tools.specs.Scratch.{AfterFault, AfterFaultTold}
@@ -327,7 +327,7 @@ of_paths folder other names fault is = by (is_some (name_fault names.cdb) || is_
     by false true false is = absurd (cc)
     by false false one_name is = let same : OtherFolder ≡ fault = cc in subst (λ f. IsOfPaths f) same tt
 
-pub tells_fault : (folder other : List ℕ) (names : NamePair) (fault : TcprulesFault) → IsPlaced folder other names (Err fault) → Tells folder other names (Err fault)
+pub tells_fault : (folder other : List ℕ) (names : NamePair) (fault : TcprulesFault) → AreSplit folder other names (Err fault) → Tells folder other names (Err fault)
 tells_fault folder other names BadName placed = placed
 tells_fault folder other names OtherFolder placed = placed
 tells_fault folder other names SameName placed = placed
@@ -339,7 +339,7 @@ tells_fault folder other names (Device phase) placed = absurd (of_paths folder o
 tells_fault folder other names OutOfMemory placed = placed
 
 -- where nothing is wrong with paths that are not placed, there was no memory
-pub memory_alone : (folder other : List ℕ) (names : NamePair) (fault : TcprulesFault) → IsPlaced folder other names (Err fault) → paths_fault folder other names ≡ None → fault ≡ OutOfMemory
+pub memory_alone : (folder other : List ℕ) (names : NamePair) (fault : TcprulesFault) → AreSplit folder other names (Err fault) → paths_fault folder other names ≡ None → fault ≡ OutOfMemory
 memory_alone folder other names BadName placed none = absurd (cc)
 memory_alone folder other names OtherFolder placed none = absurd (cc)
 memory_alone folder other names SameName placed none = absurd (cc)

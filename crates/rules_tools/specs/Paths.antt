@@ -24,19 +24,19 @@ paths_fault folder other names =
     else (if bytes_eq folder other then (if bytes_eq names.cdb names.tmp then Some SameName else None) else Some OtherFolder)
 
 -- two names in one folder, or what is wrong with them; want of memory comes only where nothing is
-abbrev pub IsPlaced : List ℕ → List ℕ → NamePair → Result (Bor (List ℕ) × NamePair) TcprulesFault → Type 0
-IsPlaced folder other names (Ok placed) = (paths_fault folder other names ≡ None) × (placed.0.now ≡ folder) × (placed.1 ≡ names)
-IsPlaced folder other names (Err OutOfMemory) = paths_fault folder other names ≡ None
-IsPlaced folder other names (Err fault) = paths_fault folder other names ≡ Some fault
+abbrev pub AreSplit : List ℕ → List ℕ → NamePair → Result (Bor (List ℕ) × NamePair) TcprulesFault → Type 0
+AreSplit folder other names (Ok placed) = (paths_fault folder other names ≡ None) × (placed.0.now ≡ folder) × (placed.1 ≡ names)
+AreSplit folder other names (Err OutOfMemory) = paths_fault folder other names ≡ None
+AreSplit folder other names (Err fault) = paths_fault folder other names ≡ Some fault
 
 -- the parts of two paths, and what comes of them
-pub record PlacesOf (cdb tmp : List ℕ) (result : Result (Bor (List ℕ) × NamePair) TcprulesFault) : Type 0 where
+pub record PathsOf (cdb tmp : List ℕ) (result : Result (Bor (List ℕ) × NamePair) TcprulesFault) : Type 0 where
   pub folder : List ℕ
   pub other : List ℕ
   pub names : NamePair
   pub first : IsSplit cdb folder names.cdb
   pub second : IsSplit tmp other names.tmp
-  pub placed : IsPlaced folder other names result
+  pub placed : AreSplit folder other names result
 
 -- a path of the folder of `cdb`, as that spells it, and of the last part of `tmp`
 pub record IsRespelled (cdb tmp path : List ℕ) : Type 0 where

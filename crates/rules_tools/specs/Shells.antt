@@ -4,7 +4,7 @@ use Rattle.dir_calls.specs.declared.fault.DirFault.{DirFault}
 use Rattle.dir_calls.specs.declared.dir.Dir.{Ghosts}
 use Rattle.rules_tools.specs.Causes.{failure_of, without_cause}
 use Rattle.rules_tools.specs.Installed.{IsRefusal, Runs}
-use Rattle.rules_tools.specs.Paths.{IsRespelled, IsSplit, PlacesOf, folder_path}
+use Rattle.rules_tools.specs.Paths.{IsRespelled, IsSplit, PathsOf, folder_path}
 use Rattle.rules_tools.specs.declared.cause.ErrorCause.{ErrorCause}
 use Rattle.rules_tools.specs.declared.tcprules.RulesFailure.{RulesFailure}
 use Rattle.rules_tools.specs.declared.tcprules.TcprulesFault.{TcprulesFault}
@@ -67,7 +67,7 @@ pub record OpensOne {S D F : Type 0} (run : PathRun S D F) (cdb tmp : List ℕ) 
 -- no folder is opened: something is wrong with the paths, or there is no memory
 pub record OpensNone {S D F : Type 0} (run : PathRun S D F) (cdb tmp : List ℕ) (result : Result (Unit {0}) RulesFailure) : Type 0 where
   pub fault : TcprulesFault
-  pub places : PlacesOf cdb tmp (Err fault)
+  pub paths : PathsOf cdb tmp (Err fault)
   pub told : result ≡ Err (without_cause fault)
   pub same : run.new ≡ run.old
 

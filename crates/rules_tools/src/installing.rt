@@ -11,7 +11,7 @@ ghost use Rattle.rules_tools.specs.Scratch.{AfterFault, HasFailedTwice, IsTakenA
 ghost use Rattle.rules_tools.specs.Series.{MakesSeries};
 
 use crate::folder::RulesFolder;
-use crate::tcprules::{TcprulesFault, read_places, read_text};
+use crate::tcprules::{TcprulesFault, read_paths, read_text};
 use dir_calls::{ClearableDir, Name};
 use rule_lines::{Limits, parse_owned};
 use rules_install::laws::decides;
@@ -43,7 +43,7 @@ pub fn install_text<R: Read, D: ClearableDir>(
     }) cdb.now tmp.now result }
     ensures untouched { IsRefusal result → folder.new ≡ folder.old }
 {
-    let (_folder, names) = read_places(alloc, cdb, tmp)?;
+    let (_folder, names) = read_paths(alloc, cdb, tmp)?;
     install_named(alloc, reader, folder, names)
 }
 

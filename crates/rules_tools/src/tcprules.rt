@@ -3,7 +3,7 @@ ghost use Rattle.std.specs.Prelude.{◌≡◌, ◌⊎◌, ◌<◌, ◌^◌, ◌-
 ghost use Rattle.dir_calls.specs.Names.{name_fault};
 ghost use Rattle.rules_install.specs.ParseFaults.{of_parse};
 ghost use Rattle.rules_tools.specs.Causes.{failure_of, without_cause};
-ghost use Rattle.rules_tools.specs.Paths.{IsFolderOf, PlacesOf};
+ghost use Rattle.rules_tools.specs.Paths.{IsFolderOf, PathsOf};
 ghost use Rattle.rules_tools.specs.Rules.{told_fault};
 ghost use Rattle.rules_tools.specs.Shells.{RunsByPaths, RunsIn, RunsSpelled};
 ghost use Rattle.rules_tools.specs.declared.tcprules.TcprulesFault.TheVariants.{OutOfMemory};
@@ -167,9 +167,9 @@ fn run_spelled<F: InstallFolders, R: Read>(
 // The folder of two paths.
 fn folder_of<'a>(alloc: Global, cdb: &'a str, tmp: &'a str) -> Result<&'a str, TcprulesFault>
     ensures found { IfOk result (λ folder. IsFolderOf cdb.now tmp.now folder.now) }
-    ensures refused { IfErr result (λ fault. PlacesOf cdb.now tmp.now (Err fault)) }
+    ensures refused { IfErr result (λ fault. PathsOf cdb.now tmp.now (Err fault)) }
 {
-    let (folder, _names) = read_places(alloc, cdb, tmp)?;
+    let (folder, _names) = read_paths(alloc, cdb, tmp)?;
     Ok(folder)
 }
 
@@ -221,12 +221,12 @@ fn tell(
 
 /// The folder of two paths, and the names in it. Names are looked at first, then folders, then whether the names are the same; want of
 /// memory is told only where nothing is wrong with them.
-pub fn read_places<'a>(
+pub fn read_paths<'a>(
     alloc: Global,
     cdb: &'a str,
     tmp: &'a str,
 ) -> Result<(&'a str, FileNames), TcprulesFault>
-    ensures { PlacesOf cdb.now tmp.now result }
+    ensures { PathsOf cdb.now tmp.now result }
 {
     let (folder, cdb) = split_path(cdb);
     let (other, tmp) = split_path(tmp);

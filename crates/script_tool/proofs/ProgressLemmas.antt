@@ -18,7 +18,7 @@ use Rattle.rules_install.proofs.StepFits.{fresh_next, synced_has}
 use Rattle.script_tool.specs.declared.simulation.Progress.{Progress}
 use Rattle.script_tool.specs.Kept.{HasTexts, IsFileOf, IsInstalling, steps_left}
 use Rattle.script_tool.specs.Sim.{BegunInstall, begun_to}
-use Rattle.script_tool.specs.Texts.{Texts, no_texts, at_phase, at_phases, later_of, place_of, place_reached}
+use Rattle.script_tool.specs.Texts.{Texts, no_texts, at_phase, at_phases, later_of, position_of, position_reached}
 use Rattle.script_tool.proofs.TextLemmas.{step_texts}
 
 -- what a step answers that fills
@@ -41,7 +41,7 @@ fails_for_memory next s s' (Disk NoMemory phase) goes device blames = absurd (cc
 
 -- one more phase is reached, or the file is filled further
 falls : (reached : Option Phase) (patched : Bool) (before now : ℕ) → reached ≢ Some Done → (next_of reached patched ≡ Filling → now < before) → (next_of reached patched ≢ Filling → now ≡ before)
-    → now + (5 - place_of (next_of reached patched)) < before + (5 - place_reached reached)
+    → now + (5 - position_of (next_of reached patched)) < before + (5 - position_reached reached)
 falls None patched before now undone more kept = let same : now ≡ before = kept (λ is. absurd (cc)) in omega arith
 falls (Some Fresh) true before now undone more kept = let same : now ≡ before = kept (λ is. absurd (cc)) in omega arith
 falls (Some Fresh) false before now undone more kept = let less : now < before = more refl in omega arith
@@ -58,12 +58,12 @@ module _ (s s' : Installing) (phase : Phase) (same : IsSame s s') (goes : Goes (
 
   pub fewer_left : s.reached ≢ Some Done → (Ok phase ≡ to_filling → fillings_left s'.rules s'.filled s'.patched < fillings_left s.rules s.filled s.patched) → steps_left s' < steps_left s
   fewer_left undone more =
-      subst (λ o. fillings_left s'.rules s'.filled s'.patched + (5 - place_reached o) < steps_left s) (sym goes.1)
+      subst (λ o. fillings_left s'.rules s'.filled s'.patched + (5 - position_reached o) < steps_left s) (sym goes.1)
       (falls s.reached s.patched (fillings_left s.rules s.filled s.patched) (fillings_left s'.rules s'.filled s'.patched) undone
       (λ is. more (ap Ok (goes.0 ∙ is))) (λ other. unmoved (kept (λ is. other (cc)))))
 
   -- only the step to `Fresh` leaves the file before it is filled, and that puts no pointers in place
-  still_blank : (p : Phase) → phase ≡ p → place_of p < 2 → (s.reached ≡ None → s.patched ≡ false) → s'.patched ≡ false
+  still_blank : (p : Phase) → phase ≡ p → position_of p < 2 → (s.reached ≡ None → s.patched ≡ false) → s'.patched ≡ false
   still_blank Fresh is early blank = (kept (λ filling. absurd (cc))).patched ∙ blank (fresh_next s.reached s.patched (sym goes.0 ∙ is))
   still_blank Filling is early blank = absurd (omega arith)
   still_blank Synced is early blank = absurd (omega arith)
@@ -75,7 +75,7 @@ module _ (s s' : Installing) (phase : Phase) (same : IsSame s s') (goes : Goes (
 module _ (d new : Directory) (p : Progress) (b : BegunInstall) (at : IsInstalling d p b) where
   unfilled : (installing p.install).reached ≡ None → (installing p.install).patched ≡ false
   unfilled none =
-      at.blank (subst (λ o. place_reached o < 2) (sym none ∙ at.phase) (let early : place_reached None < 2 = omega arith in early))
+      at.blank (subst (λ o. position_reached o < 2) (sym none ∙ at.phase) (let early : position_reached None < 2 = omega arith in early))
 
   pub installing_on : (p' : Progress) (phase : Phase) → IsSame (installing p.install) (installing p'.install)
       → Goes (next_phase (installing p.install)) (installing p.install) (installing p'.install) (Ok phase)
@@ -114,7 +114,7 @@ pub record Advances (target : Phase) (old new : Directory) (p p' : Progress) : T
       → (now : Texts) × HasTexts new now × (at_phases b.text p'.reached target now ≡ at_phases b.text p.reached target t)
 
 -- the way to a phase leads over the next one, since that fills the scratch file where it was just made
-on_the_way : (text : List ℕ) (reached : Option Phase) (patched : Bool) (target : Phase) (t : Texts) → (place_reached reached < 2 → patched ≡ false) → place_reached reached < place_of target
+on_the_way : (text : List ℕ) (reached : Option Phase) (patched : Bool) (target : Phase) (t : Texts) → (position_reached reached < 2 → patched ≡ false) → position_reached reached < position_of target
     → (later_of (Some (next_of reached patched)) target ≡ later_of reached target)
     × (at_phases text (Some (next_of reached patched)) target (at_phase text t (next_of reached patched)) ≡ at_phases text reached target t)
 on_the_way text None patched Fresh t blank ahead = (refl, refl)
@@ -133,7 +133,7 @@ on_the_way text (Some Done) patched Fresh t blank ahead = absurd (omega arith)
 on_the_way text reached patched target t blank ahead = absurd (omega arith)
 
 -- a phase that was reached is the end of the way to those up to it
-at_the_end : (text : List ℕ) (reached target : Phase) (t : Texts) → place_of target ≤ place_of reached
+at_the_end : (text : List ℕ) (reached target : Phase) (t : Texts) → position_of target ≤ position_of reached
     → (reached ≡ later_of (Some reached) target) × (at_phases text (Some reached) target t ≡ t)
 at_the_end text Fresh Fresh t le = (refl, refl)
 at_the_end text Fresh target t le = absurd (omega arith)
@@ -149,19 +149,19 @@ at_the_end text Named target t le = absurd (omega arith)
 at_the_end text reached target t le = (refl, refl)
 
 -- a phase is one of the five
-pub placed : (phase : Phase) → (0 < place_of phase) × (place_of phase ≤ place_of Done)
+pub placed : (phase : Phase) → (0 < position_of phase) × (position_of phase ≤ position_of Done)
 placed Fresh = (omega arith, omega arith)
 placed Filling = (omega arith, omega arith)
 placed Synced = (omega arith, omega arith)
 placed Named = (omega arith, omega arith)
 placed Done = (omega arith, omega arith)
 
-pub not_done : (d : Directory) (p : Progress) (b : BegunInstall) (target : Phase) → IsInstalling d p b → place_reached p.reached < place_of target → b.reached ≢ Some Done
-not_done d p b target at ahead done = absurd (omega (arith, ahead, ap place_reached (at.reached ∙ done), (placed target).1))
+pub not_done : (d : Directory) (p : Progress) (b : BegunInstall) (target : Phase) → IsInstalling d p b → position_reached p.reached < position_of target → b.reached ≢ Some Done
+not_done d p b target at ahead done = absurd (omega (arith, ahead, ap position_reached (at.reached ∙ done), (placed target).1))
 
 module _ (target : Phase) (old mid : Directory) (p p_mid : Progress) (so_far : Advances target old mid p p_mid) where
   -- a step more
-  pub advances_more : (new : Directory) (p' : Progress) (phase : Phase) (b : BegunInstall) → IsInstalling mid p_mid b → place_reached p_mid.reached < place_of target
+  pub advances_more : (new : Directory) (p' : Progress) (phase : Phase) (b : BegunInstall) → IsInstalling mid p_mid b → position_reached p_mid.reached < position_of target
       → ((b : BegunInstall) → IsInstalling mid p_mid b → (phase ≡ next_phase (installing p_mid.install)) × IsInstalling new p' (record { text = b.text; reached = Some phase }))
       → ((b : BegunInstall) (t : Texts) → IsInstalling mid p_mid b → HasTexts mid t → HasTexts new (at_phase b.text t phase)) → Advances target old new p p'
   advances_more new p' phase b at ahead goes shows = record {
@@ -184,10 +184,10 @@ module _ (target : Phase) (old mid : Directory) (p p_mid : Progress) (so_far : A
           × (at_phases text (Some phase) target (at_phase text t phase) ≡ at_phases text p_mid.reached target t)
       way text t =
           subst (λ n. (later_of (Some n) target ≡ later_of p_mid.reached target) × (at_phases text (Some n) target (at_phase text t n) ≡ at_phases text p_mid.reached target t)) (sym phase_is)
-          (on_the_way text p_mid.reached (installing p_mid.install).patched target t (λ early. at.blank (subst (λ o. place_reached o < 2) at.reached early)) ahead)
+          (on_the_way text p_mid.reached (installing p_mid.install).patched target t (λ early. at.blank (subst (λ o. position_reached o < 2) at.reached early)) ahead)
 
   -- the phase, or a later one, was reached
-  pub arrives : (reached : Phase) → p_mid.reached ≡ Some reached → place_of target ≤ place_of reached → (b : BegunInstall) (t : Texts) → IsInstalling old p b → HasTexts old t
+  pub arrives : (reached : Phase) → p_mid.reached ≡ Some reached → position_of target ≤ position_of reached → (b : BegunInstall) (t : Texts) → IsInstalling old p b → HasTexts old t
       → (reached ≡ later_of b.reached target) × IsInstalling mid p_mid (begun_to target b) × HasTexts mid (at_phases b.text b.reached target t)
   arrives reached is le b t at has = (
     later,

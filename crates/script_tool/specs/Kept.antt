@@ -18,7 +18,7 @@ use Rattle.rules_install.specs.declared.Phase.{Phase}
 use Rattle.script_tool.specs.declared.simulation.Simulation.{Simulation}
 use Rattle.script_tool.specs.declared.simulation.Progress.{Progress}
 use Rattle.script_tool.specs.Sim.{BegunInstall, State, begun_to, profile}
-use Rattle.script_tool.specs.Texts.{Texts, at_phases, later_of, left_by, place_reached}
+use Rattle.script_tool.specs.Texts.{Texts, at_phases, later_of, left_by, position_reached}
 
 -- the names of the rules file and of the scratch file
 abbrev pub sim_names : NamePair
@@ -50,13 +50,13 @@ pub record IsInstalling (d : Directory) (p : Progress) (b : BegunInstall) : Type
   pub names : (installing p.install).names ≡ sim_names
   pub goes_on : (installing p.install).over ≡ false
   -- before it fills the scratch file, the pointers are not in place
-  pub blank : place_reached b.reached < 2 → (installing p.install).patched ≡ false
+  pub blank : position_reached b.reached < 2 → (installing p.install).patched ≡ false
   pub fits : Fits (installing p.install) d
   pub accepted : IsAccepted profile b.text
 
 -- how many steps are left at most: one for each byte of the scratch file, for its pointers and for each phase
 abbrev pub steps_left : Installing → ℕ
-steps_left s = fillings_left s.rules s.filled s.patched + (5 - place_reached s.reached)
+steps_left s = fillings_left s.rules s.filled s.patched + (5 - position_reached s.reached)
 
 -- an installation that was begun goes on to a phase, or is at a later one; it tells the phase, which the texts follow
 abbrev pub GoesOn : Phase → BegunInstall → Texts → Directory → Progress → Phase → Type 0

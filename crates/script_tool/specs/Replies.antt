@@ -35,6 +35,6 @@ abbrev pub report_line : Report → List ℕ
 report_line report =
     report_front report ++ codes " retired " ++ decimal report.retired ++ codes " most " ++ decimal report.most ++ codes "\n"
 
--- the place of an event that may not happen
+-- the position of an event that may not happen
 abbrev pub illegal_line : ℕ → List ℕ
-illegal_line place = codes "illegal " ++ decimal place ++ codes "\n"
+illegal_line position = codes "illegal " ++ decimal position ++ codes "\n"

@@ -63,15 +63,15 @@ abbrev pub start : State
 start = record { pending = []; texts = no_texts; begun = None; readers = no_readers; history = None }
 
 -- an event, and a question for the report, need a list that was begun
-abbrev pub is_in_place : State → Command → Bool
-is_in_place state (AddEvent event) = is_some state.history
-is_in_place state Replay = is_some state.history
-is_in_place state command = true
+abbrev pub is_in_order : State → Command → Bool
+is_in_order state (AddEvent event) = is_some state.history
+is_in_order state Replay = is_some state.history
+is_in_order state command = true
 
 -- the command of a line that stands here; none if the line is bad
 abbrev pub command_at : State → List ℕ → Option Command
 command_at state line =
-    option_and_then (λ command. if is_in_place state command then Some command else None) (command_of line)
+    option_and_then (λ command. if is_in_order state command then Some command else None) (command_of line)
 
 -- an installation goes through all phases
 abbrev pub installed_texts : Option Refusal → List ℕ → Texts → Texts
@@ -135,7 +135,7 @@ opened (Some text) = codes "opened\n"
 -- what a list of events comes to: the first that may not happen there, or the report of all
 abbrev pub outcome : Option ℕ → List Event → List ℕ
 outcome None events = report_line (report_of events)
-outcome (Some place) events = illegal_line place
+outcome (Some position) events = illegal_line position
 
 abbrev pub replayed : Option History → List ℕ
 replayed None = []

@@ -32,25 +32,25 @@ at_phase text t Synced = t
 at_phase text t Named = record { standing = Some text; settled = t.settled; changes = t.changes ++ Some text ∷ [] }
 at_phase text t Done = record { standing = t.standing; settled = t.standing; changes = [] }
 
--- the phases in their order, and the place of each
+-- the phases in their order, and the position of each
 abbrev pub phases : List Phase
 phases = Fresh ∷ Filling ∷ Synced ∷ Named ∷ Done ∷ []
 
-abbrev pub place_of : Phase → ℕ
-place_of Fresh = 1
-place_of Filling = 2
-place_of Synced = 3
-place_of Named = 4
-place_of Done = 5
+abbrev pub position_of : Phase → ℕ
+position_of Fresh = 1
+position_of Filling = 2
+position_of Synced = 3
+position_of Named = 4
+position_of Done = 5
 
-abbrev pub place_reached : Option Phase → ℕ
-place_reached None = 0
-place_reached (Some phase) = place_of phase
+abbrev pub position_reached : Option Phase → ℕ
+position_reached None = 0
+position_reached (Some phase) = position_of phase
 
 -- the phases after the one that was reached, up to another
 abbrev pub phases_to : Option Phase → Phase → List Phase
 phases_to reached target =
-    filter (λ phase. nat_lt (place_reached reached) (place_of phase) && nat_lt (place_of phase) (place_of target + 1)) phases
+    filter (λ phase. nat_lt (position_reached reached) (position_of phase) && nat_lt (position_of phase) (position_of target + 1)) phases
 
 -- the texts after the phases up to one
 abbrev pub at_phases : List ℕ → Option Phase → Phase → Texts → Texts
@@ -59,7 +59,7 @@ at_phases text reached target t = fold (at_phase text) t (phases_to reached targ
 -- the phase reached then; one that is passed already stays
 abbrev pub later_of : Option Phase → Phase → Phase
 later_of None target = target
-later_of (Some reached) target = if nat_lt (place_of reached) (place_of target) then target else reached
+later_of (Some reached) target = if nat_lt (position_of reached) (position_of target) then target else reached
 
 -- the changes that a stop takes, by its choice
 abbrev pub taken : Choice → List Change → List Change

@@ -59,12 +59,12 @@ pub fn append_report(out: &mut Vec<u8>, report: &Report) -> Result<(), AllocErro
     out.extend_from_slice(b"\n")
 }
 
-/// Adds the line with the place of the first event that may not happen. After an `Err` a part may stand at the end of
+/// Adds the line with the position of the first event that may not happen. After an `Err` a part may stand at the end of
 /// `out`.
-pub fn append_illegal(out: &mut Vec<u8>, place: u64) -> Result<(), AllocError>
-    ensures { OnOk result (out.new.items ≡ out.old.items ++ illegal_line place) }
+pub fn append_illegal(out: &mut Vec<u8>, position: u64) -> Result<(), AllocError>
+    ensures { OnOk result (out.new.items ≡ out.old.items ++ illegal_line position) }
 {
-    append_number(out, b"illegal ", place)?;
+    append_number(out, b"illegal ", position)?;
     out.extend_from_slice(b"\n")
 }
 

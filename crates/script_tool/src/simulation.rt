@@ -13,8 +13,8 @@ ghost use Rattle.script_tool.specs.Kept.{GoesOn, HasTexts, IsAt, IsFileOf, IsIns
 ghost use Rattle.script_words.specs.Readings.{meaning};
 ghost use Rattle.script_words.specs.Scripts.{Add, Install as InstallText, Begin, To, Stop, Ask, Open, AskBy, BeginEvents, AddEvent, Replay};
 ghost use Rattle.script_tool.specs.Logs.{decided_now};
-ghost use Rattle.script_tool.specs.Sim.{BegunInstall, State, start, after, is_in_place, printed, profile, refusal_of, replayed, told};
-ghost use Rattle.script_tool.specs.Texts.{Texts, at_phase, place_of};
+ghost use Rattle.script_tool.specs.Sim.{BegunInstall, State, start, after, is_in_order, printed, profile, refusal_of, replayed, told};
+ghost use Rattle.script_tool.specs.Texts.{Texts, at_phase, position_of};
 
 use crate::replies::{append_fault, append_illegal, append_reached, append_report};
 use cdb_read::CdbFile;
@@ -107,7 +107,7 @@ impl Simulation {
     /// Whether a command may stand here. An event, and a question for the report, need a list that was begun.
     pub fn may_take(&self, command: &Command<'_>) -> bool
         ensures { (state : State) → IsAt self.now state
-            → result ≡ is_in_place state (meaning command.now) }
+            → result ≡ is_in_order state (meaning command.now) }
     {
         match command {
             Command::Event(_) | Command::Replay => self.history.is_some(),
@@ -359,7 +359,7 @@ impl Progress {
     {
         loop {
             match self.reached {
-                Some(reached) if place_of(target) <= place_of(reached) => return Ok(reached),
+                Some(reached) if position_of(target) <= position_of(reached) => return Ok(reached),
                 _ => {
                     self.step(alloc, dir)?;
                 }
@@ -395,9 +395,9 @@ impl Progress {
     }
 }
 
-/// The place of a phase among all.
-fn place_of(phase: Phase) -> u8
-    ensures { result ≡ place_of phase }
+/// The position of a phase among all.
+fn position_of(phase: Phase) -> u8
+    ensures { result ≡ position_of phase }
 {
     match phase {
         Phase::Fresh => 1,
@@ -485,7 +485,7 @@ fn append_outcome(alloc: Global, history: &History, out: &mut Vec<u8>) -> Result
     let events = history.events.as_slice();
     match replay(alloc, history.limit, history.per_address, events) {
         Ok(report) => append_report(out, &report),
-        Err(ReplayFault::IllegalEvent(place)) => append_illegal(out, place),
+        Err(ReplayFault::IllegalEvent(position)) => append_illegal(out, position),
         Err(ReplayFault::OutOfMemory) => Err(AllocError),
     }
 }

@@ -13,7 +13,7 @@ use Rattle.server_events.specs.Table.{Follows, done}
 use Rattle.server_events.specs.Worlds.{Accepted, IsAccepted, IsOf, RulesName, StandsFor, UnderWay, World}
 use Rattle.server_events.proofs.Openings.{moves_same, reaches_next}
 use Rattle.server_events.proofs.TableLemmas.{may_come_follows, step_is}
-use Rattle.server_events.proofs.WholeText.{Agree, good_reached, good_rules, place_below, reached_whole}
+use Rattle.server_events.proofs.WholeText.{Agree, good_reached, good_rules, position_below, reached_whole}
 
 -- the number of the text under way is the last one, and is its
 record IsLast (accepted : Accepted) (u : UnderWay) : Type 0 where
@@ -26,7 +26,7 @@ last_of accepted least name d phase u done goes = record { its = goes.its; last 
 -- a text that is no older than the last one is that one
 only_last : (accepted : Accepted) (u : UnderWay) (number : ℕ) (text : Option (List Rule)) → IsLast accepted u → u.number ≤ number → slice_get accepted number ≡ Some text → text ≡ Some u.rules
 only_last accepted u number text is recent found =
-    let below = place_below accepted number text found in
+    let below = position_below accepted number text found in
     let last = is.last in
     let same : number ≡ u.number = omega (arith, below, last, recent) in
     let at_it = subst (λ (k : ℕ). slice_get accepted k ≡ Some text) same found in

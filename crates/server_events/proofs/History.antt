@@ -87,7 +87,7 @@ last_state_after w (e ∷ es) h =
     let count = sum_by-cons (λ (x : Event). cond (is_admission x) 1 0) e es in
     omega arith
 
--- the events up to a place, and the one that stands there
+-- the events up to a position, and the one that stands there
 module _ (w : ServerState) (es : List Event) (i : ℕ) (e : Event) (here : i < length es) (at : e ≡ get_or es i e) where
   pub take_next : take (i + 1) es ≡ take i es ++ e ∷ []
   take_next = take_more es i e here ∙ ap (λ (x : Event). take i es ++ x ∷ []) (sym at)

@@ -90,7 +90,7 @@ module _ (d : Directory) (name : List ℕ) (P : Option ℕ → Type 0) (each : E
   left_within (renews other) state only (inr (inr (inr is))) =
       subst (λ (e : Directory). EachLeft e.names name P) (sym is) (new (cleared d other) name P (clear other only) other only)
   left_within (appends piece) state only passes = filled (longer piece) state passes
-  left_within (patches place bytes) state only passes = filled (patched place bytes) state passes
+  left_within (patches position bytes) state only passes = filled (patched position bytes) state passes
   left_within syncs state only (inl is) = same_names d name P each state (ap (λ e. e.names) is)
   left_within syncs state only (inr is) = same_names d name P each state (ap (λ e. e.names) is ∙ names-with_scratch lasting d d.scratch)
   left_within (renames from to) state only (inl is) = same_names d name P each state (ap (λ e. e.names) is)
@@ -108,7 +108,7 @@ left_of_failed (makes name) d table names leaves left = (leaves.0, leaves.1, sub
 left_of_failed (renews name) d table names (inl leaves) left = (leaves.0, leaves.1, subst (λ (t : NameTable). CanBeLeft t names) leaves.2 left)
 left_of_failed (renews name) d table names (inr some) left = (without d name, inr (inl refl), left_some (without d name).names table names some left)
 left_of_failed (appends piece) d table names leaves left = (leaves.0, leaves.1, subst (λ (t : NameTable). CanBeLeft t names) leaves.2 left)
-left_of_failed (patches place bytes) d table names leaves left = (leaves.0, leaves.1, subst (λ (t : NameTable). CanBeLeft t names) leaves.2 left)
+left_of_failed (patches position bytes) d table names leaves left = (leaves.0, leaves.1, subst (λ (t : NameTable). CanBeLeft t names) leaves.2 left)
 left_of_failed syncs d table names leaves left = (leaves.0, leaves.1, subst (λ (t : NameTable). CanBeLeft t names) leaves.2 left)
 left_of_failed (renames from to) d table names leaves left = (leaves.0, leaves.1, subst (λ (t : NameTable). CanBeLeft t names) leaves.2 left)
 
@@ -137,7 +137,7 @@ within_keeps (renews name) d state (inr (inl is)) = subst (λ (s : Directory). K
 within_keeps (renews name) d state (inr (inr (inl is))) = subst (λ (s : Directory). KeepsSynced d.files s.files) (sym is) (same_files d.files)
 within_keeps (renews name) d state (inr (inr (inr is))) = before_or_after (renews name) d state (inr is)
 within_keeps (appends piece) d state passes = before_or_after (appends piece) d state passes
-within_keeps (patches place bytes) d state passes = before_or_after (patches place bytes) d state passes
+within_keeps (patches position bytes) d state passes = before_or_after (patches position bytes) d state passes
 within_keeps syncs d state passes = before_or_after syncs d state passes
 within_keeps (renames from to) d state passes = before_or_after (renames from to) d state passes
 within_keeps settles d state passes = before_or_after settles d state passes

@@ -30,7 +30,7 @@ lasts_on accepted least name d e alone lasts names left =
     let was = alone.left names left in
     let text = lasts was.0 was.1 in
     record {
-      place = text.place;
+      position = text.position;
       text = text.text;
       accepted_as = text.accepted_as;
       recent = text.recent;

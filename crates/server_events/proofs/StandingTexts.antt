@@ -15,10 +15,10 @@ use Rattle.server_events.proofs.LeftNames.{EachLeft, PutsOnly, left_failed, left
 
 -- one accepted text, no older than a number, stands there
 pub record IsText (accepted : Accepted) (least : ℕ) (files : List FileState) (number : Option ℕ) : Type 0 where
-  pub place : ℕ
+  pub position : ℕ
   pub text : Option (List Rule)
-  pub accepted_as : slice_get accepted place ≡ Some text
-  pub recent : least ≤ place
+  pub accepted_as : slice_get accepted position ≡ Some text
+  pub recent : least ≤ position
   pub stands : StandsAt files text number
 
 -- the same under a name, whatever names a stop leaves
@@ -36,24 +36,24 @@ stands_stays files later (Some rules) number keeps stands = (stands.0, stands.1,
 
 pub text_stays : (accepted : Accepted) (least : ℕ) (files later : List FileState) (number : Option ℕ) → KeepsSynced files later → IsText accepted least files number → IsText accepted least later number
 text_stays accepted least files later number keeps is = record {
-  place = is.place;
+  position = is.position;
   text = is.text;
   accepted_as = is.accepted_as;
   recent = is.recent;
   stands = stands_stays files later is.text number keeps is.stands;
 }
 
--- a text of a list has its place in a longer one
-pub accepted-push : (accepted : Accepted) (new text : Option (List Rule)) (place : ℕ) → slice_get accepted place ≡ Some text → slice_get (accepted ++ new ∷ []) place ≡ Some text
-accepted-push [] new text place is = absurd (cc)
+-- a text of a list has its position in a longer one
+pub accepted-push : (accepted : Accepted) (new text : Option (List Rule)) (position : ℕ) → slice_get accepted position ≡ Some text → slice_get (accepted ++ new ∷ []) position ≡ Some text
+accepted-push [] new text position is = absurd (cc)
 accepted-push (t ∷ accepted) new text zero is = is
-accepted-push (t ∷ accepted) new text (suc place) is = accepted-push accepted new text place is
+accepted-push (t ∷ accepted) new text (suc position) is = accepted-push accepted new text position is
 
 pub text_more : (accepted : Accepted) (least : ℕ) (new : Option (List Rule)) (files : List FileState) (number : Option ℕ) → IsText accepted least files number → IsText (accepted ++ new ∷ []) least files number
 text_more accepted least new files number is = record {
-  place = is.place;
+  position = is.position;
   text = is.text;
-  accepted_as = accepted-push accepted new is.text is.place is.accepted_as;
+  accepted_as = accepted-push accepted new is.text is.position is.accepted_as;
   recent = is.recent;
   stands = is.stands;
 }
@@ -118,7 +118,7 @@ image_stands d image name names (Some rules) is can stands =
 
 image_text : (accepted : Accepted) (least : ℕ) (d image : Directory) (name : List ℕ) (names : Names) → IsImage d image → CanBeLeft d.names names → IsText accepted least d.files (get names name) → IsText accepted least image.files (get names name)
 image_text accepted least d image name names is can text = record {
-  place = text.place;
+  position = text.position;
   text = text.text;
   accepted_as = text.accepted_as;
   recent = text.recent;
@@ -146,7 +146,7 @@ content_stands files (Some rules) number stands = (
 pub lasts_accepted : (w : World) (name : List ℕ) (d : Directory) → Lasts w.accepted w.acknowledged name d → IsAccepted w (content d name)
 lasts_accepted w name d lasts =
     let is = left_now d.names name (IsText w.accepted w.acknowledged d.files) lasts in
-    record { number = is.place; text = is.text; accepted = is.accepted_as; recent = is.recent; stands = content_stands d.files is.text (number_of d name) is.stands }
+    record { number = is.position; text = is.text; accepted = is.accepted_as; recent = is.recent; stands = content_stands d.files is.text (number_of d name) is.stands }
 
 -- where nothing is found there is no file
 nothing_stands : (files : List FileState) (text : Option (List Rule)) (number : Option ℕ) → StandsAt files text number → option_map (λ (file : FileState). file.bytes) (option_and_then (λ n. slice_get files n) number) ≡ None → number ≡ None

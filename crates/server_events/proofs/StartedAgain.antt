@@ -28,7 +28,7 @@ by_rules v limit per_address (Some r) phase under_way is none holds =
     let text = left_now d.names r.name (IsText v.accepted v.acknowledged d.files) holds.lasts in
     let there = content_stands d.files text.text (number_of d r.name) text.stands in
     record {
-      number = text.place;
+      number = text.position;
       text = text.text;
       accepted = text.accepted_as;
       recent = text.recent;

@@ -72,7 +72,7 @@ Good w = HoldsBy w.rules w.accepted w.acknowledged w.directory w.server.phase w.
 text_under_way : (accepted : Accepted) (least : ℕ) (name : List ℕ) (d : Directory) (u : UnderWay) (phase : Phase) (number : Option ℕ) (n : ℕ)
     → Proceeds accepted least name d u phase → number ≡ Some n → HoldsRules d.files u.rules n → IsText accepted least d.files number
 text_under_way accepted least name d u phase number n goes is holds = record {
-  place = u.number;
+  position = u.number;
   text = Some u.rules;
   accepted_as = goes.its;
   recent = goes.recent;
@@ -109,10 +109,10 @@ call_lasts accepted least d r phase next under_way call follows to holds =
 
 -- ---- the steps of an installation
 
-pub place_below : (accepted : Accepted) (place : ℕ) (text : Option (List Rule)) → slice_get accepted place ≡ Some text → place < length accepted
-place_below [] place text is = absurd (cc)
-place_below (t ∷ accepted) zero text is = omega arith
-place_below (t ∷ accepted) (suc place) text is = let below = place_below accepted place text is in omega arith
+pub position_below : (accepted : Accepted) (position : ℕ) (text : Option (List Rule)) → slice_get accepted position ≡ Some text → position < length accepted
+position_below [] position text is = absurd (cc)
+position_below (t ∷ accepted) zero text is = omega arith
+position_below (t ∷ accepted) (suc position) text is = let below = position_below accepted position text is in omega arith
 
 last_accepted : (accepted : Accepted) (text : Option (List Rule)) → slice_get (accepted ++ text ∷ []) (length accepted) ≡ Some text
 last_accepted [] text = refl
@@ -134,7 +134,7 @@ fresh_holds : (rules : Option RulesName) (accepted : Accepted) (least : ℕ) (d 
 fresh_holds None accepted least d phase under_way text tmp call other is holds = absurd other
 fresh_holds (Some r) accepted least d phase under_way text tmp call other is holds =
     let now = left_now d.names r.name (IsText accepted least d.files) holds.lasts in
-    let below = place_below accepted now.place now.text now.accepted_as in
+    let below = position_below accepted now.position now.text now.accepted_as in
     let here = now.recent in
     record {
       lasts = lasts_more accepted least (Some text) r.name (after call d) (call_lasts accepted least d r phase Fresh under_way call fresh (tmp, other, is) holds);
@@ -220,7 +220,7 @@ done_holds None accepted least d phase u follows there holds = absurd (cc)
 done_holds (Some r) accepted least d phase u done there holds =
     let here = holds.agree.recent in
     let last : IsText accepted (max least u.number) d.files (number_of d r.name) = record {
-      place = u.number;
+      position = u.number;
       text = Some u.rules;
       accepted_as = holds.agree.its;
       recent = omega arith;
@@ -377,7 +377,7 @@ start_holds (Some r) d texts begins = record { lasts = lasts; agree = tt }
     lasts : Lasts texts 0 r.name d
     lasts names left =
         let one = begins.each names left in
-        record { place = one.0; text = one.1; accepted_as = one.2; recent = omega arith; stands = one.3 }
+        record { position = one.0; text = one.1; accepted_as = one.2; recent = omega arith; stands = one.3 }
 
 good_start : (w : World) → IsStart w → Good w
 good_start w is =

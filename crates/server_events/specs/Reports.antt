@@ -34,7 +34,7 @@ pub record IsFirstIllegal (w : ServerState) (history : List Event) (i : ℕ) : T
   pub before : is_legal w (take (i - 1) history) ≡ true
   pub with_it : is_legal w (take i history) ≡ false
 
--- the place of that event, if there is one
+-- the position of that event, if there is one
 abbrev pub first_illegal : ServerState → List Event → Option ℕ
 first_illegal w [] = None
 first_illegal w (e ∷ es) =

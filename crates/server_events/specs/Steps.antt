@@ -32,7 +32,7 @@ MakesScratch tmp call = (call ≡ makes tmp) ⊎ (call ≡ renews tmp)
 abbrev pub IsCallTo : Phase → Option UnderWay → Option RulesName → Call → Type 0
 IsCallTo Fresh under_way rules call = (tmp : List ℕ) × IsScratchName rules tmp × MakesScratch tmp call
 IsCallTo Filling (Some u) (Some r) call = ((piece : List ℕ) × (call ≡ appends piece))
-    ⊎ ((place : ℕ) × (bytes : List ℕ) × (call ≡ patches place bytes))
+    ⊎ ((position : ℕ) × (bytes : List ℕ) × (call ≡ patches position bytes))
 IsCallTo Synced (Some u) (Some r) call = call ≡ syncs
 IsCallTo Named (Some u) (Some r) call = call ≡ renames u.tmp r.name
 IsCallTo Done (Some u) (Some r) call = call ≡ settles

@@ -25,7 +25,7 @@ pub struct Report {
 /// Why a list of events has no report.
 #[derive(Clone, Copy, PartialEq, Eq, Debug, Error)]
 pub enum ReplayFault {
-    /// The event at this place, counted from 1, is the first that may not happen there.
+    /// The event at this position, counted from 1, is the first that may not happen there.
     #[error("illegal event {0}")]
     IllegalEvent(u64),
     /// There was no memory to go through the list.
@@ -45,7 +45,7 @@ impl From<AllocError> for ReplayFault {
 /// from one address, retired ones included.
 ///
 /// # Errors
-/// `IllegalEvent` with the place, from 1, of the first event that may not happen there. `OutOfMemory` only at an
+/// `IllegalEvent` with the position, from 1, of the first event that may not happen there. `OutOfMemory` only at an
 /// admission, if no event up to it is illegal: no other event takes memory.
 pub fn replay(
     alloc: Global,

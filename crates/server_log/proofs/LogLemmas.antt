@@ -110,7 +110,7 @@ logged_front lines bytes text old new added wrote WriteFault is same took adds =
 
 -- ---- the order of events
 
--- what was written is told at a later place
+-- what was written is told at a later position
 pub tells_later : (lines : List (List ℕ)) (held held' : Option (List ℕ)) (old at new : ℕ) (result : Result (Unit {0}) LogFault) → Logged lines held held' result
     → IsLater old at → new ≡ at → TellsInOrder old at new result
 tells_later lines held held' old at new (Ok done) logged later is = (later, is)

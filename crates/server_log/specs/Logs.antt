@@ -21,7 +21,7 @@ voice_of log = log.voice
 abbrev pub limit_of : {W : Type 0} → Log W → ℕ
 limit_of log = log.limit
 
--- the place of the last event that it was told
+-- the position of the last event that it was told
 abbrev pub last_of : {W : Type 0} → Log W → ℕ
 last_of log = log.last
 
@@ -72,11 +72,11 @@ Takes bytes old new (Err OutOfMemory) = ⊥
 Takes bytes old new (Err OutOfOrder) = ⊥
 Takes bytes old new (Err WriteFault) = (front : List ℕ) × IsCut bytes front × Appends old new front
 
--- One place is later than another. A history that is only counted has one number for all of its events from the 2^64 - 1st on.
+-- One position is later than another. A history that is only counted has one number for all of its events from the 2^64 - 1st on.
 abbrev pub IsLater : (old at : ℕ) → Type 0
 IsLater old at = (old < at) ⊎ (at ≡ 2 ^ 64 - 1)
 
--- a log that was told events up to one place tells an event at a later place, and then was told up to there; or it
+-- a log that was told events up to one position tells an event at a later position, and then was told up to there; or it
 -- refuses an event that isn't later
 abbrev pub TellsInOrder : (old at new : ℕ) → Result (Unit {0}) LogFault → Type 0
 TellsInOrder old at new (Err OutOfOrder) = ¬ IsLater old at × (new ≡ old)

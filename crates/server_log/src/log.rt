@@ -26,7 +26,7 @@ pub struct Log<W> {
     level: Level,
     voice: Voice,
     limit: u64,
-    // the place of the last event that was told
+    // the position of the last event that was told
     last: u64,
     // room for the lines of an event
     lines: Vec<u8>,
@@ -67,10 +67,10 @@ impl<W: Write> Log<W> {
         self.write_lines(status)
     }
 
-    /// Tells an event at its place in the history, after which `live` connections are alive.
+    /// Tells an event at its position in the history, after which `live` connections are alive.
     ///
     /// # Errors
-    /// `OutOfOrder` if one at this place or a later one was told before; nothing is written. Otherwise those of
+    /// `OutOfOrder` if one at this position or a later one was told before; nothing is written. Otherwise those of
     /// `status`.
     pub fn tell(&mut self, at: u64, live: u64, told: Told<'_>) -> Result<(), LogFault>
         ensures order { TellsInOrder (last_of self.old) at (last_of self.new) result }

@@ -213,9 +213,9 @@ fn free_from(first: u64, count: u64) -> Option<u64> {
     };
     let mut looked = [unlooked; LOOKED as usize];
     let looked = looked.get_mut(..count as usize)?;
-    for (place, one) in looked.iter_mut().enumerate() {
+    for (position, one) in looked.iter_mut().enumerate() {
         // a number that is none is not looked at, and counts as taken
-        one.fd = i32::try_from(first.saturating_add(place as u64)).unwrap_or(-1);
+        one.fd = i32::try_from(first.saturating_add(position as u64)).unwrap_or(-1);
     }
     if libc::net::poll(looked, 0) < 0 {
         return None;

@@ -17,7 +17,7 @@ pub fn has_named_rule<F: RulesFile>(alloc: Global, file: &F) -> bool {
     };
     let records = Records {
         file,
-        place: HEADER,
+        position: HEADER,
         end,
     };
     match BufReader::new(alloc, records) {
@@ -39,17 +39,17 @@ fn end_of_records<F: RulesFile>(file: &F) -> Option<u64> {
 #[derive(Drop)]
 struct Records<'a, F> {
     file: &'a F,
-    place: u64,
+    position: u64,
     end: u64,
 }
 
 impl<F: RulesFile> Read for Records<'_, F> {
     fn read(&mut self, buf: &mut [u8]) -> io::Result<usize> {
-        let left = self.end.saturating_sub(self.place);
+        let left = self.end.saturating_sub(self.position);
         let room = buf.len().min(usize::try_from(left).unwrap_or(usize::MAX));
-        match self.file.read_at(self.place, &mut buf[..room]) {
+        match self.file.read_at(self.position, &mut buf[..room]) {
             Ok(count) => {
-                self.place = self.place.saturating_add(count as u64);
+                self.position = self.position.saturating_add(count as u64);
                 Ok(count)
             }
             Err(_) => Err(io::Error::from(ErrorKind::Other)),

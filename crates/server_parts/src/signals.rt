@@ -8,7 +8,7 @@ const STATUS: &str = "/proc/self/status";
 /// The line of these signals has sixteen hexadecimal digits, the last of which has the signals 1 to 4.
 const IGNORED: &[u8] = b"\nSigIgn:\t";
 
-/// The place of the digit that has the signals 17 to 20; its lowest bit is SIGCHLD.
+/// The position of the digit that has the signals 17 to 20; its lowest bit is SIGCHLD.
 const DIGIT: usize = 11;
 
 /// Whether SIGCHLD is ignored, so that the system forgets how programs end. Where it does not tell so, it counts as not ignored.
@@ -24,8 +24,8 @@ fn is_told_in(status: &[u8]) -> bool {
     let Some(line) = memmem::find(status, IGNORED) else {
         return false;
     };
-    let place = line.saturating_add(IGNORED.len()).saturating_add(DIGIT);
-    let digit = status.get(place).copied();
+    let position = line.saturating_add(IGNORED.len()).saturating_add(DIGIT);
+    let digit = status.get(position).copied();
     matches!(
         digit,
         Some(b'1' | b'3' | b'5' | b'7' | b'9' | b'b' | b'd' | b'f')

@@ -1,4 +1,4 @@
--- Receipts that are right: their places rise, no place comes twice, and where they are as many as the events they are the history.
+-- Receipts that are right: their positions rise, no position comes twice, and where they are as many as the events they are the history.
 use Rattle.std.proofs.Common.{◌≡◌, ◌≢◌, ◌<◌, ◌≤◌, ◌+◌, ◌-◌, ◌==◌, ℕ, Bool, true, false, cond, inl, inr, zero, suc, List, [], ◌∷◌, length, length-drop, map, take, drop, get_or, refl, sym, ap, subst, ◌∙◌, arith}
 use Rattle.std.specs.Prelude.{IfSome, IsPermutation, None, Option, Some, slice_get}
 use Rattle.std.proofs.Math.Seq.{take-nil}
@@ -7,7 +7,7 @@ use Rattle.std.proofs.lemmas.Bool.Decides.{nat_tests}
 use Rattle.std.proofs.lemmas.List.{length-take-le, take-take}
 use Rattle.std.proofs.lemmas.Option.{get_or_from_slice_get, none-some, same_Some, slice_get-get_or, slice_get_within}
 use Rattle.event_journals.specs.declared.journal.Noted.{Noted}
-use Rattle.shared_site.specs.Audits.{AreOthersUpTo, AreRight, AreRightBefore, IsAbove, Rise, StandsAtItsPlace, note_at, note_of}
+use Rattle.shared_site.specs.Audits.{AreOthersUpTo, AreRight, AreRightBefore, IsAbove, Rise, StandsAtItsPosition, note_at, note_of}
 use Rattle.shared_site.specs.declared.receipt.Receipt.{Receipt}
 use Rattle.shared_site.proofs.Placed.{all_placed, placed_from}
 
@@ -28,9 +28,9 @@ slice_get-drop (x ∷ xs) (suc n) i =
     let next : suc (n + i) ≡ suc n + i = omega arith in
     slice_get-drop xs n i ∙ ap (slice_get (x ∷ xs)) next
 
--- the event at a place is one of the list
-at_place : (notes : List Noted) (at : ℕ) (n : Noted) → note_at notes at ≡ Some n → (0 < at) × (slice_get notes (at - 1) ≡ Some n)
-at_place notes at n is = go (at == 0) refl is
+-- the event at a position is one of the list
+at_position : (notes : List Noted) (at : ℕ) (n : Noted) → note_at notes at ≡ Some n → (0 < at) × (slice_get notes (at - 1) ≡ Some n)
+at_position notes at n is = go (at == 0) refl is
   where
     go : (b : Bool) → (at == 0) ≡ b → cond b None (slice_get notes (at - 1)) ≡ Some n → (0 < at) × (slice_get notes (at - 1) ≡ Some n)
     go true first none = absurd (none-some n none)
@@ -38,9 +38,9 @@ at_place notes at n is = go (at == 0) refl is
 
 -- a receipt that is right, and is above an earlier one of its caller
 right_at : (notes : List Noted) (receipts : List Receipt) → AreRight notes receipts → (i : ℕ) (r : Receipt) → slice_get receipts i ≡ Some r
-    → StandsAtItsPlace notes r × IsAbove (take i receipts) r
+    → StandsAtItsPosition notes r × IsAbove (take i receipts) r
 right_at notes receipts right i r is =
-    if_some (slice_get receipts i) r (λ r. StandsAtItsPlace notes r × IsAbove (take i receipts) r) is (right i (slice_get_within receipts i r is))
+    if_some (slice_get receipts i) r (λ r. StandsAtItsPosition notes r × IsAbove (take i receipts) r) is (right i (slice_get_within receipts i r is))
 
 above_one : (receipts : List Receipt) (i j : ℕ) (r s : Receipt) → i < j → slice_get receipts i ≡ Some r → IsAbove (take j receipts) s
     → r.caller ≡ s.caller → r.at < s.at
@@ -50,21 +50,21 @@ above_one receipts i j r s below is above same =
     let read = get_or_from_slice_get (take j receipts) i r r here in
     subst (λ (e : Receipt). e.caller ≡ s.caller → e.at < s.at) read (above i r within) same
 
--- no place comes twice
-pub places_apart : (notes : List Noted) (receipts : List Receipt) → AreRight notes receipts → (i j : ℕ) (r s : Receipt) → i < j
+-- no position comes twice
+pub positions_apart : (notes : List Noted) (receipts : List Receipt) → AreRight notes receipts → (i j : ℕ) (r s : Receipt) → i < j
     → slice_get receipts i ≡ Some r → slice_get receipts j ≡ Some s → s.at ≢ r.at
-places_apart notes receipts right i j r s below is that same =
+positions_apart notes receipts right i j r s below is that same =
     let one = right_at notes receipts right i r is in
     let two = right_at notes receipts right j s that in
     let noted : note_of r ≡ note_of s = same_Some (note_of r) (note_of s) (sym one.0 ∙ ap (note_at notes) (sym same) ∙ two.0) in
     let rises = above_one receipts i j r s below is two.1 (ap (λ (n : Noted). n.caller) noted) in
     omega (arith, rises, same)
 
--- each receipt's place is behind the events that others made
+-- each receipt's position is behind the events that others made
 since : (notes : List Noted) (receipts : List Receipt) (before : ℕ) → AreRight notes receipts → AreOthersUpTo before notes receipts
     → (i : ℕ) (r : Receipt) → slice_get receipts i ≡ Some r → (0 < r.at) × (before ≤ r.at - 1) × (slice_get notes (r.at - 1) ≡ Some (note_of r))
 since notes receipts before right others i r is =
-    let stands = at_place notes r.at (note_of r) (right_at notes receipts right i r is).0 in
+    let stands = at_position notes r.at (note_of r) (right_at notes receipts right i r is).0 in
     let within = slice_get_within receipts i r is in
     let read = get_or_from_slice_get receipts i r r is in
     let behind : (b : ℕ) → b ≡ before → (r.at - 1 < b → ⊥) → before ≤ r.at - 1 = λ b same never. omega (arith, same, never) in (
@@ -74,33 +74,33 @@ since notes receipts before right others i r is =
     )
 
 -- where its event stands among those since then
-abbrev place_since : ℕ → Receipt → ℕ
-place_since before r = (r.at - 1) - before
+abbrev position_since : ℕ → Receipt → ℕ
+position_since before r = (r.at - 1) - before
 
 pub whole_history : (notes : List Noted) (receipts : List Receipt) (before : ℕ) → AreRight notes receipts
     → length notes ≡ before + length receipts → AreOthersUpTo before notes receipts
     → IsPermutation (map note_of receipts) (drop before notes)
 whole_history notes receipts before right as_many others =
-    let stands : (i : ℕ) (r : Receipt) → slice_get receipts i ≡ Some r → slice_get (drop before notes) (place_since before r) ≡ Some (note_of r) =
+    let stands : (i : ℕ) (r : Receipt) → slice_get receipts i ≡ Some r → slice_get (drop before notes) (position_since before r) ≡ Some (note_of r) =
     λ i r is. let s = since notes receipts before right others i r is in
-    slice_get-drop notes before (place_since before r) ∙ ap (slice_get notes) (omega (arith, s.1)) ∙ s.2 in
-    let apart : (i j : ℕ) (r s : Receipt) → i < j → slice_get receipts i ≡ Some r → slice_get receipts j ≡ Some s → place_since before s ≢ place_since before r =
+    slice_get-drop notes before (position_since before r) ∙ ap (slice_get notes) (omega (arith, s.1)) ∙ s.2 in
+    let apart : (i j : ℕ) (r s : Receipt) → i < j → slice_get receipts i ≡ Some r → slice_get receipts j ≡ Some s → position_since before s ≢ position_since before r =
     λ i j r s below is that same.
     let one = since notes receipts before right others i r is in
     let two = since notes receipts before right others j s that in
-    places_apart notes receipts right i j r s below is that (omega (arith, same, one.0, one.1, two.0, two.1)) in
-    all_placed (place_since before) note_of (drop before notes) receipts
-    (placed_from (place_since before) note_of (drop before notes) receipts stands apart)
+    positions_apart notes receipts right i j r s below is that (omega (arith, same, one.0, one.1, two.0, two.1)) in
+    all_placed (position_since before) note_of (drop before notes) receipts
+    (placed_from (position_since before) note_of (drop before notes) receipts stands apart)
     (omega (arith, as_many, length-drop before notes))
 
--- the places of receipts that are right rise
+-- the positions of receipts that are right rise
 pub right_rise : (notes : List Noted) (receipts : List Receipt) (n : ℕ) → n ≤ length receipts → AreRightBefore notes receipts n → Rise (take n receipts)
 right_rise notes receipts n within right = λ i below.
     let under : i < n = omega (arith, below, length-take-le n receipts within) in
     let P : Option Receipt → Type 0 = λ o. IfSome o (IsAbove (take i (take n receipts))) in
     let Q : List Receipt → Type 0 = λ xs. IfSome (slice_get receipts i) (IsAbove xs) in
     subst P (sym (slice_get-take receipts n i under)) (subst Q (sym (take-take i n receipts (omega (arith, under))))
-    (second (slice_get receipts i) (StandsAtItsPlace notes) (IsAbove (take i receipts)) (right i under)))
+    (second (slice_get receipts i) (StandsAtItsPosition notes) (IsAbove (take i receipts)) (right i under)))
   where
     second : {X : Type 0} (o : Option X) (P Q : X → Type 0) → IfSome o (λ x. P x × Q x) → IfSome o Q
     second None P Q both = tt

@@ -1,31 +1,31 @@
--- As many elements as a list has, each at a place of its own in it, are the list in another order.
+-- As many elements as a list has, each at a position of its own in it, are the list in another order.
 use Rattle.std.proofs.Common.{◌≡◌, ◌≢◌, ◌<◌, ℕ, zero, suc, List, [], ◌∷◌, length, map, refl, ap, subst, arith}
 use Rattle.std.specs.Prelude.{⊤, Some, slice_get, IsPermutation}
 use Rattle.std.proofs.lemmas.Option.{none-some, same_Some}
 use Rattle.std.proofs.lemmas.List.Sorted.{IsPermutation-refl, IsPermutation-cons, IsPermutation-middle, IsPermutation-trans}
 
--- a list without the element at a place
+-- a list without the element at a position
 abbrev pub without_at : {X : Type 0} → ℕ → List X → List X
 without_at n [] = []
 without_at zero (x ∷ xs) = xs
 without_at (suc n) (x ∷ xs) = x ∷ without_at n xs
 
--- where what stood at the second place stands, once the first is taken out
+-- where what stood at the second position stands, once the first is taken out
 abbrev pub past : ℕ → ℕ → ℕ
 past zero zero = zero
 past zero (suc m) = m
 past (suc n) zero = zero
 past (suc n) (suc m) = suc (past n m)
 
--- none of these has this place
+-- none of these has this position
 abbrev pub Apart : {R : Type 0} → (R → ℕ) → ℕ → List R → Type 0
-Apart place n [] = ⊤
-Apart place n (r ∷ rs) = (place r ≢ n) × Apart place n rs
+Apart position n [] = ⊤
+Apart position n (r ∷ rs) = (position r ≢ n) × Apart position n rs
 
--- each has an element of the list, at a place of its own
+-- each has an element of the list, at a position of its own
 abbrev pub Placed : {R X : Type 0} → (R → ℕ) → (R → X) → List X → List R → Type 0
-Placed place element xs [] = ⊤
-Placed place element xs (r ∷ rs) = (slice_get xs (place r) ≡ Some (element r)) × Apart place (place r) rs × Placed place element xs rs
+Placed position element xs [] = ⊤
+Placed position element xs (r ∷ rs) = (slice_get xs (position r) ≡ Some (element r)) × Apart position (position r) rs × Placed position element xs rs
 
 get_past : {X : Type 0} (n m : ℕ) (xs : List X) (y : X) → m ≢ n → slice_get xs m ≡ Some y → slice_get (without_at n xs) (past n m) ≡ Some y
 get_past n m [] y other is = absurd (none-some y is)
@@ -58,44 +58,44 @@ taken_first (suc n) (x ∷ xs) y is =
     (IsPermutation-middle (y ∷ []) x (without_at n xs))
     (IsPermutation-cons x (y ∷ without_at n xs) xs (taken_first n xs y is))
 
-apart_past : {R : Type 0} (place : R → ℕ) (n k : ℕ) (rs : List R) → k ≢ n → Apart place n rs → Apart place k rs → Apart (λ r. past n (place r)) (past n k) rs
-apart_past place n k [] other away apart = tt
-apart_past place n k (r ∷ rs) other away apart =
-    (past_apart n (place r) k away.0 other apart.0, apart_past place n k rs other away.1 apart.1)
+apart_past : {R : Type 0} (position : R → ℕ) (n k : ℕ) (rs : List R) → k ≢ n → Apart position n rs → Apart position k rs → Apart (λ r. past n (position r)) (past n k) rs
+apart_past position n k [] other away apart = tt
+apart_past position n k (r ∷ rs) other away apart =
+    (past_apart n (position r) k away.0 other apart.0, apart_past position n k rs other away.1 apart.1)
 
-placed_past : {R X : Type 0} (place : R → ℕ) (element : R → X) (n : ℕ) (xs : List X) (rs : List R)
-    → Apart place n rs → Placed place element xs rs → Placed (λ r. past n (place r)) element (without_at n xs) rs
-placed_past place element n xs [] away placed = tt
-placed_past place element n xs (r ∷ rs) away placed = (
-  get_past n (place r) xs (element r) away.0 placed.0,
-  apart_past place n (place r) rs away.0 away.1 placed.1,
-  placed_past place element n xs rs away.1 placed.2,
+placed_past : {R X : Type 0} (position : R → ℕ) (element : R → X) (n : ℕ) (xs : List X) (rs : List R)
+    → Apart position n rs → Placed position element xs rs → Placed (λ r. past n (position r)) element (without_at n xs) rs
+placed_past position element n xs [] away placed = tt
+placed_past position element n xs (r ∷ rs) away placed = (
+  get_past n (position r) xs (element r) away.0 placed.0,
+  apart_past position n (position r) rs away.0 away.1 placed.1,
+  placed_past position element n xs rs away.1 placed.2,
 )
 
-pub all_placed : {R X : Type 0} (place : R → ℕ) (element : R → X) (xs : List X) (rs : List R)
-    → Placed place element xs rs → length rs ≡ length xs → IsPermutation (map element rs) xs
-all_placed place element [] [] placed as_many = IsPermutation-refl []
-all_placed place element (x ∷ xs) [] placed as_many = absurd (omega (arith, as_many))
-all_placed place element xs (r ∷ rs) placed as_many =
-    let n = place r in
-    let rest = all_placed (λ s. past n (place s)) element (without_at n xs) rs (placed_past place element n xs rs placed.1 placed.2)
+pub all_placed : {R X : Type 0} (position : R → ℕ) (element : R → X) (xs : List X) (rs : List R)
+    → Placed position element xs rs → length rs ≡ length xs → IsPermutation (map element rs) xs
+all_placed position element [] [] placed as_many = IsPermutation-refl []
+all_placed position element (x ∷ xs) [] placed as_many = absurd (omega (arith, as_many))
+all_placed position element xs (r ∷ rs) placed as_many =
+    let n = position r in
+    let rest = all_placed (λ s. past n (position s)) element (without_at n xs) rs (placed_past position element n xs rs placed.1 placed.2)
     (omega (arith, as_many, length-without_at n xs (element r) placed.0)) in
     IsPermutation-trans (element r ∷ map element rs) (element r ∷ without_at n xs) xs
     (IsPermutation-cons (element r) (map element rs) (without_at n xs) rest)
     (taken_first n xs (element r) placed.0)
 
--- the same facts from those of each place in the list
-apart_from : {R : Type 0} (place : R → ℕ) (n : ℕ) (rs : List R) → ((i : ℕ) (s : R) → slice_get rs i ≡ Some s → place s ≢ n) → Apart place n rs
-apart_from place n [] each = tt
-apart_from place n (r ∷ rs) each = (each zero r refl, apart_from place n rs (λ i s is. each (suc i) s is))
+-- the same facts from those of each position in the list
+apart_from : {R : Type 0} (position : R → ℕ) (n : ℕ) (rs : List R) → ((i : ℕ) (s : R) → slice_get rs i ≡ Some s → position s ≢ n) → Apart position n rs
+apart_from position n [] each = tt
+apart_from position n (r ∷ rs) each = (each zero r refl, apart_from position n rs (λ i s is. each (suc i) s is))
 
-pub placed_from : {R X : Type 0} (place : R → ℕ) (element : R → X) (xs : List X) (rs : List R)
-    → ((i : ℕ) (r : R) → slice_get rs i ≡ Some r → slice_get xs (place r) ≡ Some (element r))
-    → ((i j : ℕ) (r s : R) → i < j → slice_get rs i ≡ Some r → slice_get rs j ≡ Some s → place s ≢ place r)
-    → Placed place element xs rs
-placed_from place element xs [] each apart = tt
-placed_from place element xs (r ∷ rs) each apart = (
+pub placed_from : {R X : Type 0} (position : R → ℕ) (element : R → X) (xs : List X) (rs : List R)
+    → ((i : ℕ) (r : R) → slice_get rs i ≡ Some r → slice_get xs (position r) ≡ Some (element r))
+    → ((i j : ℕ) (r s : R) → i < j → slice_get rs i ≡ Some r → slice_get rs j ≡ Some s → position s ≢ position r)
+    → Placed position element xs rs
+placed_from position element xs [] each apart = tt
+placed_from position element xs (r ∷ rs) each apart = (
   each zero r refl,
-  apart_from place (place r) rs (λ i s is. apart zero (suc i) r s (omega arith) refl is),
-  placed_from place element xs rs (λ i s is. each (suc i) s is) (λ i j s t below is that. apart (suc i) (suc j) s t (omega (arith, below)) is that),
+  apart_from position (position r) rs (λ i s is. apart zero (suc i) r s (omega arith) refl is),
+  placed_from position element xs rs (λ i s is. each (suc i) s is) (λ i j s t below is that. apart (suc i) (suc j) s t (omega (arith, below)) is that),
 )

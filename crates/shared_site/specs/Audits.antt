@@ -7,21 +7,21 @@ use Rattle.shared_site.specs.declared.receipt.Receipt.{Receipt}
 abbrev pub note_of : Receipt → Noted
 note_of r = record { event = r.event; caller = r.caller }
 
--- the event at a place, counted from 1, with its caller
+-- the event at a position, counted from 1, with its caller
 abbrev pub note_at : List Noted → ℕ → Option Noted
 note_at notes at = if at == 0 then None else slice_get notes (at - 1)
 
--- its event and its caller stand at its place
-abbrev pub StandsAtItsPlace : List Noted → Receipt → Type 0
-StandsAtItsPlace notes r = note_at notes r.at ≡ Some (note_of r)
+-- its event and its caller stand at its position
+abbrev pub StandsAtItsPosition : List Noted → Receipt → Type 0
+StandsAtItsPosition notes r = note_at notes r.at ≡ Some (note_of r)
 
--- its place is above those of its caller's earlier receipts
+-- its position is above those of its caller's earlier receipts
 abbrev pub IsAbove : List Receipt → Receipt → Type 0
 IsAbove earlier r = All (λ (e : Receipt). e.caller ≡ r.caller → e.at < r.at) earlier
 
 -- a receipt of a list is right
 abbrev pub IsRight : List Noted → List Receipt → ℕ → Type 0
-IsRight notes receipts i = IfSome (slice_get receipts i) (λ r. StandsAtItsPlace notes r × IsAbove (take i receipts) r)
+IsRight notes receipts i = IfSome (slice_get receipts i) (λ r. StandsAtItsPosition notes r × IsAbove (take i receipts) r)
 
 -- all before this one are
 abbrev pub AreRightBefore : List Noted → List Receipt → ℕ → Type 0
@@ -36,7 +36,7 @@ pub record IsFirstWrong (notes : List Noted) (receipts : List Receipt) (n : ℕ)
   pub wrong : ¬ IsRight notes receipts n
   pub others : AreRightBefore notes receipts n
 
--- the places of each caller's receipts rise
+-- the positions of each caller's receipts rise
 abbrev pub Rise : List Receipt → Type 0
 Rise receipts = (i : ℕ) → i < length receipts → IfSome (slice_get receipts i) (IsAbove (take i receipts))
 

@@ -9,7 +9,7 @@ use Rattle.shared_site.specs.declared.receipt.Made.{Made}
 use Rattle.shared_site.specs.declared.receipt.OutOfTurn.{OutOfTurn}
 use Rattle.shared_site.specs.declared.receipt.Receipt.{Receipt}
 
--- the receipt of a caller's event at a place, and of one that follows this many events
+-- the receipt of a caller's event at a position, and of one that follows this many events
 abbrev pub receipt_at : ℕ → ℕ → Event → Receipt
 receipt_at at who event = record { caller = who; at = at; event = event; seal = tt }
 

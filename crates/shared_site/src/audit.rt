@@ -2,7 +2,7 @@
 ghost use Rattle.std.specs.Prelude.{◌≡◌, ◌↔◌, ◌<◌, IsTrue, IfErr, OnOk, length};
 ghost use Rattle.event_journals.specs.Full.{full_events, full_notes};
 ghost use Rattle.server_yard.specs.Yards.{yard_journal};
-ghost use Rattle.shared_site.specs.Audits.{AreRight, AreRightBefore, IsAbove, IsFirstWrong, IsRight, Rise, StandsAtItsPlace};
+ghost use Rattle.shared_site.specs.Audits.{AreRight, AreRightBefore, IsAbove, IsFirstWrong, IsRight, Rise, StandsAtItsPosition};
 
 use crate::receipt::Receipt;
 use dir_calls::Dir;
@@ -10,13 +10,13 @@ use event_journals::{Full, is_same_event};
 use server_yard::{Assumptions, Yard};
 use thiserror::Error;
 
-/// The place in the list of the first receipt that is wrong, counted from 0.
+/// The position in the list of the first receipt that is wrong, counted from 0.
 #[derive(Clone, Copy, PartialEq, Eq, Debug, Error)]
 #[error("receipt {0} is wrong")]
 pub struct Mismatch(pub usize);
 
-/// Compares receipts with the history. Each has to be the event and the caller at its place there, and that place has
-/// to be above those of its caller's earlier receipts in the list. Then no place stands in the list twice.
+/// Compares receipts with the history. Each has to be the event and the caller at its position there, and that position has
+/// to be above those of its caller's earlier receipts in the list. Then no position stands in the list twice.
 ///
 /// It takes no memory. For each receipt it goes back in the list to the last one of the same caller. That takes at most
 /// as many steps as there are receipts for each caller, and few if the receipts of each caller stand together.
@@ -51,11 +51,11 @@ fn is_right(journal: &Full, receipts: &[Receipt], i: usize) -> bool
     ensures { IsTrue result ↔ IsRight (full_notes journal.now) receipts.now i }
 {
     let receipt = &receipts[i];
-    stands_at_its_place(journal, receipt) && is_above(&receipts[..i], receipt)
+    stands_at_its_position(journal, receipt) && is_above(&receipts[..i], receipt)
 }
 
-fn stands_at_its_place(journal: &Full, receipt: &Receipt) -> bool
-    ensures { IsTrue result ↔ StandsAtItsPlace (full_notes journal.now) receipt.now }
+fn stands_at_its_position(journal: &Full, receipt: &Receipt) -> bool
+    ensures { IsTrue result ↔ StandsAtItsPosition (full_notes journal.now) receipt.now }
 {
     match journal.get(receipt.at) {
         Some(note) => note.caller == receipt.caller && is_same_event(&note.event, &receipt.event),
@@ -63,7 +63,7 @@ fn stands_at_its_place(journal: &Full, receipt: &Receipt) -> bool
     }
 }
 
-// Whether a receipt's place is above those of its caller's earlier ones. Those rise, so it is enough to look at the
+// Whether a receipt's position is above those of its caller's earlier ones. Those rise, so it is enough to look at the
 // last.
 fn is_above(earlier: &[Receipt], receipt: &Receipt) -> bool
     requires { Rise earlier.now }

@@ -4,8 +4,8 @@ ghost use Rattle.event_journals.specs.declared.journal.Noted.{Noted};
 ghost use Rattle.shared_site.specs.Audits.{AreOthersUpTo, AreRight, note_of};
 ghost use Rattle.shared_site.specs.declared.receipt.Receipt.{Receipt as TheReceipt};
 
-/// Right receipts are the history since some place: each event with its caller, once. There have to be as many as
-/// events since then, and no event before that place may have the number of one of their callers.
+/// Right receipts are the history since some position: each event with its caller, once. There have to be as many as
+/// events since then, and no event before that position may have the number of one of their callers.
 pub fn whole()
     ensures { (notes : List Noted) (receipts : List TheReceipt) (before : ℕ) → AreRight notes receipts
         → length notes ≡ before + length receipts → AreOthersUpTo before notes receipts

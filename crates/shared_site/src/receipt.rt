@@ -28,7 +28,7 @@ impl EventSnapshot {
     }
 }
 
-/// Evidence that a caller made an event, at a place of the history. Only the calls of `turns` make one. Whoever audits
+/// Evidence that a caller made an event, at a position of the history. Only the calls of `turns` make one. Whoever audits
 /// makes a receipt of it.
 #[derive(Drop)]
 pub struct Made {
@@ -40,7 +40,7 @@ pub struct Made {
 impl Made {
     ghost use Rattle.shared_site.specs.Receipts.{made_event, receipt_of};
 
-    /// The event's place in the whole history of the yard, from 1.
+    /// The event's position in the whole history of the yard, from 1.
     pub fn at(&self) -> u64
         ensures { result ≡ (receipt_of self.now).at }
     {
@@ -73,7 +73,7 @@ impl Made {
 pub struct Receipt {
     /// The caller's number, from 1.
     pub caller: u64,
-    /// The event's place in the whole history of the yard, from 1.
+    /// The event's position in the whole history of the yard, from 1.
     pub at: u64,
     /// What happened.
     pub event: Event,

@@ -1,4 +1,4 @@
--- The words and the entries that were found so far, and those from a place on.
+-- The words and the entries that were found so far, and those from a position on.
 use Rattle.std.proofs.Common.{◌≡◌, ℕ, zero, suc, ◌+◌, Bool, true, false, cond, eqb, List, [], ◌∷◌, ◌++◌, length, drop, Vec, refl, sym, ap, ◌∙◌, append_assoc, subst, arith, rules, add-one, drop-cons}
 use Rattle.std.specs.Prelude.{Option, Some, None, IsUtf8, not, ◌&&◌, slice_get}
 use Rattle.std.specs.Borrow.{Bor}
@@ -18,7 +18,7 @@ use Rattle.stream_tools.proofs.SearchLemmas.{texts_of-more}
 use Rattle.stream_tools.proofs.WordLemmas.{is_utf8-no_text}
 use Rattle.ucspi_env.specs.Variables.{Variable, Variables}
 
--- what stands at a place is the first of what stands from there on
+-- what stands at a position is the first of what stands from there on
 drop_found : (all : List (List ℕ)) (i : ℕ) (text : List ℕ) → slice_get all i ≡ Some text → drop i all ≡ text ∷ drop (i + 1) all
 drop_found all i text at =
     drop-cons all i text (slice_get_within all i text at)

@@ -10,7 +10,7 @@ use Rattle.memchr.specs.Find.{NoneBefore, Nowhere, Passes, is_byte}
 use Rattle.stream_tools.specs.Programs.{texts_of}
 use Rattle.stream_tools.specs.Searches.{folders_of}
 
--- what stands behind the byte at a place, as a slice is cut
+-- what stands behind the byte at a position, as a slice is cut
 abbrev behind : List ℕ → ℕ → List ℕ
 behind text k = take (length text - (k + 1)) (drop (k + 1) text)
 

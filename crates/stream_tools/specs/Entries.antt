@@ -6,7 +6,7 @@ use Rattle.std.specs.List.{fold, list_any, before_first, after_first}
 use Rattle.std.specs.Str.{is_utf8}
 use Rattle.ucspi_env.specs.Variables.{Variable, Variables, with_value}
 
--- what was found at a place, as the bytes that it is
+-- what was found at a position, as the bytes that it is
 abbrev pub bytes_found : Option (Vec ℕ Global) → Option (List ℕ)
 bytes_found found = option_map (λ (text : Vec ℕ Global). text.items) found
 

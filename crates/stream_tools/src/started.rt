@@ -20,19 +20,19 @@ pub trait Given {
     /// Whether it is known what they are.
     ghost honest: { Bool };
 
-    /// The word at a place, from 0; `None` behind the last.
+    /// The word at a position, from 0; `None` behind the last.
     ///
     /// # Errors
     /// There was no memory.
-    fn word(&self, alloc: Global, place: usize) -> Result<Option<Vec<u8>>, AllocError>
-        ensures { IsTrue honest → IfOk result (λ found. bytes_found found ≡ slice_get (words self.now) place) };
+    fn word(&self, alloc: Global, position: usize) -> Result<Option<Vec<u8>>, AllocError>
+        ensures { IsTrue honest → IfOk result (λ found. bytes_found found ≡ slice_get (words self.now) position) };
 
-    /// The entry at a place, from 0; `None` behind the last.
+    /// The entry at a position, from 0; `None` behind the last.
     ///
     /// # Errors
     /// There was no memory.
-    fn entry(&self, alloc: Global, place: usize) -> Result<Option<Vec<u8>>, AllocError>
-        ensures { IsTrue honest → IfOk result (λ found. bytes_found found ≡ slice_get (entries self.now) place) };
+    fn entry(&self, alloc: Global, position: usize) -> Result<Option<Vec<u8>>, AllocError>
+        ensures { IsTrue honest → IfOk result (λ found. bytes_found found ≡ slice_get (entries self.now) position) };
 }
 
 /// What the system gave this process. Nothing is known of it.
@@ -46,12 +46,12 @@ impl<'a, E: Env> Given for SystemGiven<'a, E> {
 
     ghost honest = { false };
 
-    fn word(&self, alloc: Global, place: usize) -> Result<Option<Vec<u8>>, AllocError> {
-        told(alloc, self.0, Entry::Word(place))
+    fn word(&self, alloc: Global, position: usize) -> Result<Option<Vec<u8>>, AllocError> {
+        told(alloc, self.0, Entry::Word(position))
     }
 
-    fn entry(&self, alloc: Global, place: usize) -> Result<Option<Vec<u8>>, AllocError> {
-        told(alloc, self.0, Entry::Variable(place))
+    fn entry(&self, alloc: Global, position: usize) -> Result<Option<Vec<u8>>, AllocError> {
+        told(alloc, self.0, Entry::Variable(position))
     }
 }
 
@@ -76,8 +76,8 @@ pub fn command_words<G: Given>(alloc: Global, given: &G) -> Result<Vec<Vec<u8>>,
     ensures all { IsTrue G.honest → IfOk result (λ words. texts_of words.items ≡ drop 1 (G.words given.now)) }
 {
     let mut words = Vec::new(alloc);
-    for place in 1..usize::MAX {
-        match given.word(alloc, place)? {
+    for position in 1..usize::MAX {
+        match given.word(alloc, position)? {
             Some(word) => words.push(word)?,
             None => return Ok(words),
         }
@@ -93,8 +93,8 @@ pub fn inherited_variables<G: Given>(alloc: Global, given: &G) -> Result<Environ
     ensures all { IsTrue G.honest → IfOk result (λ variables. variables ≡ with_entries [] (G.entries given.now)) }
 {
     let mut variables = Environment::new(alloc);
-    for place in 0..usize::MAX {
-        match given.entry(alloc, place)? {
+    for position in 0..usize::MAX {
+        match given.entry(alloc, position)? {
             Some(entry) => put_entry(alloc, &mut variables, &entry)?,
             None => return Ok(variables),
         }
@@ -180,7 +180,7 @@ pub fn own_variable<E: Env>(
     told(alloc, env, Entry::Named(name))
 }
 
-/// What a program is told, by its place or its name.
+/// What a program is told, by its position or its name.
 #[derive(Clone, Copy)]
 enum Entry<'a> {
     /// A word of the command line, from 0, which is the program's name.
@@ -191,7 +191,7 @@ enum Entry<'a> {
     Named(&'a str),
 }
 
-/// What stands at a place, in a buffer that grows until it fits; `None` where there is nothing.
+/// What stands at a position, in a buffer that grows until it fits; `None` where there is nothing.
 fn told<E: Env>(alloc: Global, env: &E, entry: Entry<'_>) -> Result<Option<Vec<u8>>, AllocError> {
     let mut size = 256usize;
     for _ in 0..40 {
@@ -208,11 +208,11 @@ fn told<E: Env>(alloc: Global, env: &E, entry: Entry<'_>) -> Result<Option<Vec<u
     Err(AllocError)
 }
 
-/// Puts what stands at a place into a buffer.
+/// Puts what stands at a position into a buffer.
 fn fill<E: Env>(env: &E, entry: Entry<'_>, buffer: &mut [u8]) -> Result<usize, FillError> {
     match entry {
-        Entry::Word(place) => env.arg(place, buffer),
-        Entry::Variable(place) => env.var_at(place, buffer),
+        Entry::Word(position) => env.arg(position, buffer),
+        Entry::Variable(position) => env.var_at(position, buffer),
         Entry::Named(name) => env.var(name, buffer),
     }
 }

@@ -40,9 +40,9 @@ fn count_of(call: &str) -> usize {
     }
 }
 
-/// The word at a place, or an empty one.
-fn word_at(words: &[String], place: usize) -> &str {
-    match words.get(place) {
+/// The word at a position, or an empty one.
+fn word_at(words: &[String], position: usize) -> &str {
+    match words.get(position) {
         Some(word) => word.as_str(),
         None => "",
     }
@@ -93,7 +93,7 @@ fn patch<D: Dir>(alloc: Global, dir: &mut D, words: &Words<'_>, out: &mut Answer
     requires { D.honest ≡ false }
 {
     match words.first.parse() {
-        Ok(place) => out.done(dir.patch(alloc, place, words.second.as_bytes())),
+        Ok(position) => out.done(dir.patch(alloc, position, words.second.as_bytes())),
         Err(_) => out.fail(),
     }
 }

@@ -28,9 +28,9 @@ use std::os::unix::fs::FileExt;
 use test_disk::{Mishap, TestDisk};
 use test_parts::Answer;
 
-/// The word at a place of a line, or an empty one. One space stands between each two.
-fn word_of(line: &str, place: usize) -> &str {
-    line.split(' ').nth(place).unwrap_or("")
+/// The word at a position of a line, or an empty one. One space stands between each two.
+fn word_of(line: &str, position: usize) -> &str {
+    line.split(' ').nth(position).unwrap_or("")
 }
 
 /// The words of a line.
@@ -130,16 +130,16 @@ where
     }
 }
 
-/// The place of a read, and how much room there is for it.
+/// The position of a read, and how much room there is for it.
 fn next_read(words: &mut Args) -> Option<(u64, usize)> {
-    let place = next_number(words)?;
-    Some((place, usize::try_from(next_number(words)?).ok()?))
+    let position = next_number(words)?;
+    Some((position, usize::try_from(next_number(words)?).ok()?))
 }
 
 /// Makes a single read of a file.
 fn run_read(alloc: Global, words: &mut Args, given: &[u8], out: &mut Answer) {
     match next_read(words) {
-        Some((place, room)) => single::show_read(alloc, given, place, room, out),
+        Some((position, room)) => single::show_read(alloc, given, position, room, out),
         None => out.fail(),
     }
 }

@@ -26,24 +26,24 @@ fn show_copied(alloc: Global, name: &Name, out: &mut Answer) {
 
 /// Shows the length of a file of these bytes, how many of them a read gives, and the room afterwards, which was full of
 /// `-`.
-pub fn show_read(alloc: Global, bytes: &[u8], place: u64, room: usize, out: &mut Answer) {
+pub fn show_read(alloc: Global, bytes: &[u8], position: u64, room: usize, out: &mut Answer) {
     match bytes.to_vec(alloc) {
-        Ok(bytes) => show_read_of(alloc, &MemFile::new(bytes), place, room, out),
+        Ok(bytes) => show_read_of(alloc, &MemFile::new(bytes), position, room, out),
         Err(_) => out.fail(),
     }
 }
 
 /// Shows the same of a file.
-fn show_read_of(alloc: Global, file: &MemFile, place: u64, room: usize, out: &mut Answer) {
+fn show_read_of(alloc: Global, file: &MemFile, position: u64, room: usize, out: &mut Answer) {
     match vec![in alloc; b'-'; room] {
-        Ok(mut room) => show_read_into(file, place, &mut room, out),
+        Ok(mut room) => show_read_into(file, position, &mut room, out),
         Err(_) => out.fail(),
     }
 }
 
 /// Shows the same of a file and a room.
-fn show_read_into(file: &MemFile, place: u64, room: &mut [u8], out: &mut Answer) {
-    match file.read_at(place, room) {
+fn show_read_into(file: &MemFile, position: u64, room: &mut [u8], out: &mut Answer) {
+    match file.read_at(position, room) {
         Ok(count) => {
             out.number(file.len());
             out.count(" ", count as u64);

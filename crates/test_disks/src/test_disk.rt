@@ -83,9 +83,9 @@ fn add_name(
     Ok(())
 }
 
-// Puts bytes over others from a place on, or behind them.
-fn overwrite(bytes: &mut Vec<u8>, place: usize, others: &[u8]) -> Result<(), AllocError> {
-    let start = bytes.len().min(place);
+// Puts bytes over others from a position on, or behind them.
+fn overwrite(bytes: &mut Vec<u8>, position: usize, others: &[u8]) -> Result<(), AllocError> {
+    let start = bytes.len().min(position);
     let covered = others.len().min(bytes.len() - start);
     bytes[start..start + covered].copy_from_slice(&others[..covered]);
     bytes.extend_from_slice(&others[covered..])
@@ -167,10 +167,10 @@ impl TestDisk {
         Ok(value)
     }
 
-    fn place_of(&self, name: &str) -> Option<usize> {
-        for (place, entry) in self.names.iter().enumerate() {
+    fn position_of(&self, name: &str) -> Option<usize> {
+        for (position, entry) in self.names.iter().enumerate() {
             if entry.0.as_str() == name {
-                return Some(place);
+                return Some(position);
             }
         }
         None
@@ -187,9 +187,9 @@ impl TestDisk {
 
     // Takes a name away, if it stands.
     fn forget(&mut self, name: &str) {
-        if let Some(place) = self.place_of(name) {
-            if place < self.names.len() {
-                self.names.remove(place);
+        if let Some(position) = self.position_of(name) {
+            if position < self.names.len() {
+                self.names.remove(position);
             }
         }
     }
@@ -205,7 +205,7 @@ impl TestDisk {
     // Makes a file under a name that is free.
     fn create_file(&mut self, name: &str) -> io::Result<TestHandle> {
         let met = self.met()?;
-        if self.place_of(name).is_some() {
+        if self.position_of(name).is_some() {
             return Err(fault(ErrorKind::AlreadyExists));
         }
         let number = self.add_file(name)?;
@@ -213,18 +213,18 @@ impl TestDisk {
         self.answered(met, TestHandle { number, bytes })
     }
 
-    // Puts bytes into a file from a place on, or at its end.
-    fn overwrite(&mut self, number: usize, place: usize, bytes: &[u8]) -> io::Result<()> {
+    // Puts bytes into a file from a position on, or at its end.
+    fn overwrite(&mut self, number: usize, position: usize, bytes: &[u8]) -> io::Result<()> {
         let Some(held) = self.files.get_mut(number) else {
             return Err(fault(ErrorKind::Other));
         };
         held.synced = false;
-        overwrite(&mut held.bytes, place, bytes)?;
+        overwrite(&mut held.bytes, position, bytes)?;
         Ok(())
     }
 
     // Writes bytes, or the first one if the call is short, and answers how many.
-    fn write_file(&mut self, number: usize, place: usize, bytes: &[u8]) -> io::Result<usize>
+    fn write_file(&mut self, number: usize, position: usize, bytes: &[u8]) -> io::Result<usize>
         ensures { IfOk result (λ n. n ≤ length bytes.now) }
     {
         let met = self.met()?;
@@ -233,7 +233,7 @@ impl TestDisk {
         } else {
             bytes.len()
         };
-        self.overwrite(number, place, &bytes[..count])?;
+        self.overwrite(number, position, &bytes[..count])?;
         self.answered(met, count)
     }
 
@@ -279,8 +279,8 @@ impl DiskFile for TestFile {
 
     ghost honest = { false };
 
-    fn read_at(&self, place: u64, buf: &mut [u8]) -> io::Result<usize> {
-        let rest = self.bytes.get(place as usize..).unwrap_or(&[]);
+    fn read_at(&self, position: u64, buf: &mut [u8]) -> io::Result<usize> {
+        let rest = self.bytes.get(position as usize..).unwrap_or(&[]);
         let count = rest.len().min(buf.len());
         buf[..count].copy_from_slice(&rest[..count]);
         Ok(count)
@@ -352,8 +352,8 @@ impl Disk for TestDisk {
         self.create_file(path.as_str())
     }
 
-    fn write_at(&mut self, file: &TestHandle, place: u64, bytes: &[u8]) -> io::Result<usize> {
-        self.write_file(file.number, place as usize, bytes)
+    fn write_at(&mut self, file: &TestHandle, position: u64, bytes: &[u8]) -> io::Result<usize> {
+        self.write_file(file.number, position as usize, bytes)
     }
 
     fn sync(&mut self, file: &TestHandle) -> io::Result<()> {

@@ -62,8 +62,8 @@ fn push_parts(alloc: Global, call: &str, list: &RuleList, out: &mut Answer) {
     out.show(&list.is_empty());
     out.text(" ");
     let mut parts = Vec::new(alloc);
-    for place in 0..list.len() {
-        if let Some(pair) = list.get(place) {
+    for position in 0..list.len() {
+        if let Some(pair) = list.get(position) {
             out.note(append_part(call, &pair, &mut parts));
         }
     }
@@ -79,9 +79,9 @@ fn append_part(call: &str, pair: &Pair<'_>, parts: &mut Vec<u8>) -> Result<(), A
     parts.extend_from_slice(b"|")
 }
 
-/// Adds the address of the rule at a place, behind other bytes, and its instruction.
+/// Adds the address of the rule at a position, behind other bytes, and its instruction.
 fn push_pair(alloc: Global, given: &Arguments<'_>, list: &RuleList, out: &mut Answer) {
-    match list.get(given.place()) {
+    match list.get(given.position()) {
         Some(pair) => push_rule(alloc, &pair, out),
         None => out.text("none\n"),
     }

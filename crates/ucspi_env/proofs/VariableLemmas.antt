@@ -1,4 +1,4 @@
--- Variables in order: the place of a name, and what is done there.
+-- Variables in order: the position of a name, and what is done there.
 use Rattle.std.proofs.Common.{◌≡◌, ℕ, zero, suc, ◌+◌, ◌<◌, ◌≤◌, List, [], ◌∷◌, length, drop, get_or, set, slice_get, drop-cons, add-one, Bor, Bool, true, false, cond, map, Some, None, Option, option_map, refl, sym, ap, ◌∙◌, subst, bytes_eq, arith}
 use Rattle.std.specs.Prelude.{find}
 use Rattle.std.specs.Arc.{arc_value}
@@ -14,7 +14,7 @@ use Rattle.std.specs.declared.sync.Arc.{Arc}
 use Rattle.std.proofs.lemmas.List.Sums.{prefix_len_is, prefix_len-le-length}
 use Rattle.std.proofs.lemmas.Map.Text.{is_eq-slice_cmp}
 use Rattle.std.proofs.lemmas.Slice.Eq.{bytes_eq-Decides}
-use Rattle.ucspi_env.specs.Variables.{AreOrdered, Variable, Variables, is_below, is_named, place_of, value_at, value_of, variables_in, with_value, without_value}
+use Rattle.ucspi_env.specs.Variables.{AreOrdered, Variable, Variables, is_below, is_named, position_of, value_at, value_of, variables_in, with_value, without_value}
 
 -- how two names compare
 abbrev pub names_cmp : List ℕ → List ℕ → Ordering
@@ -63,29 +63,29 @@ by_ordering Equal a b c = b refl
 by_ordering Greater a b c = c refl
 
 module _ (name value : List ℕ) where
-  -- a value is put at the place of its name: over the one that has it, or between those below and those above
+  -- a value is put at the position of its name: over the one that has it, or between those below and those above
   abbrev pub put_at : Variables → ℕ → Variables
-  put_at vars place = cond (is_named name (slice_get vars place)) (set vars place (name, value)) (insert vars place (name, value))
+  put_at vars position = cond (is_named name (slice_get vars position)) (set vars position (name, value)) (insert vars position (name, value))
 
-  pub with_value-at : (vars : Variables) → with_value vars name value ≡ put_at vars (place_of vars name)
+  pub with_value-at : (vars : Variables) → with_value vars name value ≡ put_at vars (position_of vars name)
   with_value-at [] = refl
   with_value-at (v ∷ vars) = by_ordering (names_cmp v.0 name) (less (with_value-at vars)) same more where
     whole : Ordering → Variables
     whole o = match_ordering o ((name, value) ∷ v ∷ vars) ((v.0, value) ∷ vars) (v ∷ with_value vars name value)
 
     there : Ordering → Variables
-    there o = put_at (v ∷ vars) (cond (is_lt o) (1 + place_of vars name) 0)
+    there o = put_at (v ∷ vars) (cond (is_lt o) (1 + position_of vars name) 0)
 
-    next : (b : Bool) → v ∷ cond b (set vars (place_of vars name) (name, value)) (insert vars (place_of vars name) (name, value)) ≡ cond b (set (v ∷ vars) (suc (place_of vars name)) (name, value)) (insert (v ∷ vars) (suc (place_of vars name)) (name, value))
+    next : (b : Bool) → v ∷ cond b (set vars (position_of vars name) (name, value)) (insert vars (position_of vars name) (name, value)) ≡ cond b (set (v ∷ vars) (suc (position_of vars name)) (name, value)) (insert (v ∷ vars) (suc (position_of vars name)) (name, value))
     next true = refl
     next false = refl
 
-    less : with_value vars name value ≡ put_at vars (place_of vars name) → names_cmp v.0 name ≡ Less → whole (names_cmp name v.0) ≡ there (names_cmp v.0 name)
+    less : with_value vars name value ≡ put_at vars (position_of vars name) → names_cmp v.0 name ≡ Less → whole (names_cmp name v.0) ≡ there (names_cmp v.0 name)
     less rest is =
         ap whole (turned v.0 name Less is)
         ∙ ap (λ (vs : Variables). v ∷ vs) rest
-        ∙ next (is_named name (slice_get vars (place_of vars name)))
-        ∙ ap (put_at (v ∷ vars)) (one_more (place_of vars name))
+        ∙ next (is_named name (slice_get vars (position_of vars name)))
+        ∙ ap (put_at (v ∷ vars)) (one_more (position_of vars name))
         ∙ sym (ap there is)
 
     same : names_cmp v.0 name ≡ Equal → whole (names_cmp name v.0) ≡ there (names_cmp v.0 name)
@@ -140,29 +140,29 @@ module _ (name : List ℕ) where
   value-none (v ∷ vars) all =
       ap (λ b. option_map (λ (v : Variable). v.1) (cond b (Some v) (find (λ (v : Variable). bytes_eq v.0 name) vars))) (not_named v.0 all.0) ∙ value-none vars all.1
 
-  -- it is taken away from its place, if it is there
+  -- it is taken away from its position, if it is there
   abbrev pub removed_at : Variables → ℕ → Variables
-  removed_at vars place = cond (is_named name (slice_get vars place)) (remove vars place) vars
+  removed_at vars position = cond (is_named name (slice_get vars position)) (remove vars position) vars
 
-  pub without_value-at : (vars : Variables) → AreOrdered vars → without_value vars name ≡ removed_at vars (place_of vars name)
+  pub without_value-at : (vars : Variables) → AreOrdered vars → without_value vars name ≡ removed_at vars (position_of vars name)
   without_value-at [] h = refl
   without_value-at (v ∷ vars) h = by_ordering (names_cmp v.0 name) (less (without_value-at vars (ordered_rest v vars h))) same more where
     there : Ordering → Variables
-    there o = removed_at (v ∷ vars) (cond (is_lt o) (1 + place_of vars name) 0)
+    there o = removed_at (v ∷ vars) (cond (is_lt o) (1 + position_of vars name) 0)
 
     whole : Bool → Variables
     whole b = cond b vars (v ∷ without_value vars name)
 
-    next : (b : Bool) → v ∷ cond b (remove vars (place_of vars name)) vars ≡ cond b (remove (v ∷ vars) (suc (place_of vars name))) (v ∷ vars)
+    next : (b : Bool) → v ∷ cond b (remove vars (position_of vars name)) vars ≡ cond b (remove (v ∷ vars) (suc (position_of vars name))) (v ∷ vars)
     next true = refl
     next false = refl
 
-    less : without_value vars name ≡ removed_at vars (place_of vars name) → names_cmp v.0 name ≡ Less → whole (bytes_eq v.0 name) ≡ there (names_cmp v.0 name)
+    less : without_value vars name ≡ removed_at vars (position_of vars name) → names_cmp v.0 name ≡ Less → whole (bytes_eq v.0 name) ≡ there (names_cmp v.0 name)
     less rest is =
         ap whole (apart v.0 name Less is)
         ∙ ap (λ (vs : Variables). v ∷ vs) rest
-        ∙ next (is_named name (slice_get vars (place_of vars name)))
-        ∙ ap (removed_at (v ∷ vars)) (one_more (place_of vars name))
+        ∙ next (is_named name (slice_get vars (position_of vars name)))
+        ∙ ap (removed_at (v ∷ vars)) (one_more (position_of vars name))
         ∙ sym (ap there is)
 
     same : names_cmp v.0 name ≡ Equal → whole (bytes_eq v.0 name) ≡ there (names_cmp v.0 name)
@@ -176,20 +176,20 @@ module _ (name : List ℕ) where
         ∙ sym (ap there is)
 
   -- so is its value
-  pub value_of-at : (vars : Variables) → AreOrdered vars → value_of vars name ≡ value_at name (slice_get vars (place_of vars name))
+  pub value_of-at : (vars : Variables) → AreOrdered vars → value_of vars name ≡ value_at name (slice_get vars (position_of vars name))
   value_of-at [] h = refl
   value_of-at (v ∷ vars) h = by_ordering (names_cmp v.0 name) (less (value_of-at vars (ordered_rest v vars h))) same more where
     there : Ordering → Option (List ℕ)
-    there o = value_at name (slice_get (v ∷ vars) (cond (is_lt o) (1 + place_of vars name) 0))
+    there o = value_at name (slice_get (v ∷ vars) (cond (is_lt o) (1 + position_of vars name) 0))
 
     whole : Bool → Option (List ℕ)
     whole b = option_map (λ (v : Variable). v.1) (cond b (Some v) (find (λ (v : Variable). bytes_eq v.0 name) vars))
 
-    less : value_of vars name ≡ value_at name (slice_get vars (place_of vars name)) → names_cmp v.0 name ≡ Less → whole (bytes_eq v.0 name) ≡ there (names_cmp v.0 name)
+    less : value_of vars name ≡ value_at name (slice_get vars (position_of vars name)) → names_cmp v.0 name ≡ Less → whole (bytes_eq v.0 name) ≡ there (names_cmp v.0 name)
     less rest is =
         ap whole (apart v.0 name Less is)
         ∙ rest
-        ∙ ap (λ n. value_at name (slice_get (v ∷ vars) n)) (one_more (place_of vars name))
+        ∙ ap (λ n. value_at name (slice_get (v ∷ vars) n)) (one_more (position_of vars name))
         ∙ sym (ap there is)
 
     same : names_cmp v.0 name ≡ Equal → whole (bytes_eq v.0 name) ≡ there (names_cmp v.0 name)
@@ -248,40 +248,40 @@ length-seen : (all : List Shared) → length (variables_in all) ≡ length all
 length-seen [] = refl
 length-seen (a ∷ all) = ap suc (length-seen all)
 
--- what is done at a place among those that are shared
-module _ (all : List Shared) (vars : Variables) (name : List ℕ) (place : ℕ) (seen : variables_in all ≡ vars) (at : place ≡ place_of vars name) where
-  pub place_within : place ≤ length all
-  place_within = omega (arith, prefix_len-le-length (is_below name) vars, length-seen all, ap length seen, at)
+-- what is done at a position among those that are shared
+module _ (all : List Shared) (vars : Variables) (name : List ℕ) (position : ℕ) (seen : variables_in all ≡ vars) (at : position ≡ position_of vars name) where
+  pub position_within : position ≤ length all
+  position_within = omega (arith, prefix_len-le-length (is_below name) vars, length-seen all, ap length seen, at)
 
-  pub put_over : (value : List ℕ) (one : Shared) → arc_value one ≡ (name, value) → is_named name (slice_get vars place) ≡ true → variables_in (set all place one) ≡ with_value vars name value
+  pub put_over : (value : List ℕ) (one : Shared) → arc_value one ≡ (name, value) → is_named name (slice_get vars position) ≡ true → variables_in (set all position one) ≡ with_value vars name value
   put_over value one is there =
-      seen-set all place one
-      ∙ ap (λ (vs : Variables). set vs place (arc_value one)) seen
-      ∙ ap (set vars place) is
-      ∙ sym (ap (λ b. cond b (set vars place (name, value)) (insert vars place (name, value))) there)
+      seen-set all position one
+      ∙ ap (λ (vs : Variables). set vs position (arc_value one)) seen
+      ∙ ap (set vars position) is
+      ∙ sym (ap (λ b. cond b (set vars position (name, value)) (insert vars position (name, value))) there)
       ∙ ap (put_at name value vars) at
       ∙ sym (with_value-at name value vars)
 
-  pub put_between : (value : List ℕ) (one : Shared) → arc_value one ≡ (name, value) → is_named name (slice_get vars place) ≡ false → variables_in (insert all place one) ≡ with_value vars name value
+  pub put_between : (value : List ℕ) (one : Shared) → arc_value one ≡ (name, value) → is_named name (slice_get vars position) ≡ false → variables_in (insert all position one) ≡ with_value vars name value
   put_between value one is there =
-      seen-insert all place one
-      ∙ ap (λ (vs : Variables). insert vs place (arc_value one)) seen
-      ∙ ap (insert vars place) is
-      ∙ sym (ap (λ b. cond b (set vars place (name, value)) (insert vars place (name, value))) there)
+      seen-insert all position one
+      ∙ ap (λ (vs : Variables). insert vs position (arc_value one)) seen
+      ∙ ap (insert vars position) is
+      ∙ sym (ap (λ b. cond b (set vars position (name, value)) (insert vars position (name, value))) there)
       ∙ ap (put_at name value vars) at
       ∙ sym (with_value-at name value vars)
 
-  pub taken_away : AreOrdered vars → is_named name (slice_get vars place) ≡ true → variables_in (remove all place) ≡ without_value vars name
+  pub taken_away : AreOrdered vars → is_named name (slice_get vars position) ≡ true → variables_in (remove all position) ≡ without_value vars name
   taken_away ordered there =
-      seen-remove all place
-      ∙ ap (λ (vs : Variables). remove vs place) seen
-      ∙ sym (ap (λ b. cond b (remove vars place) vars) there)
+      seen-remove all position
+      ∙ ap (λ (vs : Variables). remove vs position) seen
+      ∙ sym (ap (λ b. cond b (remove vars position) vars) there)
       ∙ ap (removed_at name vars) at
       ∙ sym (without_value-at name vars ordered)
 
-  pub left : AreOrdered vars → is_named name (slice_get vars place) ≡ false → vars ≡ without_value vars name
+  pub left : AreOrdered vars → is_named name (slice_get vars position) ≡ false → vars ≡ without_value vars name
   left ordered there =
-      sym (ap (λ b. cond b (remove vars place) vars) there) ∙ ap (removed_at name vars) at ∙ sym (without_value-at name vars ordered)
+      sym (ap (λ b. cond b (remove vars position) vars) there) ∙ ap (removed_at name vars) at ∙ sym (without_value-at name vars ordered)
 
 -- where a search ends
 module _ (name : List ℕ) where
@@ -301,15 +301,15 @@ module _ (name : List ℕ) where
   parted (a ∷ all) ordered (suc i) zero d le within below = absurd (omega arith)
   parted (a ∷ all) ordered (suc i) (suc j) d le within below = parted all (ordered_rest (arc_value a) (variables_in all) ordered) i j d (omega arith) (omega arith) below
 
-  place-seen : (all : List Shared) → place_of (variables_in all) name ≡ prefix_len stands_below all
-  place-seen [] = refl
-  place-seen (a ∷ all) = ap (λ n. cond (stands_below a) (1 + n) 0) (place-seen all)
+  position-seen : (all : List Shared) → position_of (variables_in all) name ≡ prefix_len stands_below all
+  position-seen [] = refl
+  position-seen (a ∷ all) = ap (λ n. cond (stands_below a) (1 + n) 0) (position-seen all)
 
-  pub searched : (all : List Shared) (place : ℕ) → AreOrdered (variables_in all) → place ≤ length all → (IsPartitionedBy stands_below all → IsPartitionPoint (λ y. stands_below y ≡ true) (λ y. stands_below y ≡ false) all place) → place ≡ place_of (variables_in all) name
-  searched [] place ordered within point = let none : place ≤ 0 = within in omega arith
-  searched (a ∷ all) place ordered within point =
+  pub searched : (all : List Shared) (position : ℕ) → AreOrdered (variables_in all) → position ≤ length all → (IsPartitionedBy stands_below all → IsPartitionPoint (λ y. stands_below y ≡ true) (λ y. stands_below y ≡ false) all position) → position ≡ position_of (variables_in all) name
+  searched [] position ordered within point = let none : position ≤ 0 = within in omega arith
+  searched (a ∷ all) position ordered within point =
       let ends = point (parted (a ∷ all) ordered) in
-      sym (place-seen (a ∷ all) ∙ prefix_len_is stands_below (a ∷ all) place a within (λ k l. ends.0 k a (omega arith) l) (λ l. ends.1 place a (omega arith) l))
+      sym (position-seen (a ∷ all) ∙ prefix_len_is stands_below (a ∷ all) position a within (λ k l. ends.0 k a (omega arith) l) (λ l. ends.1 position a (omega arith) l))
 
 -- of names that are taken away in turn, the next
 pub without_more : (names : List (Bor (List ℕ))) (vs after whole : Variables) (k : ℕ) (d : Bor (List ℕ)) → k < length names → fold without_value vs (map (λ (name : Bor (List ℕ)). name.now) (drop k names)) ≡ whole → after ≡ without_value vs (get_or names k d).now → fold without_value after (map (λ (name : Bor (List ℕ)). name.now) (drop (k + 1) names)) ≡ whole

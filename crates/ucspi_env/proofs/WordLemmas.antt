@@ -14,7 +14,7 @@ use Rattle.connection_facts.specs.Peers.{given}
 use Rattle.ucspi_env.specs.HostMaps.{host_name_in}
 use Rattle.ucspi_env.specs.HostRows.{ignored, gives, bad, are_visible, is_host_name, lower, first_word, second_word, row_of_words, row_of_trimmed, gives_by, says_by}
 
--- a place past those that pass: one more passes, or no more does
+-- a position past those that pass: one more passes, or no more does
 module _ (p : ℕ → Bool) (xs : List ℕ) (k : ℕ) (so_far : prefix_len p xs ≡ k + prefix_len p (drop k xs)) where
   prefix_at : k < length xs → prefix_len p xs ≡ k + cond (p (get_or xs k 0)) (1 + prefix_len p (drop (k + 1) xs)) 0
   prefix_at inside =

@@ -43,8 +43,8 @@ abbrev pub is_below : List ℕ → Variable → Bool
 is_below name v = is_lt (slice_cmp nat_cmp v.0 name)
 
 -- how many variables stand before this name
-abbrev pub place_of : Variables → List ℕ → ℕ
-place_of vars name = prefix_len (is_below name) vars
+abbrev pub position_of : Variables → List ℕ → ℕ
+position_of vars name = prefix_len (is_below name) vars
 
 -- whether there is a variable, and it has this name
 abbrev pub is_named : List ℕ → Option Variable → Bool

@@ -2,7 +2,7 @@
 ghost use Rattle.std.specs.Prelude.{◌≡◌, [], length, map, slice_get, string_bytes, IfOk, OnOk, OnErr};
 ghost use Rattle.std.specs.Arc.{arc_value};
 ghost use Rattle.connection_facts.specs.Peers.{given};
-ghost use Rattle.ucspi_env.specs.Variables.{AreOrdered, is_below, is_named, place_of, value_at, value_of, with_value, without_value};
+ghost use Rattle.ucspi_env.specs.Variables.{AreOrdered, is_below, is_named, position_of, value_at, value_of, with_value, without_value};
 
 use std::alloc::{AllocError, Global};
 use std::marker::Model;
@@ -93,11 +93,11 @@ impl Environment {
         ensures unchanged { OnErr result (self.new ≡ self.old) }
     {
         let variable = Arc::new(alloc, Variable::new(alloc, name, value)?)?;
-        let place = self.place_of(name);
-        if self.is_named(place, name) {
-            self.variables[place] = variable;
+        let position = self.position_of(name);
+        if self.is_named(position, name) {
+            self.variables[position] = variable;
         } else {
-            self.variables.insert(place, variable)?;
+            self.variables.insert(position, variable)?;
         }
         Ok(())
     }
@@ -106,9 +106,9 @@ impl Environment {
     pub(crate) fn remove(&mut self, name: &str)
         ensures { self.new ≡ without_value self.old name.now }
     {
-        let place = self.place_of(name);
-        if self.is_named(place, name) {
-            drop(self.variables.remove(place));
+        let position = self.position_of(name);
+        if self.is_named(position, name) {
+            drop(self.variables.remove(position));
         }
     }
 
@@ -116,7 +116,7 @@ impl Environment {
     pub fn get(&self, name: &str) -> Option<&str>
         ensures { given result ≡ value_of self.now name.now }
     {
-        self.value_at(self.place_of(name), name)
+        self.value_at(self.position_of(name), name)
     }
 
     /// How many variables there are.
@@ -143,28 +143,28 @@ impl Environment {
     }
 
     // How many names are below this one.
-    fn place_of(&self, name: &str) -> usize
-        ensures place { result ≡ place_of self.now name.now }
+    fn position_of(&self, name: &str) -> usize
+        ensures position { result ≡ position_of self.now name.now }
         ensures ordered { AreOrdered self.now }
     {
         self.variables
             .partition_point(|variable| variable.is_below(name))
     }
 
-    // Whether the variable at a place has this name.
-    fn is_named(&self, place: usize, name: &str) -> bool
-        ensures { result ≡ is_named name.now (slice_get self.now place) }
+    // Whether the variable at a position has this name.
+    fn is_named(&self, position: usize, name: &str) -> bool
+        ensures { result ≡ is_named name.now (slice_get self.now position) }
     {
-        match self.variables.get(place) {
+        match self.variables.get(position) {
             Some(variable) => variable.name() == name,
             None => false,
         }
     }
-    // The value of the variable at a place, if it has this name.
-    fn value_at(&self, place: usize, name: &str) -> Option<&str>
-        ensures { given result ≡ value_at name.now (slice_get self.now place) }
+    // The value of the variable at a position, if it has this name.
+    fn value_at(&self, position: usize, name: &str) -> Option<&str>
+        ensures { given result ≡ value_at name.now (slice_get self.now position) }
     {
-        match self.variables.get(place) {
+        match self.variables.get(position) {
             Some(variable) => {
                 if variable.name() == name {
                     Some(variable.value())

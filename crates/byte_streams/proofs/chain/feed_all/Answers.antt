@@ -4,33 +4,33 @@ use Rattle.byte_streams.proofs.chain.feed_all.Goals as goal
 
 pub returns-in_err-feed-2-clause-wholes : goal.returns-in_err-feed-2-clause-wholes
 returns-in_err-feed-2-clause-wholes g c =
-    through_wholes c.args.wrappers.now c.loop-place.wrappers c.loop-place.place c.index-wrappers-place.result c.feed-in-loop-place.new.self
-    g.S.LineWrapper.whole c.in_err-feed-2.ensures.same c.loop-place.invariant.wholes
+    through_wholes c.args.wrappers.now c.loop-position.wrappers c.loop-position.position c.index-wrappers-position.result c.feed-in-loop-position.new.self
+    g.S.LineWrapper.whole c.in_err-feed-2.ensures.same c.loop-position.invariant.wholes
 
-pub loop-place-preserved : goal.loop-place-preserved
-loop-place-preserved g c =
-    let same : length c.loop-place.wrappers ≡ length c.args.wrappers.now = c.loop-place.auto.wrappers ∙ length-set c.args.wrappers.now 0 c.feed-2.new.self in
-    let test : c.loop-place.place < length c.args.wrappers.now - 1 = c.loop-place-test.true in
+pub loop-position-preserved : goal.loop-position-preserved
+loop-position-preserved g c =
+    let same : length c.loop-position.wrappers ≡ length c.args.wrappers.now = c.loop-position.auto.wrappers ∙ length-set c.args.wrappers.now 0 c.feed-2.new.self in
+    let test : c.loop-position.position < length c.args.wrappers.now - 1 = c.loop-position-test.true in
     record {
-      flows = flow_step c.args.wrappers.now c.loop-place.wrappers c.loop-place.place c.index-wrappers-place.result c.feed-in-loop-place.new.self
+      flows = flow_step c.args.wrappers.now c.loop-position.wrappers c.loop-position.position c.index-wrappers-position.result c.feed-in-loop-position.new.self
           g.S.LineWrapper.rest
-          c.args.piece.now c.loop-place.from.items _ _ _ _ (omega arith) c.loop-place.invariant.flows
-          c.deref.ensures.value c.clear-in-loop-place.ensures.items c.in_ok-feed-2.ensures.fed (ap (λ v. v.items) c.swap.ensures.x_after);
-      wholes = wholes_more c.args.wrappers.now c.loop-place.wrappers c.loop-place.place c.index-wrappers-place.result c.feed-in-loop-place.new.self
-          g.S.LineWrapper.whole c.in_ok-feed-2.ensures.same c.loop-place.invariant.wholes;
+          c.args.piece.now c.loop-position.from.items _ _ _ _ (omega arith) c.loop-position.invariant.flows
+          c.deref.ensures.value c.clear-in-loop-position.ensures.items c.in_ok-feed-2.ensures.fed (ap (λ v. v.items) c.swap.ensures.x_after);
+      wholes = wholes_more c.args.wrappers.now c.loop-position.wrappers c.loop-position.position c.index-wrappers-position.result c.feed-in-loop-position.new.self
+          g.S.LineWrapper.whole c.in_ok-feed-2.ensures.same c.loop-position.invariant.wholes;
     }
 
 pub returns-clause-fed : goal.returns-clause-fed
 returns-clause-fed g c =
-    let same : length c.loop-place.wrappers ≡ length c.args.wrappers.now = c.loop-place.auto.wrappers ∙ length-set c.args.wrappers.now 0 c.feed-2.new.self in
-    let test : length c.args.wrappers.now - 1 ≤ c.loop-place.place = c.loop-place-test.false in
-    let end : c.loop-place.place ≤ length c.args.wrappers.now - 1 = c.loop-place.auto.place-end (omega arith) in
-    flow_end c.feed-3.result c.args.wrappers.now c.loop-place.wrappers c.loop-place.place (length c.args.wrappers.now - 1) c.index-wrappers-last.result c.feed-3.new.self
+    let same : length c.loop-position.wrappers ≡ length c.args.wrappers.now = c.loop-position.auto.wrappers ∙ length-set c.args.wrappers.now 0 c.feed-2.new.self in
+    let test : length c.args.wrappers.now - 1 ≤ c.loop-position.position = c.loop-position-test.false in
+    let end : c.loop-position.position ≤ length c.args.wrappers.now - 1 = c.loop-position.auto.position-end (omega arith) in
+    flow_end c.feed-3.result c.args.wrappers.now c.loop-position.wrappers c.loop-position.position (length c.args.wrappers.now - 1) c.index-wrappers-last.result c.feed-3.new.self
     g.S.LineWrapper.rest
-    c.args.piece.now c.loop-place.from.items _ _ _ (omega arith) (omega arith) c.loop-place.invariant.flows
+    c.args.piece.now c.loop-position.from.items _ _ _ (omega arith) (omega arith) c.loop-position.invariant.flows
     c.deref-2.ensures.value c.feed-3.ensures.fed
 
 pub returns-clause-wholes : goal.returns-clause-wholes
 returns-clause-wholes g c =
-    through_wholes c.args.wrappers.now c.loop-place.wrappers (length c.args.wrappers.now - 1) c.index-wrappers-last.result c.feed-3.new.self
-    g.S.LineWrapper.whole c.feed-3.ensures.same c.loop-place.invariant.wholes
+    through_wholes c.args.wrappers.now c.loop-position.wrappers (length c.args.wrappers.now - 1) c.index-wrappers-last.result c.feed-3.new.self
+    g.S.LineWrapper.whole c.feed-3.ensures.same c.loop-position.invariant.wholes

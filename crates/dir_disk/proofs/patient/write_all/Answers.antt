@@ -20,7 +20,7 @@ pub returns-then-is_empty-clause-fits : goal.returns-then-is_empty-clause-fits
 returns-then-is_empty-clause-fits g c = λ honest.
     let rest = c.loop.rest.now in
     let none : rest ≡ [] = nil_from_length rest (grind (arith, nat_tests)) in
-    let reached : c.loop.at + length rest ≡ c.args.place + length c.args.bytes.now = c.loop.invariant.reached honest in
+    let reached : c.loop.at + length rest ≡ c.args.position + length c.args.bytes.now = c.loop.invariant.reached honest in
     omega (arith, reached, ap (λ (l : List ℕ). length l) none, c.loop.invariant.range)
 
 pub returns-in-Ok-eq0-clause-failed : goal.returns-in-Ok-eq0-clause-failed
@@ -35,7 +35,7 @@ returns-in-Ok-eq0-clause-failed g c = λ honest.
 -- a write, or none
 step : (g : Over) (c : goal.Joined-write_at g) → IsTrue g.D.Disk.honest
     → Next (g.D.Disk.number c.args.file.now) c.loop.at c.match-write_at.at c.loop.rest.now c.match-write_at.rest.now (g.D.Disk.state c.loop.disk) (g.D.Disk.state c.write_at.new.self)
-    (after_write c.args.place c.args.bytes.now (g.D.Disk.state c.args.disk.now))
+    (after_write c.args.position c.args.bytes.now (g.D.Disk.state c.args.disk.now))
 step g c honest = elim c.match-write_at.branch [
   | in-Ok w ↦ (
       let n = w.in-Ok.count in
@@ -45,12 +45,12 @@ step g c honest = elim c.match-write_at.branch [
       let further : c.match-write_at.at ≡ c.loop.at + n = omega (arith, w.at-is, w.saturating_add-at.ensures, small) in
       let fewer : c.match-write_at.rest.now ≡ drop n rest = rw w.rest-is (take_all (length rest - n) (drop n rest) (omega (arith, length-drop n rest))) in
       next (g.D.Disk.number c.args.file.now) c.loop.at c.match-write_at.at n rest c.match-write_at.rest.now (g.D.Disk.state c.loop.disk) (g.D.Disk.state c.write_at.new.self)
-      (after_write c.args.place c.args.bytes.now (g.D.Disk.state c.args.disk.now)) (c.loop.invariant.may honest) (c.loop.invariant.unsynced honest) (c.loop.invariant.to_come honest)
+      (after_write c.args.position c.args.bytes.now (g.D.Disk.state c.args.disk.now)) (c.loop.invariant.may honest) (c.loop.invariant.unsynced honest) (c.loop.invariant.to_come honest)
       fits further fewer (w.in-Ok.ensures.done honest))
   | in-Err w ↦ (
       let same : g.D.Disk.state c.write_at.new.self ≡ g.D.Disk.state c.loop.disk = search rules in
       next_none (g.D.Disk.number c.args.file.now) c.loop.at c.match-write_at.at c.loop.rest.now c.match-write_at.rest.now (g.D.Disk.state c.loop.disk) (g.D.Disk.state c.write_at.new.self)
-      (after_write c.args.place c.args.bytes.now (g.D.Disk.state c.args.disk.now)) (c.loop.invariant.may honest) (c.loop.invariant.unsynced honest) (c.loop.invariant.to_come honest)
+      (after_write c.args.position c.args.bytes.now (g.D.Disk.state c.args.disk.now)) (c.loop.invariant.may honest) (c.loop.invariant.unsynced honest) (c.loop.invariant.to_come honest)
       w.at-is (rw w.rest-is refl) same)
 ]
 

@@ -8,8 +8,8 @@ use Rattle.dir_disk.proofs.scratch.overwrite.Goals as goal
 
 pub write_all-requires-clause-may : goal.write_all-requires-clause-may
 write_all-requires-clause-may g c = λ honest.
-    let inside : c.args.place ≤ c.in_ok-file.written = omega (arith, c.requires.inside honest, c.in_ok-file.ensures.end honest) in
-    may_write (g.D.Disk.state c.write_kept.new.disk) (g.D.Disk.number c.in_ok-file.file) c.in_ok-file.written c.args.place (c.in_ok-file.ensures.writable honest) inside
+    let inside : c.args.position ≤ c.in_ok-file.written = omega (arith, c.requires.inside honest, c.in_ok-file.ensures.end honest) in
+    may_write (g.D.Disk.state c.write_kept.new.disk) (g.D.Disk.number c.in_ok-file.file) c.in_ok-file.written c.args.position (c.in_ok-file.ensures.writable honest) inside
 
 pub write_all-requires-clause-unsynced : goal.write_all-requires-clause-unsynced
 write_all-requires-clause-unsynced g c = λ honest.
@@ -25,14 +25,14 @@ returns-in-Err-clause-failed g c = λ honest.
 pub returns-in-Ok-clause-done : goal.returns-in-Ok-clause-done
 returns-in-Ok-clause-done g c = λ honest.
     ap (kept_back []) (c.in-Ok.ensures.done honest)
-    ∙ kept_patched (g.D.Disk.state c.args.disk.now) (g.D.Disk.state c.write_kept.new.disk) (g.D.Disk.number c.in_ok-file.file) c.in_ok-file.written c.args.place c.args.pending.now.items c.args.bytes.now
+    ∙ kept_patched (g.D.Disk.state c.args.disk.now) (g.D.Disk.state c.write_kept.new.disk) (g.D.Disk.number c.in_ok-file.file) c.in_ok-file.written c.args.position c.args.pending.now.items c.args.bytes.now
     (c.in_ok-file.ensures.writable honest) (c.in_ok-file.ensures.kept honest)
 
 pub returns-in-Ok-clause-writable : goal.returns-in-Ok-clause-writable
 returns-in-Ok-clause-writable g c = λ honest.
-    let inside : c.args.place + length c.args.bytes.now ≤ c.in_ok-file.written = omega (arith, c.requires.inside honest, c.in_ok-file.ensures.end honest) in
+    let inside : c.args.position + length c.args.bytes.now ≤ c.in_ok-file.written = omega (arith, c.requires.inside honest, c.in_ok-file.ensures.end honest) in
     subst (λ (x : Directory). IsWritable x (g.D.Disk.number c.in_ok-file.file) c.in_ok-file.written) (sym (c.in-Ok.ensures.done honest))
-    (writable_inside (g.D.Disk.state c.write_kept.new.disk) (g.D.Disk.number c.in_ok-file.file) c.in_ok-file.written c.args.place c.args.bytes.now (c.in_ok-file.ensures.writable honest) inside)
+    (writable_inside (g.D.Disk.state c.write_kept.new.disk) (g.D.Disk.number c.in_ok-file.file) c.in_ok-file.written c.args.position c.args.bytes.now (c.in_ok-file.ensures.writable honest) inside)
 
 pub returns-in-Ok-clause-time : goal.returns-in-Ok-clause-time
 returns-in-Ok-clause-time g c = λ honest.

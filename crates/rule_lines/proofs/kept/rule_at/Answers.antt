@@ -2,7 +2,7 @@
 use Rattle.std.proofs.Common.{◌≡◌, ◌+◌, ◌-◌, ◌<◌, ◌≤◌, ◌++◌, [], length, drop, slice_get, length-drop, refl, sym, ap, subst, ◌∙◌, arith}
 use Rattle.std.proofs.lemmas.List.{drop_all, take_rest}
 use Rattle.std.proofs.lemmas.Option.{slice_get_past}
-use Rattle.rule_lines.specs.declared.kept.LinePlace.{LinePlace}
+use Rattle.rule_lines.specs.declared.kept.LinePosition.{LinePosition}
 use Rattle.rule_lines.specs.Kept.{AreKept, IsLineAt, rules_in, rules_under}
 use Rattle.rule_lines.specs.ReadAddresses.{addresses_read}
 use Rattle.rule_lines.proofs.KeptLemmas.{IsLineAt-next, slice_get-at, slice_get-line}
@@ -10,7 +10,7 @@ use Rattle.rule_lines.proofs.kept.rule_at.Goals as goal
 use Rattle.rule_lines.proofs.kept.rule_at.Goals.{After-count_in, then-is_last, else-is_last}
 
 -- the line after the one that was read
-abbrev next_of : After-count_in → LinePlace
+abbrev next_of : After-count_in → LinePosition
 next_of c = record { start = length c.args.kept.now - length c.first_kept.result.1.now; before = c.loop-here.here.before + c.count_in.result }
 
 -- what was read is the first line of what is kept from here on
@@ -61,8 +61,8 @@ returns-then-i-next c =
     let found = slice_get-line c.args.kept.now c.loop-here.here (next_of at) c.loop-here.invariant.0 c.first_kept.result.0 c.first_kept.result.1.now read.rules read.follows read.shorter c.first_kept.ensures.kept refl read.before c.args.i c.loop-here.invariant.1 c.if-i-next.true in
     record {
       rule = found.0;
-      place = found.1;
-      place_by = omega arith;
+      position = found.1;
+      position_by = omega arith;
       others = λ n inside.
           let before = c.loop-here.here.before in
           let back : c.args.i - (c.args.i - before) ≡ before = omega (arith, c.loop-here.invariant.1) in
@@ -74,8 +74,8 @@ returns-then-i-next c =
         | else-is_last w ↦ subst (IsLineAt c.args.kept.now) (sym w.result-is) c.loop-here.invariant.0
       ];
       resume_by = elim c.if-is_last.branch [
-        | then-is_last w ↦ omega (arith, ap (λ (l : LinePlace). l.before) w.result-is, w.if-is_last.true)
-        | else-is_last w ↦ omega (arith, ap (λ (l : LinePlace). l.before) w.result-is, c.loop-here.invariant.1)
+        | then-is_last w ↦ omega (arith, ap (λ (l : LinePosition). l.before) w.result-is, w.if-is_last.true)
+        | else-is_last w ↦ omega (arith, ap (λ (l : LinePosition). l.before) w.result-is, c.loop-here.invariant.1)
       ];
     }
 

@@ -3,7 +3,7 @@ use Rattle.std.proofs.lemmas.List.{drop_all, take_rest}
 use Rattle.memchr.specs.Find.{is_byte}
 use Rattle.rule_lines.proofs.FoundLemmas.{list_any-nowhere}
 use Rattle.rule_lines.proofs.LineLemmas.{lines_of-at, lines_of-none}
-use Rattle.rule_lines.proofs.SplitLemmas.{has_byte-before, split_at_place}
+use Rattle.rule_lines.proofs.SplitLemmas.{has_byte-before, split_at_position}
 use Rattle.rule_lines.proofs.lines.first_line.Goals as goal
 
 pub returns-in-Some-clause-lines : goal.returns-in-Some-clause-lines
@@ -19,7 +19,7 @@ pub returns-in-None-clause-one_line : goal.returns-in-None-clause-one_line
 returns-in-None-clause-one_line c = list_any-nowhere (is_byte 10) c.args.text.now c.in-None.ensures
 
 pub returns-in-Some-clause-cut : goal.returns-in-Some-clause-cut
-returns-in-Some-clause-cut c = inl (split_at_place 10 c.in-Some.end c.args.text.now c.in-Some.ensures.0.high c.in-Some.ensures.1)
+returns-in-Some-clause-cut c = inl (split_at_position 10 c.in-Some.end c.args.text.now c.in-Some.ensures.0.high c.in-Some.ensures.1)
 
 pub returns-in-None-clause-cut : goal.returns-in-None-clause-cut
 returns-in-None-clause-cut c =

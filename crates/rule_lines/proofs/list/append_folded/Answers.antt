@@ -10,10 +10,10 @@ pub returns-clause-ok : goal.returns-clause-ok
 returns-clause-ok c =
     let out = c.args.out.now.items in
     let address = c.args.address.now in
-    let place : c.unwrap_or-place.result ≡ position_or_len (λ b. eqb b 61) address =
-    c.unwrap_or-place.ensures ∙ position_or_len-search (is_byte 61) address c.memchr.result c.memchr.ensures in
+    let position : c.unwrap_or-position.result ≡ position_or_len (λ b. eqb b 61) address =
+    c.unwrap_or-position.ensures ∙ position_or_len-search (is_byte 61) address c.memchr.result c.memchr.ensures in
     let start : c.len-start.result ≡ length out = omega arith in
-    append_folded-is out address c.deref_mut.result.now c.make_ascii_lowercase.new.self _ (c.len-start.result + c.unwrap_or-place.result) c.extend_from_slice.new.self.len
+    append_folded-is out address c.deref_mut.result.now c.make_ascii_lowercase.new.self _ (c.len-start.result + c.unwrap_or-position.result) c.extend_from_slice.new.self.len
     (c.deref_mut.ensures.value ∙ c.in_ok-extend_from_slice.ensures.items)
     (omega arith)
     c.make_ascii_lowercase.ensures.after

@@ -9,17 +9,17 @@ use Rattle.memchr.specs.Find.{is_byte}
 use Rattle.rule_lines.proofs.FoldLemmas.{folded-cut, folded-joined}
 use Rattle.rule_lines.proofs.FoundLemmas.{position_or_len-search}
 use Rattle.rule_lines.proofs.list.is_folded.Goals as goal
-use Rattle.rule_lines.proofs.list.is_folded.Goals.{After-unwrap_or-place, then-address-bytes, else-address-bytes}
+use Rattle.rule_lines.proofs.list.is_folded.Goals.{After-unwrap_or-position, then-address-bytes, else-address-bytes}
 
-place_is : (c : After-unwrap_or-place) → c.unwrap_or-place.result ≡ position_or_len (λ b. b == 61) c.args.address.now
-place_is c = c.unwrap_or-place.ensures ∙ position_or_len-search (is_byte 61) c.args.address.now c.memchr.result c.memchr.ensures
+position_is : (c : After-unwrap_or-position) → c.unwrap_or-position.result ≡ position_or_len (λ b. b == 61) c.args.address.now
+position_is c = c.unwrap_or-position.ensures ∙ position_or_len-search (is_byte 61) c.args.address.now c.memchr.result c.memchr.ensures
 
 pub returns-then-eq : goal.returns-then-eq
 returns-then-eq c =
     let address = c.args.address.now in
     let bytes = c.args.bytes.now in
-    let at = c.unwrap_or-place.result in
-    let is = place_is (goal.at.returns-then-eq c).After-unwrap_or-place in
+    let at = c.unwrap_or-position.result in
+    let is = position_is (goal.at.returns-then-eq c).After-unwrap_or-position in
     elim c.if-address-bytes.branch [
       | then-address-bytes w ↦
           let same : take at address ≡ take at bytes = (bytes_eq-Decides (take at address) (take at bytes)).0 (sym w.eq.ensures ∙ (sym w.value-is ∙ c.if-eq.true)) in (
@@ -33,8 +33,8 @@ pub returns-else-eq : goal.returns-else-eq
 returns-else-eq c =
     let address = c.args.address.now in
     let bytes = c.args.bytes.now in
-    let at = c.unwrap_or-place.result in
-    let is = place_is (goal.at.returns-else-eq c).After-unwrap_or-place in (
+    let at = c.unwrap_or-position.result in
+    let is = position_is (goal.at.returns-else-eq c).After-unwrap_or-position in (
       λ yes. absurd (false≢true (sym c.if-eq.false ∙ yes)),
       λ folded. elim c.if-address-bytes.branch [
         | then-address-bytes w ↦ absurd (false≢true (sym c.if-eq.false ∙ (w.value-is ∙ (w.eq.ensures ∙ (bytes_eq-Decides (take at address) (take at bytes)).1 (folded-cut address bytes at is folded).0))))

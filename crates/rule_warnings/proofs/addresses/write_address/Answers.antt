@@ -10,5 +10,5 @@ returns-in-Range c =
     let range = c.in-Range in
     let written = range.front.now ++ decimal c.number_at-number.result ++ range.back.now in
     OnOk-map c.push_numbered.result
-    (λ is. is ∙ ap (λ l. l ++ written) c.clear.ensures.items ∙ sym (get_or-range c.args.addresses.now range.front range.back range.numbers c.args.place c.number_at-number.result range.is c.requires (sym c.number_at-number.ensures)))
+    (λ is. is ∙ ap (λ l. l ++ written) c.clear.ensures.items ∙ sym (get_or-range c.args.addresses.now range.front range.back range.numbers c.args.position c.number_at-number.result range.is c.requires (sym c.number_at-number.ensures)))
     c.push_numbered.ensures

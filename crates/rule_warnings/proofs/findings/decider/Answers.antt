@@ -4,11 +4,11 @@ use Rattle.rule_warnings.specs.Tables.{line_under}
 use Rattle.rule_warnings.proofs.StepLemmas.{least-more}
 use Rattle.rule_warnings.proofs.findings.decider.Goals as goal
 
-pub loop-place-preserved : goal.loop-place-preserved
-loop-place-preserved c =
+pub loop-position-preserved : goal.loop-position-preserved
+loop-position-preserved c =
     let first = line_under c.args.seen.now in
     let addresses = addresses_read c.args.addresses.now in
-    let inside : c.loop-place.place < length addresses = omega (arith, c.loop-place-test.true, c.count-place-end.ensures) in
-    let found : first (get_or addresses c.loop-place.place []) ≡ Some c.in-Some.line =
+    let inside : c.loop-position.position < length addresses = omega (arith, c.loop-position-test.true, c.count-position-end.ensures) in
+    let found : first (get_or addresses c.loop-position.position []) ≡ Some c.in-Some.line =
     ap first (sym (c.deref.ensures.value ∙ c.in_ok-write_address.ensures)) ∙ sym c.in_ok-line.ensures ∙ c.in-Some.is in
-    rw c.lesser.ensures (least-more first addresses c.loop-place.place c.in-Some.line c.loop-place.least inside found c.loop-place.invariant)
+    rw c.lesser.ensures (least-more first addresses c.loop-position.position c.in-Some.line c.loop-position.least inside found c.loop-position.invariant)

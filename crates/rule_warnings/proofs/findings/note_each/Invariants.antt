@@ -4,6 +4,6 @@ use Rattle.rule_warnings.specs.Tables.{line_under, noted_all}
 use Rattle.rule_warnings.proofs.findings.note_each.Given as goal
 
 -- the addresses so far are noted
-abbrev pub invariant-loop-place : goal.invariant-loop-place
-invariant-loop-place l =
-    (other : List ℕ) → line_under l.seen other ≡ noted_all (line_under l.initial.seen) (take l.place (addresses_read l.addresses)) l.number other
+abbrev pub invariant-loop-position : goal.invariant-loop-position
+invariant-loop-position l =
+    (other : List ℕ) → line_under l.seen other ≡ noted_all (line_under l.initial.seen) (take l.position (addresses_read l.addresses)) l.number other

@@ -1,7 +1,7 @@
 -- Numbers that reach the end of their room are over any limit.
 use Rattle.std.proofs.Common.{arith}
 use Rattle.std.proofs.lemmas.Bool.{le-leb, leb-true}
-use Rattle.rules_install.proofs.PlaceLemmas.{finished_length-stored}
+use Rattle.rules_install.proofs.LayoutLemmas.{finished_length-stored}
 use Rattle.rules_install.proofs.pieces.keeps_to.Goals as goal
 
 pub returns : goal.returns

@@ -10,33 +10,33 @@ use Rattle.rules_tools.proofs.installing.install_text.Goals as goal
 pub returns-in_err-_folder-clause-runs : goal.returns-in_err-_folder-clause-runs
 returns-in_err-_folder-clause-runs g c =
     let p = err_from_is_err_and c.from_residual.result c.from_residual.ensures.1 in
-    let places = c.in_err-_folder.ensures in
+    let paths = c.in_err-_folder.ensures in
     let fault = c.in_err-_folder.field-0.0 in
     let input = g.R.Read.remaining c.args.reader.now in
     let d = folder_dir c.args.folder.now in
     rw (p.1, p.2)
     (record {
-      folder = places.folder;
-      other = places.other;
-      names = places.names;
-      first = places.first;
-      second = places.second;
-      told = tells_fault places.folder places.other places.names fault places.placed;
+      folder = paths.folder;
+      other = paths.other;
+      names = paths.names;
+      first = paths.first;
+      second = paths.second;
+      told = tells_fault paths.folder paths.other paths.names fault paths.placed;
       installs = λ none.
-          unchanged _ places.names fault refl (λ is image left. g.met.D.Dir.only_now d image is left)
-          (subst (λ (f : TcprulesFault). FailsInput input f) (sym (memory_alone places.folder places.other places.names fault places.placed none)) (memory_fails input));
+          unchanged _ paths.names fault refl (λ is image left. g.met.D.Dir.only_now d image is left)
+          (subst (λ (f : TcprulesFault). FailsInput input f) (sym (memory_alone paths.folder paths.other paths.names fault paths.placed none)) (memory_fails input));
     })
 
 pub returns-clause-runs : goal.returns-clause-runs
 returns-clause-runs g c =
-    let places = c.in_ok-_folder.ensures in
+    let paths = c.in_ok-_folder.ensures in
     record {
-      folder = places.folder;
-      other = places.other;
-      names = places.names;
-      first = places.first;
-      second = places.second;
-      told = tells places.folder places.other places.names c.install_named.result c.install_named.ensures.of_text places.placed.0;
+      folder = paths.folder;
+      other = paths.other;
+      names = paths.names;
+      first = paths.first;
+      second = paths.second;
+      told = tells paths.folder paths.other paths.names c.install_named.result c.install_named.ensures.of_text paths.placed.0;
       installs = λ none.
           subst (λ (names : NamePair). Installs {D = g.row.D.Denot} (record {
             tells = g.D.Dir;
@@ -44,5 +44,5 @@ returns-clause-runs g c =
             input = g.R.Read.remaining c.args.reader.now;
             old = folder_dir c.args.folder.now;
             new = folder_dir c.install_named.new.folder;
-          }) names c.install_named.result) places.placed.2 c.install_named.ensures.installs;
+          }) names c.install_named.result) paths.placed.2 c.install_named.ensures.installs;
     }

@@ -20,7 +20,7 @@ pub returns-in-Err-IllegalEvent : goal.returns-in-Err-IllegalEvent
 returns-in-Err-IllegalEvent c =
     let es = c.history.inside.events.items in
     let w = start c.history.inside.limit c.history.inside.per_address in
-    let first : IsFirstIllegal w es c.in-Err-IllegalEvent.place = rw (c.in-Err-IllegalEvent.field-0-is, c.as_slice-events.ensures.value) at c.in-Err-IllegalEvent.ensures.refused in
-    let some : first_illegal w es ≡ Some c.in-Err-IllegalEvent.place = (c.first_illegal.ensures.some w es c.in-Err-IllegalEvent.place).1 first in
+    let first : IsFirstIllegal w es c.in-Err-IllegalEvent.position = rw (c.in-Err-IllegalEvent.field-0-is, c.as_slice-events.ensures.value) at c.in-Err-IllegalEvent.ensures.refused in
+    let some : first_illegal w es ≡ Some c.in-Err-IllegalEvent.position = (c.first_illegal.ensures.some w es c.in-Err-IllegalEvent.position).1 first in
     let whole = sym (ap (λ o. outcome o es) some) ∙ ap (λ (h : History). replayed (Some h)) c.history.view_is in
     on_ok_weaker c.append_illegal.result (λ e. e ∙ ap (λ (t : List ℕ). c.args.out.now.items ++ t) whole) c.append_illegal.ensures

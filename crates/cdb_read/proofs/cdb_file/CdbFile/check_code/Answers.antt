@@ -1,7 +1,7 @@
 -- Each piece is read as one of the value.
 use Rattle.std.proofs.Common.{◌+◌, ◌≤◌, ◌∙◌, arith, sym}
 use Rattle.std.proofs.lemmas.Bool.{eqb-true}
-use Rattle.cdb_read.specs.Parts.{value_of, value_place}
+use Rattle.cdb_read.specs.Parts.{value_of, value_position}
 use Rattle.cdb_read.proofs.PieceLemmas.{GoesOn-next, length-bytes_at, piece_of, refused-end, refused-stage, refused-text}
 use Rattle.cdb_read.proofs.cdb_file.CdbFile.check_code.Goals as goal
 
@@ -12,11 +12,11 @@ returns-in_default g c =
           let file = g.F.RulesFile.bytes c.args.self.now in
           let done = c.loop-done.done in
           let count = c.min-count.result in
-          let long = length-bytes_at file (value_place c.args.stored) c.args.stored.value_len (c.requires.inside honest) in
+          let long = length-bytes_at file (value_position c.args.stored) c.args.stored.value_len (c.requires.inside honest) in
           let within : done + count ≤ c.args.stored.value_len = grind (arith, c.min-count.ensures) in
-          let piece = rw c.value_place.ensures at (c.in-Ok.ensures.bytes honest) in
+          let piece = rw c.value_position.ensures at (c.in-Ok.ensures.bytes honest) in
           refused-text (value_of file c.args.stored) c.in-Ok.piece.items done count c.loop-done.stage (c.loop-done.invariant.on honest)
-          (piece ∙ piece_of file (value_place c.args.stored) c.args.stored.value_len done count (c.requires.inside honest) within) (omega arith)
+          (piece ∙ piece_of file (value_position c.args.stored) c.args.stored.value_len done count (c.requires.inside honest) within) (omega arith)
           (λ rest ends. rw c.deref.ensures.value at (c.in_default.ensures rest (λ last. ends (eqb-true _ _ last ∙ sym long))));
     }
 
@@ -27,12 +27,12 @@ returns-then-is_no_code g c =
           let file = g.F.RulesFile.bytes c.args.self.now in
           let done = c.loop-done.done in
           let count = c.min-count.result in
-          let long = length-bytes_at file (value_place c.args.stored) c.args.stored.value_len (c.requires.inside honest) in
+          let long = length-bytes_at file (value_position c.args.stored) c.args.stored.value_len (c.requires.inside honest) in
           let within : done + count ≤ c.args.stored.value_len = grind (arith, c.min-count.ensures) in
-          let piece = rw c.value_place.ensures at (c.in-Ok.ensures.bytes honest) in
+          let piece = rw c.value_position.ensures at (c.in-Ok.ensures.bytes honest) in
           let front = rw c.deref.ensures.value at c.in-Some.ensures in
           refused-stage (value_of file c.args.stored) c.in-Ok.piece.items done count c.loop-done.stage (c.loop-done.invariant.on honest)
-          (piece ∙ piece_of file (value_place c.args.stored) c.args.stored.value_len done count (c.requires.inside honest) within) (omega arith)
+          (piece ∙ piece_of file (value_position c.args.stored) c.args.stored.value_len done count (c.requires.inside honest) within) (omega arith)
           c.in-Some.front (omega (arith, front.1, c.in-Ok.ensures.length))
           (rw (c.from-stage.ensures, c.deref-in-loop-done.ensures.value) at (c.is_no_code.ensures c.if-is_no_code.true));
     }
@@ -47,10 +47,10 @@ loop-done-preserved g c =
       inside = omega (arith, front.1, c.in-Ok.ensures.length);
       on = λ honest.
           let file = g.F.RulesFile.bytes c.args.self.now in
-          let long = length-bytes_at file (value_place c.args.stored) c.args.stored.value_len (c.requires.inside honest) in
-          let piece = rw c.value_place.ensures at (c.in-Ok.ensures.bytes honest) in
+          let long = length-bytes_at file (value_position c.args.stored) c.args.stored.value_len (c.requires.inside honest) in
+          let piece = rw c.value_position.ensures at (c.in-Ok.ensures.bytes honest) in
           let next = GoesOn-next (value_of file c.args.stored) c.in-Ok.piece.items done count c.loop-done.stage (c.loop-done.invariant.on honest)
-          (piece ∙ piece_of file (value_place c.args.stored) c.args.stored.value_len done count (c.requires.inside honest) within) (omega arith)
+          (piece ∙ piece_of file (value_position c.args.stored) c.args.stored.value_len done count (c.requires.inside honest) within) (omega arith)
           c.in-Some.front (omega (arith, front.1, c.in-Ok.ensures.length)) front.2 in
           rw (c.from-stage.ensures, c.deref-in-loop-done.ensures.value) next;
     }
@@ -60,6 +60,6 @@ returns-else-may_end g c =
     record {
       refused = λ honest.
           let file = g.F.RulesFile.bytes c.args.self.now in
-          let long = length-bytes_at file (value_place c.args.stored) c.args.stored.value_len (c.requires.inside honest) in
+          let long = length-bytes_at file (value_position c.args.stored) c.args.stored.value_len (c.requires.inside honest) in
           refused-end (value_of file c.args.stored) c.loop-done.done c.loop-done.stage (c.loop-done.invariant.on honest) (omega arith) (sym c.may_end.ensures ∙ c.if-may_end.false);
     }

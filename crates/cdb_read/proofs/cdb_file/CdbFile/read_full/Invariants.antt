@@ -7,7 +7,7 @@ invariant-loop-done g l =
       inside : l.done ≤ length l.buf;
       filled :
           IsTrue g.F.RulesFile.honest
-          → take l.done l.buf ≡ take l.done (drop l.place (g.F.RulesFile.bytes l.self));
+          → take l.done l.buf ≡ take l.done (drop l.position (g.F.RulesFile.bytes l.self));
     }
 
 abbrev pub decreases-loop-done : goal.decreases-loop-done

@@ -8,7 +8,7 @@ abbrev pub invariant-loop-done : goal.invariant-loop-done
 invariant-loop-done g l = record {
   inside : l.done ≤ l.len;
   part : has_byte 0 l.held.items ≡ false;
-  on : IsTrue g.F.RulesFile.honest → AreAll (bytes_at (g.F.RulesFile.bytes l.self) l.place l.len) l.settings l.held.items l.done;
+  on : IsTrue g.F.RulesFile.honest → AreAll (bytes_at (g.F.RulesFile.bytes l.self) l.position l.len) l.settings l.held.items l.done;
 }
 
 abbrev pub decreases-loop-done : goal.decreases-loop-done

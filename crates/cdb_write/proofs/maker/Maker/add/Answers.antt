@@ -12,8 +12,8 @@ stored c =
     let pair : Pair = record { key = c.args.key.now; value = c.args.value.now } in
     let hashed : c.hash.result ≡ hash_of c.args.key.now = c.hash.ensures in
     let appended : c.append_record.new.out.items ≡ c.self.inside.records.items ++ record_of pair = c.in_ok-append_record.ensures.appended in
-    let place : c.len-place.result ≡ length c.self.inside.records.items = omega (arith, c.len-place.ensures) in
-    let pushed : c.push.new.self.items ≡ c.self.inside.entries.items ++ (hash_of pair.key, 2048 + length c.self.inside.records.items) ∷ [] = c.in_ok-push.ensures.items ∙ ap (λ es. es ++ (c.hash.result, 2048 + c.len-place.result) ∷ []) c.reserve.ensures.items ∙ ap (λ h. c.self.inside.entries.items ++ (h, 2048 + c.len-place.result) ∷ []) hashed ∙ ap (λ n. c.self.inside.entries.items ++ (hash_of pair.key, 2048 + n) ∷ []) place in
+    let position : c.len-position.result ≡ length c.self.inside.records.items = omega (arith, c.len-position.ensures) in
+    let pushed : c.push.new.self.items ≡ c.self.inside.entries.items ++ (hash_of pair.key, 2048 + length c.self.inside.records.items) ∷ [] = c.in_ok-push.ensures.items ∙ ap (λ es. es ++ (c.hash.result, 2048 + c.len-position.result) ∷ []) c.reserve.ensures.items ∙ ap (λ h. c.self.inside.entries.items ++ (h, 2048 + c.len-position.result) ∷ []) hashed ∙ ap (λ n. c.self.inside.entries.items ++ (hash_of pair.key, 2048 + n) ∷ []) position in
     let same : finished_length pairs ≡ finished_length c.args.self.now.pairs = ap (λ (m : Making). finished_length m.pairs) c.self.view_is in
     let fits : finished_length (pairs ++ pair ∷ []) ≤ c.self.inside.limit = omega (arith, finished_length-push pairs pair, same, c.self.invariant.most) in
     Stores-push c.self.inside.limit c.self.inside.records.items _ c.self.inside.entries.items _ pairs pair c.self.invariant fits appended pushed

@@ -8,13 +8,13 @@ use Rattle.dir_calls.proofs.mem_dir.MemDirDir.patch.Goals as goal
 pub returns-clause-time : goal.returns-clause-time
 returns-clause-time c = λ honest.
     let m = c.args.self.now in
-    let does : directory_of c.patch.new.self ≡ after (patches c.args.place c.args.bytes.now) (directory_of m.folder) = search rules in
-    elapses_more m.past.items c.and-past.result.items (m.folder, None) (patches c.args.place c.args.bytes.now) (directory_of m.folder) (directory_of c.patch.new.self) c.and-past.ensures
-    (records_plain (patches c.args.place c.args.bytes.now) (directory_of m.folder) (directory_of c.patch.new.self) does (λ state passes. passes))
+    let does : directory_of c.patch.new.self ≡ after (patches c.args.position c.args.bytes.now) (directory_of m.folder) = search rules in
+    elapses_more m.past.items c.and-past.result.items (m.folder, None) (patches c.args.position c.args.bytes.now) (directory_of m.folder) (directory_of c.patch.new.self) c.and-past.ensures
+    (records_plain (patches c.args.position c.args.bytes.now) (directory_of m.folder) (directory_of c.patch.new.self) does (λ state passes. passes))
 
 pub returns-clause-within : goal.returns-clause-within
 returns-clause-within c = λ honest.
     let m = c.args.self.now in
-    let does : directory_of c.patch.new.self ≡ after (patches c.args.place c.args.bytes.now) (directory_of m.folder) = search rules in
-    includes_more m.past.items c.and-past.result.items (m.folder, None) (patches c.args.place c.args.bytes.now) (directory_of m.folder) (directory_of c.patch.new.self) c.and-past.ensures
-    (records_plain (patches c.args.place c.args.bytes.now) (directory_of m.folder) (directory_of c.patch.new.self) does (λ state passes. passes))
+    let does : directory_of c.patch.new.self ≡ after (patches c.args.position c.args.bytes.now) (directory_of m.folder) = search rules in
+    includes_more m.past.items c.and-past.result.items (m.folder, None) (patches c.args.position c.args.bytes.now) (directory_of m.folder) (directory_of c.patch.new.self) c.and-past.ensures
+    (records_plain (patches c.args.position c.args.bytes.now) (directory_of m.folder) (directory_of c.patch.new.self) does (λ state passes. passes))

@@ -13,7 +13,7 @@ pub overwrite-outcome-requires-clause-inside : goal.overwrite-outcome-requires-c
 overwrite-outcome-requires-clause-inside g c = λ honest.
     let s = c.args.self.now in
     let is : IsWritable (g.D.Disk.state s.disk) (g.D.Disk.number c.in-Some.file) s.written = (s.holds honest).1 c.in-Some.file (sym c.take.ensures.value ∙ c.in-Some.is) in
-    kept_room (g.D.Disk.state s.disk) (g.D.Disk.number c.in-Some.file) s.written (c.args.place + length c.args.bytes.now) s.pending.items is (c.requires.inside honest)
+    kept_room (g.D.Disk.state s.disk) (g.D.Disk.number c.in-Some.file) s.written (c.args.position + length c.args.bytes.now) s.pending.items is (c.requires.inside honest)
 
 pub returns-in_err-file-clause-does : goal.returns-in_err-file-clause-does
 returns-in_err-file-clause-does g c = λ honest.
@@ -21,7 +21,7 @@ returns-in_err-file-clause-does g c = λ honest.
     let d = g.D.Disk.state s.disk in
     let e = g.D.Disk.state c.overwrite-outcome.new.disk in
     let q = c.overwrite-outcome.new.pending.items in
-    let call = patches c.args.place c.args.bytes.now in
+    let call = patches c.args.position c.args.bytes.now in
     let device : IfErr c.from_residual.result (λ f. f ≡ Device) = search rules in
     let is : IsErr c.from_residual.result = search rules in
     does_residual (λ _. call) call (kept_back s.pending.items d) (kept_back q e) c.from_residual.result is device
@@ -40,7 +40,7 @@ returns-clause-time g c = λ honest.
     let p = s.pending.items in
     let q = c.overwrite-outcome.new.pending.items in
     let now : IsWritable e (g.D.Disk.number c.in_ok-file.file) c.in_ok-file.written = if_ok_take c.overwrite-outcome.result (c.in_ok-file.file, c.in_ok-file.written) (λ w. IsWritable e (g.D.Disk.number w.0) w.1) c.in_ok-file.ensures.passed (c.overwrite-outcome.ensures.writable honest) in
-    call_elapses g.D.Disk.state g.D.Disk.moment g.D.Disk.left_since s.disk c.overwrite-outcome.new.disk (patches c.args.place c.args.bytes.now) (kept_back p d) (kept_back q e) (c.overwrite-outcome.ensures.time honest)
+    call_elapses g.D.Disk.state g.D.Disk.moment g.D.Disk.left_since s.disk c.overwrite-outcome.new.disk (patches c.args.position c.args.bytes.now) (kept_back p d) (kept_back q e) (c.overwrite-outcome.ensures.time honest)
     (λ image is. kept_image g.D.Disk.number d s.scratch s.written p image (s.holds honest) is) (λ image is. writable_image e (g.D.Disk.number c.in_ok-file.file) c.in_ok-file.written q image now is)
 
 pub returns-clause-within : goal.returns-clause-within
@@ -50,7 +50,7 @@ returns-clause-within g c = λ honest.
     let e = g.D.Disk.state c.overwrite-outcome.new.disk in
     let p = s.pending.items in
     let q = c.overwrite-outcome.new.pending.items in
-    let call = patches c.args.place c.args.bytes.now in
+    let call = patches c.args.position c.args.bytes.now in
     let now : IsWritable e (g.D.Disk.number c.in_ok-file.file) c.in_ok-file.written = if_ok_take c.overwrite-outcome.result (c.in_ok-file.file, c.in_ok-file.written) (λ w. IsWritable e (g.D.Disk.number w.0) w.1) c.in_ok-file.ensures.passed (c.overwrite-outcome.ensures.writable honest) in
     let none : q ≡ [] = on_ok_take c.overwrite-outcome.result (c.in_ok-file.file, c.in_ok-file.written) (q ≡ []) c.in_ok-file.ensures.passed c.overwrite-outcome.ensures.empty in
     let done : kept_back [] e ≡ after call (kept_back p d) = on_ok_take c.overwrite-outcome.result (c.in_ok-file.file, c.in_ok-file.written) (kept_back [] e ≡ after call (kept_back p d)) c.in_ok-file.ensures.passed (c.overwrite-outcome.ensures.done honest) in

@@ -10,7 +10,7 @@ pub returns-in-Some-clause-written : goal.returns-in-Some-clause-written
 returns-in-Some-clause-written c =
     let list = c.self.inside in
     subst (λ (rules : List Rule). IsStored (slice_get rules c.args.i) true c.write.new.rule.key.items c.write.new.rule.code.items) c.self.view_is
-    (IsStored-range list.kept.items list.range c.args.i c.in-Some.place c.write.new.rule.key.items c.write.new.rule.code.items c.self.invariant.range_is c.in-Some.ensures.0 c.in-Some.ensures.1 c.in_ok-write.ensures.key c.in_ok-write.ensures.code)
+    (IsStored-range list.kept.items list.range c.args.i c.in-Some.position c.write.new.rule.key.items c.write.new.rule.code.items c.self.invariant.range_is c.in-Some.ensures.0 c.in-Some.ensures.1 c.in_ok-write.ensures.key c.in_ok-write.ensures.code)
 
 pub returns-then-i-self-clause-written : goal.returns-then-i-self-clause-written
 returns-then-i-self-clause-written c =

@@ -8,10 +8,10 @@ use Rattle.cdb_write.specs.Tables.{AddsEntry}
 use Rattle.cdb_write.proofs.RecordLemmas.{length-record_bytes}
 use Rattle.cdb_read.specs.Compiled.{pair_of, stored}
 use Rattle.rules_install.specs.Pieces.{from_piece}
-use Rattle.rules_install.specs.Places.{ArePlaced}
+use Rattle.rules_install.specs.Layout.{ArePlaced}
 use Rattle.rules_install.specs.declared.pieces.Piece.TheVariants.{Unset, Record, Table}
-use Rattle.rules_install.proofs.PlaceLemmas.{ArePlaced-more, room-next}
-use Rattle.rules_install.proofs.PieceLemmas.{behind, past_from_none, place-fits, records-more, records-past, rule-fits, stored-here, stored-none}
+use Rattle.rules_install.proofs.LayoutLemmas.{ArePlaced-more, room-next}
+use Rattle.rules_install.proofs.PieceLemmas.{behind, past_from_none, position-fits, records-more, records-past, rule-fits, stored-here, stored-none}
 use Rattle.rules_install.proofs.pieces.Pieces.make.Goals as goal
 
 pub place_record-requires-clause-fits : goal.place_record-requires-clause-fits
@@ -19,14 +19,14 @@ place_record-requires-clause-fits c =
     let list = c.self.inside.list in
     let found = stored-here _ _ _ _ c.in_ok-write_rule-in-Record.ensures.written c.if-branch.true in
     let at = ap (slice_get list) (sym c.if-i-self.true) ∙ found.1 in
-    let room = room-next list c.self.inside.places found.0 at c.self.invariant in
+    let room = room-next list c.self.inside.layout found.0 at c.self.invariant in
     omega (arith, room.0, ap length found.2, ap length found.3)
 
 pub invariant_of-self-in-Continue-branch-3 : goal.invariant_of-self-in-Continue-branch-3
 invariant_of-self-in-Continue-branch-3 c =
     let list = c.self.inside.list in
-    let old = c.self.inside.places in
-    let new = c.place_record.new.places in
+    let old = c.self.inside.layout in
+    let new = c.place_record.new.layout in
     let found = stored-here _ _ _ _ c.in_ok-write_rule-in-Record.ensures.written c.if-branch.true in
     let at = ap (slice_get list) (sym c.if-i-self.true) ∙ found.1 in
     let said = c.in_ok-place_record-in-Record.ensures in
@@ -49,7 +49,7 @@ append_record-requires-clause-value_fits c =
 pub overflow_add-result : goal.overflow_add-result
 overflow_add-result c =
     let found = stored-here _ _ _ _ c.in_ok-write_rule-in-Record.ensures.written c.if-branch.true in
-    let here = place-fits c.self.inside.list c.in-Record.i found.0 found.1 in
+    let here = position-fits c.self.inside.list c.in-Record.i found.0 found.1 in
     omega (arith, c.self.invariant.fits)
 
 pub returns-in_ok-piece-in-Unset-clause-made : goal.returns-in_ok-piece-in-Unset-clause-made
@@ -86,7 +86,7 @@ returns-else-branch-clause-made c =
     let past = past_from_none c.self.inside.list c.in-Record.i (stored-none _ _ _ _ c.in_ok-write_rule-in-Record.ensures.written c.if-branch.false) in
     let none : records_of (drop c.in-Record.i (stored rules)) ≡ [] =
     ap (λ (rs : List Rule). records_of (drop c.in-Record.i (stored rs))) (sym c.self.view_is) ∙ records-past c.self.inside.list c.in-Record.i past in
-    let whole : from_piece rules (Table 0) ≡ from_piece rules c.args.place =
+    let whole : from_piece rules (Table 0) ≡ from_piece rules c.args.position =
     ap (λ (bytes : List ℕ). bytes ++ tables_of (stored rules)) (sym none) ∙ ap (from_piece rules) (sym c.in-Record.is) in
     let made = subst (λ (rs : List Rule). IfOk c.table.result (λ next. MatchOption next ((from_piece rs (Table 0) ≡ []) × (c.table.new.piece.items ≡ [])) (λ n. (0 < length c.table.new.piece.items) × (from_piece rs (Table 0) ≡ c.table.new.piece.items ++ from_piece rs n)))) same c.table.ensures.made in
     subst (λ (bytes : List ℕ). IfOk c.table.result (λ next. MatchOption next ((bytes ≡ []) × (c.table.new.piece.items ≡ [])) (λ n. (0 < length c.table.new.piece.items) × (bytes ≡ c.table.new.piece.items ++ from_piece rules n)))) whole made

@@ -1,1 +1,1 @@
--- Once each rule has its place, the tables are those of the file.
+-- Once each rule has its position, the tables are those of the file.

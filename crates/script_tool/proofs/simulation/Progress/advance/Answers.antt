@@ -1,16 +1,16 @@
 use Rattle.std.proofs.Common.{◌<◌, arith, ap}
 use Rattle.dir_calls.specs.MemDir.{mem_state}
-use Rattle.script_tool.specs.Texts.{place_of, place_reached}
+use Rattle.script_tool.specs.Texts.{position_of, position_reached}
 use Rattle.script_tool.proofs.ProgressLemmas.{advances_more, arrives, not_done, placed}
 use Rattle.script_tool.proofs.simulation.Progress.advance.Goals as goal
-use Rattle.script_tool.proofs.simulation.Progress.advance.Goals.{In_default, in_default-via-in-Some+else-place_of, in_default-via-in_default}
+use Rattle.script_tool.proofs.simulation.Progress.advance.Goals.{In_default, in_default-via-in-Some+else-position_of, in_default-via-in_default}
 
 -- the phase is still to be reached
-ahead : (c : In_default) → place_reached (c.loop-self.self.reached) < place_of c.args.target
+ahead : (c : In_default) → position_reached (c.loop-self.self.reached) < position_of c.args.target
 ahead c =
     elim c.in_default.branch [
-      | in_default-via-in-Some+else-place_of w ↦ omega (arith, ap place_reached w.in-Some.is)
-      | in_default-via-in_default w ↦ omega (arith, ap place_reached w.in_default.is, (placed c.args.target).0)
+      | in_default-via-in-Some+else-position_of w ↦ omega (arith, ap position_reached w.in-Some.is)
+      | in_default-via-in_default w ↦ omega (arith, ap position_reached w.in_default.is, (placed c.args.target).0)
     ]
 
 pub returns-in-Some : goal.returns-in-Some

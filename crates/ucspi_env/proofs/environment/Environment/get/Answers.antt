@@ -6,5 +6,5 @@ use Rattle.ucspi_env.proofs.environment.Environment.get.Goals as goal
 pub returns : goal.returns
 returns c =
     c.value_at.ensures
-    ∙ ap (λ place. value_at c.args.name.now (slice_get c.args.self.now place)) c.place_of.ensures.place
-    ∙ sym (value_of-at c.args.name.now c.args.self.now c.place_of.ensures.ordered)
+    ∙ ap (λ position. value_at c.args.name.now (slice_get c.args.self.now position)) c.position_of.ensures.position
+    ∙ sym (value_of-at c.args.name.now c.args.self.now c.position_of.ensures.ordered)

@@ -1,32 +1,32 @@
 use Rattle.std.proofs.Common.{◌≤◌, ◌∙◌, ap, subst, sym}
 use Rattle.ucspi_env.specs.Variables.{AreOrdered, variables_in}
-use Rattle.ucspi_env.proofs.VariableLemmas.{place_within, put-ordered, put_between, put_over}
+use Rattle.ucspi_env.proofs.VariableLemmas.{position_within, put-ordered, put_between, put_over}
 use Rattle.ucspi_env.proofs.environment.Environment.put.Goals as goal
 
 pub returns-then-is_named-clause-put : goal.returns-then-is_named-clause-put
 returns-then-is_named-clause-put c =
-    put_over c.self.inside.variables.items c.args.self.now c.args.name.now c.place_of-place.result c.self.view_is c.place_of-place.ensures.place c.args.value.now c.in_ok-variable.variable
+    put_over c.self.inside.variables.items c.args.self.now c.args.name.now c.position_of-position.result c.self.view_is c.position_of-position.ensures.position c.args.value.now c.in_ok-variable.variable
     (c.in_ok-variable.ensures.ok ∙ c.in_ok-new.ensures) (sym c.is_named.ensures ∙ c.if-is_named.true)
 
 pub invariant_of-self : goal.invariant_of-self
 invariant_of-self c =
-    let now = put_over c.self.inside.variables.items c.args.self.now c.args.name.now c.place_of-place.result c.self.view_is c.place_of-place.ensures.place c.args.value.now c.in_ok-variable.variable
+    let now = put_over c.self.inside.variables.items c.args.self.now c.args.name.now c.position_of-position.result c.self.view_is c.position_of-position.ensures.position c.args.value.now c.in_ok-variable.variable
     (c.in_ok-variable.ensures.ok ∙ c.in_ok-new.ensures) (sym c.is_named.ensures ∙ c.if-is_named.true) in
     subst AreOrdered (sym now) (put-ordered c.args.name.now c.args.value.now c.args.self.now (subst AreOrdered c.self.view_is c.self.invariant))
 
 pub insert-requires : goal.insert-requires
 insert-requires c =
-    subst (λ n. c.place_of-place.result ≤ n) (sym c.self.inside.variables.ok.0)
-    (place_within c.self.inside.variables.items c.args.self.now c.args.name.now c.place_of-place.result c.self.view_is c.place_of-place.ensures.place)
+    subst (λ n. c.position_of-position.result ≤ n) (sym c.self.inside.variables.ok.0)
+    (position_within c.self.inside.variables.items c.args.self.now c.args.name.now c.position_of-position.result c.self.view_is c.position_of-position.ensures.position)
 
 pub returns-in_ok-insert-clause-put : goal.returns-in_ok-insert-clause-put
 returns-in_ok-insert-clause-put c =
     ap variables_in c.in_ok-insert.ensures.items
-    ∙ put_between c.self.inside.variables.items c.args.self.now c.args.name.now c.place_of-place.result c.self.view_is c.place_of-place.ensures.place c.args.value.now c.in_ok-variable.variable
+    ∙ put_between c.self.inside.variables.items c.args.self.now c.args.name.now c.position_of-position.result c.self.view_is c.position_of-position.ensures.position c.args.value.now c.in_ok-variable.variable
     (c.in_ok-variable.ensures.ok ∙ c.in_ok-new.ensures) (sym c.is_named.ensures ∙ c.if-is_named.false)
 
 pub invariant_of-self-in_ok-insert : goal.invariant_of-self-in_ok-insert
 invariant_of-self-in_ok-insert c =
-    let now = put_between c.self.inside.variables.items c.args.self.now c.args.name.now c.place_of-place.result c.self.view_is c.place_of-place.ensures.place c.args.value.now c.in_ok-variable.variable
+    let now = put_between c.self.inside.variables.items c.args.self.now c.args.name.now c.position_of-position.result c.self.view_is c.position_of-position.ensures.position c.args.value.now c.in_ok-variable.variable
     (c.in_ok-variable.ensures.ok ∙ c.in_ok-new.ensures) (sym c.is_named.ensures ∙ c.if-is_named.false) in
     subst AreOrdered (sym (ap variables_in c.in_ok-insert.ensures.items ∙ now)) (put-ordered c.args.name.now c.args.value.now c.args.self.now (subst AreOrdered c.self.view_is c.self.invariant))

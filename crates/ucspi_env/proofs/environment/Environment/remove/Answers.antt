@@ -6,16 +6,16 @@ use Rattle.ucspi_env.proofs.environment.Environment.remove.Goals as goal
 pub returns-then-is_named : goal.returns-then-is_named
 returns-then-is_named c =
     ap variables_in c.remove.ensures.items
-    ∙ taken_away c.self.inside.variables.items c.args.self.now c.args.name.now c.place_of-place.result c.self.view_is c.place_of-place.ensures.place
+    ∙ taken_away c.self.inside.variables.items c.args.self.now c.args.name.now c.position_of-position.result c.self.view_is c.position_of-position.ensures.position
     (subst AreOrdered c.self.view_is c.self.invariant) (sym c.is_named.ensures ∙ c.if-is_named.true)
 
 pub invariant_of-self : goal.invariant_of-self
 invariant_of-self c =
     let ordered = subst AreOrdered c.self.view_is c.self.invariant in
-    let now = taken_away c.self.inside.variables.items c.args.self.now c.args.name.now c.place_of-place.result c.self.view_is c.place_of-place.ensures.place ordered (sym c.is_named.ensures ∙ c.if-is_named.true) in
+    let now = taken_away c.self.inside.variables.items c.args.self.now c.args.name.now c.position_of-position.result c.self.view_is c.position_of-position.ensures.position ordered (sym c.is_named.ensures ∙ c.if-is_named.true) in
     subst AreOrdered (sym (ap variables_in c.remove.ensures.items ∙ now)) (removed-ordered c.args.name.now c.args.self.now ordered)
 
 pub returns-else-is_named : goal.returns-else-is_named
 returns-else-is_named c =
-    left c.self.inside.variables.items c.args.self.now c.args.name.now c.place_of-place.result c.self.view_is c.place_of-place.ensures.place
+    left c.self.inside.variables.items c.args.self.now c.args.name.now c.position_of-position.result c.self.view_is c.position_of-position.ensures.position
     (subst AreOrdered c.self.view_is c.self.invariant) (sym c.is_named.ensures ∙ c.if-is_named.false)

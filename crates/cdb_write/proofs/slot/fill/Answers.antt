@@ -1,7 +1,7 @@
 use Rattle.std.proofs.Common.{◌/◌, ◌%◌, length, set, ap, sym, refl, ◌∙◌, arith}
 use Rattle.cdb_write.proofs.SlotLemmas.{free_slot_found, free_slot_found_before, first-le, start-lt}
-use Rattle.cdb_write.proofs.slot.place.Goals as goal
-use Rattle.cdb_write.proofs.slot.place.Goals.{then-upward-slots, else-upward-slots}
+use Rattle.cdb_write.proofs.slot.fill.Goals as goal
+use Rattle.cdb_write.proofs.slot.fill.Goals.{then-upward-slots, else-upward-slots}
 
 pub overflow_add-upward : goal.overflow_add-upward
 overflow_add-upward c =

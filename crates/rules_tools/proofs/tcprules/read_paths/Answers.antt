@@ -6,10 +6,10 @@ use Rattle.std.proofs.lemmas.Bool.{not-true, not-false, or_left, or_right}
 use Rattle.std.proofs.lemmas.Result.{err_from_is_err_and}
 use Rattle.dir_calls.specs.Names.{name_fault}
 use Rattle.rules_install.specs.NamePair.{NamePair}
-use Rattle.rules_tools.specs.Paths.{PlacesOf, IsSplit, IsPlaced, paths_fault}
+use Rattle.rules_tools.specs.Paths.{PathsOf, IsSplit, AreSplit, paths_fault}
 use Rattle.rules_tools.specs.declared.tcprules.TcprulesFault.{TcprulesFault}
 use Rattle.rules_tools.specs.declared.tcprules.TcprulesFault.TheVariants.{BadName, OtherFolder, SameName, OutOfMemory}
-use Rattle.rules_tools.proofs.tcprules.read_places.Goals as goal
+use Rattle.rules_tools.proofs.tcprules.read_paths.Goals as goal
 
 -- what is wrong, by the tests: a name is bad, the folders are one, the names are one
 abbrev fault_by : Bool → Bool → Bool → Option TcprulesFault
@@ -18,19 +18,19 @@ fault_by bad one_folder one_name =
 
 -- the parts of two paths
 module _ (cdb tmp folder other first second : List ℕ) (splits_cdb : IsSplit cdb folder first) (splits_tmp : IsSplit tmp other second) where
-  places : (result : Result (Bor (List ℕ) × NamePair) TcprulesFault) → IsPlaced folder other (record { cdb = first; tmp = second }) result → PlacesOf cdb tmp result
-  places result placed =
+  paths : (result : Result (Bor (List ℕ) × NamePair) TcprulesFault) → AreSplit folder other (record { cdb = first; tmp = second }) result → PathsOf cdb tmp result
+  paths result placed =
       record { folder = folder; other = other; names = record { cdb = first; tmp = second }; first = splits_cdb; second = splits_tmp; placed = placed }
 
   -- a bad name among them
-  bad_name : (is_some (name_fault first) || is_some (name_fault second)) ≡ true → PlacesOf cdb tmp (Err BadName)
+  bad_name : (is_some (name_fault first) || is_some (name_fault second)) ≡ true → PathsOf cdb tmp (Err BadName)
   bad_name bad =
-      places (Err BadName) (ap (λ b. fault_by b (bytes_eq folder other) (bytes_eq first second)) bad)
+      paths (Err BadName) (ap (λ b. fault_by b (bytes_eq folder other) (bytes_eq first second)) bad)
 
-  refuses_first : (fault : TcprulesFault) → (fault ≡ BadName) × IsSome (name_fault first) → PlacesOf cdb tmp (Err fault)
+  refuses_first : (fault : TcprulesFault) → (fault ≡ BadName) × IsSome (name_fault first) → PathsOf cdb tmp (Err fault)
   refuses_first fault is = rw is.0 (bad_name (or_left (is_some (name_fault first)) (is_some (name_fault second)) is.1))
 
-  refuses_second : (fault : TcprulesFault) → (fault ≡ BadName) × IsSome (name_fault second) → PlacesOf cdb tmp (Err fault)
+  refuses_second : (fault : TcprulesFault) → (fault ≡ BadName) × IsSome (name_fault second) → PathsOf cdb tmp (Err fault)
   refuses_second fault is = rw is.0 (bad_name (or_right (is_some (name_fault first)) (is_some (name_fault second)) is.1))
 
   -- two good names, in different folders or one name
@@ -39,18 +39,18 @@ module _ (cdb tmp folder other first second : List ℕ) (splits_cdb : IsSplit cd
       ap (λ b. fault_by b (bytes_eq folder other) (bytes_eq first second)) (ap (λ o. is_some o || is_some (name_fault second)) good_first ∙ ap is_some good_second)
       ∙ ap (λ b. fault_by false b (bytes_eq first second)) folders ∙ ap (λ b. fault_by false one_folder b) names
 
-  other_folder : name_fault first ≡ None → name_fault second ≡ None → bytes_eq folder other ≡ false → PlacesOf cdb tmp (Err OtherFolder)
+  other_folder : name_fault first ≡ None → name_fault second ≡ None → bytes_eq folder other ≡ false → PathsOf cdb tmp (Err OtherFolder)
   other_folder good_first good_second folders =
-      places (Err OtherFolder) (fault-good false (bytes_eq first second) good_first good_second folders refl)
+      paths (Err OtherFolder) (fault-good false (bytes_eq first second) good_first good_second folders refl)
 
-  same_name : name_fault first ≡ None → name_fault second ≡ None → bytes_eq folder other ≡ true → bytes_eq first second ≡ true → PlacesOf cdb tmp (Err SameName)
+  same_name : name_fault first ≡ None → name_fault second ≡ None → bytes_eq folder other ≡ true → bytes_eq first second ≡ true → PathsOf cdb tmp (Err SameName)
   same_name good_first good_second folders names =
-      places (Err SameName) (fault-good true true good_first good_second folders names)
+      paths (Err SameName) (fault-good true true good_first good_second folders names)
 
   -- nothing is wrong with them, but there is no memory
-  no_memory : name_fault first ≡ None → name_fault second ≡ None → bytes_eq folder other ≡ true → bytes_eq first second ≡ false → PlacesOf cdb tmp (Err OutOfMemory)
+  no_memory : name_fault first ≡ None → name_fault second ≡ None → bytes_eq folder other ≡ true → bytes_eq first second ≡ false → PathsOf cdb tmp (Err OutOfMemory)
   no_memory good_first good_second folders names =
-      places (Err OutOfMemory) (fault-good true false good_first good_second folders names)
+      paths (Err OutOfMemory) (fault-good true false good_first good_second folders names)
 
 -- the fault where there is no value
 not_there : {T E : Type 0} (o : Option T) (fault given : E) → Err fault ≡ ok_or o given → fault ≡ given

@@ -12,8 +12,8 @@ use Rattle.cdb_write.specs.Image.{finished_length, records_length}
 use Rattle.cdb_write.specs.Tables.{AddsEntry, AreTablesOf, HoldsByTable}
 use Rattle.cdb_write.proofs.RecordLemmas.{entries_from-push, finished_length-push, length-record_bytes, records_of-push}
 use Rattle.cdb_read.specs.Compiled.{pair_of, stored}
-use Rattle.rules_install.specs.Places.{ArePlaced, first_stored}
-use Rattle.rules_install.specs.declared.places.Places.{Places}
+use Rattle.rules_install.specs.Layout.{ArePlaced, first_stored}
+use Rattle.rules_install.specs.declared.layout.Layout.{Layout}
 
 -- ---- how long the file is
 
@@ -32,51 +32,51 @@ records_length-stored (rule ∷ rules) =
 pub finished_length-stored : (rules : List Rule) → finished_length (stored rules) ≡ 2048 + 24 * length rules + stored_length rules
 finished_length-stored rules = omega (arith, records_length-stored rules, length-map rules pair_of)
 
--- ---- places
+-- ---- layout
 
--- at first none has a place
-pub ArePlaced-none : (rules : List Rule) (places : Places) → places.placed ≡ 0 → places.end ≡ 2048 → HoldsByTable places.tables []
-    → finished_length (stored rules) < 2 ^ 32 → ArePlaced rules places
-ArePlaced-none rules places none end held fits = record {
+-- at first none has a position
+pub ArePlaced-none : (rules : List Rule) (layout : Layout) → layout.placed ≡ 0 → layout.end ≡ 2048 → HoldsByTable layout.tables []
+    → finished_length (stored rules) < 2 ^ 32 → ArePlaced rules layout
+ArePlaced-none rules layout none end held fits = record {
   inside = omega (arith, none);
-  by_table = subst (λ n. HoldsByTable places.tables (entries_of (first_stored rules n))) (sym none) held;
+  by_table = subst (λ n. HoldsByTable layout.tables (entries_of (first_stored rules n))) (sym none) held;
   begins = end ∙ sym (ap (λ n. 2048 + records_length (first_stored rules n)) none);
   fits = fits;
 }
 
 -- one rule more
-first_stored-more : (rules : List Rule) (place : ℕ) (rule : Rule) → slice_get rules place ≡ Some rule
-    → first_stored rules (place + 1) ≡ first_stored rules place ++ pair_of rule ∷ []
-first_stored-more rules place rule at =
-    map_more pair_of rules place rule (slice_get_within rules place rule at)
-    ∙ ap (λ (r : Rule). first_stored rules place ++ pair_of r ∷ []) (get_or_from_slice_get rules place rule rule at)
+first_stored-more : (rules : List Rule) (position : ℕ) (rule : Rule) → slice_get rules position ≡ Some rule
+    → first_stored rules (position + 1) ≡ first_stored rules position ++ pair_of rule ∷ []
+first_stored-more rules position rule at =
+    map_more pair_of rules position rule (slice_get_within rules position rule at)
+    ∙ ap (λ (r : Rule). first_stored rules position ++ pair_of r ∷ []) (get_or_from_slice_get rules position rule rule at)
 
 -- a file of one rule more is as much longer
-finished_length-more : (rules : List Rule) (place : ℕ) (rule : Rule) → slice_get rules place ≡ Some rule
-    → finished_length (first_stored rules (place + 1)) ≡ finished_length (first_stored rules place) + 24 + length rule.address + length (code_of rule.instr)
-finished_length-more rules place rule at =
-    ap finished_length (first_stored-more rules place rule at) ∙ finished_length-push (first_stored rules place) (pair_of rule)
+finished_length-more : (rules : List Rule) (position : ℕ) (rule : Rule) → slice_get rules position ≡ Some rule
+    → finished_length (first_stored rules (position + 1)) ≡ finished_length (first_stored rules position) + 24 + length rule.address + length (code_of rule.instr)
+finished_length-more rules position rule at =
+    ap finished_length (first_stored-more rules position rule at) ∙ finished_length-push (first_stored rules position) (pair_of rule)
 
 -- a file of the first rules is no longer than one of all
-finished_length-le : (rules : List Rule) (place : ℕ) → finished_length (first_stored rules place) ≤ finished_length (stored rules)
-finished_length-le rules place =
-    let front = first_stored rules place in
-    let back = stored (drop place rules) in
-    let all : stored rules ≡ front ++ back = ap stored (sym (take-append-drop place rules)) ∙ map-append pair_of (take place rules) (drop place rules) in
+finished_length-le : (rules : List Rule) (position : ℕ) → finished_length (first_stored rules position) ≤ finished_length (stored rules)
+finished_length-le rules position =
+    let front = first_stored rules position in
+    let back = stored (drop position rules) in
+    let all : stored rules ≡ front ++ back = ap stored (sym (take-append-drop position rules)) ∙ map-append pair_of (take position rules) (drop position rules) in
     let records : records_length (stored rules) ≡ length (records_of front ++ records_of back) = ap records_length all ∙ ap length (flat_map-append record_of front back) in
     omega (arith, records, length-append (records_of front) (records_of back), ap length all, length-append front back)
 
--- there is room for the place of the next record
-pub room-next : (rules : List Rule) (places : Places) (rule : Rule) → slice_get rules places.placed ≡ Some rule → ArePlaced rules places
-    → (places.end + 8 + length rule.address + length (code_of rule.instr) < 2 ^ 32) × (places.placed < 2 ^ 32)
-room-next rules places rule at are =
-    let whole = finished_length-le rules (places.placed + 1) in (
-      omega (arith, whole, finished_length-more rules places.placed rule at, are.begins, are.fits),
-      omega (arith, slice_get_within rules places.placed rule at, are.fits, length-map rules pair_of),
+-- there is room for the position of the next record
+pub room-next : (rules : List Rule) (layout : Layout) (rule : Rule) → slice_get rules layout.placed ≡ Some rule → ArePlaced rules layout
+    → (layout.end + 8 + length rule.address + length (code_of rule.instr) < 2 ^ 32) × (layout.placed < 2 ^ 32)
+room-next rules layout rule at are =
+    let whole = finished_length-le rules (layout.placed + 1) in (
+      omega (arith, whole, finished_length-more rules layout.placed rule at, are.begins, are.fits),
+      omega (arith, slice_get_within rules layout.placed rule at, are.fits, length-map rules pair_of),
     )
 
 -- the next rule is placed behind them
-pub ArePlaced-more : (rules : List Rule) (old new : Places) (rule : Rule) → slice_get rules old.placed ≡ Some rule → ArePlaced rules old
+pub ArePlaced-more : (rules : List Rule) (old new : Layout) (rule : Rule) → slice_get rules old.placed ≡ Some rule → ArePlaced rules old
     → AddsEntry (hash_of rule.address, old.end) old.tables new.tables → new.end ≡ old.end + 8 + length rule.address + length (code_of rule.instr)
     → new.placed ≡ old.placed + 1 → ArePlaced rules new
 ArePlaced-more rules old new rule at are adds ends placed =
@@ -97,16 +97,16 @@ ArePlaced-more rules old new rule at are adds ends placed =
     }
 
 -- of the first rules there are as many as were placed
-pub placed-le : (rules : List Rule) (places : Places) → ArePlaced rules places → places.placed ≤ length rules
-placed-le rules places are = are.inside
+pub placed-le : (rules : List Rule) (layout : Layout) → ArePlaced rules layout → layout.placed ≤ length rules
+placed-le rules layout are = are.inside
 
 -- where all rules are placed, these are the tables of the file
-pub AreTablesOf-all : (rules : List Rule) (places : Places) → length rules ≤ places.placed → ArePlaced rules places
-    → AreTablesOf (stored rules) places.tables places.end
-AreTablesOf-all rules places all are =
-    let same : first_stored rules places.placed ≡ stored rules = ap stored (take_all places.placed rules all) in
+pub AreTablesOf-all : (rules : List Rule) (layout : Layout) → length rules ≤ layout.placed → ArePlaced rules layout
+    → AreTablesOf (stored rules) layout.tables layout.end
+AreTablesOf-all rules layout all are =
+    let same : first_stored rules layout.placed ≡ stored rules = ap stored (take_all layout.placed rules all) in
     record {
-      by_table = subst (λ (pairs : List Pair). HoldsByTable places.tables (entries_of pairs)) same are.by_table;
+      by_table = subst (λ (pairs : List Pair). HoldsByTable layout.tables (entries_of pairs)) same are.by_table;
       begins = are.begins ∙ ap (λ (pairs : List Pair). 2048 + records_length pairs) same;
       fits = are.fits;
     }

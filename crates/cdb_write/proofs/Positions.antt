@@ -9,7 +9,7 @@ use Rattle.std.proofs.lemmas.List.FromFn.{fill_by_all, get_or-map-range_with_len
 use Rattle.std.proofs.lemmas.List.Sums.{count_by-le-length, length-filter, sum_by-cons}
 use Rattle.std.specs.List.{count_by, flat_map, range_with_len}
 use Rattle.cdb_write.specs.Format.{Pair, entries_of, records_of, two_numbers_at}
-use Rattle.cdb_write.specs.Image.{finished_length, header_bytes, pointer_of, slots_of, table_bytes, table_place}
+use Rattle.cdb_write.specs.Image.{finished_length, header_bytes, pointer_of, slots_of, table_bytes, table_position}
 use Rattle.cdb_write.specs.Slots.{pointer_at, slots_at, table_entries, table_of}
 use Rattle.cdb_write.proofs.Probing.{count_by-none, empty}
 use Rattle.cdb_write.proofs.Placing.{entry, slots_placed}
@@ -81,8 +81,8 @@ count_by-all n (x ∷ es) e =
     omega (arith, sum_by-cons count x es, one, count_by-all n es e)
 
 -- behind all tables the file ends
-pub table_place-all : (pairs : List Pair) (n : ℕ) → n ≡ 256 → table_place pairs n ≡ finished_length pairs
-table_place-all pairs n e = omega (arith, count_by-all n (entries_of pairs) e, length-entries pairs)
+pub table_position-all : (pairs : List Pair) (n : ℕ) → n ≡ 256 → table_position pairs n ≡ finished_length pairs
+table_position-all pairs n e = omega (arith, count_by-all n (entries_of pairs) e, length-entries pairs)
 
 -- how long the header is
 length-header : (pairs : List Pair) (n : ℕ) → length (header_of pairs n) ≡ 8 * n
@@ -115,7 +115,7 @@ record Split (pairs : List Pair) (n t : ℕ) : Type 0 where
   before : List ℕ
   rest : List ℕ
   joined : file_of pairs n ≡ before ++ (table_in pairs t ++ rest)
-  place : length before ≡ table_place pairs t
+  position : length before ≡ table_position pairs t
 
 -- the file is what stands before a table, the table, and the rest
 split_at : (pairs : List Pair) (n t : ℕ) → n ≡ 256 → t < n → Split pairs n t
@@ -131,14 +131,14 @@ split_at pairs n t e l =
       before = header ++ records ++ front;
       rest = rest;
       joined = ap (λ (r : List ℕ). header ++ records ++ r) split ∙ sym (append_assoc (header ++ records) front (f t ++ rest));
-      place = omega (arith, length-append (header ++ records) front, length-append header records, length-header pairs n, length-tables pairs t);
+      position = omega (arith, length-append (header ++ records) front, length-append header records, length-header pairs n, length-tables pairs t);
     }
 
 -- a table ends inside the file
 pub inside-file : (pairs : List Pair) (n t : ℕ) → n ≡ 256 → t < n → (pointer_of pairs t).0 + 8 * (pointer_of pairs t).1 ≤ length (file_of pairs n)
 inside-file pairs n t e l =
     let s = split_at pairs n t e l in
-    omega (arith, ap length s.joined, length-append s.before (table_in pairs t ++ s.rest), length-append (table_in pairs t) s.rest, length-table pairs t, s.place)
+    omega (arith, ap length s.joined, length-append s.before (table_in pairs t ++ s.rest), length-append (table_in pairs t) s.rest, length-table pairs t, s.position)
 
 -- a pointer fits
 fit_pointer : (pairs : List Pair) (t : ℕ) → finished_length pairs < 2 ^ 32 → AreFit (pointer_of pairs t)
@@ -160,9 +160,9 @@ pointer-file pairs n t h l =
     let tables = flat_map (table_in pairs) (range_with_len 0 n) in
     let size = length-map-range_with_len (pointer_of pairs) 0 n in
     let at = λ (k : ℕ) (m : k < n). get_or-map-range_with_len (pointer_of pairs) 0 n k k empty m (omega arith) in
-    let place : 8 * t ≡ 0 + 8 * t = omega arith in
+    let position : 8 * t ≡ 0 + 8 * t = omega arith in
     ap (λ (file : List ℕ). two_numbers_at file (8 * t)) (append_assoc header records tables)
-    ∙ ap (two_numbers_at (header ++ (records ++ tables))) place
+    ∙ ap (two_numbers_at (header ++ (records ++ tables))) position
     ∙ reads_nth pointers [] (records ++ tables) t (λ k m. subst AreFit (sym (at k (omega (arith, size)))) (fit_pointer pairs k l)) (omega (arith, size))
     ∙ at t h
 
@@ -180,13 +180,13 @@ fit_slots pairs t k l h =
 pub slots-file : (pairs : List Pair) (n t : ℕ) → n ≡ 256 → t < n → finished_length pairs < 2 ^ 32 → slots_at (file_of pairs n) t ≡ slots_of (table_entries t pairs)
 slots-file pairs n t e h l =
     let file = file_of pairs n in
-    let place = table_place pairs t in
+    let position = table_position pairs t in
     let slots = slots_of (table_entries t pairs) in
     let size = (slots_placed (table_entries t pairs) (rising_table t pairs)).size in
     let s = split_at pairs n t e h in
     let at = λ (k : ℕ) (m : k < 2 * length (table_entries t pairs)).
-    ap (λ (g : List ℕ). two_numbers_at g (place + 8 * k)) s.joined
-    ∙ ap (λ (b : ℕ). two_numbers_at (s.before ++ (table_in pairs t ++ s.rest)) (b + 8 * k)) (sym s.place)
+    ap (λ (g : List ℕ). two_numbers_at g (position + 8 * k)) s.joined
+    ∙ ap (λ (b : ℕ). two_numbers_at (s.before ++ (table_in pairs t ++ s.rest)) (b + 8 * k)) (sym s.position)
     ∙ reads_nth slots s.before s.rest k (λ i j. fit_slots pairs t i l j) (omega (arith, size)) in
     ap (λ (p : ℕ × ℕ). map (λ (i : ℕ). two_numbers_at file (p.0 + 8 * i)) (range_with_len 0 p.1)) (pointer-file pairs n t h l)
-    ∙ sym (fill_by_all (λ (i : ℕ). two_numbers_at file (place + 8 * i)) slots (2 * length (table_entries t pairs)) empty size (λ k m. sym (at k m)))
+    ∙ sym (fill_by_all (λ (i : ℕ). two_numbers_at file (position + 8 * i)) slots (2 * length (table_entries t pairs)) empty size (λ k m. sym (at k m)))
