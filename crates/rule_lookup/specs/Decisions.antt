@@ -23,7 +23,7 @@ use Rattle.connection_facts.specs.Peers.{Client}
 
 -- the verdict if there is no rules file
 abbrev pub verdict_without : WhenMissing → Verdict
-verdict_without missing.Drop = Deny
+verdict_without missing.Deny = Deny
 verdict_without missing.Allow = Allow
 
 -- the decision if there is no rules file

@@ -16,7 +16,7 @@ use thiserror::Error;
 #[derive(Clone, Copy)]
 pub enum WhenMissing {
     /// A connection is denied.
-    Drop,
+    Deny,
     /// A connection is allowed.
     Allow,
 }
@@ -122,7 +122,7 @@ impl Decision {
         ensures { result ≡ without_file missing }
     {
         let verdict = match missing {
-            WhenMissing::Drop => Verdict::Deny,
+            WhenMissing::Deny => Verdict::Deny,
             WhenMissing::Allow => Verdict::Allow,
         };
         Decision {

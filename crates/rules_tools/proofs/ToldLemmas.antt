@@ -7,7 +7,7 @@ use Rattle.rule_lines.specs.Lookups.{Finding, Has, Absent, Broken}
 use Rattle.rule_lines.specs.declared.instr.Instr.{Instr}
 use Rattle.rule_lookup.specs.declared.decision.DecideFault.{DecideFault}
 use Rattle.rule_lookup.specs.declared.decision.Decision.{Decision}
-use Rattle.rule_lookup.specs.declared.decision.WhenMissing.TheVariants.{Drop}
+use Rattle.rule_lookup.specs.declared.decision.WhenMissing.TheVariants.{Deny as DenyMissing}
 use Rattle.rule_lookup.specs.declared.decision.Found.TheVariants as found
 use Rattle.rule_lookup.specs.Decisions.{by_code, by_default, by_finding, by_first, by_rule, is_there, without_file}
 use Rattle.rule_lookup.specs.Forms.{forms_of}
@@ -39,5 +39,5 @@ none_there (Some bytes) peer d is missing = absurd (by_first_there (reading byte
 
 -- and anything else only by a file that is there
 pub one_there : (file : Option (List ℕ)) (peer : Client) (d : Decision) → DecidesBy file peer d → (d.found ≡ found.NoFile → ⊥) → DecidesThere file peer d
-one_there None peer d is there = absurd (other (without_file Drop) d is (λ same. there (sym same)))
+one_there None peer d is there = absurd (other (without_file DenyMissing) d is (λ same. there (sym same)))
 one_there (Some bytes) peer d is there = (bytes, refl, is)

@@ -5,7 +5,7 @@ use Rattle.rule_lines.specs.declared.code.CodeFault.TheVariants.{NotCode}
 use Rattle.rule_lines.specs.declared.source.FindFault.TheVariants.{Short}
 use Rattle.rule_lookup.specs.declared.decision.DecideFault.TheVariants.{Find, Code}
 use Rattle.rule_lookup.specs.declared.decision.Decision.{Decision}
-use Rattle.rule_lookup.specs.declared.decision.WhenMissing.TheVariants.{Drop}
+use Rattle.rule_lookup.specs.declared.decision.WhenMissing.TheVariants.{Deny as DenyMissing}
 use Rattle.rule_lookup.specs.Decisions.{decision_from}
 use Rattle.connection_facts.specs.Peers.{Client}
 use Rattle.rules_tools.specs.declared.tcprulescheck.CheckFault.{CheckFault}
@@ -13,13 +13,13 @@ use Rattle.rules_tools.specs.declared.tcprulescheck.CheckFault.TheVariants.{Dama
 
 -- the decision by the bytes of a file, or where there is none that of a missing file
 abbrev pub DecidesBy : Option (List ℕ) → Client → Decision → Type 0
-DecidesBy file peer decision = decision_from (option_map reading file) Drop peer ≡ Ok decision
+DecidesBy file peer decision = decision_from (option_map reading file) DenyMissing peer ≡ Ok decision
 
 -- no decision comes only where the decision by the bytes is a fault, and the file is called damaged; or where the device or memory fails
 abbrev pub FailsBy : Option (List ℕ) → Client → CheckFault → Type 0
 FailsBy file peer Damaged =
-    (decision_from (option_map reading file) Drop peer ≡ Err (Find Short))
-    ⊎ (decision_from (option_map reading file) Drop peer ≡ Err (Code NotCode))
+    (decision_from (option_map reading file) DenyMissing peer ≡ Err (Find Short))
+    ⊎ (decision_from (option_map reading file) DenyMissing peer ≡ Err (Code NotCode))
 FailsBy file peer Device = ⊤
 FailsBy file peer ReadFault = ⊤
 FailsBy file peer OutOfMemory = ⊤

@@ -264,7 +264,7 @@ pub fn decide_at<D: Dir>(
             }
         },
     };
-    match decide(alloc, file.as_ref(), WhenMissing::Drop, peer) {
+    match decide(alloc, file.as_ref(), WhenMissing::Deny, peer) {
         Ok(decision) => Ok(decision),
         Err(DecideFault::Find(FindFault::Device)) => Err(CheckFault::ReadFault),
         Err(DecideFault::Find(FindFault::Short)) => Err(CheckFault::Damaged),

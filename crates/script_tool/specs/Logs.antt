@@ -7,7 +7,7 @@ use Rattle.rule_lines.specs.Lines.{Line}
 use Rattle.rule_lookup.specs.declared.decision.Decision.{Decision}
 use Rattle.rule_lookup.specs.declared.decision.Found.{Found}
 use Rattle.rule_lookup.specs.declared.decision.Found.TheVariants.{Address, Default, NoFile}
-use Rattle.rule_lookup.specs.declared.decision.WhenMissing.TheVariants.{Drop}
+use Rattle.rule_lookup.specs.declared.decision.WhenMissing.TheVariants.{Deny as DenyMissing}
 use Rattle.rule_lookup.specs.Decisions.{decision_of, without_file}
 use Rattle.connection_facts.specs.Peers.{Client}
 use Rattle.script_tool.specs.declared.verdicts.Sums.{Sums}
@@ -20,7 +20,7 @@ asked peer = peer_at None peer.host peer.ip
 
 -- what is decided now: by the text that stands, or as without a rules file if none stands
 abbrev pub decided_now : Option (List ℕ) → Client → Decision
-decided_now None peer = without_file Drop
+decided_now None peer = without_file DenyMissing
 decided_now (Some text) peer = decision_of text peer
 
 abbrev pub differs : Verdict → Verdict → Bool

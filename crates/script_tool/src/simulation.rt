@@ -454,7 +454,7 @@ fn decide_by(alloc: Global, file: &CdbFile<MemFile>, peer: &Peer) -> Result<Deci
         → IfOk result (λ decision. decision ≡ decision_of text peer.now) }
 {
     decides();
-    match decide(alloc, Some(file), WhenMissing::Drop, peer) {
+    match decide(alloc, Some(file), WhenMissing::Deny, peer) {
         Ok(decision) => Ok(decision),
         Err(DecideFault::OutOfMemory) => Err(AllocError),
         Err(DecideFault::Find(_)) => unreachable!(),

@@ -19,7 +19,7 @@ use Rattle.rule_lines.specs.declared.instr.Verdict.{Verdict}
 use Rattle.rule_lines.specs.declared.instr.Verdict.TheVariants.{Allow, Deny}
 use Rattle.rule_lookup.specs.Decisions.{by_rule, decision_from, decision_in}
 use Rattle.rule_lookup.specs.declared.decision.Decision.{Decision}
-use Rattle.rule_lookup.specs.declared.decision.WhenMissing.TheVariants.{Drop as DropMissing}
+use Rattle.rule_lookup.specs.declared.decision.WhenMissing.TheVariants.{Deny as DenyMissing}
 use Rattle.connection_facts.specs.declared.outcome.DropCause.TheVariants.{Denied}
 use Rattle.rules_install.specs.declared.Phase.TheVariants.{Fresh, Filling, Named, Done}
 use Rattle.server_events.specs.declared.event.Event.TheVariants.{Admitted, Opened, Decided, Started, Dropped, Stepped, StepFailed, Stop}
@@ -96,7 +96,7 @@ content_older d name bytes n number there =
 -- ---- the names, the decisions, and the states of the server
 
 abbrev the_rules : RulesName
-the_rules = record { name = 99 ∷ []; missing = DropMissing }
+the_rules = record { name = 99 ∷ []; missing = DenyMissing }
 
 abbrev the_scratch : List ℕ
 the_scratch = 99 ∷ 116 ∷ []
@@ -183,9 +183,9 @@ unfolding digits
 decides_somebody verdict = refl
 
 -- what a connection keeps decides it
-decides_kept : (verdict : Verdict) (file : List ℕ) (bytes : Option (List ℕ)) → IsOf (for_everybody verdict) file → bytes ≡ Some file → decision_from (option_map reading bytes) DropMissing somebody ≡ Ok (everybody verdict)
+decides_kept : (verdict : Verdict) (file : List ℕ) (bytes : Option (List ℕ)) → IsOf (for_everybody verdict) file → bytes ≡ Some file → decision_from (option_map reading bytes) DenyMissing somebody ≡ Ok (everybody verdict)
 decides_kept verdict file bytes is there =
-    ap (λ (o : Option (List ℕ)). decision_from (option_map reading o) DropMissing somebody) there
+    ap (λ (o : Option (List ℕ)). decision_from (option_map reading o) DenyMissing somebody) there
     ∙ decided_by_file (for_everybody verdict) file somebody is
     ∙ ap (λ (d : Decision). Ok d) (decides_somebody verdict)
 

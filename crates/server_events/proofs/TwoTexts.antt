@@ -16,7 +16,7 @@ use Rattle.rule_lines.specs.declared.instr.Verdict.{Verdict}
 use Rattle.rule_lines.specs.declared.instr.Verdict.TheVariants.{Allow, Deny}
 use Rattle.rule_lookup.specs.Decisions.{by_rule, decision_from, decision_in}
 use Rattle.rule_lookup.specs.declared.decision.Decision.{Decision}
-use Rattle.rule_lookup.specs.declared.decision.WhenMissing.TheVariants.{Drop as DropMissing}
+use Rattle.rule_lookup.specs.declared.decision.WhenMissing.TheVariants.{Deny as DenyMissing}
 use Rattle.connection_facts.specs.declared.outcome.DropCause.TheVariants.{Denied}
 use Rattle.rules_install.specs.declared.Phase.TheVariants.{Named, Done}
 use Rattle.server_events.specs.declared.event.Event.TheVariants.{Admitted, Opened, Decided, Started, Retired, Dropped, Stop}
@@ -35,7 +35,7 @@ use Rattle.server_events.proofs.TableLemmas.{is_step}
 -- ---- the names, the decisions, and the states of the server
 
 abbrev pub the_rules : RulesName
-the_rules = record { name = 99 ∷ []; missing = DropMissing }
+the_rules = record { name = 99 ∷ []; missing = DenyMissing }
 
 abbrev pub the_scratch : List ℕ
 the_scratch = 99 ∷ 116 ∷ []
@@ -97,9 +97,9 @@ decides_somebody verdict = refl
 
 -- what a connection keeps decides it
 pub decides_kept : (rules : List Rule) (file : List ℕ) (bytes : Option (List ℕ)) (decision : Decision) → IsOf rules file → bytes ≡ Some file → decision_in rules somebody ≡ decision
-    → decision_from (option_map reading bytes) DropMissing somebody ≡ Ok decision
+    → decision_from (option_map reading bytes) DenyMissing somebody ≡ Ok decision
 decides_kept rules file bytes decision is there told =
-    ap (λ (o : Option (List ℕ)). decision_from (option_map reading o) DropMissing somebody) there ∙ decided_by_file rules file somebody is ∙ ap (λ (d : Decision). Ok d) told
+    ap (λ (o : Option (List ℕ)). decision_from (option_map reading o) DenyMissing somebody) there ∙ decided_by_file rules file somebody is ∙ ap (λ (d : Decision). Ok d) told
 
 -- the first connection is denied
 denied : (d : Directory) (file : List ℕ) → IsOf (for_everybody Deny) file → content d the_rules.name ≡ Some file

@@ -8,7 +8,7 @@ use Rattle.std.specs.Fmt.{digits}
 use lib.Utf8.{encode}
 use Rattle.server_words.specs.Letters.{meaning_of}
 use Rattle.rule_lookup.specs.Addresses.{ipv4_in}
-use Rattle.rule_lookup.specs.declared.decision.WhenMissing.TheVariants.{Allow, Drop}
+use Rattle.rule_lookup.specs.declared.decision.WhenMissing.TheVariants.{Allow, Deny}
 use Rattle.server_words.specs.declared.fault.ServerWordsFault.{ServerWordsFault}
 use Rattle.server_words.specs.declared.fault.ServerWordsFault.TheVariants as fault
 use Rattle.server_words.specs.declared.level.Level.TheVariants.{Quiet, Errors}
@@ -34,7 +34,7 @@ without_options : plan (codes "0 25 cat -v") ≡ Ok (record {
   prints_port = false;
   limits = record { connections = 40; per_address = 40; count = None };
   rules = None;
-  missing = Drop;
+  missing = Deny;
   banner = [];
   hosts = None;
   local = None;

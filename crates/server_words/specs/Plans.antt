@@ -5,7 +5,7 @@ use Rattle.server_words.specs.OptionWords.{is_given, last_of, value_of}
 use Rattle.server_words.specs.Words.{LetterGiven, Reading, reading}
 use Rattle.server_words.specs.declared.letter.TheConstants.{TCPSERVER_LETTERS}
 use Rattle.rule_lookup.specs.declared.decision.WhenMissing.{WhenMissing}
-use Rattle.rule_lookup.specs.declared.decision.WhenMissing.TheVariants.{Allow, Drop}
+use Rattle.rule_lookup.specs.declared.decision.WhenMissing.TheVariants.{Allow, Deny}
 use Rattle.server_words.specs.declared.fault.ServerWordsFault.{ServerWordsFault}
 use Rattle.server_words.specs.declared.fault.ServerWordsFault.TheVariants as fault
 use Rattle.server_words.specs.declared.level.Level.{Level}
@@ -60,7 +60,7 @@ level_of options = level_by (last_of options (codes "vQq"))
 
 -- `-X`: allow
 abbrev pub missing_of : List LetterGiven → WhenMissing
-missing_of options = if is_given options (letter (codes "X")) then Allow else Drop
+missing_of options = if is_given options (letter (codes "X")) then Allow else Deny
 
 -- what options ask for, with what was read of their numbers, of the wrappers, of the mode and of the words after them
 abbrev pub plan_by : List LetterGiven → ConnectionLimits → Service → Wrappers → Mode → ServerPlan

@@ -245,6 +245,6 @@ fn missing_of(options: &Options<'_>) -> WhenMissing
     if options.has('X') {
         WhenMissing::Allow
     } else {
-        WhenMissing::Drop
+        WhenMissing::Deny
     }
 }

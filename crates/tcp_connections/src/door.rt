@@ -24,6 +24,7 @@ pub(crate) struct Pause {
 }
 
 impl Pause {
+    /// The pause after the first fault.
     pub fn first() -> Pause {
         Pause {
             milliseconds: FIRST_PAUSE,

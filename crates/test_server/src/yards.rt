@@ -43,7 +43,7 @@ pub fn time_yard<R: Print + Clock, L: Assumptions>(
         alloc,
         blank,
         dir,
-        WhenMissing::Drop,
+        WhenMissing::Deny,
         limit,
         Counts::new(),
     )?;

@@ -161,7 +161,7 @@ fn eight<
     requires callers { (N.all ≡ CALLERS) × (N.before ≡ 0) }
 {
     let alloc = rt.alloc();
-    let rules = Some((rules_name(rt, alloc), WhenMissing::Drop));
+    let rules = Some((rules_name(rt, alloc), WhenMissing::Deny));
     let (site, callers) = new_site::<L, N, R>(
         rt,
         alloc,

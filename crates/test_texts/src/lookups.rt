@@ -75,7 +75,7 @@ fn decided_by(
 ) -> Result<Decision, DecideFault> {
     let missing = match given.text("missing") {
         "allow" => WhenMissing::Allow,
-        _ => WhenMissing::Drop,
+        _ => WhenMissing::Deny,
     };
     match given.text("source") {
         "" => decide(alloc, Some(&ListPairs::new(list)), missing, peer),

@@ -54,7 +54,7 @@ fn yard_of<L: Assumptions, J: Journal>(
     requires journal { HasNoEvents (J.books journal) }
 {
     let dir = with_rules(alloc, RULES)?;
-    yard_over(alloc, blank, dir, WhenMissing::Drop, limit, journal)
+    yard_over(alloc, blank, dir, WhenMissing::Deny, limit, journal)
 }
 
 /// Serves the connections by a yard, and adds what its journal tells.

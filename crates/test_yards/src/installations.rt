@@ -48,7 +48,7 @@ fn yard_of<L: Assumptions>(
     requires parts { (blank.parts ≡ L.parts) × (blank.parts ≡ 1) }
 {
     let dir = FuseDir::new(with_rules(alloc, b":allow\n")?, call);
-    yard_over(alloc, blank, dir, WhenMissing::Drop, 1, Full::new(alloc))
+    yard_over(alloc, blank, dir, WhenMissing::Deny, 1, Full::new(alloc))
 }
 
 /// A law of such a yard, whatever it installed. Its rules file is whole, whatever a stop leaves. Once an installation

@@ -161,7 +161,7 @@ fn serve_over<L: Assumptions, D: Dir + Drop, J: Journal>(
 fn missing_of(case: Case) -> WhenMissing {
     match case {
         Case::MissingAllowed => WhenMissing::Allow,
-        _ => WhenMissing::Drop,
+        _ => WhenMissing::Deny,
     }
 }
 

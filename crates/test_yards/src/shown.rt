@@ -39,7 +39,7 @@ fn add_decided_by(alloc: Global, file: &CdbFile<MemFile>, out: &mut Answer) {
     let Some(peer) = peer_of(alloc, 0) else {
         return out.fail();
     };
-    match decide(alloc, Some(file), WhenMissing::Drop, &peer) {
+    match decide(alloc, Some(file), WhenMissing::Deny, &peer) {
         Ok(decision) => out.text(verdict_word(decision.verdict)),
         Err(_) => out.text("fault"),
     }

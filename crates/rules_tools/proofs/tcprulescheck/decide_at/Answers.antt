@@ -12,7 +12,7 @@ use Rattle.rule_lines.specs.Lookups.{WhereKnown}
 use Rattle.rule_lookup.specs.declared.decision.DecideFault.{DecideFault}
 use Rattle.rule_lookup.specs.declared.decision.DecideFault.TheVariants.{Find, Code}
 use Rattle.rule_lookup.specs.declared.decision.Decision.{Decision}
-use Rattle.rule_lookup.specs.declared.decision.WhenMissing.TheVariants.{Drop}
+use Rattle.rule_lookup.specs.declared.decision.WhenMissing.TheVariants.{Deny as DenyMissing}
 use Rattle.rule_lookup.specs.Decisions.{decision_from, finds_of, trust_of, DecisionFails}
 use Rattle.connection_facts.specs.Peers.{Client}
 use Rattle.rules_tools.specs.declared.tcprulescheck.CheckFault.TheVariants.{Damaged}
@@ -41,17 +41,17 @@ known false false (Some s) A is fact = absurd (false≢true is)
 
 -- the decision by the source is that by the bytes of its file
 module _ {F : Type 0} (bytes : F → List ℕ) (honest sound : Bool) (source : Option (Bor F)) (opened made : Option F) (file : Option (List ℕ)) (peer : Client) (is : IsTrue honest) (copied : option_copied source ≡ made) (made_of : made ≡ opened) (held : option_map bytes opened ≡ file) where
-  decision-file : (r : Result Decision DecideFault) → WhereKnown (trust_of (λ (s : F). cdb.trust_of honest sound) source) (decision_from (finds_of (λ (s : F) key. reading (bytes s) key) source) Drop peer ≡ r) → decision_from (option_map reading file) Drop peer ≡ r
+  decision-file : (r : Result Decision DecideFault) → WhereKnown (trust_of (λ (s : F). cdb.trust_of honest sound) source) (decision_from (finds_of (λ (s : F) key. reading (bytes s) key) source) DenyMissing peer ≡ r) → decision_from (option_map reading file) DenyMissing peer ≡ r
   decision-file r decided =
-      ap (λ finds. decision_from finds Drop peer) (sym (finds_of-file bytes source file (ap (option_map bytes) (copied ∙ made_of) ∙ held)))
-      ∙ known honest sound source (decision_from (finds_of (λ (s : F) key. reading (bytes s) key) source) Drop peer ≡ r) is decided
+      ap (λ finds. decision_from finds DenyMissing peer) (sym (finds_of-file bytes source file (ap (option_map bytes) (copied ∙ made_of) ∙ held)))
+      ∙ known honest sound source (decision_from (finds_of (λ (s : F) key. reading (bytes s) key) source) DenyMissing peer ≡ r) is decided
 
   -- and it fails for damage alone
-  damaged-short : (fault : DecideFault) (of_file : FindFault) → fault ≡ Find of_file → of_file ≡ Short → DecisionFails (trust_of (λ (s : F). cdb.trust_of honest sound) source) (decision_from (finds_of (λ (s : F) key. reading (bytes s) key) source) Drop peer) fault → FailsBy file peer Damaged
+  damaged-short : (fault : DecideFault) (of_file : FindFault) → fault ≡ Find of_file → of_file ≡ Short → DecisionFails (trust_of (λ (s : F). cdb.trust_of honest sound) source) (decision_from (finds_of (λ (s : F) key. reading (bytes s) key) source) DenyMissing peer) fault → FailsBy file peer Damaged
   damaged-short fault of_file find short fails =
       inl (decision-file (Err (Find Short)) (rw (find ∙ ap Find short) at fails))
 
-  damaged-code : (fault : DecideFault) (code : CodeFault) → fault ≡ Code code → DecisionFails (trust_of (λ (s : F). cdb.trust_of honest sound) source) (decision_from (finds_of (λ (s : F) key. reading (bytes s) key) source) Drop peer) fault → FailsBy file peer Damaged
+  damaged-code : (fault : DecideFault) (code : CodeFault) → fault ≡ Code code → DecisionFails (trust_of (λ (s : F). cdb.trust_of honest sound) source) (decision_from (finds_of (λ (s : F) key. reading (bytes s) key) source) DenyMissing peer) fault → FailsBy file peer Damaged
   damaged-code fault NotCode is_code fails =
       inr (decision-file (Err (Code NotCode)) (rw is_code at fails))
 
