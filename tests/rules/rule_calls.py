@@ -203,7 +203,7 @@ WHOLE_LISTS = [
 ]
 ALLOWED = (b"", b"allow")
 DENIED = (b"D\0", b"deny")
-# text, place in its list, and there the address, the code and the instruction
+# text, position in its list, and there the address, the code and the instruction
 PAIRS = [
     (A_RANGE, 0, b"1.2.3.37", ALLOWED),
     (A_RANGE, 1, b"1.2.3.38", ALLOWED),
@@ -219,7 +219,7 @@ PAIRS = [
     (TWO_RULES, 3, b"=a", ALLOWED),
     (SETTINGS, 0, b"1.", (b'D\0+A=x,y\0+B="\0+A=v\0+C=\0', b'deny A=x,y B=" A=v C=')),
 ]
-NO_PAIRS = [(A_RANGE, place) for place in (18, 19, 2**64 - 1)] + [(text, 0) for text in WITHOUT_A_RULE]
+NO_PAIRS = [(A_RANGE, position) for position in (18, 19, 2**64 - 1)] + [(text, 0) for text in WITHOUT_A_RULE]
 NO_CODES = [
     b"D", b"+A\0", b"+=x\0", b"\0", b"d\0", b"A\0", b"DD\0", b"D\0D\0", b"D\0\0", b"+A=x", b"+A=x\0\0", b"+A=x\0D\0", b"+A=x\0+B=y", b"+\0", b"+=\0",
     b"A=x\0", b" +A=x\0", b"+A=\xff\0", b"+\xff=x\0", b"+\xc3=\xa9\0",
@@ -429,11 +429,11 @@ def check_lists(calls):
 
 def check_pairs(calls):
     """Rules by their places in a list, and by their addresses."""
-    for text, place, address, (code, words) in PAIRS:
+    for text, position, address, (code, words) in PAIRS:
         wanted = b"at " + address + b"\n" + code + b"\n" + instruction(code, words)
-        calls.call("place %d of %r" % (place, text), ["pair", "place=%d" % place], text, wanted * 2)
+        calls.call("position %d of %r" % (position, text), ["pair", "position=%d" % position], text, wanted * 2)
     for text, place in NO_PAIRS:
-        calls.call("no place %d in %r" % (place, text), ["pair", "place=%d" % place], text, b"none\n" * 2)
+        calls.call("no place %d in %r" % (place, text), ["pair", "position=%d" % position], text, b"none\n" * 2)
     for key, code in FOUND:
         wanted = '"%s"\n' % code.replace("\0", "\\0")
         # by the list and by the list as a source, and both of its copy

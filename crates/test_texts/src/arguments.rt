@@ -66,9 +66,9 @@ impl<'a> Arguments<'a> {
         self.text(name).parse().unwrap_or(0)
     }
 
-    /// The argument `place`, or 0.
-    pub fn place(&self) -> usize {
-        self.text("place").parse().unwrap_or(0)
+    /// The argument `position`, or 0.
+    pub fn position(&self) -> usize {
+        self.text("position").parse().unwrap_or(0)
     }
 
     /// The port of an argument, or 0.
