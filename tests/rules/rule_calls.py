@@ -428,12 +428,12 @@ def check_lists(calls):
 
 
 def check_pairs(calls):
-    """Rules by their places in a list, and by their addresses."""
+    """Rules by their positions in a list, and by their addresses."""
     for text, position, address, (code, words) in PAIRS:
         wanted = b"at " + address + b"\n" + code + b"\n" + instruction(code, words)
         calls.call("position %d of %r" % (position, text), ["pair", "position=%d" % position], text, wanted * 2)
-    for text, place in NO_PAIRS:
-        calls.call("no place %d in %r" % (place, text), ["pair", "position=%d" % position], text, b"none\n" * 2)
+    for text, position in NO_PAIRS:
+        calls.call("no position %d in %r" % (position, text), ["pair", "position=%d" % position], text, b"none\n" * 2)
     for key, code in FOUND:
         wanted = '"%s"\n' % code.replace("\0", "\\0")
         # by the list and by the list as a source, and both of its copy
