@@ -23,7 +23,9 @@ pub mod source;
 pub mod spread;
 pub mod text;
 
-pub use code::{CodeFault, DecodeFault, decode_instr, encode_instr, push_settings, split_verdict};
+pub use code::{
+    CodeFault, DecodeFault, decode_instr, encode_instr, push_parts, push_settings, split_verdict,
+};
 pub use fault::{LineFault, LineKind, ParseFault};
 pub use instr::{Instr, Setting, Settings, Verdict};
 pub use limits::Limits;
