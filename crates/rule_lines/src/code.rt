@@ -77,7 +77,7 @@ pub(crate) fn append_setting(
 }
 
 /// What stands before the first position of a byte, and after it.
-pub(crate) fn split_at_byte(byte: u8, bytes: &[u8]) -> Option<(&[u8], &[u8])>
+pub fn split_at_byte(byte: u8, bytes: &[u8]) -> Option<(&[u8], &[u8])>
     ensures { MatchOption result
         (has_byte byte bytes.now ≡ false)
         (λ parts. (has_byte byte parts.0.now ≡ false) × (bytes.now ≡ parts.0.now ++ byte ∷ parts.1.now)) }
