@@ -1,11 +1,11 @@
 """Compares the list of promises in docs/internals/PROOFS.md with the sources: each crate is there, and each function,
-law and clause that a promise names stands in it; and so is what would notice a breach, which each promise names: an
-edit, or a group of `tests/run`.
+law and clause that a promise names stands in it. So do the edits and the groups of `tests/run` that a promise names,
+which would notice a breach.
 
 Below a promise stand its crate with the contracts, and then what would notice a breach. Contracts are parts with a `;`
 or `and` between them: the name of a function, of a law, of a module or of a crate, then those of its clauses. An edit
 stands in `crates/CRATE/must-fail/`, where the gate tries it, or in `tests/edits/CRATE/`, where `scripts/edits` does.
-Of each it is looked here that it can be made: its old texts stand in the files that it names, once.
+This module checks that each edit can be made: its old texts stand once in the files that it names.
 """
 import glob
 import os
