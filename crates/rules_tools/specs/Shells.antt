@@ -35,24 +35,24 @@ pub record PathRun (S D F : Type 0) : Type 1 where
   pub are_one : S → List ℕ → List ℕ → Bool → Type 0
   pub opens : S → List ℕ → D → S → Type 0
   pub closes : S → D → Option ErrorCause → S → Type 0
-  -- all that the reader had, where that is known
+  -- all that the reader had, where that is known, and the number that it has noted of its last call
   pub input : Option (List ℕ)
+  pub noted : Option ℤ
   -- the folders before the run and after it
   pub old : S
   pub new : S
 
--- The run in a folder that was opened: the folder is let go as the installation leaves it, and what that answers is told with the cause. After a
--- refusal that is as it was opened.
+-- The run in a folder that was opened: the folder is let go as the installation leaves it, and what that answers is told with the cause: the number
+-- that the reader noted, or what the folder told. After a refusal that is as it was opened.
 pub record RunsIn {S D F : Type 0} (run : PathRun S D F) (opened : D) (cdb tmp : List ℕ) (result : Result (Unit {0}) RulesFailure) : Type 0 where
   pub left : D
   pub scratch : Option DirFault
   pub outcome : Result (Unit {0}) TcprulesFault
   pub ran : Runs (record { tells = run.tells; left = scratch; input = run.input; old = opened; new = left }) cdb tmp outcome
   pub untouched : IsRefusal outcome → left ≡ opened
-  pub reading : Option ℤ
   pub disk : Option ErrorCause
   pub closes : run.closes run.old left disk run.new
-  pub told : result ≡ failure_of outcome reading disk
+  pub told : result ≡ failure_of outcome run.noted disk
 
 -- the folder of the path `cdb` is opened, once, and the run is made there
 pub record OpensOne {S D F : Type 0} (run : PathRun S D F) (cdb tmp : List ℕ) (result : Result (Unit {0}) RulesFailure) : Type 0 where

@@ -1,5 +1,6 @@
 //! `tcprules`: compiles a rule text from standard input, and installs it.
 ghost use Rattle.std.specs.Prelude.{◌≡◌, ◌⊎◌, ◌<◌, ◌^◌, ◌-◌, ◌+◌, None, Err, IsSome, IfOk, IfErr, IfSome, OnOk, take};
+ghost use Rattle.byte_text.specs.NotingStream.{noted_error, noted_stream};
 ghost use Rattle.dir_calls.specs.Names.{name_fault};
 ghost use Rattle.rules_install.specs.ParseFaults.{of_parse};
 ghost use Rattle.rules_tools.specs.Causes.{failure_of, without_cause};
@@ -116,11 +117,11 @@ impl From<TcprulesFault> for RulesFailure {
 /// folder of the paths. Where they spell one folder in two ways it is as `cdb` spells it.
 ///
 /// # Errors
-/// As of `install_text`, with the cause of a fault of the reader or of the disk. Where something is wrong with the paths no folder is opened.
+/// As of `install_text`, with the cause of a fault: the error that the reader noted, or that of the disk. Where something is wrong with the paths no folder is opened.
 pub fn run_tcprules<F: InstallFolders, R: Read>(
     alloc: Global,
     folders: &mut F,
-    reader: &mut R,
+    reader: &mut NotingStream<R>,
     cdb: &str,
     tmp: &str,
 ) -> Result<(), RulesFailure>
@@ -129,7 +130,8 @@ pub fn run_tcprules<F: InstallFolders, R: Read>(
       are_one = F.are_one;
       opens = F.opens;
       closes = F.closes;
-      input = R.remaining reader.old;
+      input = R.remaining (noted_stream reader.old);
+      noted = noted_error reader.new;
       old = folders.old;
       new = folders.new;
     }) cdb.now tmp.now result }
@@ -145,7 +147,7 @@ pub fn run_tcprules<F: InstallFolders, R: Read>(
 fn run_spelled<F: InstallFolders, R: Read>(
     alloc: Global,
     folders: &mut F,
-    reader: &mut R,
+    reader: &mut NotingStream<R>,
     cdb: &str,
     tmp: &str,
 ) -> Result<(), RulesFailure>
@@ -154,7 +156,8 @@ fn run_spelled<F: InstallFolders, R: Read>(
       are_one = F.are_one;
       opens = F.opens;
       closes = F.closes;
-      input = R.remaining reader.old;
+      input = R.remaining (noted_stream reader.old);
+      noted = noted_error reader.new;
       old = folders.old;
       new = folders.new;
     }) cdb.now tmp.now result }
@@ -178,7 +181,7 @@ fn run_there<F: InstallFolders, R: Read>(
     alloc: Global,
     folders: &mut F,
     dir: F::Opened,
-    reader: &mut R,
+    reader: &mut NotingStream<R>,
     cdb: &str,
     tmp: &str,
 ) -> Result<(), RulesFailure>
@@ -187,17 +190,16 @@ fn run_there<F: InstallFolders, R: Read>(
       are_one = F.are_one;
       opens = F.opens;
       closes = F.closes;
-      input = R.remaining reader.old;
+      input = R.remaining (noted_stream reader.old);
+      noted = noted_error reader.new;
       old = folders.old;
       new = folders.new;
     }) dir cdb.now tmp.now result }
 {
     let mut folder = RulesFolder::new(dir);
-    let mut reader = NotingStream::new(reader);
-    let outcome = install_text(alloc, &mut reader, &mut folder, cdb, tmp);
-    let reading = reader.error();
+    let outcome = install_text(alloc, reader, &mut folder, cdb, tmp);
     let cause = folders.close(folder.into_dir());
-    tell(outcome, reading, cause)
+    tell(outcome, reader.error(), cause)
 }
 
 // What is told of a run, with the cause of its fault.

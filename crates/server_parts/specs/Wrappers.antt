@@ -1,10 +1,12 @@
 -- What the wrappers of a server's words do to a text.
-use Rattle.std.specs.Prelude.{ℕ, List}
+use Rattle.std.specs.Prelude.{◌≡◌, ℕ, List, map}
 use Rattle.server_parts.specs.declared.wrappers.Wrapper.{Wrapper}
 use Rattle.server_parts.specs.declared.wrappers.Wrapper.TheVariants as wrapper
 use Rattle.server_words.specs.declared.wrapping.LineWrapperName.{LineWrapperName}
 use Rattle.server_words.specs.declared.wrapping.LineWrapperName.TheVariants.{AddCr, DelCr, FixCr}
+use Rattle.byte_streams.specs.Chains.{wrappers_of}
 use Rattle.byte_streams.specs.Wrapped.{added, deleted, fixed}
+use Rattle.byte_streams.specs.declared.chain.Chain.{Chain}
 use Rattle.byte_streams.specs.declared.wrappers.AddCr.{AddCr as AddsCr}
 use Rattle.byte_streams.specs.declared.wrappers.DelCr.{DelCr as DeletesCr}
 use Rattle.byte_streams.specs.declared.wrappers.FixCr.{FixCr as FixesCr}
@@ -14,6 +16,10 @@ abbrev pub changed_by : LineWrapperName → List ℕ → List ℕ
 changed_by AddCr text = added text
 changed_by DelCr text = deleted text
 changed_by FixCr text = fixed text
+
+-- what the wrappers of a chain write, one after another, is what those of these names do, the first name first
+abbrev pub WrapsBy : {S : Type 0} → (writes : S → List ℕ → List ℕ) → List LineWrapperName → Chain S → Type 0
+WrapsBy writes names chain = map writes (wrappers_of chain) ≡ map changed_by names
 
 -- what a wrapper tells, each line wrapper in its own way
 abbrev pub told_by : {T : Type 0} → (AddsCr → T) → (DeletesCr → T) → (FixesCr → T) → Wrapper → T

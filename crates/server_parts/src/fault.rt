@@ -1,5 +1,5 @@
 //! How a server ends other than by its count.
-ghost use Rattle.std.specs.Prelude.{◌≡◌};
+ghost use Rattle.std.specs.Prelude.{◌≡◌, None};
 ghost use Rattle.server_parts.specs.declared.fault.ServerFault.TheVariants.{OutOfMemory, Words};
 
 use server_words::ServerWordsFault;
@@ -56,19 +56,25 @@ pub struct ServerFailure {
 
 impl ServerFailure {
     /// By an error of the system.
-    pub(crate) fn by(fault: ServerFault, error: &Error) -> ServerFailure {
+    pub(crate) fn by(fault: ServerFault, error: &Error) -> ServerFailure
+        ensures { result.fault ≡ fault }
+    {
         let error = error.raw_os_error();
         ServerFailure { fault, error }
     }
 }
 
 impl From<ServerFault> for ServerFailure {
+    ghost from_gives = { λ fault failure. failure ≡ record { fault = fault; error = None } };
+
     fn from(fault: ServerFault) -> ServerFailure {
         ServerFailure { fault, error: None }
     }
 }
 
 impl From<AllocError> for ServerFailure {
+    ghost from_gives = { λ _ failure. failure ≡ record { fault = OutOfMemory; error = None } };
+
     fn from(_error: AllocError) -> ServerFailure {
         ServerFailure::from(ServerFault::OutOfMemory)
     }

@@ -1,7 +1,10 @@
 //! What a server opens before it begins: its files, folder, socket and program.
-ghost use Rattle.std.specs.Prelude.{◌≡◌, map, option_map, string_bytes, IfOk};
+ghost use Rattle.std.specs.Prelude.{◌≡◌, ◌⊎◌, [], map, option_map, string_bytes, IsTrue, IfOk, IfErr, Some};
+ghost use Rattle.server_parts.specs.Asked.{FailsNames, FailsRules, IsAskedPlan};
 ghost use Rattle.server_parts.specs.Services.{AreNamesOf, AreRulesOf, program_by};
+ghost use Rattle.server_parts.specs.declared.fault.ServerFault.TheVariants.{CannotListen, OutOfMemory, WriteFault};
 ghost use Rattle.server_words.specs.OptionWords.{text_of};
+ghost use Rattle.stream_tools.specs.Entries.{with_entries};
 
 use crate::fault::{ServerFailure, ServerFault};
 use child_jobs::{Plan, Program};
@@ -15,9 +18,8 @@ use std::fs::{File, Files};
 use std::io::Write;
 use std::net::{Ipv4Addr, Net, OpenListener, SocketAddr, SocketAddrV4, TcpListener};
 use std::os::fd::AsRawFd;
-use std::rt::Env;
 use std::{fs, io};
-use stream_tools::started::{SystemGiven, inherited_variables};
+use stream_tools::started::{Given, inherited_variables};
 use tcp_connections::HostNames;
 use ucspi_env::{HostFault, HostTable};
 
@@ -43,7 +45,8 @@ pub fn names_of<F: Files + AllocGlobal>(
     files: &F,
     words: &ServerWords<'_>,
 ) -> Result<HostNames, ServerFailure>
-    ensures { IfOk result (AreNamesOf words.now) }
+    ensures asked { IfOk result (AreNamesOf words.now) }
+    ensures refused { IfErr result (λ failure. FailsNames words.now.hosts failure.fault) }
 {
     let hosts = match words.hosts() {
         Some(path) => Some(read_hosts(alloc, files, path)?),
@@ -72,7 +75,9 @@ fn read_hosts<F: Files + AllocGlobal>(
     alloc: Global,
     files: &F,
     path: &str,
-) -> Result<HostTable, ServerFailure> {
+) -> Result<HostTable, ServerFailure>
+    ensures refused { IfErr result (λ failure. FailsNames (Some path.now) failure.fault) }
+{
     let text = read_file(files, path)?;
     match HostTable::read(alloc, text.as_slice()) {
         Ok(table) => Ok(table),
@@ -82,7 +87,9 @@ fn read_hosts<F: Files + AllocGlobal>(
 }
 
 // All that a file holds.
-fn read_file<F: Files + AllocGlobal>(files: &F, path: &str) -> Result<Vec<u8>, ServerFailure> {
+fn read_file<F: Files + AllocGlobal>(files: &F, path: &str) -> Result<Vec<u8>, ServerFailure>
+    ensures refused { IfErr result (λ failure. FailsNames (Some path.now) failure.fault) }
+{
     match fs::read(files, path) {
         Ok(text) => Ok(text),
         Err(error) if error.kind() == io::ErrorKind::OutOfMemory => {
@@ -103,7 +110,8 @@ pub fn open_rules<'a, R>(
 ) -> Result<(OsDir<&'a R>, Option<(Name, WhenMissing)>), ServerFailure>
 where
     R: Files<File = File>,
-    ensures { IfOk result (λ opened. AreRulesOf words.now opened.1) }
+    ensures asked { IfOk result (λ opened. AreRulesOf words.now opened.1) }
+    ensures refused { IfErr result (λ failure. FailsRules failure.fault) }
 {
     let Some(path) = words.rules() else {
         return Ok((open_folder(alloc, files, ROOT)?, None));
@@ -125,6 +133,7 @@ fn open_folder<'a, R>(
 ) -> Result<OsDir<&'a R>, ServerFailure>
 where
     R: Files<File = File>,
+    ensures refused { IfErr result (λ failure. FailsRules failure.fault) }
 {
     match OsDir::find(alloc, files, path) {
         Ok(dir) => Ok(dir),
@@ -147,7 +156,9 @@ const WAITING: i32 = 4096;
 ///
 /// # Errors
 /// `CannotListen` with each fault of the system.
-pub fn listen<R: Net>(net: &R, ip: [u8; 4], port: u16) -> Result<R::Listener, ServerFailure> {
+pub fn listen<R: Net>(net: &R, ip: [u8; 4], port: u16) -> Result<R::Listener, ServerFailure>
+    ensures refused { IfErr result (λ failure. failure.fault ≡ CannotListen) }
+{
     let [a, b, c, d] = ip;
     let end = SocketAddr::V4(SocketAddrV4::new(Ipv4Addr::new(a, b, c, d), port));
     match TcpListener::bind(net, end) {
@@ -164,7 +175,9 @@ pub fn listen<R: Net>(net: &R, ip: [u8; 4], port: u16) -> Result<R::Listener, Se
 ///
 /// # Errors
 /// `CannotListen` where the socket doesn't tell it, `WriteFault` where it could not be printed.
-pub fn print_port<R: Print, T: OpenListener>(rt: &R, listener: &T) -> Result<(), ServerFailure> {
+pub fn print_port<R: Print, T: OpenListener>(rt: &R, listener: &T) -> Result<(), ServerFailure>
+    ensures refused { IfErr result (λ failure. (failure.fault ≡ CannotListen) ⊎ (failure.fault ≡ WriteFault)) }
+{
     let end = match listener.local_addr() {
         Ok(end) => end,
         Err(error) => return Err(ServerFailure::by(ServerFault::CannotListen, &error)),
@@ -210,16 +223,21 @@ fn copies_of(alloc: Global, texts: &[String]) -> Result<Vec<String>, AllocError>
     Ok(copies)
 }
 
-/// What all connections are served by.
+/// What all connections are served by. Their programs inherit the variables that this process was given.
 ///
 /// # Errors
 /// There was no memory.
-pub fn plan_of<R: Env>(alloc: Global, env: &R, words: &ServerWords<'_>) -> Result<Plan, ServerFault>
-    ensures program { IfOk result (λ plan. plan.program ≡ program_by words.now.service) }
-    ensures banner { IfOk result (λ plan. plan.banner ≡ words.now.banner) }
+pub fn plan_of<G: Given>(
+    alloc: Global,
+    given: &G,
+    words: &ServerWords<'_>,
+) -> Result<Plan, ServerFault>
+    ensures asked { IfOk result (IsAskedPlan words.now) }
+    ensures inherited { IsTrue G.honest → IfOk result (λ plan. plan.inherited ≡ with_entries [] (G.entries given.now)) }
+    ensures refused { IfErr result (λ fault. fault ≡ OutOfMemory) }
 {
     let program = program_of(alloc, words)?;
-    let inherited = inherited_variables(alloc, &SystemGiven(env))?;
+    let inherited = inherited_variables(alloc, given)?;
     let banner = words.banner().to_vec(alloc)?;
     Ok(Plan::new(program, inherited, banner))
 }

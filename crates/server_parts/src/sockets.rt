@@ -1,4 +1,6 @@
 //! Connections of the system's sockets.
+ghost use Rattle.std.specs.Prelude.{◌≡◌, Some};
+
 use crate::client::ClientWriter;
 use std::alloc::Global;
 use std::io;
@@ -95,13 +97,18 @@ pub struct PumpedAcceptor<'a, R, T> {
 }
 
 impl<'a, R, T: OpenListener<Stream = TcpStream>> PumpedAcceptor<'a, R, T> {
+    ghost use Rattle.server_parts.specs.Asked.{pumped_at_once, pumped_from};
+
     /// Those of this listener. What is written to them is sent at once where that is asked for (`-D`).
     pub fn new(
         rt: &'a R,
         alloc: Global,
         listener: T,
         sends_at_once: bool,
-    ) -> PumpedAcceptor<'a, R, T> {
+    ) -> PumpedAcceptor<'a, R, T>
+        ensures from { pumped_from result ≡ Some listener }
+        ensures at_once { pumped_at_once result ≡ sends_at_once }
+    {
         let listener = Some(listener);
         PumpedAcceptor {
             rt,
@@ -218,13 +225,18 @@ pub struct HandedAcceptor<'a, R, T> {
 }
 
 impl<'a, R, T: OpenListener<Stream = TcpStream>> HandedAcceptor<'a, R, T> {
+    ghost use Rattle.server_parts.specs.Asked.{handed_at_once, handed_from};
+
     /// Those of this listener. What is written to them is sent at once where that is asked for (`-D`).
     pub fn new(
         rt: &'a R,
         alloc: Global,
         listener: T,
         sends_at_once: bool,
-    ) -> HandedAcceptor<'a, R, T> {
+    ) -> HandedAcceptor<'a, R, T>
+        ensures from { handed_from result ≡ Some listener }
+        ensures at_once { handed_at_once result ≡ sends_at_once }
+    {
         let listener = Some(listener);
         HandedAcceptor {
             rt,

@@ -1,7 +1,7 @@
 //! The line wrappers that a server's words name.
-ghost use Rattle.std.specs.Prelude.{◌≡◌, map, IfOk, false};
-ghost use Rattle.server_parts.specs.Wrappers.{changed_by, told_by};
-ghost use Rattle.byte_streams.specs.Chains.{has_failed, wrappers_of};
+ghost use Rattle.std.specs.Prelude.{◌≡◌, IfOk, false};
+ghost use Rattle.server_parts.specs.Wrappers.{WrapsBy, changed_by, told_by};
+ghost use Rattle.byte_streams.specs.Chains.{has_failed};
 
 use byte_streams::{AddCr, Chain, DelCr, FixCr, LineWrapper};
 use server_words::LineWrapperName;
@@ -67,8 +67,8 @@ impl Wrapper {
 /// # Errors
 /// There was no memory.
 pub fn chain_of(alloc: Global, names: &[LineWrapperName]) -> Result<Chain<Wrapper>, AllocError>
-    ensures rest { IfOk result (λ chain. map ⟦<Wrapper as LineWrapper>⟧.rest (wrappers_of chain) ≡ map changed_by names.now) }
-    ensures whole { IfOk result (λ chain. map ⟦<Wrapper as LineWrapper>⟧.whole (wrappers_of chain) ≡ map changed_by names.now) }
+    ensures rest { IfOk result (WrapsBy ⟦<Wrapper as LineWrapper>⟧.rest names.now) }
+    ensures whole { IfOk result (WrapsBy ⟦<Wrapper as LineWrapper>⟧.whole names.now) }
     ensures failed { IfOk result (λ chain. has_failed chain ≡ false) }
 {
     let mut wrappers = Vec::new(alloc);

@@ -33,7 +33,7 @@ use std::sync::{Mutex, Wait};
 use std::thread::Threads;
 use std::time::{Clock, Duration};
 use stream_tools::SearchPath;
-use stream_tools::started::texts_of;
+use stream_tools::started::{SystemGiven, texts_of};
 use tcp_service::{
     Acceptor, Closed, Host, Log, Patience, Reserve, ServeEnd, Service, Unfinished, serve,
 };
@@ -133,7 +133,7 @@ fn parts_of<P: System>(
     let alloc = rt.alloc();
     let (level, limit) = (words.level(), words.limits().connections);
     let log = Log::new(alloc, errors, level, voice, limit);
-    let plan = plan_of(alloc, rt, words)?;
+    let plan = plan_of(alloc, &SystemGiven(rt), words)?;
     let service = service_of(rt, words, &plan)?;
     let search = SearchPath::own(alloc, rt)?;
     Ok(ServerParts {

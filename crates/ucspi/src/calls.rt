@@ -65,7 +65,9 @@ where
         let alloc = self.rt.alloc();
         let mut reader = KeepingReader::new(alloc, Patient::new(self.rt, self.rt.reader()));
         let mut folders = SystemFolders::new(self.rt, Patient::new(self.rt, self.errors));
-        let done = run_tcprules(alloc, &mut folders, &mut reader, cdb, tmp);
+        let mut noting = NotingStream::new(&mut reader);
+        let done = run_tcprules(alloc, &mut folders, &mut noting, cdb, tmp);
+        drop(noting);
         if let Err(failure) = done
             && let TcprulesFault::Line(fault) = failure.fault
         {
