@@ -26,7 +26,9 @@ pub mod workers;
 
 pub use accepting::{AcceptFault, Accepted, Acceptor, Follow, Patience, Shut};
 pub use admission::{Admission, AdmitOutcome, ServeEnd, Serving};
-pub use attending::{Attendant, Chains, ClientStreams, Endings, Piped, Talk, Upward, see_out};
+pub use attending::{
+    Attendant, Chains, ClientStreams, Endings, Piped, Streams, Talk, Upward, see_out,
+};
 pub use names::HostNames;
 pub use rounds::wait_in_rounds;
 pub use server_log::Log;
