@@ -11,7 +11,8 @@ use std::thread::Threads;
 use std::time::Clock;
 use tcp_connections::{Starter, Streams};
 
-/// What a server stands on: a type for each thing that it is lent, beside the parts of its connections' streams. A host is a name for these types together, and has no values.
+/// What a server stands on: a type for each thing that it is lent, beside the parts of streams (`Streams`). A host is a
+/// name for these types together, and has no values.
 ///
 /// Which of these things threads share (`Sync`) and give one another (`Send`) is said where threads are started, and not here: the check does not take
 /// a call in a method of a trait where what is called says so in its bounds.
