@@ -4,7 +4,6 @@ ghost use Rattle.std.specs.Thread.{IsSend};
 ghost use Rattle.byte_streams.specs.Chains.{has_failed};
 ghost use Rattle.byte_streams.specs.Pumps.{Pumped, ends_of};
 ghost use Rattle.byte_streams.specs.Taps.{shown_to};
-ghost use Rattle.byte_streams.specs.Watches.{left_under, reader_of, watch_of};
 ghost use Rattle.stream_tools.specs.Lanes.{Drained, Fed, IsNotStarted, IsRunOf, Ran};
 ghost use Rattle.stream_tools.specs.declared.between.BetweenFault.TheVariants.{CannotStart, OutOfMemory};
 
@@ -203,7 +202,7 @@ where
         chain: input.chain,
         tap: input.tap,
     };
-    pump_both::<H, B, S, T>(rt, alloc, (input, to), (from, output))
+    pump_both::<H, B, _, S, T>(rt, alloc, (input, to), (from, output))
 }
 
 /// The end of a program, which is waited for once, and abandoned where that fails, with the ends of its pumps. One that was not served, since
@@ -259,24 +258,23 @@ impl<I: Read, P: Write, S: LineWrapper, T: Tap> Promise<PumpEnd> for Feeding<I, 
 
 /// Pumps input to a program in a thread of its own, and its output in this one. Each of the program's pipe ends is closed when its pump
 /// ends. It answers how the pumps ended; `None` where no thread could be had: nothing was pumped then, and both ends are closed.
-fn pump_both<H, B, S, T>(
+fn pump_both<H, B, I, S, T>(
     rt: &H,
     alloc: Global,
-    feeding: (Lane<Watched<B::Reader>, S, T>, B::Input),
+    feeding: (Lane<I, S, T>, B::Input),
     draining: (B::Output, Lane<B::Writer, S, T>),
 ) -> Option<PumpEnds>
 where
     H: Threads + Wait + Sync,
     B: Between,
-    B::Reader: Send,
     B::Input: Send,
+    I: Read + Send + Drop,
     S: LineWrapper + Send + Drop,
     T: Tap + Send + Drop,
-    ensures input { IfSome result (λ pumps. Ran (λ w. left_under (watch_of w) (B.Reader.remaining (reader_of w)))
-        B.Input.contents S.rest T.watches T.sees T.ends
+    ensures input { IfSome result (λ pumps. Ran I.remaining B.Input.contents S.rest T.watches T.sees T.ends
         feeding.0.stream feeding.1 feeding.0.chain feeding.0.tap pumps.input) }
-    ensures output { IfSome result (λ pumps. Ran B.Output.remaining B.Writer.contents S.rest
-        T.watches T.sees T.ends draining.0 draining.1.stream draining.1.chain draining.1.tap pumps.output) }
+    ensures output { IfSome result (λ pumps. Ran B.Output.remaining B.Writer.contents S.rest T.watches T.sees T.ends
+        draining.0 draining.1.stream draining.1.chain draining.1.tap pumps.output) }
 {
     let (input, to) = feeding;
     let (from, output) = draining;
@@ -284,10 +282,9 @@ where
         thread::scope_env(),
         rt,
         move |scope| -> Option<PumpEnds>
-            requires { IsSend B.Reader.row × IsSend B.Input.row × IsSend S.row × IsSend T.row }
-            ensures input { IfSome result (λ pumps.
-                Ran (λ w. left_under (watch_of w) (B.Reader.remaining (reader_of w))) B.Input.contents
-                S.rest T.watches T.sees T.ends input.stream to input.chain input.tap pumps.input) }
+            requires { IsSend I.row × IsSend B.Input.row × IsSend S.row × IsSend T.row }
+            ensures input { IfSome result (λ pumps. Ran I.remaining B.Input.contents S.rest T.watches T.sees T.ends
+                input.stream to input.chain input.tap pumps.input) }
             ensures output { IfSome result (λ pumps. Ran B.Output.remaining B.Writer.contents S.rest
                 T.watches T.sees T.ends from output.stream output.chain output.tap pumps.output) }
         {
