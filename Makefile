@@ -2,7 +2,8 @@
 #
 # make try        builds the program without proofs in a minute (2 minutes of a processor), and makes the stored run of rulesim;
 #                 ARGS="tcprulescheck x" runs any tool of it
-# make test       builds it and the small programs of the tests so, and runs all tests that need no proved program; GROUPS="cookbook" runs some
+# make test       builds the program and the small programs of the tests without proofs, and runs all tests that need no proved program, in
+#                 9 minutes (18 of a processor); GROUPS="cookbook" runs some
 # make            proves and builds the program in half an hour (80 minutes of a processor); what out/ has of it is used
 # make run        makes the stored run on the proved program
 # make install    PREFIX=..  puts the program, a link of each tool's name, the man pages, bash's completion and the log reader in place; it
@@ -28,8 +29,8 @@ PROBES := $(addprefix crates/test_programs/out/,$(SMALL))
 # both, built without proofs
 TRIED := out/try/ucspi
 TRIED_PROBE := out/try/test_programs
-# how many checks stand side by side, each on one processor (one that is given several takes a third more of them in all): one for each
-# processor, and for each 4 GB of free memory, twice what the largest takes
+# how many checks run side by side: one for each processor, but no more than one for each 4 GB of free memory, twice what the largest takes.
+# Each has one processor; with several it takes a third more processor time in all
 RT_JOBS ?= $(shell awk -v most=$$(nproc) '/^MemAvailable/ { room = int($$2 / 4000000); print room < 1 ? 1 : room < most ? room : most }' /proc/meminfo)
 SOURCES := HANDLES crates.txt $(shell find crates -name out -prune -o -type f -print)
 

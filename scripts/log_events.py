@@ -1,18 +1,18 @@
 #!/usr/bin/env python3
-"""Turns the log of a server into a script for `rulesim`, whose answer says whether these events may happen in this order.
+"""Turns the log of a server into a script for `rulesim`. Its answer says whether these events may happen in this order.
 
-Usage: ucspi-log-events [PER] < log | ucspi rulesim, by the name under which it is installed.
+Usage: ucspi-log-events [PER] < log | ucspi rulesim (the name under which it is installed).
 
-The log is that of one run of `ucspi tcpserver -v`, from its first line on; other lines may stand between, as those of its programs, and in front of
-a line of the server what a program has begun to write, as a shell does that tells a fault in three pieces. PER is the number of `-m`; without it
-there is no limit per address but that of `-c`, which the log tells. The answer is
-`admitted A live L retired R most M`, or `illegal I`, where event I is the first that may not happen where it stands.
+The log is that of one run of `ucspi tcpserver -v`, from its first line on. Lines of its programs may stand between. The start of a program's
+line may stand in front of a line of the server, since a shell writes an error message in three pieces. PER is the number that the server has
+with `-m`. Without it the only limit for an address is that of `-c`, which the log tells. The answer is `admitted A live L retired R most M`, or
+`illegal I`: event I is the first that may not happen.
 
-What no line tells is put where it has to be: a verdict says that the rules were opened, an end that the program was started. The end of a
-denied connection is a status line alone; where several are waiting for theirs, one is taken that lets the others go on.
+The script also has the events that no line tells. The rules were opened before a verdict, and the program was started before its end. The end of
+a denied connection is a status line alone. If it may belong to several connections, the script takes one with which the other lines fit.
 
-Lines that do not fit (a number of connections that the events before don't have, an event without its status, a line of no known form) are told
-on standard error, and the exit code is then 1.
+Lines that do not fit are named on standard error, and the exit code is then 1. These are a number of connections that the events before don't
+give, an event without its status, and a line of no known form.
 """
 import re
 import sys

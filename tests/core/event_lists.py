@@ -1,5 +1,6 @@
-"""Lists of events: which may happen and what they come to, by `rulesim`; and by the program test_yards what `rulesim` cannot say: limits of 0, what
-journals tell and store, and children whose wait fails or that do not start."""
+"""Lists of events, by `rulesim`: which lists may happen, and what they lead to. The program test_yards tries what
+`rulesim` cannot say: limits of 0, what journals tell and store, and children whose wait fails or that do not start.
+"""
 import os
 import tempfile
 

@@ -1,7 +1,8 @@
 """Runs the program with one request for memory refused: the first, then the second, until a run meets no refusal.
 
-Each run has to end as one with ample memory does, or with `out of memory` and exit code 111, after answers that are a front of the ample run's; and a
-rules file is the new one where the run succeeded, else the old one. Beside it calls that no tool reaches, by the benchmarks that make them.
+Each run has to end as one with ample memory does, or with `out of memory` and exit code 111, after the first answers of
+that run. The rules file is the new one if the run succeeded, and otherwise the old one. Benchmarks make further calls
+that no tool reaches.
 """
 import os
 import tempfile

@@ -1,8 +1,9 @@
-"""A disk that records what it is given: one file, on which a loop device may stand, served over /dev/fuse without a library. Each write and each flush is
-kept in its order, and between them marks of whoever uses it.
+"""A disk that records its writes: one file, which a loop device may use, served over /dev/fuse without a library. The
+record has each write and each flush in their order, and between them the marks that its user sets.
 
-A process of its own serves it: an image is changed as it is written to, a folder gets the one file `disk`, and a record what came. Each line of its standard
-input is a mark, and is answered by a line once it is kept; the process ends once the folder is unmounted.
+Its own process serves the disk: writes go into an image and into the record, and a folder has the one file `disk`. Each
+line of the process's standard input is a mark; it answers with a line once it has recorded the mark. The process ends
+once the folder is unmounted.
 """
 import contextlib
 import errno

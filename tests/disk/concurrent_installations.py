@@ -1,5 +1,6 @@
-"""Runs two `tcprules` at once on the same two names, again and again, while another process reads the rules file all the time. Each of them
-exits 0, whoever looks sees the file of one of the texts, whole, and the one that ended last is the one whose text stands.
+"""Runs two `tcprules` at once on the same two names, again and again, while another process reads the rules file all
+the time. Each of them exits 0, each reader sees the whole file of one of the texts, and at the end the rules are those
+of the run that ended last.
 """
 import os
 import select

@@ -1,6 +1,8 @@
-"""The moments of a crash: what a disk holds if the machine crashes at some place of a record of blocks, each made anew as an image.
+"""The moments of a crash: what a disk holds if the machine crashes at some position of a record of blocks, each made
+anew as an image.
 
-What was flushed is there. Of the pieces that came since the last flush, a disk has kept any: none, all, those in front, a random half, all but one.
+The disk has kept everything that was flushed, and any pieces since the last flush: none, all, the first ones, a random
+half, or all but one.
 """
 import bisect
 import os

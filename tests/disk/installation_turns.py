@@ -1,8 +1,9 @@
-"""Installations in one folder take turns, and each keeps to one folder: who waits for whom, for how long, and what is told of it.
+"""Installations in one folder take turns, and each keeps to one folder: who waits for whom, for how long, and with
+which message.
 
-The scratch file is the lock: an exclusive lock of its first byte, of the open file. Each case has a folder of its own, and all of them run side by side, since one takes a minute.
-Where strace is installed, calls of an installation that runs are held up by it. As root, folders of two devices are mounted where nobody else
-sees them.
+The scratch file is the lock: an exclusive lock of its first byte, of the open file. Each case has a folder of its own,
+and all of them run side by side, since one takes a minute. If strace is installed, it holds up calls of a running
+installation. As root, the tests mount folders of two devices that nobody else sees.
 """
 import concurrent.futures
 import contextlib

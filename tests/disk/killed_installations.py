@@ -1,5 +1,5 @@
-"""Kills `tcprules` at random moments of installing a long text, while another process reads the rules file all the time. Whoever looks sees the
-old file or the new one, whole.
+"""Kills `tcprules` at random moments of installing a long text, while another process reads the rules file all the
+time. Each reader sees the old file or the new one, whole.
 """
 import hashlib
 import os

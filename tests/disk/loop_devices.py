@@ -1,5 +1,6 @@
-"""Loop devices and mounts, by the system's own calls, in a namespace of mounts that ends with the process that made it: whatever becomes of that
-process, its mounts, and its loop devices with them, are gone."""
+"""Loop devices and mounts, by system calls, in a namespace of mounts that ends with the process that made it. However
+that process ends, its mounts and its loop devices are gone afterwards.
+"""
 import contextlib
 import ctypes
 import errno

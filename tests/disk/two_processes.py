@@ -1,9 +1,11 @@
-"""Weaves the histories of two kinds of processes over one folder: a `tcpserver`, whose log has each verdict, and one `tcprules` after another, some of
-which are killed within their rename or between their calls. strace has the moments at which the rules were renamed and opened, and each decision has to
-be that of a text which stood under the rules name at some moment of its opening.
+"""Weaves the histories of two kinds of processes over one folder: a `tcpserver`, whose log has each verdict, and one
+`tcprules` after another, some of which are killed within their rename or between their calls. strace has the moments at
+which the rules were renamed and opened, and each decision has to be that of a text which stood under the rules name at
+some moment of its opening.
 
-What is legal is defined here once more, in a few lines, and not by the program. Each text denies another address
-than the seven before and behind it, and names itself to all others: so a verdict, with what the client got, says which text decided.
+A few lines here define once more what is legal, without the program. Each text denies another address than the seven
+texts before and after it, and gives its own name to all other clients. A verdict, with the data that the client got,
+thus says which text decided.
 """
 import contextlib
 import itertools

@@ -1,8 +1,9 @@
-"""Loops of `tcprules` by two users at once, in folders that both may write: one that everybody may, a sticky one, and one of a group. Others read the rules
-all the time, clients that each text denies come to a server, and files of the folder are taken away at random moments, as by a person or `rsync --delete`.
-Nobody sees a part of a file, no client is let in, and a run that exits with 0 has put its text under the rules name. It needs root.
+"""Loops of `tcprules` by two users at once, in folders that both may write: one that everybody may, a sticky one, and
+one of a group. Others read the rules all the time, clients that each text denies come to a server, and files of the
+folder are taken away at random moments, as by a person or `rsync --delete`. Nobody sees a part of a file, no client is
+let in, and a run that exits with 0 has put its text under the rules name. It needs root.
 
-`TESTS_TIMES=7 TWO_USERS_SECONDS=3600 tests/run two_users` takes so long in place of a minute.
+With `TESTS_TIMES=7 TWO_USERS_SECONDS=3600`, `tests/run two_users` takes an hour instead of a minute.
 """
 import contextlib
 import ctypes

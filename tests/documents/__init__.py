@@ -1,1 +1,1 @@
-"""Documents, pages and packages, and that they say what is so."""
+"""Documents, man pages and packages, and whether they say the truth."""

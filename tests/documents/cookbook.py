@@ -1,8 +1,8 @@
 """Runs the recipes of docs/COOKBOOK.md and docs/COOKBOOK_RULES.md as they stand: the files of examples/, and each line
 behind a `$`, with what it prints below.
 
-A recipe whose programs are not installed, or that has to be root, is skipped, and said to be. The environment gives the run scripts a free port and an
-account; nothing else of them is changed.
+If the programs of a recipe are not installed, or the recipe needs root, it is skipped with a message. The environment
+gives the run scripts a free port and an account, and changes nothing else of them.
 """
 import os
 import pwd

@@ -1,9 +1,10 @@
-"""Runs the commands of the README, and each line behind a `$` in the documents, and compares what they print with what stands below them. (The cookbook
-has a group of its own, `cookbook`, and the man pages too.) Looks at the links and the terms of all documents.
+"""Runs the commands of the README, and each line behind a `$` in the documents, and compares what they print with what
+stands below them. (The cookbook has a group of its own, `cookbook`, and the man pages too.) Looks at the links and the
+terms of all documents.
 
-The lines of one document run in one shell, in a folder of their own that has the examples. `make` is a command that takes the program that is there for
-the one that it would build, and the tests that it would run are one group; the port 2525 is another one, which is free. A server in the foreground is
-started at a free port of this machine alone, and ended once it listens.
+The lines of one document run in one shell, in a folder of their own that has the examples. `make` is a stand-in that
+builds no program and takes this one, and runs one group of tests. A free port stands for the port 2525. A server in the
+foreground is started at a free port of this machine alone, and ended once it listens.
 """
 import os
 import re

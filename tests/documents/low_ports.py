@@ -1,7 +1,8 @@
-"""Runs the services of the cookbook as root, each at its own port, most of them below 1024, in a network of their own: under supervise, under runsv, and
-by the lines of the recipe for such ports. Their programs are stand-ins that show whose processes they are and what they may do.
+"""Runs the services of the cookbook as root, each at its own port, most of them below 1024, in a network of their own:
+under supervise, under runsv, and by the lines of the recipe for such ports. Their programs are stand-ins that show
+whose processes they are and what they may do.
 
-What is not installed here is said to be, and its tests are skipped.
+If a program is not installed, its tests are skipped with a message.
 """
 import json
 import os

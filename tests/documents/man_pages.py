@@ -1,6 +1,7 @@
-"""Compares the man pages with the sources: options, texts, exit codes, variables and tools of a page are those of the code, and the other way round.
+"""Compares the man pages with the sources: options, texts, exit codes, variables and tools of a page are those of the
+code, and the other way round.
 
-Pages are in `man/`. Where `mandoc` or `man` is not installed, what it says of a page is skipped.
+Pages are in `man/`. If `mandoc` or `man` is not installed, its checks of a page are skipped.
 """
 import os
 import re

@@ -1,7 +1,8 @@
 """Mistakes that are made with the tools, each by the tool's own name and as `ucspi TOOL`.
 
-By its own name a tool names the path, the reason and what to do, on lines behind that of the fault; under `tcpserver -q` it doesn't. As `ucspi TOOL` it
-prints the line of the fault alone, and the cause where `-v` asks for it. Where 0.88 is installed it gets the same words, and has to tell the reason too.
+Called by its own name, a tool prints the path, the reason and what to do, on lines after the line of the fault;
+`tcpserver -q` doesn't. `ucspi TOOL` prints the line of the fault alone, and under `-v` the cause. If 0.88 is installed,
+it gets the same words, and has to tell the reason too.
 """
 import os
 import socket

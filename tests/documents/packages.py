@@ -1,7 +1,8 @@
-"""Packs the program as `make dist` and `make deb` do, and looks into what they make: the same bytes each time, all that belongs there, programs that run
-with nothing but the C library beside them, a script that installs without compiler and kit, and no file of Debian's ucspi-tcp.
+"""Packs the program as `make dist` and `make deb` do, and looks into what they make: the same bytes each time, all that
+belongs there, programs that run with nothing but the C library beside them, a script that installs without compiler and
+kit, and no file of Debian's ucspi-tcp.
 
-What is not installed here, as dpkg-deb or busybox, is said to be, and its tests are skipped.
+If a program such as dpkg-deb or busybox is not installed, its tests are skipped with a message.
 """
 import hashlib
 import os

@@ -1,11 +1,11 @@
 """Compares the list of promises in docs/internals/PROOFS.md with the sources: each crate is there, and each function,
-law and clause that a promise names stands in it; and so is what would notice a breach, which each promise names: an
-edit, or a group of `tests/run`.
+law and clause that a promise names stands in it. So do the edits and the groups of `tests/run` that a promise names,
+which would notice a breach.
 
 Below a promise stand its crate with the contracts, and then what would notice a breach. Contracts are parts with a `;`
 or `and` between them: the name of a function, of a law, of a module or of a crate, then those of its clauses. An edit
 stands in `crates/CRATE/must-fail/`, where the gate tries it, or in `tests/edits/CRATE/`, where `scripts/edits` does.
-Of each it is looked here that it can be made: its old texts stand in the files that it names, once.
+This module checks that each edit and each plant can be made: its old texts stand once in the files that it names.
 """
 import glob
 import os
@@ -70,9 +70,9 @@ def edits():
     return found
 
 
-def unmade(name, path):
-    """The old texts of an edit that do not stand once in the file that it names."""
-    lost, crate, text = [], os.path.join(TOP, "crates", name.partition("/")[0]), ""
+def unmade(crate, path):
+    """The old texts of an edit or a plant that do not stand once in the file that it names, which is in this folder."""
+    lost, text = [], ""
     with open(path, encoding="utf-8") as edit:
         for line in edit.read().split("\n"):
             word, _, rest = line.partition(": ")
@@ -94,7 +94,11 @@ def check(groups, failures):
     """How many parts and names were looked at; `groups` are the names of all groups of tests and of their parts."""
     checks, known = Checks("promises", failures), edits()
     for name, path in sorted(known.items()):
-        checks.expect("%s: what stands no more in the file that it edits" % name, unmade(name, path), [])
+        lost = unmade(os.path.join(TOP, "crates", name.partition("/")[0]), path)
+        checks.expect("%s: what stands no more in the file that it edits" % name, lost, [])
+    for path in sorted(glob.glob(os.path.join(TOP, "tests", "plants", "*.plant"))):
+        lost = unmade(os.path.join(TOP, "crates"), path)
+        checks.expect("%s: what stands no more in the file that it edits" % os.path.basename(path), lost, [])
     for crate, contract, notice in rows():
         checks.expect("%s: what is neither an edit nor a group" % crate, unknown(notice, groups, known), [])
         if not is_crate(crate):

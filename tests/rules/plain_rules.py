@@ -1,5 +1,6 @@
-"""Compares the program with a plain reader of rule texts (`shared/plain_texts.py`): which texts are accepted, the first faulty line of the others and its
-kind, the compiled file, and the decisions. Beside it one text of 64 MiB. Texts come of a fixed series of numbers, so each run has the same ones.
+"""Compares the program with a plain reader of rule texts (`shared/plain_texts.py`): which texts are accepted, the first
+faulty line of the others and its kind, the compiled file, and the decisions. One more text has 64 MiB. The texts come
+from a fixed series of numbers, so each run has the same ones.
 """
 import os
 import tempfile

@@ -1,8 +1,9 @@
-"""Compares what `tcprules -n` and `tcprules -N` say of rule texts with a plain second program, on random texts with mistakes planted. Beside it
-each kind of warning once, words, faults of the streams, and a text of 64 MiB with the memory that it takes.
+"""Compares what `tcprules -n` and `tcprules -N` say of rule texts with a plain second program, on random texts with
+mistakes planted. It also tries each kind of warning once, words, faults of the streams, and a text of 64 MiB with the
+memory that it takes.
 
-The second program is written from docs/RULES.md, with nothing of the program in it: whether an address is
-a form of some peer it finds out by trying peers. Texts come of a fixed series of numbers, so each run has the same ones.
+The second program is written from docs/RULES.md, with nothing of the program in it: it tries peers to find out whether
+an address is a form of one of them. The texts come from a fixed series of numbers, so each run has the same ones.
 """
 import concurrent.futures
 import os

@@ -1,9 +1,9 @@
-"""Each call that `tcpserver` makes of the system fails in turn, with each error that may come there.
+"""Each system call of `tcpserver` fails in turn, with each error that it may give.
 
-Calls of the C library fail by a small library that is compiled here, one call in each run; those below it, as `clone` and `execve`, by strace,
-which is attached to a server that runs, where it is installed. Where the server starts it tells of the fault that the documents name; later one
-failure changes at most one connection, and its lines say how. Nothing is lost: at `-c 1` the next client is served, no descriptor is left, and
-the log is legal.
+A small library, which is compiled here, makes calls of the C library fail, one in each run. strace, if it is installed,
+does the same with calls below the C library, such as `clone` and `execve`, of a running server. At its start the server
+reports the error that the documents name. Later one failure changes at most one connection, and the log says how.
+Nothing is lost: at `-c 1` the next client is served, no descriptor is left, and the log is legal.
 """
 import os
 import re

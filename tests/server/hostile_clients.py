@@ -1,6 +1,7 @@
-"""Bad clients and bad programs: resets at each stage, clients that are slow or never read, thousands in a burst, a full queue; programs that crash,
-stop, close what they have, leave others behind or write on when their client is gone. Whoever is honest beside them gets all that is due, each
-place comes back, and the log is legal."""
+"""Bad clients and bad programs: resets at each stage, clients that are slow or never read, thousands in a burst, a full
+queue; programs that crash, stop, close what they have, leave others behind or write on when their client is gone.
+Honest clients beside them get all data, each place comes back, and the log is legal.
+"""
 import os
 import random
 import resource

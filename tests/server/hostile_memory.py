@@ -1,8 +1,9 @@
 """Each request for memory refused in turn: every tool, and `tcpserver` with a connection of each kind.
 
-A tool ends with `out of memory`, or as with ample memory. In a server one refusal changes at most one connection, and in no way but these: it
-is closed with the line `out of memory` and not counted; it is dropped for want of memory or of a thread; its program is not started for want
-of memory, or is ended since it has no pipe ends; its streams end early; a line of the log is left out. The next one is served as ever.
+A tool ends with `out of memory`, or as with ample memory. In a server one refusal changes at most one connection, in
+one of these ways: the server closes it with the line `out of memory` and does not count it; drops it for lack of memory
+or of a thread; does not start its program for lack of memory, or kills the program, since it has no pipe ends; ends its
+streams early; or leaves out a line of the log. The next connection is served as usual.
 """
 import os
 import re

@@ -1,5 +1,7 @@
-"""Numbers within the server that no contract names: what it does as often, as long or as many times as the documents say, and no less. Faults of
-accepting, their pauses and what they leave; reads of a pump, unread banners, variables, programs at once, waits for a process, and signals."""
+"""Numbers within the server that no contract names: how often, how long and how many times it does something, as the
+documents say. Faults of accepting, their pauses and what they leave; reads of a pump, unread banners, variables,
+programs at once, waits for a process, and signals.
+"""
 import concurrent.futures
 import os
 import resource

@@ -1,5 +1,6 @@
-"""The line of a cause: under -v a fault of the system is followed by one more line that says what the system was asked for, and its words; so is the
-usage line, by what is lacking. Without -v there is none."""
+"""The line of a cause: under -v, a line with the path or the program and the system's error message follows each system
+error. After the usage message a line says which argument is wrong or missing. Without -v there is no such line.
+"""
 import os
 import shutil
 import signal

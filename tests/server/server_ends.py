@@ -1,5 +1,6 @@
-"""How `tcpserver` ends and goes on, and what its programs are given of the system: signals, descriptors, folders; what thousands of connections
-leave behind; and a system that has no descriptors, no threads or no connections to give."""
+"""How `tcpserver` ends and goes on; which signals, descriptors and folders its programs get; what thousands of
+connections leave behind; and a system that refuses descriptors, threads or connections.
+"""
 import concurrent.futures
 import fcntl
 import os

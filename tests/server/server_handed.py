@@ -1,7 +1,7 @@
 """Who holds a connection under `tcpserver`: the program itself (`-s`), or the server, which passes the bytes on (`-S`).
 
-What a program was given it tells by itself (`server_given.c`): each open descriptor, its kind, its flags and, of a socket, both addresses and
-what was set on it.
+A program (`server_given.c`) prints what it got: each open descriptor, its kind and its flags; for a socket also both
+addresses and its options.
 """
 import os
 import re

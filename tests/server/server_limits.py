@@ -1,6 +1,7 @@
-"""The limits of `tcpserver`: how many programs run at once, how many for one address, and after how many connections it ends.
+"""The limits of `tcpserver`: how many programs run at once, how many for one address, and after how many connections it
+ends.
 
-Those that run are counted by the programs themselves, in a table that they share (`server_child.c`).
+The programs count themselves, in a table that they share (`server_child.c`).
 """
 import os
 import socket

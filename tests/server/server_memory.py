@@ -1,9 +1,10 @@
 """Runs `tcpserver` with one request for memory refused: the first, then the second, until runs meet no refusal.
 
-Each run serves two connections, one that the rules allow and one that they deny. A refusal may end the server with `out of memory` and exit
-code 111, or change what happens to one connection: it is closed and not counted, dropped, not started, or its streams end early, either
-way. It never gets more than it should, no other connection changes, and the server ends as it does with ample memory. Where connections are
-handed over no stream ends early, and there are no pipe ends to be missed.
+Each run serves two connections, one that the rules allow and one that they deny. A refusal may end the server with `out
+of memory` and exit code 111, or change what happens to one connection: it is closed and not counted, dropped, not
+started, or one of its streams ends early. It never gets more than it should, no other connection changes, and the
+server ends as it does with ample memory. If connections are handed over, no stream ends early, and no program lacks its
+pipe ends.
 """
 import os
 import re

@@ -1,7 +1,7 @@
-"""Programs that no one here wrote, under `tcpserver`: what each does where the connection is handed over, and what where it gets pipes.
+"""Programs of others under `tcpserver`: what each does with the connection itself, and what it does with pipes.
 
-What is expected here stands in the table of docs/TCPSERVER.md. A program that is not installed is left out, and so is one that takes root where this
-is not root. All of them are asked on loopback alone, with files of their own.
+The table of docs/TCPSERVER.md has the expected answers. A program that is not installed is left out, and so is one that
+needs root if this is not root. All of them are asked on loopback alone, with files of their own.
 """
 import os
 import pwd

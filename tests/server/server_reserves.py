@@ -1,5 +1,6 @@
-"""What `tcpserver` has of the system for its connections: threads that are kept, and descriptors, threads, processes and memory that are there
-before a client is taken. Where they are not, clients wait with the system, and all are served; a server that could serve nobody says so.
+"""What `tcpserver` holds for its connections: threads that are kept, and descriptors, threads, processes and memory
+that it has before it accepts a client. If it lacks some of these, clients wait in the system's queue, and all are
+served; a server that could serve nobody says so.
 """
 import contextlib
 import os

@@ -1,7 +1,8 @@
-"""Clients that take nothing of what their programs wrote: they hold up nobody for long, and whoever takes a little now and then loses nothing.
+"""Clients that read nothing of their program's output: they hold up nobody for long, and a client that reads a little
+now and then loses nothing.
 
-A pumped connection whose program has ended waits until its client has taken nothing for 60 seconds. All waits stand side by side, in threads: the
-group takes some eighty seconds, and next to no time of a processor.
+A pumped connection whose program has ended waits until its client has read nothing for 60 seconds. All waits run side
+by side, in threads: the group takes some eighty seconds, and hardly any processor time.
 """
 import concurrent.futures
 import os

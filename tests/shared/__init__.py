@@ -1,1 +1,1 @@
-"""What several groups use: the harness, the server that runs, failures by force, plain definitions."""
+"""Parts that several groups use: the harness, the server that runs, fault injection, plain definitions."""

@@ -1,4 +1,4 @@
-"""The harness of all groups: it counts what was tried, and tells what was not as it should be, with the group's name in front."""
+"""The harness of all groups: it counts the checks, and prints each failed one with the group's name in front."""
 import functools
 import os
 import subprocess

@@ -1,4 +1,4 @@
-"""Calls of a program that fail by force, through a library that is loaded before the C library (`failed_calls.c`), or through strace."""
+"""Makes calls of a program fail, by a library that is loaded before the C library (`failed_calls.c`), or by strace."""
 import concurrent.futures
 import errno
 import os

@@ -1,4 +1,4 @@
-"""What a process of the tests does right before it becomes a program that may do less: calls for `preexec_fn`."""
+"""Takes rights from a process of the tests right before it becomes another program: calls for `preexec_fn`."""
 import os
 import resource
 import signal

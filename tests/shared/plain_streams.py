@@ -1,4 +1,4 @@
-"""What the stream tools make of a text, in a line each."""
+"""The output of the stream tools for a text, one line of code for each tool."""
 import re
 
 

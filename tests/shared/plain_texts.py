@@ -1,5 +1,6 @@
-"""A plain reader of rule texts: which are accepted, the first faulty line of the others and its kind, the compiled codes, the decisions. It is written
-from the rules, with nothing of the program in it; beside it a maker of such texts.
+"""A plain reader of rule texts: which texts are accepted, the first faulty line of the others and its kind, the
+compiled codes, the decisions. It is written from the document, with nothing of the program in it. The module also makes
+such texts.
 """
 import random
 

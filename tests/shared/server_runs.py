@@ -1,7 +1,8 @@
 """What the tests of the server share: a server that runs, its clients, its log, and a group of checks.
 
-Each group is a module with a list CHECKS of functions that take a Suite, a list COMMON of those of them that hold of djb's tcpserver too, and it
-may have a list HANDED of those that are made again of a server that hands connections over (`-s`); all others pass the bytes on.
+Each group is a module with a list CHECKS of functions that take a Suite. Its list COMMON names the checks that djb's
+tcpserver passes too. A list HANDED, if there is one, names the checks that run a second time with a server that hands
+connections over (`-s`). All other servers pass the bytes on.
 """
 import os
 import random

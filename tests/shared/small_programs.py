@@ -1,4 +1,5 @@
-"""The small programs and libraries of the tests in C: each is compiled into a folder where it is not there yet."""
+"""The small programs and libraries of the tests in C: each is compiled into a folder, unless the folder has it already.
+"""
 import os
 import subprocess
 

@@ -1,5 +1,5 @@
-"""What no clause reaches of the tools as wholes: locks that the system has none of, hundreds of arguments, variables and settings, tens of thousands of
-small reads, and a script of 200 MiB.
+"""Parts of whole tools that no clause reaches: a system without locks, hundreds of arguments, variables and settings,
+tens of thousands of small reads, and a script of 200 MiB.
 """
 import concurrent.futures
 import os

@@ -14,7 +14,7 @@ use Rattle.rule_lookup.specs.declared.decision.DecideFault.{DecideFault}
 use Rattle.rule_lookup.specs.declared.decision.DecideFault.TheVariants.{Find, Code, OutOfMemory as NoMemory}
 use Rattle.rule_lookup.specs.Decisions.{of_code}
 use Rattle.rule_lookup.proofs.CodeFaults.{decoded-none}
-use Rattle.cdb_read.specs.Parts.{CodeFails, FailsOf, IsFault, SettingsFail}
+use Rattle.cdb_read.specs.Parts.{CodeFails, FailsOf, IsFault, IsReadFault, SettingsFail}
 
 -- a value that was read is no code
 pub CodeFails-code : (honest sound : Bool) (value code : List ℕ) (e : DecodeFault) → (IsTrue honest → code ≡ value) → RefusesCode code e → CodeFails honest sound value (of_code e)
@@ -25,6 +25,22 @@ CodeFails-code honest sound value code NoMemoryToDecode same refuses = tt
 pub SettingsFail-code : (honest sound : Bool) (codes : List ℕ) (e : DecodeFault) → ((fault : CodeFault) → e ≡ NoCode fault → IsTrue honest → settings_in (pieces_of 0 codes) ≡ None) → SettingsFail honest sound codes (of_code e)
 SettingsFail-code honest sound codes (NoCode fault) refused = refused fault refl
 SettingsFail-code honest sound codes NoMemoryToDecode refused = tt
+
+-- bytes could not be read
+pub SettingsFail-read : (honest sound : Bool) (codes : List ℕ) (e : DecideFault) → IsReadFault honest sound e → SettingsFail honest sound codes e
+SettingsFail-read honest sound codes (Find Short) fails = fails
+SettingsFail-read honest sound codes (Find Device) fails = fails
+SettingsFail-read honest sound codes (Find OutOfMemory) fails = fails
+SettingsFail-read honest sound codes (Code fault) fails = absurd fails
+SettingsFail-read honest sound codes NoMemory fails = tt
+
+-- other bytes are none either
+pub SettingsFail-same : (honest sound : Bool) (codes all : List ℕ) (e : DecideFault) → (IsTrue honest → settings_in (pieces_of 0 codes) ≡ None → settings_in (pieces_of 0 all) ≡ None) → SettingsFail honest sound codes e → SettingsFail honest sound all e
+SettingsFail-same honest sound codes all (Find Short) none fails = fails
+SettingsFail-same honest sound codes all (Find Device) none fails = fails
+SettingsFail-same honest sound codes all (Find OutOfMemory) none fails = fails
+SettingsFail-same honest sound codes all (Code fault) none fails = λ h. none h (fails h)
+SettingsFail-same honest sound codes all NoMemory none fails = tt
 
 -- the settings of a value were not decoded
 pub CodeFails-settings : (honest sound : Bool) (value codes : List ℕ) (e : DecideFault) → (IsTrue honest → settings_in (pieces_of 0 codes) ≡ None → decoded value ≡ None) → SettingsFail honest sound codes e → CodeFails honest sound value e

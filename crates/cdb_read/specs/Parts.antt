@@ -1,5 +1,5 @@
 -- The parts of a lookup in a compiled file.
-use Rattle.std.specs.Prelude.{◌≡◌, ◌≤◌, ℕ, ◌+◌, ◌*◌, Bool, not, List, length, map, find, take, drop, Option, Some, None, Result, IfOk, IfErr, IsTrue, if◌then◌else◌}
+use Rattle.std.specs.Prelude.{◌≡◌, ◌≤◌, ℕ, ◌+◌, ◌*◌, Bool, false, not, List, ◌∷◌, ◌++◌, length, map, find, take, drop, Option, Some, None, Result, IfOk, IfErr, IsTrue, if◌then◌else◌}
 use Rattle.std.specs.List.{range_with_len}
 use Rattle.cdb_write.specs.Format.{hash_of, two_numbers_at}
 use Rattle.cdb_write.specs.Slots.{probe}
@@ -8,8 +8,9 @@ use Rattle.rule_lines.specs.Lookups.{Finding}
 use Rattle.rule_lines.specs.Lookups.Finding.{Has, Absent, Broken}
 use Rattle.rule_lines.specs.declared.source.FindFault.{FindFault}
 use Rattle.rule_lines.specs.declared.source.FindFault.TheVariants.{Short, Device, OutOfMemory}
-use Rattle.rule_lines.specs.Codes.{decoded, settings_in}
-use Rattle.rule_lines.specs.Lines.{pieces_of}
+use Rattle.rule_lines.specs.Settings.{Assignment}
+use Rattle.rule_lines.specs.Codes.{decoded, settings_in, settings_with}
+use Rattle.rule_lines.specs.Lines.{has_byte, pieces_of}
 use Rattle.rule_lookup.specs.declared.decision.DecideFault.{DecideFault}
 use Rattle.rule_lookup.specs.declared.decision.DecideFault.TheVariants.{Find, Code, OutOfMemory as NoMemory}
 use Rattle.cdb_read.specs.declared.cdb_file.Stored.{Stored}
@@ -77,6 +78,23 @@ ReadFails honest sound OutOfMemory = Unit {0}
 -- an answer that is a fault is one where this is to be found
 abbrev pub FailsOf : {X : Type 0} → Bool → Bool → Finding → Result X FindFault → Type 0
 FailsOf honest sound found result = IfErr result (IsFault honest sound found)
+
+-- a fault of a read inside such a file, where a decision is asked for
+abbrev pub IsReadFault : Bool → Bool → DecideFault → Type 0
+IsReadFault honest sound (Find Short) = IsTrue honest → ⊥
+IsReadFault honest sound (Find Device) = IsTrue sound → ⊥
+IsReadFault honest sound (Find OutOfMemory) = ⊥
+IsReadFault honest sound (Code fault) = ⊥
+IsReadFault honest sound NoMemory = Unit {0}
+
+-- where a byte first stands among bytes, if it does
+abbrev pub IsFirst : ℕ → List ℕ → Option ℕ → Type 0
+IsFirst byte bytes None = has_byte byte bytes ≡ false
+IsFirst byte bytes (Some at) = (has_byte byte (take at bytes) ≡ false) × (bytes ≡ take at bytes ++ byte ∷ drop (at + 1) bytes)
+
+-- settings with codes behind them are other settings with those behind the first bytes of these codes
+abbrev pub AddsCodes : List ℕ → List Assignment → List Assignment → ℕ → Type 0
+AddsCodes codes old new count = settings_with new (drop count codes) ≡ settings_with old codes
 
 -- a fault where bytes inside such a file are read as the codes of settings
 abbrev pub SettingsFail : Bool → Bool → List ℕ → DecideFault → Type 0

@@ -1,21 +1,23 @@
 //! Lookups in a compiled file.
-ghost use Rattle.std.specs.Prelude.{◌≡◌, ◌≢◌, ◌≤◌, ◌<◌, ◌+◌, ◌*◌, ◌^◌, ◌%◌, bytes_eq, length, Some, IsTrue, IfOk, IfErr, OnOk};
+ghost use Rattle.std.specs.Prelude.{◌≡◌, ◌≢◌, ◌≤◌, ◌<◌, ◌+◌, ◌*◌, ◌^◌, ◌%◌, bytes_eq, length, Some, IsTrue, IfOk, IfErr, IfSome, OnOk};
 ghost use Rattle.cdb_write.specs.Format.{two_numbers_at};
-ghost use Rattle.cdb_read.specs.Parts.{CodeFails, Covers, FailsOf, IsFault, IsInside, IsWindowOf, ReadFails, SettingsFail, Tells, bytes_at, found_in_slots, record_at, value_of, value_position};
+ghost use Rattle.cdb_read.specs.Parts.{AddsCodes, CodeFails, Covers, FailsOf, IsFault, IsFirst, IsInside, IsReadFault, IsWindowOf, ReadFails, SettingsFail, Tells, bytes_at, found_in_slots, record_at, value_of, value_position};
 ghost use Rattle.cdb_read.specs.Reading.{lies_in, reading};
 ghost use Rattle.cdb_read.specs.Sources.{trust_of};
 ghost use Rattle.rule_lines.specs.Codes.{decoded, settings_in};
-ghost use Rattle.rule_lines.specs.Lines.{pieces_of};
+ghost use Rattle.rule_lines.specs.Lines.{has_byte, pieces_of};
 ghost use Rattle.rule_lines.specs.Lookups.Trust.{Sound};
 
-use crate::pieces::take_piece;
 use crate::stage::{Stage, text_front};
 use crate::window::{FIRST_RECORD, FIRST_SLOTS, VALUE_PIECE, Window};
 use byteorder::{ByteOrder, LittleEndian};
 use cdb_write::hash;
 use cdb_write::layout::HEADER_LENGTH;
 use dir_calls::RulesFile;
-use rule_lines::{CodeFault, FindFault, Instr, PairSource, Settings, decode_instr, split_verdict};
+use rule_lines::{
+    CodeFault, FindFault, Instr, PairSource, Settings, decode_instr, push_parts, push_settings,
+    split_at_byte, split_verdict,
+};
 use rule_lookup::{DecideFault, RuleSource};
 use std::alloc::Global;
 use std::marker::Model;
@@ -58,6 +60,13 @@ impl<F: RulesFile> Model for CdbFile<F> {
     ghost Value = { F };
 
     ghost view = { λ c. c.file };
+}
+
+/// Whether a byte stands among others.
+fn has(byte: u8, bytes: &[u8]) -> bool
+    ensures { result ≡ has_byte byte bytes.now }
+{
+    split_at_byte(byte, bytes).is_some()
 }
 
 impl<F: RulesFile> CdbFile<F> {
@@ -321,8 +330,116 @@ impl<F: RulesFile> CdbFile<F> {
         }
     }
 
-    /// The settings whose codes so many bytes from a position on are, decoded as they are read: of these bytes no more is held than a piece and
-    /// the setting that it goes on with.
+    /// So many bytes from a position on, with the faults of a decision.
+    fn read(&self, alloc: Global, position: u64, len: usize) -> Result<Vec<u8>, DecideFault>
+        requires fits { position + len < 2 ^ 64 }
+        requires inside { IsTrue F.honest → position + len ≤ length (F.bytes self.now) }
+        ensures length { IfOk result (λ v. length v.items ≡ len) }
+        ensures bytes { IsTrue F.honest → IfOk result (λ v. v.items ≡ bytes_at (F.bytes self.now) position len) }
+        ensures refused { IfErr result (IsReadFault F.honest F.sound) }
+    {
+        match self.bytes_at(alloc, position, len) {
+            Ok(bytes) => Ok(bytes),
+            Err(fault) => Err(DecideFault::of_look_up(fault)),
+        }
+    }
+
+    /// Where a byte first stands among so many from a position on, counted from there. No more than a piece of them is held.
+    fn find_byte(
+        &self,
+        alloc: Global,
+        byte: u8,
+        position: u64,
+        len: usize,
+    ) -> Result<Option<usize>, DecideFault>
+        requires fits { position + len < 2 ^ 64 }
+        requires inside { IsTrue F.honest → position + len ≤ length (F.bytes self.now) }
+        ensures within { IfOk result (λ found. IfSome found (λ at. at < len)) }
+        ensures first { IsTrue F.honest
+            → IfOk result (λ found. IsFirst byte (bytes_at (F.bytes self.now) position len) found) }
+        ensures refused { IfErr result (IsReadFault F.honest F.sound) }
+    {
+        let mut done = 0;
+        while done < len {
+            let count = (len - done).min(VALUE_PIECE);
+            let piece = self.read(alloc, position + done as u64, count)?;
+            if let Some((before, _)) = split_at_byte(byte, &piece) {
+                return Ok(Some(done + before.len()));
+            }
+            done += count;
+        }
+        Ok(None)
+    }
+
+    /// Adds the setting whose code stands at the front of so many bytes from a position on, and answers how long that is.
+    /// Its name and its value are read into the memory that they keep; besides, no more than a piece is held.
+    fn push_long(
+        &self,
+        alloc: Global,
+        position: u64,
+        len: usize,
+        settings: &mut Settings,
+    ) -> Result<usize, DecideFault>
+        requires fits { position + len < 2 ^ 64 }
+        requires some { 0 < len }
+        requires inside { IsTrue F.honest → position + len ≤ length (F.bytes self.now) }
+        ensures moves { IfOk result (λ count. (0 < count) × (count ≤ len)) }
+        ensures added { IsTrue F.honest → IfOk result (AddsCodes (bytes_at (F.bytes self.now) position len)
+            settings.old settings.new) }
+        ensures refused { IfErr result (SettingsFail F.honest F.sound (bytes_at (F.bytes self.now) position len)) }
+    {
+        let Some(end) = self.find_byte(alloc, 0, position, len)? else {
+            return Err(DecideFault::Code(CodeFault::NotCode));
+        };
+        let Some(equals) = self.find_byte(alloc, b'=', position, end)? else {
+            return Err(DecideFault::Code(CodeFault::NotCode));
+        };
+        let mut name = self.read(alloc, position, equals)?;
+        if !name.starts_with(b"+") {
+            return Err(DecideFault::Code(CodeFault::NotCode));
+        }
+        name.remove(0);
+        let value = self.read(alloc, position + equals as u64 + 1, end - equals - 1)?;
+        // these bytes stand in the parts only if the file changed meanwhile
+        if has(b'=', &name) || has(0, &name) || has(0, &value) {
+            return Err(DecideFault::Code(CodeFault::NotCode));
+        }
+        match push_parts(name, value, settings) {
+            Ok(()) => Ok(end + 1),
+            Err(fault) => Err(DecideFault::of_code(fault)),
+        }
+    }
+
+    /// Adds settings whose codes stand at the front of so many bytes from a position on, one at least, and answers how long
+    /// these codes are.
+    fn push_next(
+        &self,
+        alloc: Global,
+        position: u64,
+        len: usize,
+        settings: &mut Settings,
+    ) -> Result<usize, DecideFault>
+        requires fits { position + len < 2 ^ 64 }
+        requires some { 0 < len }
+        requires inside { IsTrue F.honest → position + len ≤ length (F.bytes self.now) }
+        ensures moves { IfOk result (λ count. (0 < count) × (count ≤ len)) }
+        ensures added { IsTrue F.honest → IfOk result (AddsCodes (bytes_at (F.bytes self.now) position len)
+            settings.old settings.new) }
+        ensures refused { IfErr result (SettingsFail F.honest F.sound (bytes_at (F.bytes self.now) position len)) }
+    {
+        let piece = self.read(alloc, position, len.min(VALUE_PIECE))?;
+        let count = match push_settings(alloc, &piece, settings) {
+            Ok(rest) => piece.len() - rest.len(),
+            Err(fault) => return Err(DecideFault::of_code(fault)),
+        };
+        if count > 0 {
+            return Ok(count);
+        }
+        self.push_long(alloc, position, len, settings)
+    }
+
+    /// The settings whose codes so many bytes from a position on are, decoded as they are read: besides the settings no more
+    /// is held than a piece.
     fn settings_at(&self, alloc: Global, position: u64, len: usize) -> Result<Settings, DecideFault>
         requires fits { position + len < 2 ^ 64 }
         requires inside { IsTrue F.honest → position + len ≤ length (F.bytes self.now) }
@@ -331,24 +448,11 @@ impl<F: RulesFile> CdbFile<F> {
         ensures refused { IfErr result (SettingsFail F.honest F.sound (bytes_at (F.bytes self.now) position len)) }
     {
         let mut settings = Settings::new(alloc);
-        let mut held = Vec::new(alloc);
         let mut done = 0;
         while done < len {
-            let count = (len - done).min(VALUE_PIECE);
-            let piece = match self.bytes_at(alloc, position + done as u64, count) {
-                Ok(piece) => piece,
-                Err(fault) => return Err(DecideFault::of_look_up(fault)),
-            };
-            if let Err(fault) = take_piece(alloc, &piece, &mut held, &mut settings) {
-                return Err(DecideFault::of_code(fault));
-            }
-            done += count;
+            done += self.push_next(alloc, position + done as u64, len - done, &mut settings)?;
         }
-        if held.is_empty() {
-            Ok(settings)
-        } else {
-            Err(DecideFault::Code(CodeFault::NotCode))
-        }
+        Ok(settings)
     }
 
     /// The instruction whose code a long value is.

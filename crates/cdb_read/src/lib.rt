@@ -8,7 +8,6 @@
 
 pub mod cdb_file;
 pub mod laws;
-mod pieces;
 mod stage;
 mod window;
 

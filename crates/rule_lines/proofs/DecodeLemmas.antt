@@ -2,7 +2,7 @@
 use Rattle.std.proofs.Common.{◌≡◌, ℕ, ◌<◌, true, false, ◌&&◌, not, eqb, List, [], ◌∷◌, ◌++◌, length, drop, Option, Some, None, refl, sym, ap, ◌∙◌, arith, append_assoc, append-nil, nat_lt}
 use Rattle.std.specs.Prelude.{◌==◌, option_map, option_and_then, if◌then◌else◌}
 use Rattle.std.specs.Str.{is_utf8}
-use Rattle.std.proofs.lemmas.Bool.{and_from, or_parts, or_right, cond-true, cond-false, lt-ltb, and_left, and_right, not_from_false}
+use Rattle.std.proofs.lemmas.Bool.{and_from, or_from, or_parts, or_right, cond-true, cond-false, lt-ltb, and_left, and_right, not_from_false}
 use Rattle.std.proofs.lemmas.List.Folds.{list_any-append}
 use Rattle.std.proofs.lemmas.Option.{none-some}
 use Rattle.rule_lines.specs.declared.code.CodeFault.{CodeFault}
@@ -10,7 +10,7 @@ use Rattle.rule_lines.specs.declared.code.DecodeFault.{DecodeFault}
 use Rattle.rule_lines.specs.declared.code.DecodeFault.TheVariants.{Code, OutOfMemory}
 use Rattle.rule_lines.specs.declared.instr.Instr.{Instr}
 use Rattle.rule_lines.specs.declared.instr.Verdict.{Verdict}
-use Rattle.rule_lines.specs.Codes.{setting_in, settings_in, settings_with, verdict_code, decoded, BeginsNone, ReadsOn, RefusesCode, verdict_in}
+use Rattle.rule_lines.specs.Codes.{setting_in, settings_in, settings_with, verdict_code, decoded, setting_code, BeginsNone, IsEndOf, ReadsOn, RefusesCode, verdict_in}
 use Rattle.rule_lines.specs.Lines.{pieces_of, has_byte}
 use Rattle.rule_lines.specs.Settings.{Assignment, is_setting, is_name, is_value}
 use Rattle.rule_lines.proofs.CodeLemmas.{pieces_of-stop, before_first-stop, after_first-stop, setting_around, decoded-code_of}
@@ -87,6 +87,11 @@ module _ (old settings : List Assignment) (codes rest : List ℕ) (on : ReadsOn 
       option_map-none (λ more. old ++ more) (settings_in (pieces_of 0 (codes ++ later)))
       (sym (on later) ∙ ap (option_map (λ (more : List Assignment). settings ++ more)) refused)
 
+-- the rest after one piece more is an end too
+pub IsEndOf-next : (codes rest piece behind : List ℕ) → IsEndOf codes rest → rest ≡ piece ++ 0 ∷ behind → IsEndOf codes behind
+IsEndOf-next codes rest piece behind of is =
+    ((of.0 ++ piece) ++ 0 ∷ [], of.1 ∙ ap (λ bs. of.0 ++ bs) is ∙ sym (append_assoc of.0 piece (0 ∷ behind)) ∙ sym (append_assoc (of.0 ++ piece) (0 ∷ []) behind))
+
 -- where nothing was read before, the settings and the rest are all
 pub ReadsOn-all : (settings : List Assignment) (codes rest : List ℕ) → ReadsOn [] codes settings rest → settings_with settings rest ≡ settings_in (pieces_of 0 codes)
 ReadsOn-all settings codes rest on =
@@ -133,6 +138,38 @@ module _ (assignment name value : List ℕ) (clean : has_byte 0 assignment ≡ f
   -- a value that is no text
   pub setting_in-value : is_utf8 value ≡ false → setting_in (43 ∷ assignment) ≡ None
   setting_in-value no_text = setting_in-unknown (and_right _ _ (and_right _ _ no_text))
+
+-- the code of one setting, of a name and a value that were looked at
+module _ (name value : List ℕ) (named : has_byte 61 name ≡ false) (clean_name : has_byte 0 name ≡ false) (clean_value : has_byte 0 value ≡ false) where
+  parts-clean : has_byte 0 (name ++ 61 ∷ value) ≡ false
+  parts-clean = list_any-append (λ x. x == 0) name (61 ∷ value) ∙ or_from (has_byte 0 name) (has_byte 0 value) clean_name clean_value
+
+  code-is : setting_code (record { name = name; value = value }) ≡ (43 ∷ name ++ 61 ∷ value) ++ 0 ∷ []
+  code-is = refl
+
+  -- it is one that was added
+  pub ReadsOn-parts : (old : List Assignment) → 0 < length name → is_utf8 name ≡ true → is_utf8 value ≡ true → ReadsOn old (setting_code (record { name = name; value = value })) (old ++ record { name = name; value = value } ∷ []) []
+  ReadsOn-parts old some name_text value_text =
+      let code = setting_code (record { name = name; value = value }) in
+      ReadsOn-next old old code code (λ later. refl) (record { name = name; value = value }) (43 ∷ name ++ 61 ∷ value) [] parts-clean code-is
+      (setting_in-known (name ++ 61 ∷ value) name value parts-clean named refl some name_text value_text)
+
+  -- or it is none
+  BeginsNone-parts : setting_in (43 ∷ name ++ 61 ∷ value) ≡ None → BeginsNone (setting_code (record { name = name; value = value }))
+  BeginsNone-parts none =
+      let code = setting_code (record { name = name; value = value }) in
+      BeginsNone-next [] [] code code (λ later. refl) (43 ∷ name ++ 61 ∷ value) [] parts-clean code-is none
+
+  pub BeginsNone-empty : length name ≡ 0 → BeginsNone (setting_code (record { name = name; value = value }))
+  BeginsNone-empty none =
+      BeginsNone-parts (setting_in-unknown (name ++ 61 ∷ value) name value parts-clean named refl
+      (and_left _ _ (and_left _ _ (and_left _ _ (and_left _ _ (ap (nat_lt 0) none))))))
+
+  pub BeginsNone-name : is_utf8 name ≡ false → BeginsNone (setting_code (record { name = name; value = value }))
+  BeginsNone-name no_text = BeginsNone-parts (setting_in-name (name ++ 61 ∷ value) name value parts-clean named refl no_text)
+
+  pub BeginsNone-value : is_utf8 value ≡ false → BeginsNone (setting_code (record { name = name; value = value }))
+  BeginsNone-value no_text = BeginsNone-parts (setting_in-value (name ++ 61 ∷ value) name value parts-clean named refl no_text)
 
 -- bytes split into their verdict and the codes after it
 module _ (bytes codes : List ℕ) (verdict : Verdict) (begins : verdict ≡ verdict_in bytes) (follows : codes ≡ drop (length (verdict_code verdict)) bytes) where

@@ -53,6 +53,10 @@ settings_with settings codes = option_map (λ later. settings ++ later) (setting
 abbrev pub ReadsOn : List Assignment → List ℕ → List Assignment → List ℕ → Type 0
 ReadsOn old codes new rest = (later : List ℕ) → settings_with new (rest ++ later) ≡ settings_with old (codes ++ later)
 
+-- the bytes end in the rest
+abbrev pub IsEndOf : List ℕ → List ℕ → Type 0
+IsEndOf bytes rest = (front : List ℕ) × (bytes ≡ front ++ rest)
+
 -- whatever follows, the bytes are not the codes of settings
 abbrev pub BeginsNone : List ℕ → Type 0
 BeginsNone codes = (later : List ℕ) → settings_in (pieces_of 0 (codes ++ later)) ≡ None

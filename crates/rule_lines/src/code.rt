@@ -1,7 +1,7 @@
 //! The code of an instruction: the bytes under which a rule is stored in a compiled file.
-ghost use Rattle.std.specs.Prelude.{◌≡◌, ◌∷◌, ◌++◌, length, drop, true, false, IfOk, IfErr, OnOk, MatchOption};
+ghost use Rattle.std.specs.Prelude.{◌≡◌, ◌∷◌, ◌++◌, [], length, drop, string_bytes, true, false, Err, IfOk, IfErr, OnOk, MatchOption};
 ghost use Rattle.std.specs.Str.{is_utf8};
-ghost use Rattle.rule_lines.specs.Codes.{code_of, verdict_code, verdict_in, setting_code, setting_in, settings_in, decoded, BeginsNone, IsInstr, ReadsOn, RefusesCode};
+ghost use Rattle.rule_lines.specs.Codes.{code_of, verdict_code, verdict_in, setting_code, setting_in, settings_in, decoded, BeginsNone, IsEndOf, IsInstr, ReadsOn, RefusesCode};
 ghost use Rattle.rule_lines.specs.Lines.{pieces_of, has_byte};
 ghost use Rattle.rule_lines.specs.declared.code.CodeFault.{CodeFault};
 ghost use Rattle.rule_lines.specs.declared.code.DecodeFault.TheVariants.{OutOfMemory};
@@ -77,7 +77,7 @@ pub(crate) fn append_setting(
 }
 
 /// What stands before the first position of a byte, and after it.
-pub(crate) fn split_at_byte(byte: u8, bytes: &[u8]) -> Option<(&[u8], &[u8])>
+pub fn split_at_byte(byte: u8, bytes: &[u8]) -> Option<(&[u8], &[u8])>
     ensures { MatchOption result
         (has_byte byte bytes.now ≡ false)
         (λ parts. (has_byte byte parts.0.now ≡ false) × (bytes.now ≡ parts.0.now ++ byte ∷ parts.1.now)) }
@@ -162,6 +162,7 @@ pub fn push_settings<'a>(
     settings: &mut Settings,
 ) -> Result<&'a [u8], DecodeFault>
     ensures part { IfOk result (λ rest. has_byte 0 rest.now ≡ false) }
+    ensures rest { IfOk result (λ rest. IsEndOf codes.now rest.now) }
     ensures added { IfOk result (λ rest. ReadsOn settings.old codes.now settings.new rest.now) }
     ensures refused { (fault : CodeFault) → result ≡ Err (DecodeFault.Code fault) → BeginsNone codes.now }
 {
@@ -174,6 +175,38 @@ pub fn push_settings<'a>(
         rest = later;
     }
     Ok(rest)
+}
+
+/// The text that bytes become, so that they do not stand in memory twice.
+fn own_text(bytes: Vec<u8>) -> Option<String>
+    ensures { MatchOption result
+        (is_utf8 bytes.items ≡ false)
+        (λ text. (is_utf8 bytes.items ≡ true) × (string_bytes text ≡ bytes.items)) }
+{
+    String::from_utf8(bytes).ok()
+}
+
+/// Adds the setting of a name without a `=` and of a value. Both are given away, so that neither stands in memory twice.
+/// After an `Err` nothing was added.
+pub fn push_parts(name: Vec<u8>, value: Vec<u8>, settings: &mut Settings) -> Result<(), DecodeFault>
+    requires name { (has_byte 61 name.items ≡ false) × (has_byte 0 name.items ≡ false) }
+    requires value { has_byte 0 value.items ≡ false }
+    ensures added { OnOk result (ReadsOn settings.old
+        (setting_code (record { name = name.items; value = value.items })) settings.new []) }
+    ensures refused { (fault : CodeFault) → result ≡ Err (DecodeFault.Code fault)
+        → BeginsNone (setting_code (record { name = name.items; value = value.items })) }
+{
+    if name.is_empty() {
+        return Err(DecodeFault::Code(CodeFault::NotCode));
+    }
+    let Some(name) = own_text(name) else {
+        return Err(DecodeFault::Code(CodeFault::NotCode));
+    };
+    let Some(value) = own_text(value) else {
+        return Err(DecodeFault::Code(CodeFault::NotCode));
+    };
+    settings.push_owned(name, value)?;
+    Ok(())
 }
 
 /// The settings whose codes the bytes are.

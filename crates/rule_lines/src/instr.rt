@@ -97,10 +97,20 @@ impl Settings {
         ensures ok { OnOk result (self.new ≡ self.old ++ record { name = name.now; value = value.now } ∷ []) }
         ensures err { OnErr result (self.new ≡ self.old) }
     {
-        self.list.push(Setting {
-            name: String::from_str(alloc, name)?,
-            value: String::from_str(alloc, value)?,
-        })?;
+        self.push_owned(
+            String::from_str(alloc, name)?,
+            String::from_str(alloc, value)?,
+        )
+    }
+
+    /// The same of a name and a value that are given away, so that neither stands in memory twice.
+    pub(crate) fn push_owned(&mut self, name: String, value: String) -> Result<(), AllocError>
+        requires { IsTrue (is_setting (record { name = string_bytes name; value = string_bytes value })) }
+        ensures ok { OnOk result (self.new
+            ≡ self.old ++ record { name = string_bytes name; value = string_bytes value } ∷ []) }
+        ensures err { OnErr result (self.new ≡ self.old) }
+    {
+        self.list.push(Setting { name, value })?;
         Ok(())
     }
 

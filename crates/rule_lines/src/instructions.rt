@@ -17,12 +17,15 @@ const ALLOW_WORD: &[u8] = b"allow";
 /// The word of the verdict that denies.
 const DENY_WORD: &[u8] = b"deny";
 
-/// A setting, and the bytes after it.
+/// The setting at the front of bytes.
 #[derive(Clone, Copy)]
-struct FirstSetting<'a> {
-    name: &'a [u8],
-    value: &'a [u8],
-    rest: &'a [u8],
+pub struct FirstSetting<'a> {
+    /// Its name.
+    pub name: &'a [u8],
+    /// Its value, without the quotes.
+    pub value: &'a [u8],
+    /// The bytes after it.
+    pub rest: &'a [u8],
 }
 
 /// What stands before the first position of a mark, and after it.
@@ -76,8 +79,9 @@ fn read_value(is_text: bool, bytes: &[u8]) -> Option<(&[u8], &[u8])>
     split_at_mark(quote, &bytes[quote.len()..])
 }
 
-/// The setting at the front.
-fn first_setting(is_text: bool, bytes: &[u8]) -> Option<FirstSetting<'_>>
+/// The setting at the front of bytes, `NAME` and `=` and a quoted value, or `None` where they begin with none. A quote is a
+/// character in a text, and else a byte.
+pub fn first_setting(is_text: bool, bytes: &[u8]) -> Option<FirstSetting<'_>>
     ensures read { MatchOption result
         (setting_at is_text bytes.now ≡ None)
         (λ first. setting_at is_text bytes.now
@@ -117,8 +121,8 @@ fn append_settings(is_text: bool, bytes: &[u8], code: &mut Vec<u8>) -> Result<()
     Ok(())
 }
 
-/// The verdict that instructions begin with, and what follows its word.
-fn read_verdict(instructions: &[u8]) -> Option<(Verdict, &[u8])>
+/// The verdict that instructions begin with, and what follows its word, or `None` where they begin with neither word.
+pub fn read_verdict(instructions: &[u8]) -> Option<(Verdict, &[u8])>
     ensures { MatchOption result
         (verdict_of instructions.now ≡ None)
         (λ read. (verdict_of instructions.now ≡ Some read.0)

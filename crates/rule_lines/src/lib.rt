@@ -23,9 +23,13 @@ pub mod source;
 pub mod spread;
 pub mod text;
 
-pub use code::{CodeFault, DecodeFault, decode_instr, encode_instr, push_settings, split_verdict};
+pub use code::{
+    CodeFault, DecodeFault, decode_instr, encode_instr, push_parts, push_settings, split_at_byte,
+    split_verdict,
+};
 pub use fault::{LineFault, LineKind, ParseFault};
 pub use instr::{Instr, Setting, Settings, Verdict};
+pub use instructions::{FirstSetting, first_setting, read_verdict};
 pub use limits::Limits;
 pub use list::{Pair, RuleList, StoredRule};
 pub use source::{FindFault, ListPairs, PairSource};

@@ -7,7 +7,7 @@ use Rattle.std.specs.Prelude.{replicate, if◌then◌else◌}
 use Rattle.std.specs.List.{range_with_len}
 use Rattle.cdb_write.specs.Format.{Pair, records_of}
 use Rattle.cdb_write.specs.Image.{finished_length, header_bytes, pointer_of, pointers_of, tables_of}
-use Rattle.cdb_write.proofs.Layout.{length-file}
+use Rattle.cdb_write.proofs.Positions.{length-file}
 use Rattle.cdb_write.proofs.Reading.{length-two_numbers}
 use Rattle.cdb_read.specs.Compiled.{stored}
 use Rattle.rule_lines.specs.Pairs.{Rule}
