@@ -19,7 +19,7 @@ use std::rt::Env;
 use std::sync::{Mutex, Wait};
 use std::thread::Threads;
 use std::time::Clock;
-use tcp_service::{Host, Log};
+use tcp_service::{Host, Log, Streams};
 
 /// What the tool has of the system. It is a name for these types together, and has no values.
 pub(crate) trait System {
@@ -108,6 +108,24 @@ pub(crate) struct HandsOver<'a, P: System, L, N> {
     callers: PhantomData<N>,
 }
 
+impl<'a, P: System, L, N> Streams for HandsOver<'a, P, L, N> {
+    type Lines = P::Errors;
+
+    type Reader = Unread;
+
+    type Writer = Handle<'a, P::Runtime>;
+
+    type Shut = Handle<'a, P::Runtime>;
+
+    type Input = ChildStdin;
+
+    type Output = ChildStdout;
+
+    type Job = HandedJob<'a, P::Runtime>;
+
+    type Wrapper = Wrapper;
+}
+
 impl<'a, P: System, L: Assumptions + Send + Sync, N: Callers + Send + Sync> Host
     for HandsOver<'a, P, L, N> {
     type Runtime = P::Runtime;
@@ -126,25 +144,9 @@ impl<'a, P: System, L: Assumptions + Send + Sync, N: Callers + Send + Sync> Host
 
     type Rules = FolderRules<'a, L, P::Runtime>;
 
-    type Lines = P::Errors;
-
     type Observer = Mutex<Log<P::Errors>>;
 
-    type Reader = Unread;
-
-    type Writer = Handle<'a, P::Runtime>;
-
-    type Shut = Handle<'a, P::Runtime>;
-
-    type Input = ChildStdin;
-
-    type Output = ChildStdout;
-
-    type Job = HandedJob<'a, P::Runtime>;
-
     type Starter = HandingLauncher<'a, P::Runtime>;
-
-    type Wrapper = Wrapper;
 
     type Chains = Wrappers<'a>;
 }
@@ -154,6 +156,24 @@ pub(crate) struct Pumps<'a, P: System, L, N> {
     system: PhantomData<&'a P::Runtime>,
     places: PhantomData<L>,
     callers: PhantomData<N>,
+}
+
+impl<'a, P: System, L, N> Streams for Pumps<'a, P, L, N> {
+    type Lines = P::Errors;
+
+    type Reader = Holder;
+
+    type Writer = ClientWriter<'a, P::Runtime>;
+
+    type Shut = Holder;
+
+    type Input = ProgramInput<'a, P::Runtime>;
+
+    type Output = ChildStdout;
+
+    type Job = ServiceJob<'a, P::Runtime>;
+
+    type Wrapper = Wrapper;
 }
 
 impl<'a, P: System, L: Assumptions + Send + Sync, N: Callers + Send + Sync> Host
@@ -174,25 +194,9 @@ impl<'a, P: System, L: Assumptions + Send + Sync, N: Callers + Send + Sync> Host
 
     type Rules = FolderRules<'a, L, P::Runtime>;
 
-    type Lines = P::Errors;
-
     type Observer = Mutex<Log<P::Errors>>;
 
-    type Reader = Holder;
-
-    type Writer = ClientWriter<'a, P::Runtime>;
-
-    type Shut = Holder;
-
-    type Input = ProgramInput<'a, P::Runtime>;
-
-    type Output = ChildStdout;
-
-    type Job = ServiceJob<'a, P::Runtime>;
-
     type Starter = ServiceLauncher<'a, P::Runtime>;
-
-    type Wrapper = Wrapper;
 
     type Chains = Wrappers<'a>;
 }

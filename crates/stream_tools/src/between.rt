@@ -57,6 +57,33 @@ pub struct Lane<E, S, T> {
     pub tap: T,
 }
 
+/// What is on both sides of two pumps: a type for each part. It is a name for these types together, and has no values.
+pub trait Between {
+    /// Where the program's input comes from.
+    type Reader: Read + Drop;
+
+    /// Where its output goes.
+    type Writer: Write + Drop;
+
+    /// The end of the pipe that it reads.
+    type Input: Write + Drop;
+
+    /// The end of the pipe that it writes.
+    type Output: Read + Drop;
+
+    /// The program while it runs.
+    type Job: Job<Input = Self::Input, Output = Self::Output>;
+
+    /// What starts it.
+    type Launcher: Launcher<Job = Self::Job>;
+}
+
+/// The lanes of the input and of the output of a program.
+pub type Lanes<B, S, T> = (
+    Lane<<B as Between>::Reader, S, T>,
+    Lane<<B as Between>::Writer, S, T>,
+);
+
 /// How the two pumps of a program ended.
 #[derive(Clone, Copy)]
 pub struct PumpEnds {
@@ -85,33 +112,31 @@ pub struct RunEnd {
 /// # Errors
 /// `CannotStart` where the program could not be started, gave no pipe ends, or no thread could be had for its input; in the last two
 /// cases it was killed and waited for. `Device` where the wait failed; `OutOfMemory`.
-pub fn run_between<H, L, I, O, S, T, F>(
+pub fn run_between<H, B, S, T, F>(
     rt: &H,
     alloc: Global,
-    launcher: L,
+    launcher: B::Launcher,
     run: (&Program, &Environment),
-    lanes: (Lane<I, S, T>, Lane<O, S, T>),
+    lanes: Lanes<B, S, T>,
     watch: F,
 ) -> Result<RunEnd, BetweenFault>
 where
     H: Threads + Wait + Sync,
-    F: FnOnce(&<L::Job as Job>::Input) -> Option<Watch>,
-    L: Launcher,
-    <L::Job as Job>::Input: Send + Drop,
-    <L::Job as Job>::Output: Drop,
-    I: Read + Send + Drop,
-    O: Write + Drop,
+    B: Between,
+    B::Reader: Send,
+    B::Input: Send,
+    F: FnOnce(&B::Input) -> Option<Watch>,
     S: LineWrapper + Send + Drop,
     T: Tap + Send + Drop,
     requires { F.IsAlwaysCallable watch }
-    ensures ended { IfOk result (λ end. (job : L.Job)
-        × IsRunOf L.Job.program L.Job.environment run.entry.0.now run.entry.1.now job × L.Job.ended job end.status) }
-    ensures input { IfOk result (λ end. Fed F.FnOnce I.remaining L.Job.Input.contents S.rest
+    ensures ended { IfOk result (λ end. (job : B.Job)
+        × IsRunOf B.Job.program B.Job.environment run.entry.0.now run.entry.1.now job × B.Job.ended job end.status) }
+    ensures input { IfOk result (λ end. Fed F.FnOnce B.Reader.remaining B.Input.contents S.rest
         T.watches T.sees T.ends watch lanes.0 end.pumps.input) }
-    ensures output { IfOk result (λ end. Drained L.Job.Output.remaining O.contents S.rest
+    ensures output { IfOk result (λ end. Drained B.Output.remaining B.Writer.contents S.rest
         T.watches T.sees T.ends lanes.1 end.pumps.output) }
-    ensures fault { IfErr result (λ why. IsNotStarted L.refuses launcher run.entry.0.now run.entry.1.now why
-        ⊎ ((job : L.Job) × IsRunOf L.Job.program L.Job.environment run.entry.0.now run.entry.1.now job)) }
+    ensures fault { IfErr result (λ why. IsNotStarted B.Launcher.refuses launcher run.entry.0.now run.entry.1.now why
+        ⊎ ((job : B.Job) × IsRunOf B.Job.program B.Job.environment run.entry.0.now run.entry.1.now job)) }
 {
     let mut job = match start_job(alloc, launcher, run.0, run.1) {
         Ok(job) => job,
@@ -120,7 +145,7 @@ where
             return Err(fault);
         }
     };
-    let pumps = serve(rt, alloc, &mut job, lanes, watch);
+    let pumps = serve::<H, B, S, T, F>(rt, alloc, &mut job, lanes, watch);
     end_of(job, pumps)
 }
 
@@ -144,29 +169,27 @@ fn start_job<L: Launcher>(
 
 /// Pumps both ways until both pumps have ended. It answers how they ended; `None` where it could not be without the program's pipe ends and
 /// a thread for its input.
-fn serve<H, J, I, O, S, T, F>(
+fn serve<H, B, S, T, F>(
     rt: &H,
     alloc: Global,
-    job: &mut J,
-    lanes: (Lane<I, S, T>, Lane<O, S, T>),
+    job: &mut B::Job,
+    lanes: Lanes<B, S, T>,
     watch: F,
 ) -> Option<PumpEnds>
 where
     H: Threads + Wait + Sync,
-    F: FnOnce(&J::Input) -> Option<Watch>,
-    J: Job,
-    J::Input: Send + Drop,
-    J::Output: Drop,
-    I: Read + Send + Drop,
-    O: Write + Drop,
+    B: Between,
+    B::Reader: Send,
+    B::Input: Send,
+    F: FnOnce(&B::Input) -> Option<Watch>,
     S: LineWrapper + Send + Drop,
     T: Tap + Send + Drop,
     requires { F.IsAlwaysCallable watch }
-    ensures program { J.program job.new ≡ J.program job.old }
-    ensures environment { J.environment job.new ≡ J.environment job.old }
-    ensures input { IfSome result (λ pumps. Fed F.FnOnce I.remaining J.Input.contents S.rest
+    ensures program { B.Job.program job.new ≡ B.Job.program job.old }
+    ensures environment { B.Job.environment job.new ≡ B.Job.environment job.old }
+    ensures input { IfSome result (λ pumps. Fed F.FnOnce B.Reader.remaining B.Input.contents S.rest
         T.watches T.sees T.ends watch lanes.0 pumps.input) }
-    ensures output { IfSome result (λ pumps. Drained J.Output.remaining O.contents S.rest
+    ensures output { IfSome result (λ pumps. Drained B.Output.remaining B.Writer.contents S.rest
         T.watches T.sees T.ends lanes.1 pumps.output) }
 {
     let Ok((to, from)) = job.ends() else {
@@ -179,7 +202,7 @@ where
         chain: input.chain,
         tap: input.tap,
     };
-    pump_both(rt, alloc, (input, to), (from, output))
+    pump_both::<H, B, _, S, T>(rt, alloc, (input, to), (from, output))
 }
 
 /// The end of a program, which is waited for once, and abandoned where that fails, with the ends of its pumps. One that was not served, since
@@ -235,23 +258,22 @@ impl<I: Read, P: Write, S: LineWrapper, T: Tap> Promise<PumpEnd> for Feeding<I, 
 
 /// Pumps input to a program in a thread of its own, and its output in this one. Each of the program's pipe ends is closed when its pump
 /// ends. It answers how the pumps ended; `None` where no thread could be had: nothing was pumped then, and both ends are closed.
-fn pump_both<H, I, P, F, O, S, T>(
+fn pump_both<H, B, I, S, T>(
     rt: &H,
     alloc: Global,
-    feeding: (Lane<I, S, T>, P),
-    draining: (F, Lane<O, S, T>),
+    feeding: (Lane<I, S, T>, B::Input),
+    draining: (B::Output, Lane<B::Writer, S, T>),
 ) -> Option<PumpEnds>
 where
     H: Threads + Wait + Sync,
+    B: Between,
+    B::Input: Send,
     I: Read + Send + Drop,
-    P: Write + Send + Drop,
-    F: Read + Drop,
-    O: Write + Drop,
     S: LineWrapper + Send + Drop,
     T: Tap + Send + Drop,
-    ensures input { IfSome result (λ pumps. Ran I.remaining P.contents S.rest T.watches T.sees T.ends
+    ensures input { IfSome result (λ pumps. Ran I.remaining B.Input.contents S.rest T.watches T.sees T.ends
         feeding.0.stream feeding.1 feeding.0.chain feeding.0.tap pumps.input) }
-    ensures output { IfSome result (λ pumps. Ran F.remaining O.contents S.rest T.watches T.sees T.ends
+    ensures output { IfSome result (λ pumps. Ran B.Output.remaining B.Writer.contents S.rest T.watches T.sees T.ends
         draining.0 draining.1.stream draining.1.chain draining.1.tap pumps.output) }
 {
     let (input, to) = feeding;
@@ -260,11 +282,11 @@ where
         thread::scope_env(),
         rt,
         move |scope| -> Option<PumpEnds>
-            requires { IsSend I.row × IsSend P.row × IsSend S.row × IsSend T.row }
-            ensures input { IfSome result (λ pumps. Ran I.remaining P.contents S.rest T.watches T.sees T.ends
+            requires { IsSend I.row × IsSend B.Input.row × IsSend S.row × IsSend T.row }
+            ensures input { IfSome result (λ pumps. Ran I.remaining B.Input.contents S.rest T.watches T.sees T.ends
                 input.stream to input.chain input.tap pumps.input) }
-            ensures output { IfSome result (λ pumps. Ran F.remaining O.contents S.rest T.watches T.sees T.ends
-                from output.stream output.chain output.tap pumps.output) }
+            ensures output { IfSome result (λ pumps. Ran B.Output.remaining B.Writer.contents S.rest
+                T.watches T.sees T.ends from output.stream output.chain output.tap pumps.output) }
         {
             let promise = Feeding {
                 input: Snapshot::of(&input),

@@ -6,7 +6,7 @@ ghost use Rattle.stream_tools.specs.Lanes.{Drained, Fed, IsFixing, IsNotStarted,
 ghost use Rattle.stream_tools.specs.declared.between.BetweenFault.TheVariants.{OutOfMemory};
 ghost use Rattle.stream_tools.specs.declared.between.Lane.{Lane};
 
-use crate::between::{BetweenFault, Lane, RunEnd, run_between};
+use crate::between::{Between, BetweenFault, Lane, RunEnd, run_between};
 use crate::filter::chain_of;
 use byte_streams::{FixCr, LineWrapper, NoTap, Tap, Watch};
 use child_jobs::{Job, Launcher, Program};
@@ -20,39 +20,38 @@ use ucspi_env::Environment;
 ///
 /// # Errors
 /// As of `run_between`; `OutOfMemory` also where nothing was started.
-pub fn fix_between<H, L, I, O, F>(
+pub fn fix_between<H, B, F>(
     rt: &H,
     alloc: Global,
-    launcher: L,
+    launcher: B::Launcher,
     run: (&Program, &Environment),
-    streams: (I, O),
+    streams: (B::Reader, B::Writer),
     watch: F,
 ) -> Result<RunEnd, BetweenFault>
 where
     H: Threads + Wait + Sync,
-    F: FnOnce(&<L::Job as Job>::Input) -> Option<Watch> + Drop,
-    L: Launcher + Drop,
-    <L::Job as Job>::Input: Send + Drop,
-    <L::Job as Job>::Output: Drop,
-    I: Read + Send + Drop,
-    O: Write + Drop,
+    B: Between,
+    B::Reader: Send,
+    B::Input: Send,
+    B::Launcher: Drop,
+    F: FnOnce(&B::Input) -> Option<Watch> + Drop,
     requires { F.IsAlwaysCallable watch }
-    ensures ended { IfOk result (λ end. (job : L.Job)
-        × IsRunOf L.Job.program L.Job.environment run.entry.0.now run.entry.1.now job × L.Job.ended job end.status) }
-    ensures input { IfOk result (λ end. (lane : Lane I FixCr NoTap) × IsFixing streams.0 lane
-        × Fed F.FnOnce I.remaining L.Job.Input.contents ⟦<FixCr as LineWrapper>⟧.rest
+    ensures ended { IfOk result (λ end. (job : B.Job)
+        × IsRunOf B.Job.program B.Job.environment run.entry.0.now run.entry.1.now job × B.Job.ended job end.status) }
+    ensures input { IfOk result (λ end. (lane : Lane B.Reader FixCr NoTap) × IsFixing streams.0 lane
+        × Fed F.FnOnce B.Reader.remaining B.Input.contents ⟦<FixCr as LineWrapper>⟧.rest
         ⟦<NoTap as Tap>⟧.watches ⟦<NoTap as Tap>⟧.sees ⟦<NoTap as Tap>⟧.ends watch lane end.pumps.input) }
-    ensures output { IfOk result (λ end. (lane : Lane O FixCr NoTap) × IsFixing streams.1 lane
-        × Drained L.Job.Output.remaining O.contents ⟦<FixCr as LineWrapper>⟧.rest
+    ensures output { IfOk result (λ end. (lane : Lane B.Writer FixCr NoTap) × IsFixing streams.1 lane
+        × Drained B.Output.remaining B.Writer.contents ⟦<FixCr as LineWrapper>⟧.rest
         ⟦<NoTap as Tap>⟧.watches ⟦<NoTap as Tap>⟧.sees ⟦<NoTap as Tap>⟧.ends lane end.pumps.output) }
     ensures fault { IfErr result (λ why. (why ≡ OutOfMemory)
-        ⊎ (IsNotStarted L.refuses launcher run.entry.0.now run.entry.1.now why
-        ⊎ ((job : L.Job) × IsRunOf L.Job.program L.Job.environment run.entry.0.now run.entry.1.now job))) }
+        ⊎ (IsNotStarted B.Launcher.refuses launcher run.entry.0.now run.entry.1.now why
+        ⊎ ((job : B.Job) × IsRunOf B.Job.program B.Job.environment run.entry.0.now run.entry.1.now job))) }
 {
     let (input, output) = streams;
     let input = fix_lane(alloc, input)?;
     let output = fix_lane(alloc, output)?;
-    run_between(rt, alloc, launcher, run, (input, output), watch)
+    run_between::<H, B, _, _, F>(rt, alloc, launcher, run, (input, output), watch)
 }
 
 /// A lane over a stream, in which each line gets a carriage return where it has none.

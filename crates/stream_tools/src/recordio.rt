@@ -9,7 +9,7 @@ ghost use Rattle.stream_tools.specs.Lanes.{Drained, Fed, IsNotStarted, IsRecordi
 ghost use Rattle.stream_tools.specs.Programs.{recorder_number};
 ghost use Rattle.stream_tools.specs.declared.between.Lane.{Lane};
 
-use crate::between::{BetweenFault, Lane, RunEnd, run_between};
+use crate::between::{Between, BetweenFault, Lane, RunEnd, run_between};
 use byte_streams::{Chain, FixCr, LineWrapper, Recorder, Tap, Watch, Way};
 use child_jobs::{Job, Launcher, Program};
 use server_words::number_in;
@@ -24,42 +24,40 @@ use ucspi_env::Environment;
 ///
 /// # Errors
 /// As of `run_between`.
-pub fn record_between<H, L, I, O, W, F>(
+pub fn record_between<H, B, W, F>(
     rt: &H,
     alloc: Global,
-    launcher: L,
+    launcher: B::Launcher,
     run: (&Program, &Environment),
-    streams: (I, O),
+    streams: (B::Reader, B::Writer),
     errors: (W, W),
     watch: F,
 ) -> Result<RunEnd, BetweenFault>
 where
     H: Threads + Wait + Sync,
-    F: FnOnce(&<L::Job as Job>::Input) -> Option<Watch>,
-    L: Launcher,
-    <L::Job as Job>::Input: Send + Drop,
-    <L::Job as Job>::Output: Drop,
-    I: Read + Send + Drop,
-    O: Write + Drop,
+    B: Between,
+    B::Reader: Send,
+    B::Input: Send,
     W: Write + Send + Drop,
+    F: FnOnce(&B::Input) -> Option<Watch>,
     requires { F.IsAlwaysCallable watch }
-    ensures ended { IfOk result (λ end. (job : L.Job)
-        × IsRunOf L.Job.program L.Job.environment run.entry.0.now run.entry.1.now job × L.Job.ended job end.status) }
-    ensures input { IfOk result (λ end. (lane : Lane I FixCr (Recorder W))
+    ensures ended { IfOk result (λ end. (job : B.Job)
+        × IsRunOf B.Job.program B.Job.environment run.entry.0.now run.entry.1.now job × B.Job.ended job end.status) }
+    ensures input { IfOk result (λ end. (lane : Lane B.Reader FixCr (Recorder W))
         × IsRecording (recorder_number (value_of run.entry.1.now (codes "TCPREMOTEPORT"))) Input errors.0 streams.0 lane
-        × Fed F.FnOnce I.remaining L.Job.Input.contents ⟦<FixCr as LineWrapper>⟧.rest
+        × Fed F.FnOnce B.Reader.remaining B.Input.contents ⟦<FixCr as LineWrapper>⟧.rest
         ⟦<Recorder<W> as Tap>⟧.watches ⟦<Recorder<W> as Tap>⟧.sees ⟦<Recorder<W> as Tap>⟧.ends watch lane end.pumps.input) }
-    ensures output { IfOk result (λ end. (lane : Lane O FixCr (Recorder W))
+    ensures output { IfOk result (λ end. (lane : Lane B.Writer FixCr (Recorder W))
         × IsRecording (recorder_number (value_of run.entry.1.now (codes "TCPREMOTEPORT"))) Output errors.1 streams.1 lane
-        × Drained L.Job.Output.remaining O.contents ⟦<FixCr as LineWrapper>⟧.rest
+        × Drained B.Output.remaining B.Writer.contents ⟦<FixCr as LineWrapper>⟧.rest
         ⟦<Recorder<W> as Tap>⟧.watches ⟦<Recorder<W> as Tap>⟧.sees ⟦<Recorder<W> as Tap>⟧.ends lane end.pumps.output) }
-    ensures fault { IfErr result (λ why. IsNotStarted L.refuses launcher run.entry.0.now run.entry.1.now why
-        ⊎ ((job : L.Job) × IsRunOf L.Job.program L.Job.environment run.entry.0.now run.entry.1.now job)) }
+    ensures fault { IfErr result (λ why. IsNotStarted B.Launcher.refuses launcher run.entry.0.now run.entry.1.now why
+        ⊎ ((job : B.Job) × IsRunOf B.Job.program B.Job.environment run.entry.0.now run.entry.1.now job)) }
 {
     let number = number_told(run.1);
     let input = record_lane(alloc, streams.0, number, Way::Input, errors.0);
     let output = record_lane(alloc, streams.1, number, Way::Output, errors.1);
-    run_between(rt, alloc, launcher, run, (input, output), watch)
+    run_between::<H, B, _, _, F>(rt, alloc, launcher, run, (input, output), watch)
 }
 
 /// A lane over a stream that changes nothing, which is recorded with this number and way.

@@ -1,7 +1,7 @@
 //! The tools over the standard streams and the system's programs.
-use crate::between::BetweenFault;
+use crate::between::{Between, BetweenFault};
 use crate::fixcrio::fix_between;
-use crate::launcher::{NotingLauncher, OsLauncher};
+use crate::launcher::{NotingLauncher, OsJob, OsLauncher};
 use crate::recordio::record_between;
 use crate::search::SearchPath;
 use crate::shared::SharedWriter;
@@ -13,10 +13,11 @@ use std::alloc::{AllocError, Global};
 use std::cell::Cell;
 use std::fs::Files;
 use std::io;
-use std::io::Write;
+use std::io::{Printer, Write};
+use std::marker::PhantomData;
 use std::net::Net;
 use std::os::fd::{AsRawFd, RawFd};
-use std::process::Processes;
+use std::process::{ChildStdin, ChildStdout, Processes};
 use std::rt::Env;
 use std::sync::{Mutex, Wait};
 use std::thread::Threads;
@@ -25,6 +26,25 @@ use ucspi_env::Environment;
 
 /// The descriptor of standard input.
 const STANDARD_INPUT: RawFd = 0;
+
+/// What the system has on both sides of two pumps.
+struct OverSystem<'a, R> {
+    system: PhantomData<&'a R>,
+}
+
+impl<'a, R: Input + Print + Processes + Clock + Files> Between for OverSystem<'a, R> {
+    type Reader = Patient<'a, R, R::Reader>;
+
+    type Writer = Patient<'a, R, Printer<'a, R>>;
+
+    type Input = ChildStdin;
+
+    type Output = ChildStdout;
+
+    type Job = OsJob;
+
+    type Launcher = NotingLauncher<'a, R>;
+}
 
 /// What a tool was told that runs a program: the program, its variables, and where programs are looked for.
 #[derive(Drop)]
@@ -79,7 +99,7 @@ where
         Patient::new(rt, rt.reader()),
         Patient::new(rt, io::writer(rt)),
     );
-    let end = fix_between(rt, alloc, launcher, run, streams, |pipe| {
+    let end = fix_between::<_, OverSystem<'_, R>, _>(rt, alloc, launcher, run, streams, |pipe| {
         Watch::new(alloc, rt, STANDARD_INPUT, pipe.as_raw_fd())
     })?;
     Ok(end.status)
@@ -135,8 +155,14 @@ where
         Patient::new(rt, io::writer(rt)),
     );
     let errors = (SharedWriter::new(rt, errors), SharedWriter::new(rt, errors));
-    let end = record_between(rt, alloc, launcher, run, streams, errors, |pipe| {
-        Watch::new(alloc, rt, STANDARD_INPUT, pipe.as_raw_fd())
-    })?;
+    let end = record_between::<_, OverSystem<'_, R>, _, _>(
+        rt,
+        alloc,
+        launcher,
+        run,
+        streams,
+        errors,
+        |pipe| { Watch::new(alloc, rt, STANDARD_INPUT, pipe.as_raw_fd()) },
+    )?;
     Ok(end.status)
 }

@@ -19,26 +19,56 @@ use stream_tools::SharedWriter;
 /// How many reads a pump makes at most.
 const MOST_READS: u64 = 1 << 40;
 
+/// What the streams of connections are made of: a type for each part. It is a name for these types together, and has
+/// no values.
+///
+/// Which of these parts threads give one another (`Send`) is said where threads are started, and not here.
+pub trait Streams {
+    /// What takes the lines of the log, and what is recorded.
+    type Lines: Write;
+
+    /// What a client sends.
+    type Reader: Read + Drop;
+
+    /// What is sent to a client.
+    type Writer: Write + Follow<Self::Output> + Drop;
+
+    /// What ends a connection both ways.
+    type Shut: Shut + Drop;
+
+    /// The end of the pipe that the program of a connection reads.
+    type Input: Write + Drop;
+
+    /// The end of the pipe that it writes.
+    type Output: Read + Drop;
+
+    /// The program of a connection while it runs.
+    type Job: Job<Input = Self::Input, Output = Self::Output>;
+
+    /// A line wrapper, through which what goes one way passes.
+    type Wrapper: LineWrapper + Drop;
+}
+
 /// The streams of a connection.
 #[derive(Drop)]
-pub struct ClientStreams<I, O, X> {
+pub struct ClientStreams<S: Streams> {
     /// The client's port.
     pub port: u16,
     /// What the client sends.
-    pub reader: I,
+    pub reader: S::Reader,
     /// What is sent to the client.
-    pub writer: O,
+    pub writer: S::Writer,
     /// What ends it both ways.
-    pub shut: X,
+    pub shut: S::Shut,
 }
 
 /// Takes the news of how the child of a connection ended.
-pub trait Endings<L: Ledger, C: Job> {
-    /// The place that a child gives back: a `Place<L>`.
-    type Place;
+pub trait Endings {
+    /// The ledger of the places of children.
+    type Places: Ledger;
 
-    /// A child that could not be waited for: a `Running<L, C>`.
-    type Child;
+    /// The program of a child while it runs.
+    type Job: Job;
 
     /// Between these two states it was told that the child of the connection with this serial number ended in this way.
     ghost tells_end: { Self → ℕ → StatusOf → Self → Type 0 };
@@ -47,21 +77,21 @@ pub trait Endings<L: Ledger, C: Job> {
     ghost tells_retired: { Self → ℕ → Self → Type 0 };
 
     /// Takes note that the child of this connection ended in this way, and gave its place back.
-    fn ended(&mut self, place: Self::Place, serial: u64, status: Status)
+    fn ended(&mut self, place: Place<Self::Places>, serial: u64, status: Status)
         ensures told { tells_end self.old serial status self.new };
 
     /// Takes note that the child of this connection could not be waited for: its place stays counted.
-    fn retired(&mut self, child: Self::Child, serial: u64)
+    fn retired(&mut self, child: Running<Self::Places, Self::Job>, serial: u64)
         ensures told { tells_retired self.old serial self.new };
 }
 
 /// The stream from a client to the child, through a chain of line wrappers.
 #[derive(Drop)]
-pub struct Upward<I, P, G> {
+pub struct Upward<S: Streams> {
     port: u16,
-    reader: I,
-    to: P,
-    chain: Chain<G>,
+    reader: S::Reader,
+    to: S::Input,
+    chain: Chain<S::Wrapper>,
 }
 
 /// The line wrappers of a connection, for what its client sends and for what it is sent.
@@ -75,58 +105,44 @@ pub struct Chains<G> {
 
 /// The stream from a child to the client, through a chain of line wrappers.
 #[derive(Drop)]
-pub struct Talk<F, O, X, G> {
+pub struct Talk<S: Streams> {
     port: u16,
-    from: F,
-    writer: O,
-    shut: X,
-    chain: Chain<G>,
+    from: S::Output,
+    writer: S::Writer,
+    shut: S::Shut,
+    chain: Chain<S::Wrapper>,
 }
 
 /// A child that runs, with the streams from the client and to it.
-pub type Piped<L, C, I, O, X, G> = (
-    Running<L, C>,
-    Upward<I, <C as Job>::Input, G>,
-    Talk<<C as Job>::Output, O, X, G>,
-);
+pub type Piped<S, L> = (Running<L, <S as Streams>::Job>, Upward<S>, Talk<S>);
 
 /// Passes on the streams of connections.
 #[derive(Drop)]
-pub struct Attendant<'a, R, W> {
+pub struct Attendant<'a, R, S: Streams> {
     /// The runtime.
     pub rt: &'a R,
     /// What gives memory.
     pub alloc: Global,
     /// The log, which also takes what is recorded.
-    pub log: &'a Mutex<Log<W>>,
+    pub log: &'a Mutex<Log<S::Lines>>,
     /// Whether what goes both ways is recorded (`-w recordio`).
     pub recording: bool,
     /// How long it waits for a client that reads nothing of what its program left.
     pub patience: Patience,
 }
 
-impl<R: Wait, W: Write> Attendant<'_, R, W> {
+impl<R: Wait, S: Streams> Attendant<'_, R, S> {
     /// Takes the pipe ends of a child that runs. `pass_up` then passes on what the client sends, and `pass_down` what
     /// the child writes. A child without pipe ends is killed, and its connection ends: there is nothing to pass on.
-    pub fn begin<L, C, E, I, O, X, G>(
+    pub fn begin<E: Endings<Job = S::Job>>(
         &self,
         endings: &mut E,
-        mut running: Running<L, C>,
+        mut running: Running<E::Places, S::Job>,
         serial: u64,
-        streams: ClientStreams<I, O, X>,
-        chains: Chains<G>,
-    ) -> Option<Piped<L, C, I, O, X, G>>
-    where
-        G: Drop,
-        L: Ledger,
-        C: Job,
-        C::Input: Drop,
-        C::Output: Drop,
-        E: Endings<L, C, Place = Place<L>, Child = Running<L, C>>,
-        I: Drop,
-        O: Follow<C::Output> + Drop,
-        X: Shut + Drop,
-        ensures same { IfSome result (λ begun. IsSameRun C.program C.environment running begun.0) }
+        streams: ClientStreams<S>,
+        chains: Chains<S::Wrapper>,
+    ) -> Option<Piped<S, E::Places>>
+        ensures same { IfSome result (λ begun. IsSameRun S.Job.program S.Job.environment running begun.0) }
         ensures untold { IfSome result (λ _. endings.new ≡ endings.old) }
         ensures told { IfNone result (IsEndTold E.tells_end E.tells_retired serial endings.old endings.new) }
     {
@@ -160,42 +176,23 @@ impl<R: Wait, W: Write> Attendant<'_, R, W> {
     }
 
     /// Passes on what the client sends, until the client ends its stream or the child reads no more.
-    pub fn pass_up<I, P, G>(&self, upward: Upward<I, P, G>)
-    where
-        I: Read + Drop,
-        P: Write + Drop,
-        G: LineWrapper + Drop,
-    {
-        let Upward {
-            port,
-            reader,
-            to,
-            chain,
-        } = upward;
+    pub fn pass_up(&self, upward: Upward<S>) {
         if self.recording {
-            let tap = self.recorder(port, Way::Input);
-            pump_stream(self.alloc, reader, to, chain, tap);
+            let tap = self.recorder(upward.port, Way::Input);
+            pump_up(self.alloc, upward, tap);
         } else {
-            pump_stream(self.alloc, reader, to, chain, NoTap);
+            pump_up(self.alloc, upward, NoTap);
         }
     }
 
     /// Passes on what the child writes until its output ends. Then waits for the child, and ends the connection.
-    pub fn pass_down<L, C, E, F, O, X, G>(
+    pub fn pass_down<E: Endings<Job = S::Job>>(
         &self,
         endings: &mut E,
-        running: Running<L, C>,
+        running: Running<E::Places, S::Job>,
         serial: u64,
-        talk: Talk<F, O, X, G>,
+        talk: Talk<S>,
     )
-    where
-        L: Ledger,
-        C: Job,
-        E: Endings<L, C, Place = Place<L>, Child = Running<L, C>>,
-        F: Read + Drop,
-        O: Write + Drop,
-        X: Shut + Drop,
-        G: LineWrapper + Drop,
         ensures told { IsEndTold E.tells_end E.tells_retired serial endings.old endings.new }
     {
         let Talk {
@@ -205,28 +202,17 @@ impl<R: Wait, W: Write> Attendant<'_, R, W> {
             shut,
             chain,
         } = talk;
-        self.pump_down(port, from, writer, chain);
+        if self.recording {
+            let tap = self.recorder(port, Way::Output);
+            pump_down::<S, _>(self.alloc, from, writer, chain, tap);
+        } else {
+            pump_down::<S, _>(self.alloc, from, writer, chain, NoTap);
+        }
         end_child(endings, running, serial, false, &shut);
     }
 
-    // Pumps the output of a child to its client, and lets both ends go.
-    fn pump_down<F: Read + Drop, O: Write + Drop, G: LineWrapper + Drop>(
-        &self,
-        port: u16,
-        from: F,
-        writer: O,
-        chain: Chain<G>,
-    ) {
-        if self.recording {
-            let tap = self.recorder(port, Way::Output);
-            pump_stream(self.alloc, from, writer, chain, tap);
-        } else {
-            pump_stream(self.alloc, from, writer, chain, NoTap);
-        }
-    }
-
     // The recorder of one way of a connection, which writes to the log.
-    fn recorder(&self, port: u16, way: Way) -> Recorder<SharedWriter<'_, R, Log<W>>> {
+    fn recorder(&self, port: u16, way: Way) -> Recorder<SharedWriter<'_, R, Log<S::Lines>>> {
         let number = u64::from(port);
         Recorder::new(
             self.alloc,
@@ -237,19 +223,31 @@ impl<R: Wait, W: Write> Attendant<'_, R, W> {
     }
 }
 
-// Pumps what one side writes to the other, through a chain of line wrappers, and lets both ends go.
-fn pump_stream<E, F, G, T>(alloc: Global, reader: E, writer: F, chain: Chain<G>, tap: T)
-where
-    E: Read + Drop,
-    F: Write + Drop,
-    G: LineWrapper + Drop,
-    T: Tap + Drop,
-{
-    let (mut reader, mut writer, mut tap) = (reader, writer, tap);
-    let mut chain = chain;
+// Pumps what a client sends to its child, through a chain of line wrappers, and lets both ends go.
+fn pump_up<S: Streams, T: Tap + Drop>(alloc: Global, upward: Upward<S>, tap: T) {
+    let (mut upward, mut tap) = (upward, tap);
     pump(
         alloc,
-        &mut reader,
+        &mut upward.reader,
+        &mut upward.to,
+        &mut upward.chain,
+        &mut tap,
+        MOST_READS,
+    );
+}
+
+// Pumps the output of a child to its client, through a chain of line wrappers, and lets both ends go.
+fn pump_down<S: Streams, T: Tap + Drop>(
+    alloc: Global,
+    from: S::Output,
+    writer: S::Writer,
+    chain: Chain<S::Wrapper>,
+    tap: T,
+) {
+    let (mut from, mut writer, mut chain, mut tap) = (from, writer, chain, tap);
+    pump(
+        alloc,
+        &mut from,
         &mut writer,
         &mut chain,
         &mut tap,
@@ -259,11 +257,7 @@ where
 
 /// Waits for a child that holds its connection itself, and tells its end. Its place is given back only after a wait
 /// that succeeded.
-pub fn see_out<L, C, E>(endings: &mut E, running: Running<L, C>, serial: u64)
-where
-    L: Ledger,
-    C: Job,
-    E: Endings<L, C, Place = Place<L>, Child = Running<L, C>>,
+pub fn see_out<E: Endings>(endings: &mut E, running: Running<E::Places, E::Job>, serial: u64)
     ensures told { IsEndTold E.tells_end E.tells_retired serial endings.old endings.new }
 {
     tell_end(endings, wait_in_rounds(running, false), serial);
@@ -271,18 +265,13 @@ where
 
 // Waits for a child in rounds, ends its connection, and only then tells how the child ended. So a slow log keeps no
 // client waiting.
-fn end_child<L, C, E, X>(
+fn end_child<E: Endings, X: Shut>(
     endings: &mut E,
-    running: Running<L, C>,
+    running: Running<E::Places, E::Job>,
     serial: u64,
     by_force: bool,
     shut: &X,
 )
-where
-    L: Ledger,
-    C: Job,
-    E: Endings<L, C, Place = Place<L>, Child = Running<L, C>>,
-    X: Shut,
     ensures told { IsEndTold E.tells_end E.tells_retired serial endings.old endings.new }
 {
     let ended = wait_in_rounds(running, by_force);
@@ -291,11 +280,11 @@ where
 }
 
 // Tells how a child ended, or that it could not be waited for.
-fn tell_end<L, C, E>(endings: &mut E, ended: Result<(Place<L>, Status), Running<L, C>>, serial: u64)
-where
-    L: Ledger,
-    C: Job,
-    E: Endings<L, C, Place = Place<L>, Child = Running<L, C>>,
+fn tell_end<E: Endings>(
+    endings: &mut E,
+    ended: Result<(Place<E::Places>, Status), Running<E::Places, E::Job>>,
+    serial: u64,
+)
     ensures ended { IfOk ended (λ end. E.tells_end endings.old serial end.1 endings.new) }
     ensures retired { OnErr ended (E.tells_retired endings.old serial endings.new) }
     ensures told { IsEndTold E.tells_end E.tells_retired serial endings.old endings.new }

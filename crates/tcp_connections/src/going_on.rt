@@ -6,16 +6,16 @@ use std::sync::Wait;
 
 /// A connection whose program runs, with the second thread that passes on what its client sends. To drop it is to go on
 /// with it to its end. So none is lost on the way from one thread to another.
-pub(crate) struct GoingOn<'a, R: Wait, V: Serving<T, Upward = U>, T, U: Drop> {
+pub(crate) struct GoingOn<'a, R: Wait, V: Serving> {
     pub rt: &'a R,
     pub server: &'a V,
     pub means: &'a Means,
-    pub seconds: &'a Helpers<U>,
+    pub seconds: &'a Helpers<V::Upward>,
     pub talk: V::Talk,
-    pub second: Option<Helper<U>>,
+    pub second: Option<Helper<V::Upward>>,
 }
 
-impl<R: Wait, V: Serving<T, Upward = U>, T, U: Drop> Drop for GoingOn<'_, R, V, T, U> {
+impl<R: Wait, V: Serving> Drop for GoingOn<'_, R, V> {
     fn drop(self) {
         let GoingOn {
             rt,

@@ -4,9 +4,9 @@
 //!
 //! The server uses `serve_through`: if it ends by its count, it let in exactly that many. It alone starts threads. A
 //! connection is a value that each call of `Serving` passes on, or answers as over. Dropping a `GoingOn` ends the
-//! connection too. `wait_in_rounds` gives a place back only after a wait that succeeded. Only tests show that one more
-//! worker is made if none waits for the socket, that what a connection takes is there before it is taken, and that a
-//! hundred faults of accepting in succession end the server.
+//! connection too. `Streams` names the types of what is passed on. `wait_in_rounds` gives a place back only after a
+//! wait that succeeded. Only tests show that one more worker is made if none waits for the socket, that what a
+//! connection takes is there before it is taken, and that a hundred faults of accepting in succession end the server.
 #![tactic(auto)]
 
 pub mod accepting;
@@ -26,7 +26,9 @@ pub mod workers;
 
 pub use accepting::{AcceptFault, Accepted, Acceptor, Follow, Patience, Shut};
 pub use admission::{Admission, AdmitOutcome, ServeEnd, Serving};
-pub use attending::{Attendant, Chains, ClientStreams, Endings, Piped, Talk, Upward, see_out};
+pub use attending::{
+    Attendant, Chains, ClientStreams, Endings, Piped, Streams, Talk, Upward, see_out,
+};
 pub use names::HostNames;
 pub use rounds::wait_in_rounds;
 pub use server_log::Log;

@@ -39,7 +39,7 @@ const THREAD: usize = 192 * 1024;
 /// on what the client sends, if `server` does that. This thread makes one more worker whenever none waits at the door.
 ///
 /// The count begins at 0, since nobody was let in by `admission` before.
-pub fn serve_through<R, V, Q, U>(
+pub fn serve_through<R, V, Q>(
     rt: &R,
     alloc: Global,
     admission: Q,
@@ -51,9 +51,8 @@ pub fn serve_through<R, V, Q, U>(
 ) -> (ServeEnd, Q)
 where
     R: Threads + Wait + Clock + Sync,
-    Q: Admission + Send + Drop,
-    V: Serving<Q::Work, Upward = U> + Sync,
-    U: Send + Drop,
+    V: Serving + Sync,
+    Q: Admission<Work = V::Work> + Send + Drop,
     requires nobody { Q.let_in admission ≡ 0 }
     ensures served { IsServed result.0 count 0 (Q.let_in result.1) }
 {
@@ -85,7 +84,7 @@ where
 
 /// What the workers share.
 #[derive(Drop)]
-struct Workers<'a, R: Wait, V: Serving<Q::Work, Upward = U>, Q: Admission, U: Drop> {
+struct Workers<'a, R: Wait, V: Serving, Q: Admission<Work = V::Work>> {
     rt: &'a R,
     alloc: Global,
     server: &'a V,
@@ -95,8 +94,8 @@ struct Workers<'a, R: Wait, V: Serving<Q::Work, Upward = U>, Q: Admission, U: Dr
     arrived: Mailbox<bool>,
     wanted: Mailbox<bool>,
     // the idle second threads, and the idle keepers
-    seconds: &'a Helpers<U>,
-    keepers: Helpers<GoingOn<'a, R, V, Q::Work, U>>,
+    seconds: &'a Helpers<V::Upward>,
+    keepers: Helpers<GoingOn<'a, R, V>>,
     supply: Supply,
     means: &'a Means,
     // how many bytes the last look for memory found, if memory is limited
@@ -104,12 +103,11 @@ struct Workers<'a, R: Wait, V: Serving<Q::Work, Upward = U>, Q: Admission, U: Dr
     reserve: &'a Reserve,
 }
 
-impl<'a, R, V, Q, U> Workers<'a, R, V, Q, U>
+impl<'a, R, V, Q> Workers<'a, R, V, Q>
 where
     R: Threads + Wait + Clock + Sync,
-    Q: Admission,
-    V: Serving<Q::Work, Upward = U>,
-    U: Drop,
+    V: Serving,
+    Q: Admission<Work = V::Work>,
 {
     // Whether memory is limited.
     fn is_limited(&self) -> bool {
@@ -129,7 +127,7 @@ where
     }
 
     // Waits for the door, and lets the next connection in. `None` once no more come.
-    fn next_connection(&self) -> Option<Q::Work> {
+    fn next_connection(&self) -> Option<V::Work> {
         let mut door = self.door.lock(self.rt);
         let next = self.lead(&mut door);
         if door.is_over() {
@@ -141,7 +139,7 @@ where
     }
 
     // Lets the next connection in. `None` once no more come.
-    fn lead(&self, door: &mut Door<Q>) -> Option<Q::Work> {
+    fn lead(&self, door: &mut Door<Q>) -> Option<V::Work> {
         for _ in self.rt.forever() {
             if door.is_over() || !door.wait_for_room() {
                 return None;
@@ -173,7 +171,7 @@ where
     }
 
     // Passes on what each client sends, one after another, until no more come.
-    fn pass_up_in_turn(&self, second: &Mailbox<U>) {
+    fn pass_up_in_turn(&self, second: &Mailbox<V::Upward>) {
         for _ in self.rt.forever() {
             let Some(sent) = second.take(self.rt) else {
                 return;
@@ -228,12 +226,11 @@ where
     }
 }
 
-impl<'a, R, V, Q, U> Workers<'a, R, V, Q, U>
+impl<'a, R, V, Q> Workers<'a, R, V, Q>
 where
     R: Threads + Wait + Clock + Sync,
-    Q: Admission + Send + Drop,
-    V: Serving<Q::Work, Upward = U> + Sync,
-    U: Send + Drop,
+    V: Serving + Sync,
+    Q: Admission<Work = V::Work> + Send + Drop,
 {
     // Lets connections in until the server comes to an end, and waits until all that were let in are over.
     fn run(&self) {
@@ -242,7 +239,7 @@ where
             thread::scope_env(),
             workers.rt,
             move |scope|
-                requires { IsSync R.row × IsSync V.row × IsSend Q.row × IsSend U.row × IsSend V.Talk.row }
+                requires { IsSync R.row × IsSync V.row × IsSend Q.row × IsSend V.Upward.row × IsSend V.Talk.row }
             {
                 if !workers.supply.has_reserve()
                     || !start_reserve(scope, workers.rt, workers.reserve)
@@ -259,7 +256,7 @@ where
 
     // Makes one more worker whenever none is at the door, until no more connections come. If that fails, it pauses and
     // tries again. A server that can't make its first worker ends.
-    fn make_workers<'s, E>(&'s self, scope: &'s Scope<'s, E>) {
+    fn make_workers<'s, 'e>(&'s self, scope: &'s Scope<'s, &'e ()>) {
         let (mut pause, mut left, mut is_made) = (Pause::first(), TRIES, false);
         for _ in self.rt.forever() {
             if !self.crew.wait_for_want(self.rt) {
@@ -283,7 +280,7 @@ where
     }
 
     // Makes a worker, if there is a thread for it and what its connection would take while this many others begin.
-    fn make_worker<'s, E>(&'s self, scope: &'s Scope<'s, E>, beginning: u64) -> bool {
+    fn make_worker<'s, 'e>(&'s self, scope: &'s Scope<'s, &'e ()>, beginning: u64) -> bool {
         let workers = self.crew.count(self.rt).saturating_add(1);
         if !self.has_stacks(workers)
             || !self.start_worker(scope)
@@ -300,13 +297,13 @@ where
     }
 
     // Starts the thread of a worker. Whether the system had one.
-    fn start_worker<'s, E>(&'s self, scope: &'s Scope<'s, E>) -> bool {
+    fn start_worker<'s, 'e>(&'s self, scope: &'s Scope<'s, &'e ()>) -> bool {
         let workers = self;
         connection_thread()
             .spawn_scoped(
                 scope,
                 move ||
-                    requires { IsSync R.row × IsSync V.row × IsSend Q.row × IsSend U.row × IsSend V.Talk.row }
+                    requires { IsSync R.row × IsSync V.row × IsSend Q.row × IsSend V.Upward.row × IsSend V.Talk.row }
                 { workers.come_to_work(scope) },
             )
             .is_ok()
@@ -314,7 +311,7 @@ where
 
     // A new worker reports that it is there, and works if it is wanted. If what clients send is passed on, it needs a
     // second thread, and ends without one.
-    fn come_to_work<'s, E>(&'s self, scope: &'s Scope<'s, E>) {
+    fn come_to_work<'s, 'e>(&'s self, scope: &'s Scope<'s, &'e ()>) {
         self.come_up();
         let second = self.second(scope);
         if let Some(second) = &second {
@@ -330,14 +327,14 @@ where
     }
 
     // Starts a second thread, if the system has one.
-    fn start_second<'s, E>(&'s self, scope: &'s Scope<'s, E>) -> Option<Helper<U>> {
+    fn start_second<'s, 'e>(&'s self, scope: &'s Scope<'s, &'e ()>) -> Option<Helper<V::Upward>> {
         let workers = self;
         let second = Arc::new(workers.alloc, Mailbox::new()).ok()?;
         let his = Arc::try_clone(&second).ok()?;
         let started = connection_thread().spawn_scoped(
             scope,
             move ||
-                requires { IsSync R.row × IsSync V.row × IsSend Q.row × IsSend U.row × IsSend V.Talk.row }
+                requires { IsSync R.row × IsSync V.row × IsSend Q.row × IsSend V.Upward.row × IsSend V.Talk.row }
             {
                 workers.come_up();
                 his.finish(workers.rt);
@@ -349,7 +346,7 @@ where
     }
 
     // Lets in and serves one connection after another, until no more come, or the worker lacks a second thread.
-    fn work<'s, E>(&'s self, scope: &'s Scope<'s, E>, second: Option<Helper<U>>) {
+    fn work<'s, 'e>(&'s self, scope: &'s Scope<'s, &'e ()>, second: Option<Helper<V::Upward>>) {
         let mut second = second;
         for _ in self.rt.forever() {
             let Some(work) = self.next_connection() else {
@@ -369,11 +366,11 @@ where
 
     // Serves a connection up to the start of its program. A keeper goes on with it, or this worker if there is no
     // keeper. Afterwards the worker has a second thread for the next connection, if the system has one.
-    fn serve<'s, E>(
+    fn serve<'s, 'e>(
         &'s self,
-        scope: &'s Scope<'s, E>,
-        work: Q::Work,
-        second: &mut Option<Helper<U>>,
+        scope: &'s Scope<'s, &'e ()>,
+        work: V::Work,
+        second: &mut Option<Helper<V::Upward>>,
     ) {
         let (upward, talk) = match self.server.begin(work) {
             Ok(begun) => begun,
@@ -403,10 +400,7 @@ where
     }
 
     // An idle keeper, or a new one. None if memory is limited, threads were scarce, or the system has no more.
-    fn keeper<'s, E>(
-        &'s self,
-        scope: &'s Scope<'s, E>,
-    ) -> Option<Helper<GoingOn<'a, R, V, Q::Work, U>>> {
+    fn keeper<'s, 'e>(&'s self, scope: &'s Scope<'s, &'e ()>) -> Option<Helper<GoingOn<'a, R, V>>> {
         if !self.has_plenty() {
             self.keepers.end(self.rt);
             return None;
@@ -418,7 +412,7 @@ where
     }
 
     // An idle second thread, or a new one. None if what clients send is not passed on, or the system has no more.
-    fn second<'s, E>(&'s self, scope: &'s Scope<'s, E>) -> Option<Helper<U>> {
+    fn second<'s, 'e>(&'s self, scope: &'s Scope<'s, &'e ()>) -> Option<Helper<V::Upward>> {
         if !self.server.passes_up() {
             return None;
         }
@@ -429,17 +423,17 @@ where
     }
 
     // Starts a keeper, if the system has a thread for it.
-    fn start_keeper<'s, E>(
+    fn start_keeper<'s, 'e>(
         &'s self,
-        scope: &'s Scope<'s, E>,
-    ) -> Option<Helper<GoingOn<'a, R, V, Q::Work, U>>> {
+        scope: &'s Scope<'s, &'e ()>,
+    ) -> Option<Helper<GoingOn<'a, R, V>>> {
         let workers = self;
         let keeper = Arc::new(workers.alloc, Mailbox::new()).ok()?;
         let his = Arc::try_clone(&keeper).ok()?;
         let started = connection_thread().spawn_scoped(
             scope,
             move ||
-                requires { IsSync R.row × IsSync V.row × IsSend Q.row × IsSend U.row × IsSend V.Talk.row }
+                requires { IsSync R.row × IsSync V.row × IsSend Q.row × IsSend V.Upward.row × IsSend V.Talk.row }
             {
                 his.finish(workers.rt);
                 workers.keep_in_turn(&his);
@@ -450,7 +444,7 @@ where
     }
 
     // Goes on with one connection after another, until no more come.
-    fn keep_in_turn<'s>(&'s self, keeper: &'s Helper<GoingOn<'a, R, V, Q::Work, U>>) {
+    fn keep_in_turn<'s>(&'s self, keeper: &'s Helper<GoingOn<'a, R, V>>) {
         for _ in self.rt.forever() {
             let Some(going_on) = keeper.take(self.rt) else {
                 return;

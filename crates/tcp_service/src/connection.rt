@@ -2,28 +2,28 @@
 ghost use Rattle.std.specs.Prelude.{◌≡◌, IfOk, IfErr};
 
 use crate::host::Host;
-use crate::life::{Admitted, Attended, StreamsOf, TalkOf, UpwardOf};
+use crate::life::{Admitted, Attended};
 use crate::over::Over;
 use crate::service::ChainSource;
 use connection_facts::DropCause;
 use server_words::Mode;
 use std::alloc::AllocError;
-use tcp_connections::{Attendant, Chains, Serving, Shut};
+use tcp_connections::{Attendant, Chains, ClientStreams, Serving, Shut, Talk, Upward};
 
 /// A connection that was let in, with its streams.
 pub(crate) struct NewConnection<'a, H: Host> {
     pub admitted: Admitted<'a, H>,
-    pub streams: StreamsOf<H>,
+    pub streams: ClientStreams<H>,
 }
 
 /// A connection whose child runs, and what that says where it is passed on; else the child holds the connection itself.
 pub(crate) struct Connected<'a, H: Host> {
     attended: Attended<'a, H>,
-    talk: Option<TalkOf<H>>,
+    talk: Option<Talk<H>>,
 }
 
 /// What the client of a connection sends, where that is passed on; and the connection.
-type Beginning<'a, H> = (Option<UpwardOf<H>>, Connected<'a, H>);
+type Beginning<'a, H> = (Option<Upward<H>>, Connected<'a, H>);
 
 /// What the threads of all connections share.
 #[derive(Drop)]
@@ -31,7 +31,7 @@ pub(crate) struct Server<'a, H: Host> {
     pub wrapping: &'a H::Chains,
     pub starter: &'a H::Starter,
     pub mode: Mode,
-    pub attendant: Attendant<'a, H::Runtime, H::Lines>,
+    pub attendant: Attendant<'a, H::Runtime, H>,
 }
 
 impl<H: Host> Server<'_, H> {
@@ -47,7 +47,7 @@ impl<H: Host> Server<'_, H> {
     fn go_on<'b>(
         &self,
         attended: Attended<'b, H>,
-        streams: StreamsOf<H>,
+        streams: ClientStreams<H>,
         chains: Option<Chains<H::Wrapper>>,
     ) -> Result<Beginning<'b, H>, Over>
         ensures own { IfOk result (λ begun. begun.1.attended.serial ≡ attended.entry.serial) }
@@ -98,9 +98,9 @@ impl<H: Host> Server<'_, H> {
     }
 }
 
-impl<'b, H> Serving<NewConnection<'b, H>> for Server<'_, H>
+impl<'a, H> Serving for Server<'a, H>
 where
-    H: Host,
+    H: Host + 'a,
     H::Runtime: Sync,
     H::Places: Send + Sync,
     H::Callers: Send + Sync,
@@ -119,9 +119,11 @@ where
     H::Job: Send,
     H::Wrapper: Send,
 {
-    type Upward = UpwardOf<H>;
+    type Work = NewConnection<'a, H>;
 
-    type Talk = Connected<'b, H>;
+    type Upward = Upward<H>;
+
+    type Talk = Connected<'a, H>;
 
     type Over = Over;
 
@@ -135,15 +137,15 @@ where
         self.mode == Mode::Pumped
     }
 
-    fn begin(&self, work: NewConnection<'b, H>) -> Result<Beginning<'b, H>, Over> {
+    fn begin(&self, work: NewConnection<'a, H>) -> Result<Beginning<'a, H>, Over> {
         self.begin_with(work)
     }
 
-    fn pass_up(&self, upward: UpwardOf<H>) {
+    fn pass_up(&self, upward: Upward<H>) {
         self.attendant.pass_up(upward);
     }
 
-    fn pass_down(&self, begun: Connected<'b, H>) -> Over {
+    fn pass_down(&self, begun: Connected<'a, H>) -> Over {
         let Connected { attended, talk } = begun;
         match talk {
             None => attended.see_out(),

@@ -7,7 +7,7 @@ ghost use Rattle.tcp_service.specs.Lives.{AdmitsOwn};
 
 use crate::connection::NewConnection;
 use crate::host::{CallerOf, Host, YardOf};
-use crate::life::{Admitted, Context, StreamsOf};
+use crate::life::{Admitted, Context};
 use crate::observer::{Observer, tell};
 use crate::permit::Permit;
 use child_jobs::Place;
@@ -18,7 +18,7 @@ use shared_site::turns::{Admit, Dropped};
 use shared_site::{Made, Room, Turn};
 use std::alloc::{AllocError, Global};
 use tcp_connections::{
-    AcceptFault, Accepted, Acceptor, Admission, AdmitOutcome, ClientStreams, HostNames,
+    AcceptFault, Accepted, Acceptor, Admission, AdmitOutcome, ClientStreams, HostNames, Streams,
 };
 use ucspi_env::Local;
 
@@ -32,13 +32,13 @@ pub(crate) struct SiteEntrance<'a, A, H: Host> {
 }
 
 /// A connection that was made.
-type AcceptedBy<H> = Accepted<<H as Host>::Reader, <H as Host>::Writer, <H as Host>::Shut>;
+type AcceptedBy<H> = Accepted<<H as Streams>::Reader, <H as Streams>::Writer, <H as Streams>::Shut>;
 
 /// Of a connection that was let in: its serial, its place, and the event that its admission made.
 type AdmittedBy<H> = (u64, Place<<H as Host>::Places>, Made);
 
 // The streams of an accepted connection, with the port of its client.
-fn streams_of<H: Host>(accepted: AcceptedBy<H>, port: u16) -> StreamsOf<H> {
+fn streams_of<H: Host>(accepted: AcceptedBy<H>, port: u16) -> ClientStreams<H> {
     ClientStreams {
         port,
         reader: accepted.reader,

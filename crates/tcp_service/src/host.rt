@@ -2,23 +2,21 @@
 use crate::observer::Observer;
 use crate::opening::{Rules, RulesHandle};
 use crate::service::ChainSource;
-use byte_streams::LineWrapper;
-use child_jobs::Job;
 use dir_calls::{Dir, RulesFile};
 use event_journals::Journal;
 use server_yard::{Assumptions, Yard};
 use shared_site::{Caller, Callers, Site};
-use std::io::{Read, Write};
 use std::sync::Wait;
 use std::thread::Threads;
 use std::time::Clock;
-use tcp_connections::{Follow, Shut, Starter};
+use tcp_connections::{Starter, Streams};
 
-/// What a server stands on: a type for each thing that it is lent. A host is a name for these types together, and has no values.
+/// What a server stands on: a type for each thing that it is lent, beside the parts of streams (`Streams`). A host is a
+/// name for these types together, and has no values.
 ///
 /// Which of these things threads share (`Sync`) and give one another (`Send`) is said where threads are started, and not here: the check does not take
 /// a call in a method of a trait where what is called says so in its bounds.
-pub trait Host {
+pub trait Host: Streams {
     /// The runtime: threads, waits and a clock.
     type Runtime: Threads + Wait + Clock;
 
@@ -43,35 +41,11 @@ pub trait Host {
     /// Where the rules stand that each connection opens for itself.
     type Rules: Rules<Self::Places, Self::File, Handle = Self::Handle>;
 
-    /// What takes the lines of the log.
-    type Lines: Write;
-
     /// Who has the log, and observes the events of connections.
     type Observer: Observer<Writer = Self::Lines>;
 
-    /// What a client sends.
-    type Reader: Read + Drop;
-
-    /// What is sent to a client.
-    type Writer: Write + Follow<Self::Output> + Drop;
-
-    /// What ends a connection both ways.
-    type Shut: Shut + Drop;
-
-    /// The end of the pipe that the program of a connection reads.
-    type Input: Write + Drop;
-
-    /// The end of the pipe that it writes.
-    type Output: Read + Drop;
-
-    /// The program of a connection while it runs.
-    type Job: Job<Input = Self::Input, Output = Self::Output>;
-
     /// What starts the programs of connections.
     type Starter: Starter<Self::Shut, Job = Self::Job>;
-
-    /// A line wrapper, through which what goes one way passes.
-    type Wrapper: LineWrapper + Drop;
 
     /// What makes the line wrappers of connections that are pumped.
     type Chains: ChainSource<Wrapper = Self::Wrapper>;

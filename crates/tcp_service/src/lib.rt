@@ -32,5 +32,5 @@ pub use serving::{Closed, Unfinished, serve};
 pub use site_agent::{LoggedAgent, SiteAgent};
 pub use tcp_connections::{
     AcceptFault, Accepted, Acceptor, Chains, Follow, HostNames, NotStarted, Patience, Reserve,
-    ServeEnd, Shut, Starter, Supply,
+    ServeEnd, Shut, Starter, Streams, Supply,
 };

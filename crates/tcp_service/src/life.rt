@@ -64,36 +64,8 @@ pub(crate) struct Attended<'a, H: Host> {
     process: Option<Process>,
 }
 
-/// What a client sends, on its way to the child of its connection.
-pub(crate) type UpwardOf<H> = Upward<<H as Host>::Reader, <H as Host>::Input, <H as Host>::Wrapper>;
-
-/// What a child says, on its way to the client of its connection.
-pub(crate) type TalkOf<H> = Talk<
-    <H as Host>::Output,
-    <H as Host>::Writer,
-    <H as Host>::Shut,
-    <H as Host>::Wrapper,
->;
-
-/// The streams of a connection.
-pub(crate) type StreamsOf<H> = ClientStreams<
-    <H as Host>::Reader,
-    <H as Host>::Writer,
-    <H as Host>::Shut,
->;
-
 /// A connection whose streams are passed on: what its client sends, and the connection with what its child says.
-pub(crate) type Passed<'a, H> = (UpwardOf<H>, Attended<'a, H>, TalkOf<H>);
-
-/// A child that runs, what its client sends and what it says.
-type PipedOf<H> = Piped<
-    <H as Host>::Places,
-    <H as Host>::Job,
-    <H as Host>::Reader,
-    <H as Host>::Writer,
-    <H as Host>::Shut,
-    <H as Host>::Wrapper,
->;
+pub(crate) type Passed<'a, H> = (Upward<H>, Attended<'a, H>, Talk<H>);
 
 // What starts the program of one connection.
 fn launcher_of<'b, R, S, X>(
@@ -185,14 +157,14 @@ impl<'a, H: Host> Context<'a, H> {
     #[tactic(auto, using(crate::proofs::Told::over_told))]
     fn begin(
         &self,
-        attendant: &Attendant<'_, H::Runtime, H::Lines>,
+        attendant: &Attendant<'_, H::Runtime, H>,
         serial: u64,
         running: Running<H::Places, H::Job>,
         local: &Local,
-        streams: StreamsOf<H>,
+        streams: ClientStreams<H>,
         chains: Chains<H::Wrapper>,
         notes: &Notes,
-    ) -> Result<PipedOf<H>, Over>
+    ) -> Result<Piped<H, H::Places>, Over>
         ensures same { IfOk result (λ begun. IsSameRun H.Job.program H.Job.environment running begun.0) }
         ensures over { IfErr result (λ over. over.serial ≡ serial) }
     {
@@ -279,8 +251,8 @@ impl<'a, H: Host> Attended<'a, H> {
     /// It is over: its child has no pipe ends, and was ended by force.
     pub(crate) fn begin(
         self,
-        attendant: &Attendant<'_, H::Runtime, H::Lines>,
-        streams: StreamsOf<H>,
+        attendant: &Attendant<'_, H::Runtime, H>,
+        streams: ClientStreams<H>,
         chains: Chains<H::Wrapper>,
     ) -> Result<Passed<'a, H>, Over>
         ensures own { IfOk result (λ passed. passed.1.serial ≡ self.entry.serial) }
@@ -331,11 +303,7 @@ impl<'a, H: Host> Attended<'a, H> {
 
     /// What its child says is passed on to the end; then its child is waited for, and it ends.
     #[tactic(auto, using(crate::proofs::Told::over_told))]
-    pub(crate) fn pass_down(
-        self,
-        attendant: &Attendant<'_, H::Runtime, H::Lines>,
-        talk: TalkOf<H>,
-    ) -> Over
+    pub(crate) fn pass_down(self, attendant: &Attendant<'_, H::Runtime, H>, talk: Talk<H>) -> Over
         ensures own { result.serial ≡ self.entry.serial }
     {
         let Attended {

@@ -231,14 +231,14 @@ impl<H: Host> LoggedAgent<'_, H> {
     }
 }
 
-impl<H: Host> Endings<H::Places, H::Job> for LoggedAgent<'_, H> {
+impl<H: Host> Endings for LoggedAgent<'_, H> {
     ghost use Rattle.std.specs.Prelude.{◌≡◌, Some};
     ghost use Rattle.server_events.specs.declared.event.Event.TheVariants as event;
     ghost use Rattle.tcp_service.specs.SiteAgents.{asked};
 
-    type Place = Place<H::Places>;
+    type Places = H::Places;
 
-    type Child = Running<H::Places, H::Job>;
+    type Job = H::Job;
 
     ghost tells_end = { λ _ serial status after. asked after.agent.last ≡ Some (event.Ended serial status) };
 

@@ -1,15 +1,16 @@
 //! A program between two pumps.
-use crate::scripts::{Scripts, ServedTally};
+use crate::scripts::{ScriptedJob, Scripts, ServedTally};
 use byte_streams::{Chain, FixCr, NoTap, PumpEnd, Why};
 use child_jobs::{Launcher, Program};
 use std::alloc::{AllocError, Global};
 use std::io;
+use std::marker::PhantomData;
 use std::sync::atomic::Ordering;
 use std::sync::{Mutex, Wait};
 use std::thread::Threads;
 use std::time::Clock;
 use stream_tools::between::{PumpEnds, RunEnd, end_of};
-use stream_tools::{BetweenFault, Lane, SharedWriter, run_between};
+use stream_tools::{Between, BetweenFault, Lane, SharedWriter, run_between};
 use ucspi_env::Environment;
 
 /// What the program is sent.
@@ -27,6 +28,25 @@ const NO_TEXTS: PumpEnds = PumpEnds {
     input: NOTHING,
     output: NOTHING,
 };
+
+/// What is on both sides of the pumps: bytes, and a program by a script.
+struct Scripted<'a, R> {
+    program: PhantomData<&'a R>,
+}
+
+impl<'a, R: Wait + Clock> Between for Scripted<'a, R> {
+    type Reader = &'static [u8];
+
+    type Writer = SharedWriter<'a, R, Vec<u8>>;
+
+    type Input = SharedWriter<'a, R, Vec<u8>>;
+
+    type Output = &'static [u8];
+
+    type Job = ScriptedJob<'a, R>;
+
+    type Launcher = Scripts<'a, R>;
+}
 
 /// A chain that puts carriage returns where they are missing.
 fn one_stage(alloc: Global) -> Result<Chain<FixCr>, AllocError> {
@@ -94,7 +114,14 @@ where
         tap: NoTap,
     };
     let run = (&program, &variables);
-    Ok(run_between(rt, alloc, launcher, run, (input, output), |_| None))
+    Ok(run_between::<_, Scripted<'_, R>, _, _, _>(
+        rt,
+        alloc,
+        launcher,
+        run,
+        (input, output),
+        |_| None,
+    ))
 }
 
 /// Prints how a program by a script ends, which was served or was not.

@@ -26,7 +26,7 @@ use std::time::{Clock, Duration};
 use stream_tools::SharedWriter;
 use tcp_service::{
     ChainSource, Chains, ConnectionLimits, Host, HostNames, Log, Mode, Patience, Reserve, Rules,
-    RulesHandle, ServeEnd, Service, Supply, serve,
+    RulesHandle, ServeEnd, Service, Streams, Supply, serve,
 };
 use test_parts::Answer;
 use ucspi_env::Environment;
@@ -87,6 +87,24 @@ struct InMemory<'s, 'l, 'w, R, L, N> {
     callers: PhantomData<N>,
 }
 
+impl<'s, 'l, 'w, R: Wait + Clock, L, N> Streams for InMemory<'s, 'l, 'w, R, L, N> {
+    type Lines = &'w mut Vec<u8>;
+
+    type Reader = Silent;
+
+    type Writer = Silent;
+
+    type Shut = Silent;
+
+    type Input = SharedWriter<'s, R, Vec<u8>>;
+
+    type Output = &'static [u8];
+
+    type Job = ScriptedJob<'s, R>;
+
+    type Wrapper = FixCr;
+}
+
 impl<'s, 'l, 'w, R, L, N> Host for InMemory<'s, 'l, 'w, R, L, N>
 where
     R: Threads + Wait + Clock + Sync,
@@ -109,25 +127,9 @@ where
 
     type Rules = NoRules;
 
-    type Lines = &'w mut Vec<u8>;
-
     type Observer = ReceiptsLog<'l, R, &'w mut Vec<u8>>;
 
-    type Reader = Silent;
-
-    type Writer = Silent;
-
-    type Shut = Silent;
-
-    type Input = SharedWriter<'s, R, Vec<u8>>;
-
-    type Output = &'static [u8];
-
-    type Job = ScriptedJob<'s, R>;
-
     type Starter = Scripts<'s, R>;
-
-    type Wrapper = FixCr;
 
     type Chains = Unwrapped;
 }

@@ -83,7 +83,7 @@ where
         let Ok(mut lines) = BufWriter::new(self.rt.alloc(), errors) else {
             return Err(ReviewFault::OutOfMemory);
         };
-        let outcome = self.review_on(&mut lines, faulty);
+        let outcome = review_on(self.rt, &mut lines, faulty);
         drop(lines);
         outcome
     }
@@ -120,23 +120,21 @@ where
     told
 }
 
-impl<R: Input + AllocGlobal + Clock, E, S, F, P> StandardCalls<'_, R, E, S, F, P> {
-    // Looks over the rule text that standard input has, and writes all its warnings.
-    fn review_on<W: Write>(
-        &self,
-        lines: &mut W,
-        faulty: &mut Vec<u8>,
-    ) -> Result<bool, ReviewFault> {
-        let alloc = self.rt.alloc();
-        let mut reader = KeepingReader::new(alloc, Patient::new(self.rt, self.rt.reader()));
-        let outcome = run_review(alloc, &mut reader, lines);
-        if let Err(ReviewFault::Text(fault)) = outcome {
-            reader.copy_line(fault.line, faulty);
-        }
-        drop(reader);
-        match (outcome, lines.flush()) {
-            (Ok(_), Err(_)) => Err(ReviewFault::WriteFault),
-            (outcome, _) => outcome,
-        }
+// Looks over the rule text that standard input has, and writes all its warnings.
+fn review_on<R: Input + AllocGlobal + Clock, W: Write>(
+    system: &R,
+    lines: &mut W,
+    faulty: &mut Vec<u8>,
+) -> Result<bool, ReviewFault> {
+    let alloc = system.alloc();
+    let mut reader = KeepingReader::new(alloc, Patient::new(system, system.reader()));
+    let outcome = run_review(alloc, &mut reader, lines);
+    if let Err(ReviewFault::Text(fault)) = outcome {
+        reader.copy_line(fault.line, faulty);
+    }
+    drop(reader);
+    match (outcome, lines.flush()) {
+        (Ok(_), Err(_)) => Err(ReviewFault::WriteFault),
+        (outcome, _) => outcome,
     }
 }
