@@ -277,7 +277,7 @@ stored_at first lists least d names name place text some recent is stands =
     let same = there.1 in
     let found = stored_text lists there.0 text there.2 in
     record {
-      place = there.0;
+      position = there.0;
       rules = found.0;
       stored = found.1;
       recent = omega (arith, same, recent);
@@ -312,8 +312,8 @@ module _ (k : KeptYard) where
       let recent = text.recent in
       let acknowledged = at.0 in
       let some = at.1 in
-      let found = subst (λ (a : Accepted). slice_get a text.place ≡ Some text.text) (texts_are lists is) text.accepted_as in
-      stored_at it.first.accepted lists (begun_in before) k.state.directory names k.rules.name text.place text.text (omega (arith, some, same)) (omega (arith, acknowledged, recent, same)) found text.stands
+      let found = subst (λ (a : Accepted). slice_get a text.position ≡ Some text.text) (texts_are lists is) text.accepted_as in
+      stored_at it.first.accepted lists (begun_in before) k.state.directory names k.rules.name text.position text.text (omega (arith, some, same)) (omega (arith, acknowledged, recent, same)) found text.stands
 
   pub one_each : (lists : List (List Rule)) → k.books.lists ≡ Some lists → length lists ≡ begun_in k.kept.history
   one_each lists is =
