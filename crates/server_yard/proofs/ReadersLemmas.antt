@@ -243,12 +243,12 @@ length-texts [] = refl
 length-texts (x ∷ xs) = let rest = length-texts xs in omega (arith, rest)
 
 -- a text behind the first is that of a stored list
-stored_text : (lists : List (List Rule)) (place : ℕ) (text : Option (List Rule))
-    → slice_get (map (λ (r : List Rule). Some r) lists) place ≡ Some text → (rules : List Rule) × (slice_get lists place ≡ Some rules)
+stored_text : (lists : List (List Rule)) (position : ℕ) (text : Option (List Rule))
+    → slice_get (map (λ (r : List Rule). Some r) lists) position ≡ Some text → (rules : List Rule) × (slice_get lists position ≡ Some rules)
     × (text ≡ Some rules)
-stored_text [] place text is = absurd (cc)
+stored_text [] position text is = absurd (cc)
 stored_text (x ∷ xs) zero text is = let same : text ≡ Some x = cc in (x, refl, same)
-stored_text (x ∷ xs) (suc place) text is = stored_text xs place text is
+stored_text (x ∷ xs) (suc position) text is = stored_text xs position text is
 
 compiled_at : (d : Directory) (names : Names) (name : List ℕ) (rules : List Rule) → StandsAt d.files (Some rules) (get names name)
     → NamesCompiled d names name rules
@@ -261,19 +261,19 @@ absent_or d names name None stands = inl stands
 absent_or d names name (Some rules) stands = inr (rules, compiled_at d names name rules stands)
 
 -- what stands behind the first of a list
-behind : (first others : Accepted) (place : ℕ) (text : Option (List Rule)) → length first ≤ place
-    → slice_get (first ++ others) place ≡ Some text → (k : ℕ) × (place ≡ k + length first) × (slice_get others k ≡ Some text)
-behind [] others place text le is = (place, omega arith, is)
+behind : (first others : Accepted) (position : ℕ) (text : Option (List Rule)) → length first ≤ position
+    → slice_get (first ++ others) position ≡ Some text → (k : ℕ) × (position ≡ k + length first) × (slice_get others k ≡ Some text)
+behind [] others position text le is = (position, omega arith, is)
 behind (x ∷ first) others zero text le is = absurd (omega (arith, le))
-behind (x ∷ first) others (suc place) text le is =
-    let rest = behind first others place text (omega (arith, le)) is in
+behind (x ∷ first) others (suc position) text le is =
+    let rest = behind first others position text (omega (arith, le)) is in
     let same = rest.1 in
     (rest.0, omega (arith, same), rest.2)
 
-stored_at : (first : Accepted) (lists : List (List Rule)) (least : ℕ) (d : Directory) (names : Names) (name : List ℕ) (place : ℕ) (text : Option (List Rule)) → 0 < least → least + length first ≤ place + 1 → slice_get (first ++ map (λ (r : List Rule). Some r) lists) place ≡ Some text → StandsAt d.files text (get names name)
+stored_at : (first : Accepted) (lists : List (List Rule)) (least : ℕ) (d : Directory) (names : Names) (name : List ℕ) (position : ℕ) (text : Option (List Rule)) → 0 < least → least + length first ≤ position + 1 → slice_get (first ++ map (λ (r : List Rule). Some r) lists) position ≡ Some text → StandsAt d.files text (get names name)
     → NamesStored lists least d names name
-stored_at first lists least d names name place text some recent is stands =
-    let there = behind first (map (λ (r : List Rule). Some r) lists) place text (omega (arith, some, recent)) is in
+stored_at first lists least d names name position text some recent is stands =
+    let there = behind first (map (λ (r : List Rule). Some r) lists) position text (omega (arith, some, recent)) is in
     let same = there.1 in
     let found = stored_text lists there.0 text there.2 in
     record {

@@ -42,10 +42,10 @@ begun_in history = count_by is_first history
 
 -- the name stands for a synced file that is compiled of a stored list; lists are numbered from 1, and this one is no older than a number
 pub record NamesStored (lists : List (List Rule)) (least : ℕ) (d : Directory) (names : Names) (name : List ℕ) : Type 0 where
-  pub place : ℕ
+  pub position : ℕ
   pub rules : List Rule
-  pub stored : slice_get lists place ≡ Some rules
-  pub recent : least ≤ place + 1
+  pub stored : slice_get lists position ≡ Some rules
+  pub recent : least ≤ position + 1
   pub there : NamesCompiled d names name rules
 
 -- Since an installation answered `Done`: whatever a stop leaves under the name, it stands for a file of the stored list of that installation
