@@ -1,4 +1,7 @@
 //! What the tool has of the system, and what its server stands on.
+ghost use Rattle.std.specs.Prelude.{◌≡◌, ⊤, ℕ, List, IfOk, IfErr};
+ghost use Rattle.server_parts.specs.declared.fault.ServerFault.TheVariants.{CannotListen};
+
 use crate::rules::{FolderHandle, FolderRules, RulesOnDisk};
 use crate::wrappers::Wrappers;
 use dir_disk::{OsDir, SystemDisk};
@@ -58,11 +61,16 @@ pub(crate) trait System {
     /// What takes the lines of the log.
     type Errors: Write + Send + Drop;
 
+    /// Whether a socket listens at this address and port.
+    ghost listens: { Self.Listener → List ℕ → ℕ → Type 0 };
+
     /// A socket that listens at an address and port.
     ///
     /// # Errors
     /// `CannotListen` with each fault of the system.
-    fn listen(rt: &Self::Runtime, ip: [u8; 4], port: u16) -> Result<Self::Listener, ServerFailure>;
+    fn listen(rt: &Self::Runtime, ip: [u8; 4], port: u16) -> Result<Self::Listener, ServerFailure>
+        ensures there { IfOk result (λ listener. listens listener ip port) }
+        ensures refused { IfErr result (λ failure. failure.fault ≡ CannotListen) };
 }
 
 /// The system of a runtime, with the stream that takes the lines of the log.
@@ -95,6 +103,8 @@ where
     type ProcessErrors = <R::Started as OpenProcess>::Stderr;
 
     type Errors = E;
+
+    ghost listens = { λ _ _ _. ⊤ };
 
     fn listen(rt: &R, ip: [u8; 4], port: u16) -> Result<R::Listener, ServerFailure> {
         listen(rt, ip, port)

@@ -1,5 +1,12 @@
 //! The tool: its words, what it opens, and the server.
-ghost use Rattle.std.specs.Prelude.{◌≡◌, false, IfOk, vec_len};
+ghost use Rattle.std.specs.Prelude.{◌≡◌, ◌⊎◌, false, Err, None, IfOk, IfErr, IfSome, OnErr, vec_len};
+ghost use Rattle.server_parts.specs.Asked.{FailsNames, handed_at_once, handed_from, pumped_at_once, pumped_from};
+ghost use Rattle.server_parts.specs.Services.{AreRulesOf};
+ghost use Rattle.server_parts.specs.declared.fault.ServerFault.TheVariants.{CannotListen, LostConnection, OutOfMemory, WriteFault};
+ghost use Rattle.server_tool.specs.Asked.{AreAsked, AreAskedLimits, IsAskedLog, IsAskedService, ListensAsAsked};
+ghost use Rattle.server_tool.specs.Ends.{told_of};
+ghost use Rattle.server_yard.specs.Kept.{rules_of};
+ghost use Rattle.server_yard.specs.Yards.{yard_books, yard_rules, yard_server};
 ghost use Rattle.shared_site.specs.Callers.{total_share};
 
 use crate::causes::{tell_failure, tell_words};
@@ -18,7 +25,7 @@ use server_parts::signals::forgets_programs;
 use server_parts::{
     HandedAcceptor, HandingLauncher, PumpedAcceptor, ServerFailure, ServerFault, ServiceLauncher,
 };
-use server_words::{ConnectionLimits, Level, Mode, ServerWords, read_server_words};
+use server_words::{Level, Mode, ServerWords, read_server_words};
 use server_yard::{Assumptions, Yard};
 use shared_site::{Caller, Callers, Site};
 use std::alloc::Global;
@@ -129,10 +136,12 @@ fn parts_of<P: System>(
     errors: P::Errors,
     words: &ServerWords<'_>,
     voice: Voice,
-) -> Result<ServerParts<P>, ServerFailure> {
+) -> Result<ServerParts<P>, ServerFailure>
+    ensures asked { IfOk result (λ server. AreAsked words.now server.plan server.service) }
+    ensures refused { IfErr result (λ failure. FailsNames words.now.hosts failure.fault) }
+{
     let alloc = rt.alloc();
-    let (level, limit) = (words.level(), words.limits().connections);
-    let log = Log::new(alloc, errors, level, voice, limit);
+    let log = log_of(alloc, errors, words, voice);
     let plan = plan_of(alloc, &SystemGiven(rt), words)?;
     let service = service_of(rt, words, &plan)?;
     let search = SearchPath::own(alloc, rt)?;
@@ -144,12 +153,28 @@ fn parts_of<P: System>(
     })
 }
 
+// The log of a server.
+fn log_of<W: Write>(alloc: Global, errors: W, words: &ServerWords<'_>, voice: Voice) -> Log<W>
+    ensures asked { IsAskedLog words.now voice result }
+{
+    Log::new(
+        alloc,
+        errors,
+        words.level(),
+        voice,
+        words.limits().connections,
+    )
+}
+
 // What a server does for all connections.
 fn service_of<R: AllocGlobal + Files>(
     rt: &R,
     words: &ServerWords<'_>,
     plan: &Plan,
-) -> Result<Service, ServerFailure> {
+) -> Result<Service, ServerFailure>
+    ensures asked { IfOk result (IsAskedService words.now) }
+    ensures refused { IfErr result (λ failure. FailsNames words.now.hosts failure.fault) }
+{
     let names = names_of(rt.alloc(), rt, words)?;
     let (mode, limits) = (words.mode(), words.limits());
     let supply = supply_for(mode, limits.connections, plan.inherited().len());
@@ -172,7 +197,9 @@ fn open_and_run<P: System + Send + Sync>(
     rt: &P::Runtime,
     server: &ServerParts<P>,
     words: &ServerWords<'_>,
-) -> Result<(), ServerFailure> {
+) -> Result<(), ServerFailure>
+    requires asked { AreAsked words.now server.now.plan server.now.service }
+{
     let limits = words.limits();
     let alloc = rt.alloc();
     let (dir, rules) = open_rules(alloc, rt, words)?;
@@ -212,7 +239,10 @@ fn tell_listening<P: System>(rt: &P::Runtime, server: &ServerParts<P>, listener:
 fn open_socket<P: System>(
     rt: &P::Runtime,
     words: &ServerWords<'_>,
-) -> Result<P::Listener, ServerFailure> {
+) -> Result<P::Listener, ServerFailure>
+    ensures asked { IfOk result (ListensAsAsked P.listens words.now) }
+    ensures refused { IfErr result (λ failure. (failure.fault ≡ CannotListen) ⊎ (failure.fault ≡ WriteFault)) }
+{
     let listener = P::listen(rt, words.service().address(), words.service().port())?;
     if words.prints_port() {
         print_port(rt, &listener)?;
@@ -235,26 +265,33 @@ fn run_site<'a, L: Assumptions + Send + Sync, N: Callers + Send + Sync, P: Syste
     requires met { L.met ≡ false }
     requires parts { (parts.name ≡ N.name) × (parts.parts ≡ N.parts) × (parts.parts ≡ 2) }
     requires callers { (N.all ≡ 2) × (N.before ≡ 0) }
+    requires asked { AreAsked words.now server.now.plan server.now.service }
+    requires rules { AreRulesOf words.now rules.1 }
+    requires listens { ListensAsAsked P.listens words.now listener }
 {
-    let made = site_of::<L, N, _>(rt.alloc(), rules.0, rules.1, words.limits(), places, parts)?;
+    let yard = yard_of::<L, _>(rt.alloc(), rules.0, rules.1, words, places)?;
+    let made = site_of::<L, N, _>(rt.alloc(), yard, parts)?;
     serve_by_mode(rt, server, listener, made, at, words)
 }
 
-// A site, with both of its callers, over a yard of this folder.
-fn site_of<L: Assumptions, N: Callers, D: Dir + Drop>(
+// A yard of this folder and this rules file, with the limits of the words.
+fn yard_of<L: Assumptions, D: Dir + Drop>(
     alloc: Global,
     dir: D,
     rules: Option<(Name, WhenMissing)>,
-    limits: ConnectionLimits,
+    words: &ServerWords<'_>,
     places: Blank,
-    parts: Blank,
-) -> Result<(Site<L, N, D, Counts>, Vec<Caller<N>>), ServerFault>
-    requires places { (places.name ≡ L.name) × (places.parts ≡ L.parts) × (places.parts ≡ limits.connections) }
+) -> Result<Yard<L, D, Counts>, ServerFault>
+    requires places { (places.name ≡ L.name) × (places.parts ≡ L.parts) × (places.parts ≡ words.now.limits.connections) }
     requires met { L.met ≡ false }
-    requires parts { (parts.name ≡ N.name) × (parts.parts ≡ N.parts) × (parts.parts ≡ 2) }
-    requires callers { (N.all ≡ 2) × (N.before ≡ 0) }
-    ensures new { IfOk result (λ made. (vec_len made.1 ≡ 2) × (total_share made.1.items ≡ 0)) }
+    requires rules { AreRulesOf words.now rules }
+    ensures limits { IfOk result (λ yard.
+        AreAskedLimits words.now (yard_server yard).limit (yard_server yard).per_address) }
+    ensures rules { IfOk result (λ yard. yard_rules yard ≡ rules_of rules) }
+    ensures new { IfOk result (λ yard. (yard_books yard).count ≡ 0) }
+    ensures refused { IfErr result (λ fault. fault ≡ OutOfMemory) }
 {
+    let limits = words.limits();
     let (connections, per_address) = (limits.connections, limits.per_address);
     let yard = Yard::<L, D, Counts>::with_address_limit(
         alloc,
@@ -265,9 +302,24 @@ fn site_of<L: Assumptions, N: Callers, D: Dir + Drop>(
         per_address,
         Counts::new(),
     );
-    let Ok(yard) = yard else {
-        return Err(ServerFault::OutOfMemory);
-    };
+    match yard {
+        Ok(yard) => Ok(yard),
+        Err(_) => Err(ServerFault::OutOfMemory),
+    }
+}
+
+// A site over this yard, with both of its callers.
+fn site_of<L: Assumptions, N: Callers, D: Dir + Drop>(
+    alloc: Global,
+    yard: Yard<L, D, Counts>,
+    parts: Blank,
+) -> Result<(Site<L, N, D, Counts>, Vec<Caller<N>>), ServerFault>
+    requires yard { (yard_books yard).count ≡ 0 }
+    requires parts { (parts.name ≡ N.name) × (parts.parts ≡ N.parts) × (parts.parts ≡ 2) }
+    requires callers { (N.all ≡ 2) × (N.before ≡ 0) }
+    ensures new { IfOk result (λ made. (vec_len made.1 ≡ 2) × (total_share made.1.items ≡ 0)) }
+    ensures refused { IfErr result (λ fault. fault ≡ OutOfMemory) }
+{
     match Site::<L, N, D, Counts>::new(alloc, parts, yard, CALLERS) {
         Ok(made) => Ok(made),
         Err(_) => Err(ServerFault::OutOfMemory),
@@ -296,10 +348,19 @@ fn serve_by_mode<
 ) -> Result<(), ServerFailure>
     requires met { L.met ≡ false }
     requires callers { (N.all ≡ 2) × (N.parts ≡ 2) × (vec_len site.1 ≡ 2) × (total_share site.1.items ≡ 0) }
+    requires asked { AreAsked words.now server.now.plan server.now.service }
+    requires listens { ListensAsAsked P.listens words.now listener }
 {
+    let (alloc, at_once) = (rt.alloc(), words.sends_at_once());
     match words.mode() {
-        Mode::HandedOver => serve_handed::<L, N, P>(rt, server, listener, site, at, words),
-        Mode::Pumped => serve_pumped::<L, N, P>(rt, server, listener, site, at, words),
+        Mode::HandedOver => {
+            let acceptor = HandedAcceptor::new(rt, alloc, listener, at_once);
+            serve_handed::<L, N, P>(rt, server, acceptor, site, at, words)
+        }
+        Mode::Pumped => {
+            let acceptor = PumpedAcceptor::new(rt, alloc, listener, at_once);
+            serve_pumped::<L, N, P>(rt, server, acceptor, site, at, words)
+        }
     }
 }
 
@@ -312,15 +373,19 @@ fn serve_handed<
 >(
     rt: &'a P::Runtime,
     server: &'a ServerParts<P>,
-    listener: P::Listener,
+    acceptor: HandedAcceptor<'a, P::Runtime, P::Listener>,
     site: SystemSite<'a, L, N, P>,
     at: RulesPath<'a, P::Runtime>,
     words: &'a ServerWords<'_>,
 ) -> Result<(), ServerFailure>
     requires met { L.met ≡ false }
     requires callers { (N.all ≡ 2) × (N.parts ≡ 2) × (vec_len site.1 ≡ 2) × (total_share site.1.items ≡ 0) }
+    requires mode { words.now.mode ≡ Mode.HandedOver }
+    requires asked { AreAsked words.now server.now.plan server.now.service }
+    requires listens { IfSome (handed_from acceptor) (ListensAsAsked P.listens words.now) }
+    requires at_once { handed_at_once acceptor ≡ words.now.no_delay }
 {
-    let mut acceptor = HandedAcceptor::new(rt, rt.alloc(), listener, words.sends_at_once());
+    let mut acceptor = acceptor;
     let starter = HandingLauncher::new(rt, &server.search, &server.service.reserve);
     let rules = FolderRules::<L, P::Runtime>::new(at);
     let (site, callers) = site;
@@ -349,15 +414,19 @@ fn serve_pumped<
 >(
     rt: &'a P::Runtime,
     server: &'a ServerParts<P>,
-    listener: P::Listener,
+    acceptor: PumpedAcceptor<'a, P::Runtime, P::Listener>,
     site: SystemSite<'a, L, N, P>,
     at: RulesPath<'a, P::Runtime>,
     words: &'a ServerWords<'_>,
 ) -> Result<(), ServerFailure>
     requires met { L.met ≡ false }
     requires callers { (N.all ≡ 2) × (N.parts ≡ 2) × (vec_len site.1 ≡ 2) × (total_share site.1.items ≡ 0) }
+    requires mode { words.now.mode ≡ Mode.Pumped }
+    requires asked { AreAsked words.now server.now.plan server.now.service }
+    requires listens { IfSome (pumped_from acceptor) (ListensAsAsked P.listens words.now) }
+    requires at_once { pumped_at_once acceptor ≡ words.now.no_delay }
 {
-    let mut acceptor = PumpedAcceptor::new(rt, rt.alloc(), listener, words.sends_at_once());
+    let mut acceptor = acceptor;
     let starter = ServiceLauncher::new(rt, &server.search, &server.service.reserve);
     let rules = FolderRules::<L, P::Runtime>::new(at);
     let (site, callers) = site;
@@ -381,7 +450,10 @@ fn serve_pumped<
 fn end_of<H: Host>(
     served: Result<Closed<H>, Unfinished<H>>,
     error: Option<i32>,
-) -> Result<(), ServerFailure> {
+) -> Result<(), ServerFailure>
+    ensures closed { IfOk served (λ closed. result ≡ told_of closed.end error) }
+    ensures lost { OnErr served (result ≡ Err (record { fault = LostConnection; error = None })) }
+{
     let Ok(closed) = served else {
         return Err(ServerFailure::from(ServerFault::LostConnection));
     };

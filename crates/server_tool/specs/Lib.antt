@@ -1,0 +1,3 @@
+-- What a server has by its words, and what is told of its end.
+pub mod Asked
+pub mod Ends
