@@ -109,6 +109,8 @@ pub(crate) struct HandsOver<'a, P: System, L, N> {
 }
 
 impl<'a, P: System, L, N> Streams for HandsOver<'a, P, L, N> {
+    type Runtime = P::Runtime;
+
     type Lines = P::Errors;
 
     type Reader = Unread;
@@ -128,8 +130,6 @@ impl<'a, P: System, L, N> Streams for HandsOver<'a, P, L, N> {
 
 impl<'a, P: System, L: Assumptions + Send + Sync, N: Callers + Send + Sync> Host
     for HandsOver<'a, P, L, N> {
-    type Runtime = P::Runtime;
-
     type Places = L;
 
     type Callers = N;
@@ -159,6 +159,8 @@ pub(crate) struct Pumps<'a, P: System, L, N> {
 }
 
 impl<'a, P: System, L, N> Streams for Pumps<'a, P, L, N> {
+    type Runtime = P::Runtime;
+
     type Lines = P::Errors;
 
     type Reader = Holder;
@@ -178,8 +180,6 @@ impl<'a, P: System, L, N> Streams for Pumps<'a, P, L, N> {
 
 impl<'a, P: System, L: Assumptions + Send + Sync, N: Callers + Send + Sync> Host
     for Pumps<'a, P, L, N> {
-    type Runtime = P::Runtime;
-
     type Places = L;
 
     type Callers = N;
