@@ -119,6 +119,8 @@ pub(crate) struct HandsOver<'a, P: System, L, N> {
 }
 
 impl<'a, P: System, L, N> Streams for HandsOver<'a, P, L, N> {
+    type Runtime = P::Runtime;
+
     type Lines = P::Errors;
 
     type Reader = Unread;
@@ -138,8 +140,6 @@ impl<'a, P: System, L, N> Streams for HandsOver<'a, P, L, N> {
 
 impl<'a, P: System, L: Assumptions + Send + Sync, N: Callers + Send + Sync> Host
     for HandsOver<'a, P, L, N> {
-    type Runtime = P::Runtime;
-
     type Places = L;
 
     type Callers = N;
@@ -169,6 +169,8 @@ pub(crate) struct Pumps<'a, P: System, L, N> {
 }
 
 impl<'a, P: System, L, N> Streams for Pumps<'a, P, L, N> {
+    type Runtime = P::Runtime;
+
     type Lines = P::Errors;
 
     type Reader = Holder;
@@ -188,8 +190,6 @@ impl<'a, P: System, L, N> Streams for Pumps<'a, P, L, N> {
 
 impl<'a, P: System, L: Assumptions + Send + Sync, N: Callers + Send + Sync> Host
     for Pumps<'a, P, L, N> {
-    type Runtime = P::Runtime;
-
     type Places = L;
 
     type Callers = N;

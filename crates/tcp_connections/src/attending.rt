@@ -24,6 +24,9 @@ const MOST_READS: u64 = 1 << 40;
 ///
 /// Which of these parts threads give one another (`Send`) is said where threads are started, and not here.
 pub trait Streams {
+    /// The runtime.
+    type Runtime: Wait;
+
     /// What takes the lines of the log, and what is recorded.
     type Lines: Write;
 
@@ -64,11 +67,11 @@ pub struct ClientStreams<S: Streams> {
 
 /// Takes the news of how the child of a connection ended.
 pub trait Endings {
-    /// The ledger of the places of children.
-    type Places: Ledger;
+    /// The place that a child gives back: a `Place<L>`.
+    type Place;
 
-    /// The program of a child while it runs.
-    type Job: Job;
+    /// A child that could not be waited for: a `Running<L, C>`.
+    type Child;
 
     /// Between these two states it was told that the child of the connection with this serial number ended in this way.
     ghost tells_end: { Self → ℕ → StatusOf → Self → Type 0 };
@@ -77,11 +80,11 @@ pub trait Endings {
     ghost tells_retired: { Self → ℕ → Self → Type 0 };
 
     /// Takes note that the child of this connection ended in this way, and gave its place back.
-    fn ended(&mut self, place: Place<Self::Places>, serial: u64, status: Status)
+    fn ended(&mut self, place: Self::Place, serial: u64, status: Status)
         ensures told { tells_end self.old serial status self.new };
 
     /// Takes note that the child of this connection could not be waited for: its place stays counted.
-    fn retired(&mut self, child: Running<Self::Places, Self::Job>, serial: u64)
+    fn retired(&mut self, child: Self::Child, serial: u64)
         ensures told { tells_retired self.old serial self.new };
 }
 
@@ -118,9 +121,9 @@ pub type Piped<S, L> = (Running<L, <S as Streams>::Job>, Upward<S>, Talk<S>);
 
 /// Passes on the streams of connections.
 #[derive(Drop)]
-pub struct Attendant<'a, R, S: Streams> {
+pub struct Attendant<'a, S: Streams> {
     /// The runtime.
-    pub rt: &'a R,
+    pub rt: &'a S::Runtime,
     /// What gives memory.
     pub alloc: Global,
     /// The log, which also takes what is recorded.
@@ -131,17 +134,20 @@ pub struct Attendant<'a, R, S: Streams> {
     pub patience: Patience,
 }
 
-impl<R: Wait, S: Streams> Attendant<'_, R, S> {
+impl<S: Streams> Attendant<'_, S> {
     /// Takes the pipe ends of a child that runs. `pass_up` then passes on what the client sends, and `pass_down` what
     /// the child writes. A child without pipe ends is killed, and its connection ends: there is nothing to pass on.
-    pub fn begin<E: Endings<Job = S::Job>>(
+    pub fn begin<L, E>(
         &self,
         endings: &mut E,
-        mut running: Running<E::Places, S::Job>,
+        mut running: Running<L, S::Job>,
         serial: u64,
         streams: ClientStreams<S>,
         chains: Chains<S::Wrapper>,
-    ) -> Option<Piped<S, E::Places>>
+    ) -> Option<Piped<S, L>>
+    where
+        L: Ledger,
+        E: Endings<Place = Place<L>, Child = Running<L, S::Job>>,
         ensures same { IfSome result (λ begun. IsSameRun S.Job.program S.Job.environment running begun.0) }
         ensures untold { IfSome result (λ _. endings.new ≡ endings.old) }
         ensures told { IfNone result (IsEndTold E.tells_end E.tells_retired serial endings.old endings.new) }
@@ -154,7 +160,7 @@ impl<R: Wait, S: Streams> Attendant<'_, R, S> {
         } = streams;
         let Ok((to, from)) = running.ends() else {
             let _ = self.log.lock(self.rt).no_pipe_ends(serial);
-            end_child(endings, running, serial, true, &shut);
+            end_child::<S, L, E>(endings, running, serial, true, &shut);
             return None;
         };
         writer.follow(&from, self.patience);
@@ -186,13 +192,16 @@ impl<R: Wait, S: Streams> Attendant<'_, R, S> {
     }
 
     /// Passes on what the child writes until its output ends. Then waits for the child, and ends the connection.
-    pub fn pass_down<E: Endings<Job = S::Job>>(
+    pub fn pass_down<L, E>(
         &self,
         endings: &mut E,
-        running: Running<E::Places, S::Job>,
+        running: Running<L, S::Job>,
         serial: u64,
         talk: Talk<S>,
     )
+    where
+        L: Ledger,
+        E: Endings<Place = Place<L>, Child = Running<L, S::Job>>,
         ensures told { IsEndTold E.tells_end E.tells_retired serial endings.old endings.new }
     {
         let Talk {
@@ -208,11 +217,15 @@ impl<R: Wait, S: Streams> Attendant<'_, R, S> {
         } else {
             pump_down::<S, _>(self.alloc, from, writer, chain, NoTap);
         }
-        end_child(endings, running, serial, false, &shut);
+        end_child::<S, L, E>(endings, running, serial, false, &shut);
     }
 
     // The recorder of one way of a connection, which writes to the log.
-    fn recorder(&self, port: u16, way: Way) -> Recorder<SharedWriter<'_, R, Log<S::Lines>>> {
+    fn recorder(
+        &self,
+        port: u16,
+        way: Way,
+    ) -> Recorder<SharedWriter<'_, S::Runtime, Log<S::Lines>>> {
         let number = u64::from(port);
         Recorder::new(
             self.alloc,
@@ -257,7 +270,11 @@ fn pump_down<S: Streams, T: Tap + Drop>(
 
 /// Waits for a child that holds its connection itself, and tells its end. Its place is given back only after a wait
 /// that succeeded.
-pub fn see_out<E: Endings>(endings: &mut E, running: Running<E::Places, E::Job>, serial: u64)
+pub fn see_out<L, C, E>(endings: &mut E, running: Running<L, C>, serial: u64)
+where
+    L: Ledger,
+    C: Job,
+    E: Endings<Place = Place<L>, Child = Running<L, C>>,
     ensures told { IsEndTold E.tells_end E.tells_retired serial endings.old endings.new }
 {
     tell_end(endings, wait_in_rounds(running, false), serial);
@@ -265,13 +282,17 @@ pub fn see_out<E: Endings>(endings: &mut E, running: Running<E::Places, E::Job>,
 
 // Waits for a child in rounds, ends its connection, and only then tells how the child ended. So a slow log keeps no
 // client waiting.
-fn end_child<E: Endings, X: Shut>(
+fn end_child<S, L, E>(
     endings: &mut E,
-    running: Running<E::Places, E::Job>,
+    running: Running<L, S::Job>,
     serial: u64,
     by_force: bool,
-    shut: &X,
+    shut: &S::Shut,
 )
+where
+    S: Streams,
+    L: Ledger,
+    E: Endings<Place = Place<L>, Child = Running<L, S::Job>>,
     ensures told { IsEndTold E.tells_end E.tells_retired serial endings.old endings.new }
 {
     let ended = wait_in_rounds(running, by_force);
@@ -280,11 +301,11 @@ fn end_child<E: Endings, X: Shut>(
 }
 
 // Tells how a child ended, or that it could not be waited for.
-fn tell_end<E: Endings>(
-    endings: &mut E,
-    ended: Result<(Place<E::Places>, Status), Running<E::Places, E::Job>>,
-    serial: u64,
-)
+fn tell_end<L, C, E>(endings: &mut E, ended: Result<(Place<L>, Status), Running<L, C>>, serial: u64)
+where
+    L: Ledger,
+    C: Job,
+    E: Endings<Place = Place<L>, Child = Running<L, C>>,
     ensures ended { IfOk ended (λ end. E.tells_end endings.old serial end.1 endings.new) }
     ensures retired { OnErr ended (E.tells_retired endings.old serial endings.new) }
     ensures told { IsEndTold E.tells_end E.tells_retired serial endings.old endings.new }

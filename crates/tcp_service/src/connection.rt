@@ -31,7 +31,7 @@ pub(crate) struct Server<'a, H: Host> {
     pub wrapping: &'a H::Chains,
     pub starter: &'a H::Starter,
     pub mode: Mode,
-    pub attendant: Attendant<'a, H::Runtime, H>,
+    pub attendant: Attendant<'a, H>,
 }
 
 impl<H: Host> Server<'_, H> {

@@ -6,9 +6,6 @@ use dir_calls::{Dir, RulesFile};
 use event_journals::Journal;
 use server_yard::{Assumptions, Yard};
 use shared_site::{Caller, Callers, Site};
-use std::sync::Wait;
-use std::thread::Threads;
-use std::time::Clock;
 use tcp_connections::{Starter, Streams};
 
 /// What a server stands on: a type for each thing that it is lent, beside the parts of streams (`Streams`). A host is a
@@ -17,9 +14,6 @@ use tcp_connections::{Starter, Streams};
 /// Which of these things threads share (`Sync`) and give one another (`Send`) is said where threads are started, and not here: the check does not take
 /// a call in a method of a trait where what is called says so in its bounds.
 pub trait Host: Streams {
-    /// The runtime: threads, waits and a clock.
-    type Runtime: Threads + Wait + Clock;
-
     /// The ledger of the places of connections, with what is assumed of the rules.
     type Places: Assumptions;
 

@@ -157,7 +157,7 @@ impl<'a, H: Host> Context<'a, H> {
     #[tactic(auto, using(crate::proofs::Told::over_told))]
     fn begin(
         &self,
-        attendant: &Attendant<'_, H::Runtime, H>,
+        attendant: &Attendant<'_, H>,
         serial: u64,
         running: Running<H::Places, H::Job>,
         local: &Local,
@@ -251,7 +251,7 @@ impl<'a, H: Host> Attended<'a, H> {
     /// It is over: its child has no pipe ends, and was ended by force.
     pub(crate) fn begin(
         self,
-        attendant: &Attendant<'_, H::Runtime, H>,
+        attendant: &Attendant<'_, H>,
         streams: ClientStreams<H>,
         chains: Chains<H::Wrapper>,
     ) -> Result<Passed<'a, H>, Over>
@@ -303,7 +303,7 @@ impl<'a, H: Host> Attended<'a, H> {
 
     /// What its child says is passed on to the end; then its child is waited for, and it ends.
     #[tactic(auto, using(crate::proofs::Told::over_told))]
-    pub(crate) fn pass_down(self, attendant: &Attendant<'_, H::Runtime, H>, talk: Talk<H>) -> Over
+    pub(crate) fn pass_down(self, attendant: &Attendant<'_, H>, talk: Talk<H>) -> Over
         ensures own { result.serial ≡ self.entry.serial }
     {
         let Attended {

@@ -9,6 +9,8 @@ use crate::host::{CallerOf, Host};
 use crate::life::Context;
 use crate::observer::Observer;
 use crate::service::Service;
+use std::thread::Threads;
+use std::time::Clock;
 use tcp_connections::{Acceptor, Attendant, ServeEnd, serve_through};
 
 /// Serves connections until it comes to an end: how it ended, and the caller that let them in.
@@ -22,7 +24,7 @@ pub(crate) fn serve_by<A, H>(
 ) -> (ServeEnd, CallerOf<H>)
 where
     H: Host + Send + Sync,
-    H::Runtime: Sync,
+    H::Runtime: Threads + Clock + Sync,
     H::Places: Send + Sync,
     H::Callers: Send + Sync,
     H::File: Send,

@@ -15,6 +15,8 @@ use shared_site::{Caller, Callers};
 use std::alloc::Global;
 use std::snapshot::Snapshot;
 use std::sync::Mutex;
+use std::thread::Threads;
+use std::time::Clock;
 use tcp_connections::{Acceptor, ServeEnd};
 
 /// A server that has come to its end: nobody is let in any more and its threads have ended, both callers of its site are back and the site is closed.
@@ -69,7 +71,7 @@ pub fn serve<'a, A, H>(
 ) -> Result<Closed<H>, Unfinished<H>>
 where
     H: Host + Send + Sync,
-    H::Runtime: Sync,
+    H::Runtime: Threads + Clock + Sync,
     H::Places: Send + Sync,
     H::Callers: Send + Sync,
     H::File: Send,

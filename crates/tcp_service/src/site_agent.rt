@@ -236,9 +236,9 @@ impl<H: Host> Endings for LoggedAgent<'_, H> {
     ghost use Rattle.server_events.specs.declared.event.Event.TheVariants as event;
     ghost use Rattle.tcp_service.specs.SiteAgents.{asked};
 
-    type Places = H::Places;
+    type Place = Place<H::Places>;
 
-    type Job = H::Job;
+    type Child = Running<H::Places, H::Job>;
 
     ghost tells_end = { λ _ serial status after. asked after.agent.last ≡ Some (event.Ended serial status) };
 

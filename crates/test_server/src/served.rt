@@ -88,6 +88,8 @@ struct InMemory<'s, 'l, 'w, R, L, N> {
 }
 
 impl<'s, 'l, 'w, R: Wait + Clock, L, N> Streams for InMemory<'s, 'l, 'w, R, L, N> {
+    type Runtime = R;
+
     type Lines = &'w mut Vec<u8>;
 
     type Reader = Silent;
@@ -111,8 +113,6 @@ where
     L: Assumptions + Send + Sync,
     N: Callers + Send + Sync,
 {
-    type Runtime = R;
-
     type Places = L;
 
     type Callers = N;
