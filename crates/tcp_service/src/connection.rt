@@ -137,7 +137,10 @@ where
         self.mode == Mode::Pumped
     }
 
-    fn begin(&self, work: NewConnection<'a, H>) -> Result<Beginning<'a, H>, Over> {
+    fn begin(&self, work: NewConnection<'a, H>) -> Result<Beginning<'a, H>, Over>
+        ensures goes_on { IfOk result (λ begun. begun.1.attended.serial ≡ work.entry.admitted.serial) }
+        ensures over { IfErr result (λ over. over.serial ≡ work.entry.admitted.serial) }
+    {
         self.begin_with(work)
     }
 
@@ -145,7 +148,9 @@ where
         self.attendant.pass_up(upward);
     }
 
-    fn pass_down(&self, begun: Connected<'a, H>) -> Over {
+    fn pass_down(&self, begun: Connected<'a, H>) -> Over
+        ensures over { result.serial ≡ begun.entry.attended.serial }
+    {
         let Connected { attended, talk } = begun;
         match talk {
             None => attended.see_out(),
