@@ -55,10 +55,7 @@ pub trait Admission {
 }
 
 /// Serves the connections that were let in. A connection is a value that each call takes, and gives on to the next.
-pub trait Serving {
-    /// A connection that was let in.
-    type Work;
-
+pub trait Serving<T> {
     /// The stream from a client, which `pass_up` passes on.
     type Upward: Send + Drop;
 
@@ -69,7 +66,7 @@ pub trait Serving {
     type Over: Send + Drop;
 
     /// Which connection it is, by the serial number: one that was let in, one whose child runs, and one that is over.
-    ghost of_work: { Self.Work → ℕ };
+    ghost of_work: { T → ℕ };
 
     ghost of_talk: { Self.Talk → ℕ };
 
@@ -83,7 +80,7 @@ pub trait Serving {
     ///
     /// # Errors
     /// The connection is over; its child never ran.
-    fn begin(&self, work: Self::Work) -> Result<(Option<Self::Upward>, Self::Talk), Self::Over>
+    fn begin(&self, work: T) -> Result<(Option<Self::Upward>, Self::Talk), Self::Over>
         ensures goes_on { IfOk result (λ begun. of_talk begun.1 ≡ of_work work) }
         ensures over { IfErr result (λ end. of_over end ≡ of_work work) };
 

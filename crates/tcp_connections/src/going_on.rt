@@ -6,7 +6,7 @@ use std::sync::Wait;
 
 /// A connection whose program runs, with the second thread that passes on what its client sends. To drop it is to go on
 /// with it to its end. So none is lost on the way from one thread to another.
-pub(crate) struct GoingOn<'a, R: Wait, V: Serving> {
+pub(crate) struct GoingOn<'a, R: Wait, V: Serving<T>, T> {
     pub rt: &'a R,
     pub server: &'a V,
     pub means: &'a Means,
@@ -15,7 +15,7 @@ pub(crate) struct GoingOn<'a, R: Wait, V: Serving> {
     pub second: Option<Helper<V::Upward>>,
 }
 
-impl<R: Wait, V: Serving> Drop for GoingOn<'_, R, V> {
+impl<R: Wait, V: Serving<T>, T> Drop for GoingOn<'_, R, V, T> {
     fn drop(self) {
         let GoingOn {
             rt,

@@ -51,8 +51,8 @@ pub fn serve_through<R, V, Q>(
 ) -> (ServeEnd, Q)
 where
     R: Threads + Wait + Clock + Sync,
-    V: Serving + Sync,
-    Q: Admission<Work = V::Work> + Send + Drop,
+    V: Serving<Q::Work> + Sync,
+    Q: Admission + Send + Drop,
     requires nobody { Q.let_in admission ≡ 0 }
     ensures served { IsServed result.0 count 0 (Q.let_in result.1) }
 {
@@ -84,7 +84,7 @@ where
 
 /// What the workers share.
 #[derive(Drop)]
-struct Workers<'a, R: Wait, V: Serving, Q: Admission<Work = V::Work>> {
+struct Workers<'a, R: Wait, V: Serving<Q::Work>, Q: Admission> {
     rt: &'a R,
     alloc: Global,
     server: &'a V,
@@ -95,7 +95,7 @@ struct Workers<'a, R: Wait, V: Serving, Q: Admission<Work = V::Work>> {
     wanted: Mailbox<bool>,
     // the idle second threads, and the idle keepers
     seconds: &'a Helpers<V::Upward>,
-    keepers: Helpers<GoingOn<'a, R, V>>,
+    keepers: Helpers<GoingOn<'a, R, V, Q::Work>>,
     supply: Supply,
     means: &'a Means,
     // how many bytes the last look for memory found, if memory is limited
@@ -106,8 +106,8 @@ struct Workers<'a, R: Wait, V: Serving, Q: Admission<Work = V::Work>> {
 impl<'a, R, V, Q> Workers<'a, R, V, Q>
 where
     R: Threads + Wait + Clock + Sync,
-    V: Serving,
-    Q: Admission<Work = V::Work>,
+    V: Serving<Q::Work>,
+    Q: Admission,
 {
     // Whether memory is limited.
     fn is_limited(&self) -> bool {
@@ -127,7 +127,7 @@ where
     }
 
     // Waits for the door, and lets the next connection in. `None` once no more come.
-    fn next_connection(&self) -> Option<V::Work> {
+    fn next_connection(&self) -> Option<Q::Work> {
         let mut door = self.door.lock(self.rt);
         let next = self.lead(&mut door);
         if door.is_over() {
@@ -139,7 +139,7 @@ where
     }
 
     // Lets the next connection in. `None` once no more come.
-    fn lead(&self, door: &mut Door<Q>) -> Option<V::Work> {
+    fn lead(&self, door: &mut Door<Q>) -> Option<Q::Work> {
         for _ in self.rt.forever() {
             if door.is_over() || !door.wait_for_room() {
                 return None;
@@ -229,8 +229,8 @@ where
 impl<'a, R, V, Q> Workers<'a, R, V, Q>
 where
     R: Threads + Wait + Clock + Sync,
-    V: Serving + Sync,
-    Q: Admission<Work = V::Work> + Send + Drop,
+    V: Serving<Q::Work> + Sync,
+    Q: Admission + Send + Drop,
 {
     // Lets connections in until the server comes to an end, and waits until all that were let in are over.
     fn run(&self) {
@@ -369,7 +369,7 @@ where
     fn serve<'s, 'e>(
         &'s self,
         scope: &'s Scope<'s, &'e ()>,
-        work: V::Work,
+        work: Q::Work,
         second: &mut Option<Helper<V::Upward>>,
     ) {
         let (upward, talk) = match self.server.begin(work) {
@@ -400,7 +400,10 @@ where
     }
 
     // An idle keeper, or a new one. None if memory is limited, threads were scarce, or the system has no more.
-    fn keeper<'s, 'e>(&'s self, scope: &'s Scope<'s, &'e ()>) -> Option<Helper<GoingOn<'a, R, V>>> {
+    fn keeper<'s, 'e>(
+        &'s self,
+        scope: &'s Scope<'s, &'e ()>,
+    ) -> Option<Helper<GoingOn<'a, R, V, Q::Work>>> {
         if !self.has_plenty() {
             self.keepers.end(self.rt);
             return None;
@@ -426,7 +429,7 @@ where
     fn start_keeper<'s, 'e>(
         &'s self,
         scope: &'s Scope<'s, &'e ()>,
-    ) -> Option<Helper<GoingOn<'a, R, V>>> {
+    ) -> Option<Helper<GoingOn<'a, R, V, Q::Work>>> {
         let workers = self;
         let keeper = Arc::new(workers.alloc, Mailbox::new()).ok()?;
         let his = Arc::try_clone(&keeper).ok()?;
@@ -444,7 +447,7 @@ where
     }
 
     // Goes on with one connection after another, until no more come.
-    fn keep_in_turn<'s>(&'s self, keeper: &'s Helper<GoingOn<'a, R, V>>) {
+    fn keep_in_turn<'s>(&'s self, keeper: &'s Helper<GoingOn<'a, R, V, Q::Work>>) {
         for _ in self.rt.forever() {
             let Some(going_on) = keeper.take(self.rt) else {
                 return;

@@ -98,9 +98,9 @@ impl<H: Host> Server<'_, H> {
     }
 }
 
-impl<'a, H> Serving for Server<'a, H>
+impl<'b, H> Serving<NewConnection<'b, H>> for Server<'_, H>
 where
-    H: Host + 'a,
+    H: Host,
     H::Runtime: Sync,
     H::Places: Send + Sync,
     H::Callers: Send + Sync,
@@ -119,11 +119,9 @@ where
     H::Job: Send,
     H::Wrapper: Send,
 {
-    type Work = NewConnection<'a, H>;
-
     type Upward = Upward<H>;
 
-    type Talk = Connected<'a, H>;
+    type Talk = Connected<'b, H>;
 
     type Over = Over;
 
@@ -137,10 +135,7 @@ where
         self.mode == Mode::Pumped
     }
 
-    fn begin(&self, work: NewConnection<'a, H>) -> Result<Beginning<'a, H>, Over>
-        ensures goes_on { IfOk result (λ begun. begun.1.attended.serial ≡ work.entry.admitted.serial) }
-        ensures over { IfErr result (λ over. over.serial ≡ work.entry.admitted.serial) }
-    {
+    fn begin(&self, work: NewConnection<'b, H>) -> Result<Beginning<'b, H>, Over> {
         self.begin_with(work)
     }
 
@@ -148,9 +143,7 @@ where
         self.attendant.pass_up(upward);
     }
 
-    fn pass_down(&self, begun: Connected<'a, H>) -> Over
-        ensures over { result.serial ≡ begun.entry.attended.serial }
-    {
+    fn pass_down(&self, begun: Connected<'b, H>) -> Over {
         let Connected { attended, talk } = begun;
         match talk {
             None => attended.see_out(),

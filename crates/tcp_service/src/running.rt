@@ -14,13 +14,13 @@ use std::time::Clock;
 use tcp_connections::{Acceptor, Attendant, ServeEnd, serve_through};
 
 /// Serves connections until it comes to an end: how it ended, and the caller that let them in.
-pub(crate) fn serve_by<A, H>(
-    acceptor: &mut A,
-    context: &Context<'_, H>,
+pub(crate) fn serve_by<'a, A, H>(
+    acceptor: &'a mut A,
+    context: &'a Context<'a, H>,
     admitter: CallerOf<H>,
-    wrapping: &H::Chains,
-    starter: &H::Starter,
-    service: &Service,
+    wrapping: &'a H::Chains,
+    starter: &'a H::Starter,
+    service: &'a Service,
 ) -> (ServeEnd, CallerOf<H>)
 where
     H: Host + Send + Sync,
