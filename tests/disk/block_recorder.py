@@ -29,7 +29,7 @@ LONGEST, ROOM = 131072, 1 << 18
 ROOT, DISK, NAME = 1, 2, b"disk"
 # for how many seconds the system may keep what it was answered of a file
 KEPT_FOR = 1000
-# the entries of a record: their kind, their place, the length of what follows
+# the entries of a record: their kind, their position, the length of what follows
 ENTRY = struct.Struct("<cQI")
 WRITTEN, FLUSHED, MARKED = b"w", b"f", b"m"
 
@@ -44,8 +44,8 @@ class Server:
         self.channel = os.open("/dev/fuse", os.O_RDWR | os.O_NONBLOCK | os.O_CLOEXEC)
         loop_devices.mount("disk", folder, "fuse", "fd=%d,rootmode=40000,user_id=0,group_id=0,max_read=%d" % (self.channel, LONGEST))
 
-    def keep(self, kind, place=0, given=b""):
-        self.record.write(ENTRY.pack(kind, place, len(given)))
+    def keep(self, kind, position=0, given=b""):
+        self.record.write(ENTRY.pack(kind, position, len(given)))
         self.record.write(given)
 
     def answer(self, serial, given=b"", error=0):
@@ -71,11 +71,11 @@ class Server:
         if kind in (OPEN, OPENDIR):
             return struct.pack("<Q2I", node, DIRECT_IO if kind == OPEN else 0, 0)
         if kind == READ:
-            _, place, length = struct.unpack_from("<2QI", given)
-            return os.pread(self.image, length, place)
+            _, position, length = struct.unpack_from("<2QI", given)
+            return os.pread(self.image, length, position)
         if kind == WRITE:
-            _, place, length = struct.unpack_from("<2QI", given)
-            return self.write(place, given[40:40 + length])
+            _, position, length = struct.unpack_from("<2QI", given)
+            return self.write(position, given[40:40 + length])
         if kind == FSYNC:
             self.keep(FLUSHED)
         elif kind == STATFS:
@@ -84,9 +84,9 @@ class Server:
             raise OSError(errno.ENOSYS, "no such question")
         return b""
 
-    def write(self, place, given):
-        self.keep(WRITTEN, place, given)
-        os.pwrite(self.image, given, place)
+    def write(self, position, given):
+        self.keep(WRITTEN, position, given)
+        os.pwrite(self.image, given, position)
         return struct.pack("<2I", len(given), 0)
 
     def serve_one(self):
@@ -157,12 +157,12 @@ class Recorder:
 
 
 def entries_of(record):
-    """The entries of a record in their order: a kind, a place, and what was written or marked."""
+    """The entries of a record in their order: a kind, a position, and what was written or marked."""
     found = []
     with open(record, "rb") as file:
         while head := file.read(ENTRY.size):
-            kind, place, length = ENTRY.unpack(head)
-            found.append((kind, place, file.read(length)))
+            kind, position, length = ENTRY.unpack(head)
+            found.append((kind, position, file.read(length)))
     return found
 
 

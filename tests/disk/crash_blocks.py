@@ -127,9 +127,9 @@ class Texts:
         if whole is not None:
             return "text %d, whole" % whole
         of = set()
-        for place in range(0, len(content), PIECE):
-            piece = content[place:place + PIECE]
-            of.add(next((str(number) for number in range(1, last + 1) if self.file(number)[place:place + PIECE] == piece), "none"))
+        for position in range(0, len(content), PIECE):
+            piece = content[position:position + PIECE]
+            of.add(next((str(number) for number in range(1, last + 1) if self.file(number)[position:position + PIECE] == piece), "none"))
         return "%d bytes of texts %s" % (len(content), " and ".join(sorted(of)))
 
 
@@ -224,9 +224,9 @@ def calls_of(program, folder, size):
         lines = [(found.group(1), folder in found.group(0)) for found in re.finditer(r"^(\w+)\(.*$", file.read(), re.M) if found.group(1) != "execve"]
     names = [name for name, _ in lines]
     first = [is_there for _, is_there in lines].index(True)
-    renamed = max(place for place, name in enumerate(names) if name in RENAMES)
+    renamed = max(position for position, name in enumerate(names) if name in RENAMES)
     settled = names.index("fsync", renamed)
-    return [Call(names[place], names[:place + 1].count(names[place]), renamed < place <= settled) for place in range(first, len(names))]
+    return [Call(names[position], names[:position + 1].count(names[position]), renamed < position <= settled) for position in range(first, len(names))]
 
 
 def in_turn(site, calls, series, is_shared):
@@ -316,11 +316,11 @@ class Trial:
         os.unlink(self.path("image"))
         entries = entries_of(self.path("record"))
         # what comes behind the last mark is its end
-        return Record(entries[:max(place for place, (kind, *_) in enumerate(entries) if kind == MARKED)])
+        return Record(entries[:max(position for position, (kind, *_) in enumerate(entries) if kind == MARKED)])
 
     def look_at(self, record, count, series):
         """Makes so many moments of a record, and looks at each."""
-        marks = [place for place, (kind, _, given) in enumerate(record.entries) if kind == MARKED and given.startswith(b"done")]
+        marks = [position for position, (kind, _, given) in enumerate(record.entries) if kind == MARKED and given.startswith(b"done")]
         images = Images(record, self.path("base"), self.folder)
         for moment in record.moments(count, series, marks[0], UNSETTLED):
             self.moments += 1

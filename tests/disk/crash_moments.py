@@ -15,27 +15,27 @@ PIECE = 4096
 COPIED_AT_ONCE = 1 << 20
 
 
-def pieces_of(place, given):
+def pieces_of(position, given):
     """The pieces of a write: each lies in one block of the disk."""
-    end = place + len(given)
-    while place < end:
-        after = min(end, (place // PIECE + 1) * PIECE)
-        yield place, given[len(given) - (end - place):len(given) - (end - after)]
-        place = after
+    end = position + len(given)
+    while position < end:
+        after = min(end, (position // PIECE + 1) * PIECE)
+        yield position, given[len(given) - (end - position):len(given) - (end - after)]
+        position = after
 
 
 def kept_of(count, series):
     """Which of so many pieces a disk has kept, and how that is called."""
-    places = range(count)
+    positions = range(count)
     how = series.choice(("none", "all", "a front", "a half", "all but one")) if count else "none"
     if how == "none":
         return how, ()
     if how == "a front":
-        return how, tuple(places[:series.randrange(count + 1)])
+        return how, tuple(positions[:series.randrange(count + 1)])
     if how == "a half":
-        return how, tuple(place for place in places if series.randrange(2))
+        return how, tuple(position for position in positions if series.randrange(2))
     lost = series.randrange(count) if how == "all but one" else None
-    return how, tuple(place for place in places if place != lost)
+    return how, tuple(position for position in positions if position != lost)
 
 
 class Moment(NamedTuple):
@@ -53,10 +53,10 @@ class Record:
 
     def __init__(self, entries):
         self.entries = entries
-        self.flushes = [place for place, (kind, *_) in enumerate(entries) if kind == FLUSHED]
+        self.flushes = [position for position, (kind, *_) in enumerate(entries) if kind == FLUSHED]
 
     def marks(self, came):
-        """The marks before this place, the last one first."""
+        """The marks before this position, the last one first."""
         for kind, _, given in reversed(self.entries[:came]):
             if kind == MARKED:
                 yield given.decode()
@@ -67,23 +67,23 @@ class Record:
         return self.flushes[before - 1] + 1 if before else 0
 
     def pieces(self, first, last):
-        return [piece for kind, place, given in self.entries[first:last] if kind == WRITTEN for piece in pieces_of(place, given)]
+        return [piece for kind, position, given in self.entries[first:last] if kind == WRITTEN for piece in pieces_of(position, given)]
 
     def moments(self, count, series, first, after):
-        """So many moments behind this place, in their order: a third of them between a mark that ends so and the next but one behind it, a third
+        """So many moments behind this position, in their order: a third of them between a mark that ends so and the next but one behind it, a third
         right before a flush or behind a mark, and a third anywhere."""
-        marks = [place for place, (kind, *_) in enumerate(self.entries) if kind == MARKED]
+        marks = [position for position, (kind, *_) in enumerate(self.entries) if kind == MARKED]
         ends = marks[2:] + [len(self.entries)] * 2
-        places = [
-            [came for place, end in zip(marks, ends) if self.entries[place][2].endswith(after.encode()) for came in range(place, end)],
-            [place + 1 for place in marks] + [place for place, (kind, *_) in enumerate(self.entries) if kind == FLUSHED],
+        positions = [
+            [came for position, end in zip(marks, ends) if self.entries[position][2].endswith(after.encode()) for came in range(position, end)],
+            [position + 1 for position in marks] + [position for position, (kind, *_) in enumerate(self.entries) if kind == FLUSHED],
             range(len(self.entries) + 1),
         ]
-        places = [chosen for chosen in [[came for came in some if came > first] for some in places] if chosen]
+        positions = [chosen for chosen in [[came for came in some if came > first] for some in positions] if chosen]
         found, tries = set(), 0
         while len(found) < count and tries < 100 * count:
             tries += 1
-            came = series.choice(series.choice(places))
+            came = series.choice(series.choice(positions))
             flushed = self.flushed(came)
             pieces = len(self.pieces(flushed, came))
             found.add(Moment(flushed, came, pieces, *kept_of(pieces, series)))
@@ -93,18 +93,18 @@ class Record:
 def copy(source, target):
     """Copies a file's bytes; what are holes stay holes."""
     with open(source, "rb") as old, open(target, "wb") as new:
-        size, place = os.fstat(old.fileno()).st_size, 0
+        size, position = os.fstat(old.fileno()).st_size, 0
         new.truncate(size)
-        while place < size:
+        while position < size:
             try:
-                place = os.lseek(old.fileno(), place, os.SEEK_DATA)
+                position = os.lseek(old.fileno(), position, os.SEEK_DATA)
             except OSError:
                 # there is no more
                 break
-            end = os.lseek(old.fileno(), place, os.SEEK_HOLE)
-            os.lseek(new.fileno(), place, os.SEEK_SET)
-            while place < end:
-                place += os.sendfile(new.fileno(), old.fileno(), place, min(end - place, COPIED_AT_ONCE))
+            end = os.lseek(old.fileno(), position, os.SEEK_HOLE)
+            os.lseek(new.fileno(), position, os.SEEK_SET)
+            while position < end:
+                position += os.sendfile(new.fileno(), old.fileno(), position, min(end - position, COPIED_AT_ONCE))
 
 
 class Images:
@@ -120,14 +120,14 @@ class Images:
     def make(self, moment):
         """The path of the image of a moment."""
         with open(self.state, "r+b", buffering=0) as file:
-            for kind, place, given in self.record.entries[self.flushed:moment.flushed]:
+            for kind, position, given in self.record.entries[self.flushed:moment.flushed]:
                 if kind == WRITTEN:
-                    os.pwrite(file.fileno(), given, place)
+                    os.pwrite(file.fileno(), given, position)
         self.flushed = moment.flushed
         copy(self.state, self.image)
         pieces = self.record.pieces(moment.flushed, moment.came)
         with open(self.image, "r+b", buffering=0) as file:
             for number in moment.kept:
-                place, given = pieces[number]
-                os.pwrite(file.fileno(), given, place)
+                position, given = pieces[number]
+                os.pwrite(file.fileno(), given, position)
         return self.image

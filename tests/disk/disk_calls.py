@@ -159,7 +159,7 @@ NO_NAMES = [
     (b"..\xc3", "the name is not UTF-8"),
 ]
 NAMES = [b"a" * 255, b"a.b", b"...", b"\xc3\xa9"]
-# a place in a file with `hello`, the room for what is read, and what is read
+# a position in a file with `hello`, the room for what is read, and what is read
 READS = [
     (0, 5, b"hello"),
     (0, 3, b"hel"),
@@ -203,7 +203,7 @@ def failing_calls(disks):
         disks.holds("call %d of all fails" % call, len(answers) == 7 and seen == (wanted, str(wanted)), answers)
     # each file takes three calls, of which the third is `patch`
     for failing in range(4):
-        fails = [place + 1 == failing for place in range(3)]
+        fails = [position + 1 == failing for position in range(3)]
         script = [("patched %s abc X" % name, DEVICE if fault else "done") for name, fault in zip("abc", fails)]
         script.append(("failures", "1" if failing > 0 else "0"))
         script += [("open " + name, ABC if fault else file_of(b"Xbc")) for name, fault in zip("abc", fails)]
@@ -321,7 +321,7 @@ RULES_AFTER = ["crash kept rules", "crash settled rules"]
 def installations(disks):
     """Rules installed where others stand, with a mishap at each call of the disk in turn."""
     compiled = [disks.answers(["memory"], [text, "open rules"])[-1] for text in (ALLOW, DENY)]
-    # 2,048 bytes of pointers, a record without bytes, and two places for its hash
+    # 2,048 bytes of pointers, a record without bytes, and two positions for its hash
     disks.holds("the two files differ", compiled[0].startswith("2072 [") and compiled[1] != compiled[0], compiled)
     first, both = calls_of(disks, ALLOW, DENY)
     commands = [ALLOW, DENY, "failures", *RULES_AFTER, "remove tmp", "open tmp", *RULES_AFTER]
@@ -367,10 +367,10 @@ def single_calls(disks):
         disks.call("no name: %r" % given[:9], ["name"], given, wanted.encode() + b"\n")
     for given in NAMES:
         disks.call("a name: %r" % given[:9], ["name"], given, b"name %s copy %s\n" % (given, given))
-    for place, room, wanted in READS:
+    for position, room, wanted in READS:
         buffer = wanted + b"-" * (room - len(wanted))
         answer = "5 %d %s\n" % (len(wanted), list(buffer))
-        disks.call("a read at %d of %d" % (place, room), ["read", str(place), str(room)], b"hello", answer.encode())
+        disks.call("a read at %d of %d" % (position, room), ["read", str(position), str(room)], b"hello", answer.encode())
     disks.call("texts of faults", ["faults"], b"", FAULTS)
 
 

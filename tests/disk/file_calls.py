@@ -42,8 +42,8 @@ TEXTS = [
 
 
 def pointers(*runs):
-    """The pointers of a file, so many of each: a count, a place and a number of slots."""
-    return b"".join(struct.pack("<II", place, slots) * count for count, place, slots in runs)
+    """The pointers of a file, so many of each: a count, a position and a number of slots."""
+    return b"".join(struct.pack("<II", position, slots) * count for count, position, slots in runs)
 
 
 def one_rule(slots):
@@ -52,9 +52,9 @@ def one_rule(slots):
     return pointers((5, 2058, 0), (1, 2058, slots), (250, 2074, 0)) + rest
 
 
-def one_slot(number, place):
+def one_slot(number, position):
     """No record, and one slot, in the table of the key ""."""
-    return pointers((5, 0, 0), (1, 2048, 1), (250, 0, 0)) + struct.pack("<II", number, place)
+    return pointers((5, 0, 0), (1, 2048, 1), (250, 0, 0)) + struct.pack("<II", number, position)
 
 
 EMPTY = pointers((256, 2048, 0))
@@ -94,12 +94,12 @@ def first_value(file, key):
         number = (number * 33 % 2 ** 32) ^ byte
     table, slots = struct.unpack_from("<II", file, 8 * (number % 256))
     for step in range(slots):
-        found, place = struct.unpack_from("<II", file, table + 8 * ((number // 256 + step) % slots))
-        if place == 0:
+        found, position = struct.unpack_from("<II", file, table + 8 * ((number // 256 + step) % slots))
+        if position == 0:
             return None
         if found == number:
-            key_length, value_length = struct.unpack_from("<II", file, place)
-            record = file[place + 8:place + 8 + key_length + value_length]
+            key_length, value_length = struct.unpack_from("<II", file, position)
+            record = file[position + 8:position + 8 + key_length + value_length]
             if record[:key_length] == key:
                 return record[key_length:]
     return None

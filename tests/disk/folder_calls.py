@@ -25,11 +25,11 @@ def limit_files():
 
 
 class Probe:
-    """The program, in a place that anybody may run it from."""
+    """The program, in a folder that anybody may run it from."""
 
-    def __init__(self, program, place):
-        self.program = shutil.copy(program, place)
-        os.chmod(place, 0o755)
+    def __init__(self, program, into):
+        self.program = shutil.copy(program, into)
+        os.chmod(into, 0o755)
         os.chmod(self.program, 0o755)
 
     def answers(self, folder, words, **how):
@@ -131,7 +131,8 @@ def opened_flags(probe, folder):
     trace = os.path.join(folder, "..", "trace")
     subprocess.run(["strace", "-o", trace, "-e", "trace=openat", probe.program, "folder", folder, "fresh", "tmp"], stdout=subprocess.DEVNULL, timeout=600, check=True)
     with open(trace) as lines:
-        return [re.findall(r"O_WRONLY\|O_CREAT\|O_EXCL|0[0-7]+", line) for line in lines if "/tmp\"" in line]
+        # (behind the path, whose folders may have digits)
+        return [re.findall(r"O_WRONLY\|O_CREAT\|O_EXCL|0[0-7]+", line.rpartition('"')[2]) for line in lines if "/tmp\"" in line]
 
 
 def injected(probe, folder, call, how, words, on=()):
@@ -202,17 +203,17 @@ def install_cases(bench, folder):
     with open(trace) as lines:
         writes = [re.search(r", (\d+), (\d+)\) += (\d+)$", line).groups() for line in lines if "/tmp>" in line]
     size = os.path.getsize(os.path.join(folder, "rules"))
-    pieces = [(min(65536, size - place), place) for place in range(0, size, 65536)]
-    wanted = [(str(length), str(place), str(length)) for length, place in pieces + [(2048, 0)]]
+    pieces = [(min(65536, size - position), position) for position in range(0, size, 65536)]
+    wanted = [(str(length), str(position), str(length)) for length, position in pieces + [(2048, 0)]]
     yield "the writes of an installation", writes, wanted
 
 
 def check(program, bench, failures):
     """Runs the cases, and answers how many they were."""
     checks = Checks("folder_calls", failures)
-    with tempfile.TemporaryDirectory() as place:
-        probe = Probe(program, place)
-        folder = os.path.join(place, "folder")
+    with tempfile.TemporaryDirectory() as outer:
+        probe = Probe(program, outer)
+        folder = os.path.join(outer, "folder")
         os.mkdir(folder)
         groups = [(cases, probe), (refused_cases, probe), (scratch_cases, probe), (full_cases, probe)]
         if shutil.which("strace"):

@@ -67,21 +67,21 @@ class Opening(NamedTuple):
 
 def may_stand(renames, text, begins, ends):
     """Whether this text may have stood under the rules name at some moment between these two."""
-    places = [place for place, rename in enumerate(renames) if rename.text == text]
-    return any(renames[place].begins <= ends and (place + 1 == len(renames) or renames[place + 1].ends >= begins) for place in places)
+    positions = [position for position, rename in enumerate(renames) if rename.text == text]
+    return any(renames[position].begins <= ends and (position + 1 == len(renames) or renames[position + 1].ends >= begins) for position in positions)
 
 
 def is_history(renames, openings):
     """Whether each rename and each opening can be given one moment of its own, the renames in their order, so that each opening finds the text of the
     last rename before it."""
-    places = {rename.text: place for place, rename in enumerate(renames)}
-    if any(opening.text not in places for opening in openings):
+    positions = {rename.text: position for position, rename in enumerate(renames)}
+    if any(opening.text not in positions for opening in openings):
         return False
     moment = -math.inf
-    for place, rename in enumerate(renames):
+    for position, rename in enumerate(renames):
         # after the beginning of all that found an earlier text, and before the end of all that found this one or a later one
-        moment = max([moment, rename.begins] + [opening.begins for opening in openings if places[opening.text] < place])
-        if moment > min([rename.ends] + [opening.ends for opening in openings if places[opening.text] >= place]):
+        moment = max([moment, rename.begins] + [opening.begins for opening in openings if positions[opening.text] < position])
+        if moment > min([rename.ends] + [opening.ends for opening in openings if positions[opening.text] >= position]):
             return False
     return True
 
@@ -139,9 +139,9 @@ def traced(path):
     return threads
 
 
-def end_of(records, place, last=math.inf):
+def end_of(records, position, last=math.inf):
     """A moment by which the call that was begun by this record had done what it does: that of the thread's next record, or the last one."""
-    return min(records[place + 1][0], last) if place + 1 < len(records) else last
+    return min(records[position + 1][0], last) if position + 1 < len(records) else last
 
 
 def openings_in(path):
@@ -149,10 +149,10 @@ def openings_in(path):
     found = {}
     for records in traced(path).values():
         last = None
-        for place, (begins, text) in enumerate(records):
+        for position, (begins, text) in enumerate(records):
             verdict = VERDICT.match(text)
             if OPENED.match(text):
-                last = begins, end_of(records, place)
+                last = begins, end_of(records, position)
             elif verdict and last:
                 found[int(verdict.group(2))], last = last, None
     return found
@@ -166,12 +166,12 @@ class Installation:
         self.rename, self.phases = None, []
         (records,) = traced(path).values()
         scratch = None
-        for place, (begins, call) in enumerate(records):
+        for position, (begins, call) in enumerate(records):
             name, _, result = call.partition("(")[0], *call.rpartition("= ")[1:]
             done = re.match(r"\d+", result)
             if name == "rename":
-                self.rename = Rename(text, begins, end_of(records, place, last))
-            if not done or "KILL" in end_text(records, place):
+                self.rename = Rename(text, begins, end_of(records, position, last))
+            if not done or "KILL" in end_text(records, position):
                 continue
             if name == "openat" and "O_CREAT" in call and "rules.tmp" in call:
                 scratch = result.split()[0]
@@ -189,9 +189,9 @@ class Installation:
         self.phases.append((moment, "phase " + phase))
 
 
-def end_text(records, place):
+def end_text(records, position):
     """The record behind one."""
-    return records[place + 1][1] if place + 1 < len(records) else ""
+    return records[position + 1][1] if position + 1 < len(records) else ""
 
 
 # what is run
@@ -339,11 +339,11 @@ def woven(suite, way):
     suite.holds("there were decisions by most of the texts", len({opening.text for opening in openings}) > len(renames) // 2, openings)
     suite.holds("all of it, woven, is a history", is_history(renames, openings), (renames, openings))
     # the same with one decision by the text before the one that decided, where that had surely gone
-    places = {rename.text: place for place, rename in enumerate(renames)}
-    late = [opening for opening in openings if places[opening.text] and opening.begins > renames[places[opening.text]].ends]
+    positions = {rename.text: position for position, rename in enumerate(renames)}
+    late = [opening for opening in openings if positions[opening.text] and opening.begins > renames[positions[opening.text]].ends]
     suite.holds("decisions long after a rename", late)
     for opening in late[:50]:
-        older = opening._replace(text=renames[places[opening.text] - 1].text)
+        older = opening._replace(text=renames[positions[opening.text] - 1].text)
         wrong = [older if other is opening else other for other in openings]
         suite.holds("an older decision for connection %d is no history" % opening.serial, not is_history(renames, wrong))
     replayed(suite, server, folder, openings)

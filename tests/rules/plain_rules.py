@@ -61,7 +61,7 @@ def check_files(runs):
 def letters(number):
     """A number in five letters and digits."""
     digits = "0123456789abcdefghijklmnopqrstuvwxyz"
-    return "".join(digits[number // 36 ** place % 36] for place in (4, 3, 2, 1, 0))
+    return "".join(digits[number // 36 ** position % 36] for position in (4, 3, 2, 1, 0))
 
 
 @needs_proved(6)

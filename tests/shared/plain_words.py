@@ -49,12 +49,12 @@ class WordFault(Exception):
 def options_in(words):
     """The options with their values, of which the last counts, and the words that are left. Under `s` stands which of `-s` and `-S` was given last,
     under `v` which of `-v`, `-Q` and `-q`."""
-    options, place = [], 0
-    while place < len(words):
-        word = words[place]
+    options, position = [], 0
+    while position < len(words):
+        word = words[position]
         if not word.startswith("-") or word == "-":
             break
-        place += 1
+        position += 1
         if word == "--":
             break
         letters = word[1:]
@@ -63,17 +63,17 @@ def options_in(words):
             if letter in REFUSED:
                 raise WordFault("option -%s is not in this profile" % letter)
             if letter in VALUED:
-                if not letters and place == len(words):
+                if not letters and position == len(words):
                     raise WordFault("option -%s needs a value" % letter)
-                value = letters if letters else words[place]
-                place += not letters
+                value = letters if letters else words[position]
+                position += not letters
                 letters = ""
                 options.append((letter, value))
             elif letter in ALONE:
                 options.append((LAST_OF.get(letter, letter), letter))
             else:
                 raise WordFault("unknown option -%s" % letter)
-    return dict(options), words[place:]
+    return dict(options), words[position:]
 
 
 def is_wrapped(names):
@@ -117,7 +117,7 @@ def first_fault(words, folder, options):
             return "read fault", 111
         if hosts.bad_line:
             return "host table line %d" % hosts.bad_line, 100
-    if "x" in options and not is_place(options["x"], folder):
+    if "x" in options and not is_rules_path(options["x"], folder):
         return "device fault", 111
     return "cannot listen", 111
 
@@ -128,7 +128,7 @@ def ends_in_name(path):
     return 0 < len(name.encode()) < 256 and name not in (".", "..")
 
 
-def is_place(path, folder):
+def is_rules_path(path, folder):
     """Whether a path ends in a name, in a folder that is there."""
     before, slash, _ = path.rpartition("/")
     return ends_in_name(path) and os.path.isdir(os.path.join(folder, before + "/" if slash else "."))
@@ -176,10 +176,10 @@ class Damaged(Exception):
     """A file that is no compiled one, as far as was looked."""
 
 
-def numbers_at(file, place):
-    if place + 8 > len(file):
+def numbers_at(file, position):
+    if position + 8 > len(file):
         raise Damaged
-    return int.from_bytes(file[place:place + 4], "little"), int.from_bytes(file[place + 4:place + 8], "little")
+    return int.from_bytes(file[position:position + 4], "little"), int.from_bytes(file[position + 4:position + 8], "little")
 
 
 def find(file, key):
@@ -195,21 +195,21 @@ def find(file, key):
     if table + 8 * slots > len(file):
         raise Damaged
     for step in range(slots):
-        found, place = numbers_at(file, table + ((number >> 8) + step) % slots * 8)
-        if place == 0:
+        found, position = numbers_at(file, table + ((number >> 8) + step) % slots * 8)
+        if position == 0:
             return None
         if found != number:
             continue
-        key_length, length = numbers_at(file, place)
+        key_length, length = numbers_at(file, position)
         if key_length != len(key):
             continue
-        if place + 8 + key_length > len(file):
+        if position + 8 + key_length > len(file):
             raise Damaged
-        if file[place + 8:place + 8 + key_length] != key:
+        if file[position + 8:position + 8 + key_length] != key:
             continue
-        if place + 8 + key_length + length > len(file):
+        if position + 8 + key_length + length > len(file):
             raise Damaged
-        return file[place + 8 + key_length:place + 8 + key_length + length]
+        return file[position + 8 + key_length:position + 8 + key_length + length]
     return None
 
 
@@ -358,9 +358,9 @@ EVENTS = {
 def replayed(limit, per, events):
     """What `replay` answers of a list."""
     history = History(limit, per)
-    for place, event in enumerate(events, 1):
+    for position, event in enumerate(events, 1):
         if not history.is_legal(event):
-            return "illegal %d\n" % place
+            return "illegal %d\n" % position
         history.add(event)
     return history.report()
 
