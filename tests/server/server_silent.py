@@ -18,6 +18,8 @@ BOUND = 60
 ALL = 600
 SLACK = 30
 MORE = 8
+# bytes: what the system may have on its way to a client, and does not lose
+HELD = 80000
 SILENT, OTHER = "127.0.0.2", "127.0.0.3"
 # one client's program writes until it is stopped, with more on its way than anything takes; all others are greeted
 PROGRAM = ["sh", "-c", 'test "$TCPREMOTEIP" = %s || exec echo hi; timeout 1 cat /dev/zero; exit 5' % SILENT]
@@ -143,21 +145,23 @@ def too_slow_in_all(suite):
     fast = 10
     path = suite.path("too-slow")
     variables = failed_calls.in_fast_time(suite.folder, fast)
-    fill = [suite.compiled("server/server_given.c"), "fill", path]
+    # (its own second, after which it gives up, is a whole one: so much is left that the system can't hold it for the client)
+    fill = ["env", "-u", "LD_PRELOAD", suite.compiled("server/server_given.c"), "fill", path]
     with suite.start(["-v", "-c", "1"], fill, env=variables) as server, small(server, SILENT, 2048, 500) as client:
         server_runs.wait_until("the end of a program", lambda: os.path.exists(path) and os.path.getsize(path) > 0)
         began, got = time.monotonic(), 0
         while server.live() and time.monotonic() < began + ALL / fast + SLACK:
             got += len(client.recv(1500))
             time.sleep(20 / fast)
-        took = (time.monotonic() - began) * fast
+        took, taken = (time.monotonic() - began) * fast, got
         got += len(read_all(client))
         with open(path) as file:
             written = int(file.read())
         server.idle()
         name = "a little every twenty seconds"
         return [
-            (name + ": the bound in all", ALL - 120 <= took <= ALL + SLACK * fast or took, True), (name + ": the rest is lost", got < written or got, True),
+            (name + ": the bound in all", ALL - 120 <= took <= ALL + SLACK * fast or took, True),
+            (name + ": the rest is lost, but for what the system has", got < written or written - taken <= HELD or got, True),
             (name + ": the end", [line for line in server.lines() if line.startswith("end ")], [log_forms.end(1)]),
         ], server
 
