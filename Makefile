@@ -22,8 +22,8 @@ PREFIX ?= $(prefix)
 MANDIR ?= $(mandir)
 PROGRAM := crates/ucspi/out/ucspi
 TOOLS := addcr delcr fixcrio recordio rulesim tcprules tcprulescheck tcpserver
-# the small programs of the tests and of the benchmarks: one program, which looks at the name by which it is called
-SMALL := test_calls test_disks test_server test_texts ucspi_bench test_yards
+# the small programs of the tests: one program, which looks at the name by which it is called
+SMALL := test_calls test_disks test_server test_texts test_yards
 PROBE := crates/test_programs/out/test_programs
 PROBES := $(addprefix crates/test_programs/out/,$(SMALL))
 # both, built without proofs

@@ -1,5 +1,5 @@
 """Lists of events, by `rulesim`: which lists may happen, and what they lead to. The program test_yards tries what
-`rulesim` cannot say: limits of 0, what journals tell and store, and children whose wait fails or that do not start.
+`rulesim` cannot say: limits of 0, and what journals tell and store.
 """
 import os
 import tempfile
@@ -75,16 +75,6 @@ AFTER_A_STOP = "admitted 1000 live 0 retired 0 most 201, 4201 events"
 # of the connections 1 and 2, which have four events and five, the fifth and the ninth event
 FIFTH, NINTH = "caller 2: admitted 2 10.0.2.1", "caller 3: ended 2 3"
 
-# a place; that of its child, whose pipe ends are asked for and which is killed twice; each wait; and the place that is given back
-JOBS = [
-    (
-        "a wait that fails once",
-        ["job", "1"],
-        ["place 0", "place 0, no ends true, kills Ok(()) Err(Failed)", "Failed, place 0, live 1", "Code(7)", "place 0, live 0"],
-    ),
-    ("a program that does not start", ["no_job", "1"], ["place 0", "Refused", "place 0, live 0"]),
-]
-
 
 def lines(texts):
     return "".join(text + "\n" for text in texts).encode()
@@ -151,13 +141,11 @@ def check_lists(program, failures):
 
 
 def check_calls(probe, failures):
-    """What the probe tells of lists, journals and jobs."""
+    """What the probe tells of lists and journals."""
     calls = Calls(probe, GROUP, failures)
     as_script = lambda events: lines("event " + event for event in events)
     for limits, events, answer in REPLAYS:
         calls.call("%d events under the limits %s" % (len(events), limits), ["replay"] + limits.split(), as_script(events), lines([answer]))
-    for name, words, answers in JOBS:
-        calls.call(name, words, b"", lines(answers))
     events = all_events()
     report = "%s, %d events" % (REPORT, EVENTS)
     calls.call("a journal that counts", ["count_events", str(CALLERS)], as_script(events), lines([report]))

@@ -1,13 +1,13 @@
 """Runs the program with one request for memory refused: the first, then the second, until a run meets no refusal.
 
 Each run has to end as one with ample memory does, or with `out of memory` and exit code 111, after the first answers of
-that run. The rules file is the new one if the run succeeded, and otherwise the old one. Benchmarks make further calls
-that no tool reaches.
+that run. The rules file is the new one if the run succeeded, and otherwise the old one. Small programs make further
+calls that no tool reaches.
 """
 import os
 import tempfile
 
-from shared import refusals
+from shared import compiled_files, refusals
 from shared.checks import Checks
 from shared.refusals import NEW, OLD, SCRIPTS, STREAM, Nothing, Refusals
 
@@ -53,19 +53,39 @@ def check_tools(program, failures):
         return refused.tests
 
 
-def check_calls(bench, failures):
-    """Calls that no tool reaches: want of memory ends each of them, and nothing is printed."""
+PAIRS = [(b"key %d" % number, b"D") for number in range(40)]
+EVENTS = b"".join(b"event admitted %d 10.0.0.%d\n" % (serial, serial) for serial in range(1, 41))
+HOSTS = b"".join(b"10.0.0.%d host%d.example\n=host%d.example 10.0.0.%d\n" % (n, n, n, n) for n in range(10))
+NO_MEMORY = b"out of memory\n"
+# the program and its words, what it is given, and what it may answer for want of memory, beside nothing with exit code 1: a maker goes on without
+# the pair for which there was none
+CALLS = [
+    ("test_calls", ["pairs", "1000000"], b"".join(key + b"\t" + value + b"\n" for key, value in PAIRS),
+     [NO_MEMORY + compiled_files.cdb(PAIRS[:at] + PAIRS[at + 1:]) for at in range(len(PAIRS))]),
+    ("test_yards", ["count_events", "1"], EVENTS, []),
+    ("test_yards", ["store_events", "1"], EVENTS, []),
+    ("test_yards", ["replay", "10000", "10000"], EVENTS, [NO_MEMORY]),
+    ("test_texts", ["hosts", "ip=10.0.0.1"], HOSTS, [NO_MEMORY]),
+]
+
+
+def check_calls(programs, failures):
+    """Calls that no tool reaches, by programs with their paths: for want of memory each answers so, or nothing."""
     checks = Checks(GROUP, failures)
     with tempfile.TemporaryDirectory() as folder:
         requests = refusals.Requests(folder)
-        for words in (["maker", "40"], ["journals", "40"], ["replay", "40"], ["hosts", "20"]):
+        for name, words, given, without in CALLS:
+            program = programs[name]
+            ample = refusals.run([program] + words, folder, given, dict(os.environ))
+            allowed = [(1, b"", b"")] + [(0, answer, b"") for answer in without]
             for request, variables in requests.each():
-                code, output, errors = refusals.run([bench] + words, folder, b"", variables)
-                wanted = (1, True) if requests.is_refused() else (0, False)
-                checks.holds("%s, request %d refused" % (words[0], request), (code, output == b"") == wanted, (code, output, errors))
+                outcome = refusals.run([program] + words, folder, given, variables)
+                checks.holds("%s, request %d refused" % (words[0], request), outcome in (allowed if requests.is_refused() else [ample]), outcome)
+            if ample[0] != 0:
+                checks.fail("%s with ample memory" % words[0], ample)
     return checks.tests
 
 
-def check(program, bench, failures):
+def check(program, calls, texts, yards, failures):
     """How many runs there were."""
-    return check_tools(program, failures) + check_calls(bench, failures)
+    return check_tools(program, failures) + check_calls({"test_calls": calls, "test_texts": texts, "test_yards": yards}, failures)

@@ -32,24 +32,20 @@ CASES = [
     ("a kill that fails changes nothing", ONE, ["e=fm7"], "Count, 0 alive, 2 kills", ENDED_WITH_7),
 ]
 
-# a program between two pumps that put carriage returns where they are missing: the call, the scripts, and how it ended
-PUMPED = 'given "down\\r\\n.\\r\\n"\nwritten "up\\r\\nend"\n'
+# a program between two pumps: its script, and how it ended
+PUMPED = 'given "down\\n.\\n"\nwritten "up\\nend"\n'
 NOT_PUMPED = 'given ""\nwritten ""\n'
 PROGRAMS = [
-    ("a program is pumped both ways and waited for once", "between", "ek=3", "Ok(Code(3)), 0 kills, 1 waits\n" + PUMPED),
-    ("a program that is not found", "between", "n", "Err(CannotStart), 0 kills, 0 waits\n" + NOT_PUMPED),
-    ("a program that is refused", "between", "r", "Err(CannotStart), 0 kills, 0 waits\n" + NOT_PUMPED),
-    ("a program that can't be started", "between", "o", "Err(CannotStart), 0 kills, 0 waits\n" + NOT_PUMPED),
-    ("a program that finds no memory", "between", "m", "Err(OutOfMemory), 0 kills, 0 waits\n" + NOT_PUMPED),
-    ("a wait that fails is not made again", "between", "ek=f3", "Err(Device), 0 kills, 1 waits\n" + PUMPED),
-    ("a wait without memory is not made again", "between", "ek=m3", "Err(OutOfMemory), 0 kills, 1 waits\n" + PUMPED),
-    ("a program without pipe ends", "between", "k=s", "Err(CannotStart), 1 kills, 1 waits\n" + NOT_PUMPED),
-    ("one whose kill fails", "between", "=0", "Err(CannotStart), 1 kills, 1 waits\n" + NOT_PUMPED),
-    ("one whose kill and wait fail", "between", "x=f", "Err(CannotStart), 1 kills, 1 waits\n" + NOT_PUMPED),
-    ("a program whose input gets no thread", "unserved", "ek=s", "Err(CannotStart), 1 kills, 1 waits\n"),
-    ("one without a thread whose kill fails", "unserved", "e=0", "Err(CannotStart), 1 kills, 1 waits\n"),
-    ("one without a thread whose kill and wait fail", "unserved", "ex=f", "Err(CannotStart), 1 kills, 1 waits\n"),
-    ("a program that was served", "served", "ek=3", "Ok(Code(3)), 0 kills, 1 waits\n"),
+    ("a program is pumped both ways and waited for once", "ek=3", "Ok(Code(3)), 0 kills, 1 waits\n" + PUMPED),
+    ("a program that is not found", "n", "Err(CannotStart), 0 kills, 0 waits\n" + NOT_PUMPED),
+    ("a program that is refused", "r", "Err(CannotStart), 0 kills, 0 waits\n" + NOT_PUMPED),
+    ("a program that can't be started", "o", "Err(CannotStart), 0 kills, 0 waits\n" + NOT_PUMPED),
+    ("a program that finds no memory", "m", "Err(OutOfMemory), 0 kills, 0 waits\n" + NOT_PUMPED),
+    ("a wait that fails is not made again", "ek=f3", "Err(Device), 0 kills, 1 waits\n" + PUMPED),
+    ("a wait without memory is not made again", "ek=m3", "Err(OutOfMemory), 0 kills, 1 waits\n" + PUMPED),
+    ("a program without pipe ends", "k=s", "Err(CannotStart), 1 kills, 1 waits\n" + NOT_PUMPED),
+    ("one whose kill fails", "=0", "Err(CannotStart), 1 kills, 1 waits\n" + NOT_PUMPED),
+    ("one whose kill and wait fail", "x=f", "Err(CannotStart), 1 kills, 1 waits\n" + NOT_PUMPED),
 ]
 
 # the lines of errors, and of them alone; here and below each byte is spelled, and none is made by a form
@@ -134,10 +130,16 @@ tcpserver: out of memory
 """
 
 
-def serve(program, asked, scripts):
-    """How a server ends, and its log."""
+def served(program, asked, scripts):
+    """How a server ends, its history, the receipts of its log, and the log."""
     code, printed = probes.run([program, "serve"] + asked + scripts)
-    end, _, log = printed.partition(b"\n")
+    end, _, rest = printed.partition(b"\n")
+    return code, end, *(rest.split(b"\n\n", 2) + [b"", b""])[:3]
+
+
+def serve(program, asked, scripts):
+    """How a server ends, and its log. Its connections come from one address, which may have as many as there may be."""
+    code, end, _, _, log = served(program, asked + [asked[0], "1"], scripts)
     return code, end, log
 
 
@@ -201,10 +203,7 @@ def audit(calls, events, receipts, told):
 def check_history(program, calls):
     """Two thousand connections of forty at once and three from an address: the log tells the very events of the server's history, in their order."""
     scripts = ["ek=%d" % (n % 10) for n in range(90)] + ["n", "m", "k=s", "ek=fs", "ek=ff3", "r", "ek", "k", "ek"] + ["ek=7"]
-    words = ["history", "40", "0", "10000000", "2000", "3", "30"] + scripts * 3
-    code, printed = probes.run([program] + words)
-    end, _, rest = printed.partition(b"\n")
-    history, receipts, log = (rest.split(b"\n\n", 2) + [b"", b""])[:3]
+    code, end, history, receipts, log = served(program, ["40", "0", "10000000", "2000", "3", "30"], scripts * 3)
     calls.holds("two thousand connections end", (code, end.split(b", ")[:2]) == (0, [b"Count", b"9 alive"]), (code, end))
     events = [(caller, event_in(words)) for caller, *words in (line.split() for line in history.decode().splitlines())]
     first = [event for caller, event in events if caller == "1"]
@@ -227,19 +226,21 @@ def check_logs(program, calls):
         ("plain", (("all", ALL), ("errors", ERRORS), ("quiet", b""))), ("helpful", (("all", HELPFUL_ALL), ("errors", HELPFUL_ERRORS), ("quiet", b""))),
     ):
         for level, lines in levels:
-            calls.call("each event at level %s, %s" % (level, voice), ["log", level, "2000", voice], b"", b"taken\n" + lines)
+            # (what was not written of the room are zeros)
+            wanted = b"taken\n" + lines.ljust(2000, b"\0")
+            calls.call("each event at level %s, %s" % (level, voice), ["log", level, "2000", voice], b"", wanted)
     calls.call("a line that is not taken is told", ["log", "errors", "10"], b"", b"not taken\ntcpserver:")
 
 
 def check(program, failures):
     calls = probes.Calls(program, "service_calls", failures)
     for name, asked, scripts, end, log in CASES:
-        calls.call(name, ["serve"] + asked + scripts, b"", end.encode() + b"\n" + FIRST + log)
+        calls.expect(name, serve(program, asked, scripts), (0, end.encode(), FIRST + log))
     lost = log_forms.log(IDLE) + log_forms.log("out of memory") * 150 + ADMISSION + ENDED_WITH_7
-    words = ["serve", "1", "150", "1", "1", "ek=7"]
-    calls.call("connections that find no memory are told and end no server", words, b"", b"Count, 0 alive, 0 kills\n" + lost)
-    for name, call, script, answer in PROGRAMS:
-        calls.call(name, [call, script], b"", answer.encode())
+    answer = serve(program, ["1", "150", "1", "1"], ["ek=7"])
+    calls.expect("connections that find no memory are told and end no server", answer, (0, b"Count, 0 alive, 0 kills", lost))
+    for name, script, answer in PROGRAMS:
+        calls.call(name, ["between", script], b"", answer.encode())
     check_longer(program, calls)
     check_history(program, calls)
     check_logs(program, calls)

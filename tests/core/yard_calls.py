@@ -1,5 +1,5 @@
-"""Calls of a yard over directories in memory, by the program test_yards: limits, a thousand connections over each journal, and installations
-each call of whose directory fails in turn."""
+"""Calls of a yard over directories in memory, by the program test_yards: limits, a thousand connections, and installations each call of whose
+directory fails in turn."""
 from shared import probes
 from shared.checks import Checks
 
@@ -36,7 +36,6 @@ def cases():
     """Name, words, and the lines that are wanted."""
     yield "a limit of 0", ["limit", "0"], ["the limit is 0"]
     yield "a full yard", ["limit", "1"], ["admitted 1", "all places are taken", "live 1"]
-    yield "a thousand connections, counted", ["counted", str(CONNECTIONS)], ["%s, %d events" % (REPORT, EVENTS)]
     # each call in turn, and the one after the last, so that none fails
     for call in range(1, len(PHASES) + 2):
         yield "call %d fails" % call, ["fault", str(call)], installation(call)
@@ -48,8 +47,8 @@ def lines_of(words, given=b""):
 
 
 def check_stored(checks, probe, program):
-    """A thousand connections over a journal that stores their events: its report is that of the other journal, and rulesim's replay of those
-    events too."""
+    """A thousand connections over a journal that stores their events: its report, and rulesim's replay of those events. Of such events a journal
+    that counts tells the same (`event_lists`)."""
     code, lines = lines_of([probe, "stored", str(CONNECTIONS)])
     report, events = lines[:1], lines[1:]
     checks.expect("a thousand connections, stored", (code, report, len(events)), (0, ["%s, %d events" % (REPORT, EVENTS)], EVENTS))

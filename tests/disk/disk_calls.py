@@ -27,6 +27,8 @@ def put(name, text):
     return [("fresh " + name, "done"), ("append " + text, str(len(text))), ("sync", "done")]
 
 
+# a directory in memory of which no call fails
+MEMORY_ALONE = ["memory", "0"]
 # name, and the commands with their answers; each case is a new directory in memory
 MEMORY = [
     (
@@ -177,9 +179,9 @@ class Disks(probes.Calls):
     """Runs of commands, each on a directory of its own."""
 
     def answers(self, words, commands):
-        """The answers to these commands on a directory that the words name."""
+        """The answers to these commands on a directory that the words name. Of a fault the phase is left out, which `file_calls` looks at."""
         code, output = probes.run([self.program] + words, "".join(command + "\n" for command in commands).encode())
-        lines = output.decode().split("\n")[:-1]
+        lines = [line.partition(" at ")[0] for line in output.decode().split("\n")[:-1]]
         return lines if code == 0 and len(lines) == len(commands) else ["exit %d" % code] + lines
 
     def script(self, name, words, commands):
@@ -197,7 +199,7 @@ class Disks(probes.Calls):
 def failing_calls(disks):
     """A directory in memory of which one call fails: each of six calls in turn, `patch`, and those of a replacement."""
     for call in range(9):
-        answers = disks.answers(["fuse", str(call)], ALL_CALLS + ["failures"])
+        answers = disks.answers(["memory", str(call)], ALL_CALLS + ["failures"])
         wanted = 1 if 1 <= call <= 6 else 0
         seen = answers[:-1].count(DEVICE), answers[-1]
         disks.holds("call %d of all fails" % call, len(answers) == 7 and seen == (wanted, str(wanted)), answers)
@@ -207,7 +209,7 @@ def failing_calls(disks):
         script = [("patched %s abc X" % name, DEVICE if fault else "done") for name, fault in zip("abc", fails)]
         script.append(("failures", "1" if failing > 0 else "0"))
         script += [("open " + name, ABC if fault else file_of(b"Xbc")) for name, fault in zip("abc", fails)]
-        disks.script("patch %d fails" % failing, ["fuse", str(3 * failing)], script)
+        disks.script("patch %d fails" % failing, ["memory", str(3 * failing)], script)
     # the file that stands there takes four calls, and the other in its place five
     for call in range(7):
         fails = 1 <= call <= 5
@@ -215,19 +217,19 @@ def failing_calls(disks):
         script.append(("crash empty name", OLD if fails else NEW))
         # torn, the name may have the new file from the rename on, which is the fourth call
         script.append(("crash torn name", OLD if 1 <= call <= 4 else NEW))
-        disks.script("call %d of a replacement fails" % call, ["fuse", str(call + 4 if call > 0 else 0)], script)
+        disks.script("call %d of a replacement fails" % call, ["memory", str(call + 4 if call > 0 else 0)], script)
     torn_installations(disks)
 
 
 def torn_installations(disks):
     """Rules installed where others stand, in memory, with each call failing in turn: a stop that tears names leaves one of the two files, whole,
     and the second where the installation succeeded."""
-    compiled = [disks.answers(["memory"], [text, "open rules"])[-1] for text in (ALLOW, DENY)]
+    compiled = [disks.answers(MEMORY_ALONE, [text, "open rules"])[-1] for text in (ALLOW, DENY)]
     first = calls_until_done(disks, [ALLOW])
     last = calls_until_done(disks, [ALLOW, DENY])
     disks.holds("calls of two installations", 0 < first < last, (first, last))
     for call in range(first + 1, last + 1):
-        answers = disks.answers(["fuse", str(call)], [ALLOW, DENY, "crash torn rules", "open rules"])
+        answers = disks.answers(["memory", str(call)], [ALLOW, DENY, "crash torn rules", "open rules"])
         left = [compiled.index(answer) for answer in answers[2:3] if answer in compiled]
         holds = answers[:2] == ["done", DEVICE] and left == [1 if call == last else 0] and answers[3] in compiled
         disks.holds("call %d of an installation fails, and a stop tears it" % call, holds, [answer[:80] for answer in answers])
@@ -236,7 +238,7 @@ def torn_installations(disks):
 def calls_until_done(disks, commands):
     """How many calls of a directory these commands make: the first that may fail without being noticed is behind them."""
     for call in range(1, 100):
-        if DEVICE not in disks.answers(["fuse", str(call)], commands):
+        if DEVICE not in disks.answers(["memory", str(call)], commands):
             return call - 1
     return 0
 
@@ -314,13 +316,13 @@ def scratch_files(disks):
     disks.script("a name that is taken away comes back by a stop until names are settled", ["disk", "0", "fails"], REMOVED)
 
 
-ALLOW, DENY = "install :allow|", "install 10.:deny|:deny|"
+ALLOW, DENY = "install :allow~", "install 10.:deny~:deny~"
 RULES_AFTER = ["crash kept rules", "crash settled rules"]
 
 
 def installations(disks):
     """Rules installed where others stand, with a mishap at each call of the disk in turn."""
-    compiled = [disks.answers(["memory"], [text, "open rules"])[-1] for text in (ALLOW, DENY)]
+    compiled = [disks.answers(MEMORY_ALONE, [text, "open rules"])[-1] for text in (ALLOW, DENY)]
     # 2,048 bytes of pointers, a record without bytes, and two positions for its hash
     disks.holds("the two files differ", compiled[0].startswith("2072 [") and compiled[1] != compiled[0], compiled)
     first, both = calls_of(disks, ALLOW, DENY)
@@ -378,7 +380,7 @@ def check(program, failures):
     """Makes all calls; adds what fails, and answers how many cases there are."""
     disks = Disks(program, "disk_calls", failures)
     for name, script in MEMORY:
-        disks.script(name, ["memory"], script)
+        disks.script(name, MEMORY_ALONE, script)
     for part in (failing_calls, replacements, scratch_files, installations, disk_in_memory, single_calls):
         part(disks)
     return disks.tests

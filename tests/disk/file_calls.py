@@ -1,8 +1,9 @@
-"""Calls that write compiled files, look keys up in them and install rules in a directory in memory, by the program test_calls. Files are compared
-byte for byte with worked ones, and with those of a plain writer."""
+"""Calls that write compiled files and look keys up in them, by the program test_calls, and that install rules in a directory in memory, by
+test_disks. Files are compared byte for byte with worked ones, and with those of a plain writer."""
 import struct
 
 from core import yard_calls
+from disk import disk_calls
 from shared import compiled_files, plain_texts, probes
 
 # a limit that no file here reaches
@@ -11,20 +12,20 @@ LARGE = "compiled file too large\n"
 DENY_PAIR = b"\tD\0\n"
 # the keys "4." and "6l" have one hash
 TWO_PAIRS = b"4.\tD\0\n6l\t\n"
-TABLE = bytes.fromhex("0000000000000000 0515000000080000")
 MANY = 3000
 MANY_KEYS = 2000
 ALLOW = b":allow\n"
 DENY = b":deny\n"
-NO_FILE = b"no file"
+NO_FILE = b"none"
 # how many calls of a directory an installation of one rule makes
 CALLS = len(yard_calls.PHASES)
 DEVICE = b"device fault"
 OVER = b"the installation is over"
+# keys and their hashes
 HASHES = [("", 5381), ("a", 177604), ("10.3", 2085879289), ("4.", 5859231), ("6l", 5859231)]
 # each is installed in its turn over the one before
 TEXTS = [
-    b"nothing here\n",
+    b"nothing\there\n",
     b"1.2.3.37-53:allow\n:deny\n",
     b"10.2-3.:deny\n10.3.0.1:allow\n",
     b"1.2.3.5-:deny\n1.2.3.-2:deny\n1.2.3.254-999:deny\n1.2.3.07-8:deny\n=My-Host:deny\n",
@@ -67,14 +68,18 @@ TWO_KEYS = (
 )
 
 
-def check_pieces(calls):
-    """Hashes, and the pieces of files."""
+def check_hashes(calls):
+    """The hash that stands in the one slot of a file with one pair that is used: the second half of the hash says where a search begins."""
     for key, number in HASHES:
-        calls.call("the hash of %r" % key, ["hash", key], b"", b"%d\n" % number)
+        code, file = probes.run([calls.program, "pairs", NO_LIMIT], key.encode() + b"\t\n")
+        slots = struct.unpack("<IIII", file[-16:]) if code == 0 else ()
+        used = (number, 2048)
+        calls.expect("the hash of %r" % key, (code, slots), (0, used + (0, 0) if number >> 8 & 1 == 0 else (0, 0) + used))
+
+
+def check_record(calls):
+    """A record alone, of which no file is made."""
     calls.call("a record", ["record", ""], b"D\0", bytes.fromhex("00000000 02000000 4400"))
-    calls.call("a table of one record", ["table", "2048", "5381"], b"", TABLE)
-    calls.call("a table of none", ["table"], b"", b"")
-    calls.call("a header", ["header", "2048", "0"], b"", EMPTY)
 
 
 def check_pairs(calls):
@@ -109,11 +114,18 @@ def check_many_pairs(calls):
     """Each first pair of many is found, and nothing else."""
     pairs = [(b"key %d" % (number % MANY_KEYS), b"value %d" % number) for number in range(MANY)]
     given = b"".join(key + b"\t" + value + b"\n" for key, value in pairs)
-    code, file = probes.run([calls.program, "file", "pairs", "1000000"], given)
+    code, file = probes.run([calls.program, "pairs", "1000000"], given)
     wanted = [(key, value) for key, value in pairs[:MANY_KEYS]] + [(b"key %d" % MANY_KEYS, None), (b"", None)]
     differing = [key for key, value in wanted if first_value(file, key) != value] if code == 0 else ["exit %d" % code]
     calls.expect("many pairs: keys that are found otherwise", differing[:10], [])
     calls.holds("many pairs: the file is that of a plain writer", file == compiled_files.cdb(pairs))
+
+
+def found(calls, words, file):
+    """What a look-up finds in a file, and what it read."""
+    code, output = probes.run([calls.program, "find"] + words, file)
+    answer, _, reads = output.removesuffix(b"\n").rpartition(b"\n")
+    return code, answer, reads
 
 
 def check_found(calls):
@@ -131,14 +143,14 @@ def check_found(calls):
         ("a slot whose record is a pointer", one_slot(5381, 8), "", b"value "),
     ]
     for name, file, key, wanted in cases:
-        calls.call(name, ["find", key, NO_LIMIT, "0"], file, wanted + b"\n")
+        calls.expect(name, found(calls, [key, NO_LIMIT, "0"], file)[:2], (0, wanted))
     for name, file, key, wanted in cases[:2] + cases[3:6]:
-        calls.call(name + ", a byte at a time", ["find", key, "1", "0"], file, wanted + b"\n")
-    calls.call("reads that give nothing", ["find", "", "0", "0"], ONE_RULE, b"damaged\n")
+        calls.expect(name + ", a byte at a time", found(calls, [key, "1", "0"], file)[:2], (0, wanted))
+    calls.expect("reads that give nothing", found(calls, ["", "0", "0"], ONE_RULE)[:2], (0, b"damaged"))
     # a pointer of 8; the second of two slots, 8; from the record, of 10 bytes, to the end of the file behind both slots, 26; the value, 2
-    calls.call("reads of a look-up", ["reads", ""], ONE_RULE, b"4 reads of 44 bytes\n")
+    calls.expect("reads of a look-up", found(calls, ["", NO_LIMIT, "0"], ONE_RULE), (0, b"value D\0", b"4 reads of 44 bytes"))
     for read in range(1, 5):
-        calls.call("read %d fails" % read, ["find", "", NO_LIMIT, str(read)], ONE_RULE, b"device fault\n")
+        calls.expect("read %d fails" % read, found(calls, ["", NO_LIMIT, str(read)], ONE_RULE)[:2], (0, b"device fault"))
 
 
 def check_cut(calls):
@@ -154,7 +166,12 @@ def file_of(text):
     return compiled_files.cdb([(address, plain_texts.code(verdict, settings)) for address, verdict, settings in rules])
 
 
-FILE_NAMES = {file_of(text): b"the file of " + text.strip() for text in (ALLOW, DENY)}
+def shown(file):
+    """A file as the program shows it."""
+    return disk_calls.file_of(file).encode()
+
+
+FILE_NAMES = {shown(file_of(text)): b"the file of " + text.strip() for text in (ALLOW, DENY)}
 
 
 def stands(call, renamed):
@@ -162,7 +179,7 @@ def stands(call, renamed):
     and one that takes all but the last. Where a rename was made before and not settled, all but the last have it as soon as a call was made."""
     kept = renamed or call >= yard_calls.NAMED
     settled = call >= CALLS
-    return [file_of(DENY if is_new else ALLOW) for is_new in (kept, settled, settled or (renamed and call > 0))]
+    return [shown(file_of(DENY if is_new else ALLOW)) for is_new in (kept, settled, settled or (renamed and call > 0))]
 
 
 def steps(fails, renamed=False):
@@ -176,35 +193,42 @@ def steps(fails, renamed=False):
     return lines + [b"done"] + stands(CALLS, renamed) + [b"stepped"]
 
 
-def check_steps(calls):
+def install(text, call="install"):
+    """The command that installs a text, or makes the steps of that."""
+    return "%s %s" % (call, text.decode().replace("\n", "~"))
+
+
+STANDING = ["open rules", "crash kept rules", "crash empty rules", "crash junk rules"]
+
+
+def stepped_cases():
     """An installation whose calls fail in turn, what stands then, and a second one, which comes to its end."""
-    start = ["whole", ALLOW.decode(), "steps", DENY.decode()]
-    standing = ["show", "rules", "left", "kept", "left", "empty", "left", "junk"]
-    yield "eight calls of a directory", 0, start + ["show", "rules"], [b"installed"] + steps(0) + [file_of(DENY)]
+    start, deny = [install(ALLOW), install(DENY, "steps")], shown(file_of(DENY))
+    yield "eight calls of a directory", 0, start + ["open rules"], [b"done"] + steps(0) + [deny]
     for call in range(1, CALLS + 1):
-        kept = file_of(DENY if call == CALLS else ALLOW)
-        wanted = [b"installed"] + steps(call) + [kept, kept, file_of(ALLOW), file_of(ALLOW)] + steps(0, call == CALLS) + [file_of(DENY)]
-        words = start + standing + ["steps", DENY.decode(), "left", "empty"]
-        yield "call %d of a directory fails" % call, CALLS + call, words, wanted
-    wanted = [b"installed"] + steps(0) + [file_of(DENY), DEVICE]
-    yield "the call after the last fails", 2 * CALLS + 1, start + ["left", "empty", "show", "rules"], wanted
+        allow = shown(file_of(ALLOW))
+        kept = deny if call == CALLS else allow
+        wanted = [b"done"] + steps(call) + [kept, kept, allow, allow] + steps(0, call == CALLS) + [deny]
+        yield "call %d of a directory fails" % call, CALLS + call, start + STANDING + [install(DENY, "steps"), "crash empty rules"], wanted
+    wanted = [b"done"] + steps(0) + [deny, DEVICE]
+    yield "the call after the last fails", 2 * CALLS + 1, start + ["crash empty rules", "open rules"], wanted
 
 
 def folder_cases():
     """Name, which call fails, the commands, and the lines that are wanted."""
     fault = DEVICE + b" at fresh"
-    yield "a device that fails at once", 1, ["whole", DENY.decode()], [fault]
-    wanted = [b"not stepped", fault] + [NO_FILE] * 3 + [OVER] + [NO_FILE] * 3 + [b"stepped", b"failures 1"]
-    yield "a step of a device that fails at once", 1, ["steps", DENY.decode(), "failures"], wanted
+    yield "a device that fails at once", 1, [install(DENY)], [fault]
+    wanted = [b"not stepped", fault] + [NO_FILE] * 3 + [OVER] + [NO_FILE] * 3 + [b"stepped", b"1"]
+    yield "a step of a device that fails at once", 1, [install(DENY, "steps"), "failures"], wanted
     # 2,048 bytes of pointers, and 24 and the code `D` NUL for a rule without an address
-    words = ["limited", "2073", DENY.decode(), "show", "rules", "show", "tmp", "limited", "2074", DENY.decode(), "show", "rules"]
-    yield "a file over its limit", 0, words, [LARGE.strip().encode(), NO_FILE, NO_FILE, b"installed", file_of(DENY)]
+    words = [install(DENY, "limited 2073"), "open rules", "open tmp", install(DENY, "limited 2074"), "open rules"]
+    yield "a file over its limit", 0, words, [LARGE.strip().encode(), NO_FILE, NO_FILE, b"done", shown(file_of(DENY))]
     words, wanted = [], []
     for text in TEXTS:
-        words += ["whole", text.decode(), "show", "rules", "left", "empty"]
-        wanted += [b"installed", file_of(text), file_of(text)]
+        words += [install(text), "open rules", "crash empty rules"]
+        wanted += [b"done", shown(file_of(text)), shown(file_of(text))]
     yield "installed files", 0, words, wanted
-    words = ["whole", ":deny\n1.2.3.4:allowed\n", "show", "tmp"]
+    words = [install(b":deny\n1.2.3.4:allowed\n"), "open tmp"]
     yield "a text that is not accepted", 0, words, [b"line 2: bad setting", NO_FILE]
 
 
@@ -215,20 +239,22 @@ def named(output):
     return output
 
 
-def check_folders(calls):
+def check_folders(calls, disks):
     """Installations over a directory in memory."""
-    for cases in (folder_cases(), check_steps(calls)):
-        for name, call, words, lines in cases:
-            code, printed = probes.run([calls.program, "file", "folder", str(call)] + words)
+    for cases in (folder_cases(), stepped_cases()):
+        for name, call, commands, lines in cases:
+            given = "".join(command + "\n" for command in commands).encode()
+            code, printed = probes.run([disks, "memory", str(call)], given)
             calls.expect(name, (code, named(printed)), (0, named(b"".join(line + b"\n" for line in lines))))
 
 
-def check(program, failures):
+def check(program, disks, failures):
     """Counts the cases, and adds a line to the failures for each that prints otherwise."""
-    calls = probes.Calls(program, "file_calls", failures, "file")
-    for part in (check_pieces, check_pairs, check_many_pairs, check_found, check_cut, check_folders):
+    calls = probes.Calls(program, "file_calls", failures)
+    for part in (check_hashes, check_record, check_pairs, check_many_pairs, check_found, check_cut):
         part(calls)
-    same = "the rules file and the scratch file have one name\n"
-    calls.call("one name", ["names", "a", "a"], b"", same.encode())
-    calls.call("names that differ in case", ["names", "a", "A"], b"", b"a A\n")
+    check_folders(calls, disks)
+    same = b"the rules file and the scratch file have one name\n"
+    calls.expect("one name", probes.run([disks, "names", "a", "a"]), (0, same))
+    calls.expect("names that differ in case", probes.run([disks, "names", "a", "A"]), (0, b"a A\n"))
     return calls.tests

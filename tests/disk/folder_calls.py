@@ -8,12 +8,18 @@ import signal
 import subprocess
 import tempfile
 
-from shared.checks import Checks
+from disk.disk_calls import file_of
+from shared.checks import LIMIT, Checks
 
 # every call of a whole replacement, and then what stands there
 REPLACEMENT = "fresh tmp append abc append def patch 1 XY sync rename tmp rules settle open rules open tmp failures"
-ANSWERS = ["done", "3", "3", "done", "done", "done", "done", '6 bytes, "aXYdef"', "none", "0"]
+ANSWERS = ["done", "3", "3", "done", "done", "done", "done", file_of(b"aXYdef"), "none", "0"]
 DEVICE = "device fault"
+WHOLE = file_of(b"aXYdef")
+# how many words stand behind the name of a call, where it is not one
+ARGUMENTS = {"patch": 2, "rename": 2, "sync": 0, "settle": 0, "failures": 0}
+# how many bytes of a file are shown
+SHOWN = 4096
 # a file that is made and not moved
 UNNAMED = "fresh tmp append abc append def patch 1 XY sync open rules failures"
 
@@ -22,6 +28,16 @@ def limit_files():
     """Files may have 100,000 bytes, and a write beyond fails."""
     signal.signal(signal.SIGXFSZ, signal.SIG_IGN)
     resource.setrlimit(resource.RLIMIT_FSIZE, (100_000, 100_000))
+
+
+def commands(words):
+    """Calls as the program reads them: each in a line of its own."""
+    lines, left = [], words.split()
+    while left:
+        count = 1 + ARGUMENTS.get(left[0], 1)
+        lines.append(" ".join(left[:count]) + "\n")
+        left = left[count:]
+    return "".join(lines).encode()
 
 
 class Probe:
@@ -34,8 +50,8 @@ class Probe:
 
     def answers(self, folder, words, **how):
         """The lines that these calls answer."""
-        command = [self.program, "folder", folder] + words.split()
-        ended = subprocess.run(command, stdout=subprocess.PIPE, stderr=subprocess.STDOUT, timeout=600, **how)
+        command = [self.program, "folder", folder]
+        ended = subprocess.run(command, input=commands(words), stdout=subprocess.PIPE, stderr=subprocess.STDOUT, timeout=LIMIT, **how)
         lines = ended.stdout.decode().split("\n")[:-1]
         return lines if ended.returncode == 0 else lines + ["exit %d" % ended.returncode]
 
@@ -59,11 +75,11 @@ def cases(probe, folder):
     yield "no scratch file", probe.answers(folder, "append x patch 0 x sync"), wanted
     wanted = ["done", "done", "no scratch file"]
     yield "a scratch file that is closed", probe.answers(folder, "fresh t sync append x"), wanted
-    wanted = ["done", "in 245", "done", "done", '1000000 bytes, "\\0\\0\\0\\0\\0\\0\\0\\0\\0\\0\\0\\0\\0\\0\\0\\0"']
+    wanted = ["done", "in 245", "done", "done", "1000000 %s" % ([0] * SHOWN)]
     yield "a long file", probe.answers(folder, "fresh t zeros 1000000 sync settle open t"), wanted
-    wanted = ANSWERS[:-3] + ["done", '6 bytes, "aXYdef"']
+    wanted = ANSWERS[:-3] + ["done", WHOLE]
     yield "a name moved onto itself", probe.answers(folder, REPLACEMENT.split(" open ")[0] + " rename rules rules open rules"), wanted
-    wanted = ['6 bytes, "aXYdef"', DEVICE, '6 bytes, "aXYdef"', "done", "done", DEVICE, "none", "2"]
+    wanted = [WHOLE, DEVICE, WHOLE, "done", "done", DEVICE, "none", "2"]
     yield "a file that was not made is not moved", probe.answers(folder, "open rules rename rules u open rules fresh t sync rename rules u open u failures"), wanted
     yield "a folder that is not there", probe.answers(folder + "/gone", "failures"), ["no such folder"]
     yield "a file in the place of the folder", probe.answers(folder + "/rules", "failures"), ["no such folder"]
@@ -80,10 +96,10 @@ def cases(probe, folder):
 def refused_cases(probe, folder):
     """Faults that the system gives: no permission, and a device that takes no more."""
     os.chmod(folder, 0o555)
-    wanted = [DEVICE, "no scratch file", DEVICE, "done", '6 bytes, "aXYdef"', "2"]
+    wanted = [DEVICE, "no scratch file", DEVICE, "done", WHOLE, "2"]
     yield "a folder without write permission", probe.answers(folder, "fresh t append x rename rules t settle open rules failures", **as_nobody()), wanted
     os.chmod(folder, 0o733)
-    wanted = [DEVICE, DEVICE, DEVICE, '6 bytes, "aXYdef"', "3"]
+    wanted = [DEVICE, DEVICE, DEVICE, WHOLE, "3"]
     yield "a folder that may be changed and not read", probe.answers(folder, "fresh t rename rules gone settle open rules failures", **as_nobody()), wanted
     os.chmod(folder, 0o644)
     yield "a folder that may not be searched", probe.answers(folder, "open rules open gone failures", **as_nobody()), [DEVICE, DEVICE, "2"]
@@ -95,7 +111,7 @@ def refused_cases(probe, folder):
     os.chmod(os.path.join(folder, "rules"), 0)
     yield "a file without read permission", probe.answers(folder, "open rules failures", **as_nobody()), [DEVICE, "1"]
     os.chmod(os.path.join(folder, "rules"), 0o644)
-    wanted = ["done", DEVICE, "no scratch file", "no scratch file", "1", '6 bytes, "aXYdef"']
+    wanted = ["done", DEVICE, "no scratch file", "no scratch file", "1", WHOLE]
     yield "a device that takes no more", probe.answers(folder, "fresh t zeros 200000 append x sync failures open rules", preexec_fn=limit_files), wanted
     wanted = ["done", "in 27", DEVICE, "no scratch file", "1"]
     yield "a device that takes no more, met at the end", probe.answers(folder, "fresh t zeros 110000 sync sync failures", preexec_fn=limit_files), wanted
@@ -107,7 +123,8 @@ def system_calls(probe, folder, words):
     """The system calls on the folder and its files, each as its name and its file."""
     trace = os.path.join(folder, "..", "trace")
     calls = "trace=openat,unlink,unlinkat,write,pwrite64,fsync,close,rename,renameat,renameat2"
-    subprocess.run(["strace", "-y", "-o", trace, "-e", calls, probe.program, "folder", folder] + words.split(), stdout=subprocess.DEVNULL, timeout=600, check=True)
+    command = ["strace", "-y", "-o", trace, "-e", calls, probe.program, "folder", folder]
+    subprocess.run(command, input=commands(words), stdout=subprocess.DEVNULL, timeout=LIMIT, check=True)
     found = []
     with open(trace) as lines:
         for line in lines:
@@ -129,7 +146,8 @@ def trace_cases(probe, folder):
 def opened_flags(probe, folder):
     """The flags and the permissions with which a scratch file is made."""
     trace = os.path.join(folder, "..", "trace")
-    subprocess.run(["strace", "-o", trace, "-e", "trace=openat", probe.program, "folder", folder, "fresh", "tmp"], stdout=subprocess.DEVNULL, timeout=600, check=True)
+    command = ["strace", "-o", trace, "-e", "trace=openat", probe.program, "folder", folder]
+    subprocess.run(command, input=commands("fresh tmp"), stdout=subprocess.DEVNULL, timeout=LIMIT, check=True)
     with open(trace) as lines:
         # (behind the path, whose folders may have digits)
         return [re.findall(r"O_WRONLY\|O_CREAT\|O_EXCL|0[0-7]+", line.rpartition('"')[2]) for line in lines if "/tmp\"" in line]
@@ -138,8 +156,8 @@ def opened_flags(probe, folder):
 def injected(probe, folder, call, how, words, on=()):
     """What is answered where a system call has a mishap; `on` names the file whose calls alone count."""
     inject = [*on, "-e", "trace=" + call, "-e", "inject=%s:%s" % (call, how)]
-    command = ["strace", "-qq", "-o", os.devnull] + inject + [probe.program, "folder", folder] + words.split()
-    return subprocess.run(command, stdout=subprocess.PIPE, timeout=600, check=True).stdout.decode().split("\n")[:-1]
+    command = ["strace", "-qq", "-o", os.devnull] + inject + [probe.program, "folder", folder]
+    return subprocess.run(command, input=commands(words), stdout=subprocess.PIPE, timeout=LIMIT, check=True).stdout.decode().split("\n")[:-1]
 
 
 def injected_cases(probe, folder):
@@ -148,7 +166,7 @@ def injected_cases(probe, folder):
     for call in ("unlink", "rename", "pwrite64", "fsync", "statx"):
         yield call + " interrupted", injected(probe, folder, call, "error=EINTR:when=1", REPLACEMENT), ANSWERS
     on = ["-P", os.path.join(folder, "rules")]
-    yield "a read interrupted", injected(probe, folder, "pread64", "error=EINTR:when=1", "open rules failures", on), ['6 bytes, "aXYdef"', "0"]
+    yield "a read interrupted", injected(probe, folder, "pread64", "error=EINTR:when=1", "open rules failures", on), [WHOLE, "0"]
     for fault in ("EIO", "ENOSPC"):
         for call, times in (("unlink", 1), ("pwrite64", 2), ("fsync", 2), ("rename", 1)):
             for k in range(1, times + 1):
@@ -157,15 +175,15 @@ def injected_cases(probe, folder):
                 if os.path.exists(os.path.join(folder, "tmp")):
                     os.remove(os.path.join(folder, "tmp"))
                 answers = injected(probe, folder, call, "error=%s:when=%d" % (fault, k), words)
-                yield "%s at %s %d" % (fault, call, k), [answers.count(DEVICE), '6 bytes, "aXYdef"' in answers, answers[-1]], [1, True, "1"]
+                yield "%s at %s %d" % (fault, call, k), [answers.count(DEVICE), WHOLE in answers, answers[-1]], [1, True, "1"]
 
 
 def scratch_cases(probe, folder):
     """Bytes that are kept back are no part of what may be read, and go to their own file."""
-    wanted = ["done", "3", DEVICE, "done", '3 bytes, "abc"', "1", "done", '1 bytes, "x"']
+    wanted = ["done", "3", DEVICE, "done", file_of(b"abc"), "1", "done", file_of(b"x")]
     yield "kept back bytes", probe.answers(folder, "fresh first append abc open first fresh second open first append x sync open second"), wanted
     piece = "x" * 70_000
-    wanted = ["done", "3", "65533", "65536", "done", '131072 bytes, "abc%s"' % piece[:13]]
+    wanted = ["done", "3", "65533", "65536", "done", "131072 %s" % list(b"abc" + piece[:SHOWN - 3].encode())]
     yield "pieces over what may be kept back", probe.answers(folder, "fresh first append abc append %s append %s sync open first" % (piece, piece)), wanted
     old = os.umask(0)
     yield "no mask", probe.answers(folder, "fresh third sync"), ["done", "done"]
@@ -185,9 +203,9 @@ def full_cases(probe, folder):
     try:
         yield "a small file system", probe.answers(small, REPLACEMENT), ANSWERS
         words = "fresh t zeros 200000 append x sync failures open rules"
-        wanted = ["done", DEVICE, "no scratch file", "no scratch file", "1", '6 bytes, "aXYdef"']
+        wanted = ["done", DEVICE, "no scratch file", "no scratch file", "1", WHOLE]
         yield "a full file system", probe.answers(small, words), wanted
-        wanted = ["done", "in 16", DEVICE, "no scratch file", "1", '6 bytes, "aXYdef"']
+        wanted = ["done", "in 16", DEVICE, "no scratch file", "1", WHOLE]
         yield "a full file system, met at the end", probe.answers(small, "fresh t zeros 65536 sync sync failures open rules"), wanted
         yield "one that has room again", probe.answers(small, REPLACEMENT.replace("fresh tmp", "fresh t fresh tmp", 1)), ["done"] + ANSWERS
         yield "what it holds", sorted(os.listdir(small)), ["rules", "t"]
@@ -196,10 +214,12 @@ def full_cases(probe, folder):
         os.rmdir(small)
 
 
-def install_cases(bench, folder):
+def install_cases(ucspi, folder):
     """An installation of many rules writes once for each 65,536 bytes of its file, and then its header of 2,048 bytes in front."""
     trace = os.path.join(folder, "..", "writes")
-    subprocess.run(["strace", "-y", "-o", trace, "-e", "trace=pwrite64", bench, "install", "100000"], cwd=folder, stdout=subprocess.DEVNULL, timeout=600, check=True)
+    text = "".join("10.%d.%d.%d:allow,RELAYCLIENT=\"\"\n" % (n >> 16, n >> 8 & 255, n & 255) for n in range(100_000))
+    command = ["strace", "-y", "-o", trace, "-e", "trace=pwrite64", ucspi, "tcprules", "rules", "tmp"]
+    subprocess.run(command, cwd=folder, input=text.encode(), stdout=subprocess.DEVNULL, timeout=LIMIT, check=True)
     with open(trace) as lines:
         writes = [re.search(r", (\d+), (\d+)\) += (\d+)$", line).groups() for line in lines if "/tmp>" in line]
     size = os.path.getsize(os.path.join(folder, "rules"))
@@ -208,7 +228,7 @@ def install_cases(bench, folder):
     yield "the writes of an installation", writes, wanted
 
 
-def check(program, bench, failures):
+def check(program, ucspi, failures):
     """Runs the cases, and answers how many they were."""
     checks = Checks("folder_calls", failures)
     with tempfile.TemporaryDirectory() as outer:
@@ -217,7 +237,7 @@ def check(program, bench, failures):
         os.mkdir(folder)
         groups = [(cases, probe), (refused_cases, probe), (scratch_cases, probe), (full_cases, probe)]
         if shutil.which("strace"):
-            groups += [(trace_cases, probe), (injected_cases, probe), (install_cases, bench)]
+            groups += [(trace_cases, probe), (injected_cases, probe), (install_cases, ucspi)]
         else:
             print("skipped: the system calls of a directory, since there is no strace")
         for group, subject in groups:

@@ -1,4 +1,4 @@
-"""Calls of wrappers, chains, pumps and records, by the program test_calls: texts in every cutting, readers and writers that stop at each call,
+"""Calls of chains and pumps, by the program test_calls: texts in every cutting, readers and writers that stop at each call,
 and what taps are shown."""
 import collections
 import json
@@ -9,28 +9,18 @@ from shared.checks import Checks
 
 DONE = "done"
 FAILED = "the chain has failed or is finished"
-# wrapper, text, what it makes of the text however that is cut
-WRAPPERS = [
+# wrappers of a chain, text, what they make of the text however that is cut; one chain does all cuttings
+CHAINS = [
     ("delcr", b"a\r\r\nb\r", b"a\r\nb"),
     ("addcr", b"a\nb", b"a\r\nb"),
     ("fixcrio", b"\n", b"\r\n"),
     ("fixcrio", b"\r\n", b"\r\n"),
     ("fixcrio", b"a\r\r\nb\r", b"a\r\r\nb\r"),
-]
-# wrappers of a chain, text, what they make of the text however that is cut; one chain does all cuttings
-CHAINS = [
     ("addcr addcr", b"a\nb\r\n\r", b"a\r\r\nb\r\r\r\n\r"),
     # after delcr: a CR LF LF b CR; after fixcrio: a CR LF CR LF b CR; and after addcr one more before each LF
     ("delcr fixcrio addcr", b"a\r\r\n\nb\r\r", b"a\r\r\n\r\r\nb\r"),
     ("delcr addcr", b"a\n\r", b"a\r\n"),
     ("addcr delcr", b"a\n\r", b"a\n"),
-]
-# name, words, text, the lines of the record
-RECORDS = [
-    ("a line and a part", "record input 1024", b"ab\ncd", b"1024 < ab \n1024 < cd+\n"),
-    ("the end", "record_end input 1024", b"", b"1024 < [EOF]\n"),
-    ("the other way", "record output 1024", b"x\n", b"1024 > x \n"),
-    ("nothing", "record output 1024", b"", b""),
 ]
 # eleven bytes, of which delcr makes eight: at the end it holds a carriage return back
 TEXT = b"ab\r\nc\r\rd\r\n\r"
@@ -89,7 +79,7 @@ class Streams(Checks):
 
     def answers(self, words, given):
         """The lines that one run prints."""
-        code, output = probes.run([self.program, "stream"] + words, given)
+        code, output = probes.run([self.program] + words, given)
         return output.decode().split("\n")[:-1] if code == 0 else ["exit %d" % code]
 
     def chain_answers(self, wrappers, text, groups):
@@ -117,13 +107,6 @@ class Streams(Checks):
             self.expect(name + ": all", answers[3:5], [DONE, numbers(PLAIN)])
 
 
-def check_wrappers(streams):
-    for wrapper, text, wanted in WRAPPERS:
-        for pieces in cuttings(text):
-            name = "%s on %r in pieces of %s" % (wrapper, text, " ".join(pieces))
-            streams.expect(name, streams.answers(["wrapper", wrapper] + pieces, text), [numbers(wanted)])
-
-
 def check_chains(streams):
     for wrappers, text, wanted in CHAINS:
         all_pieces = cuttings(text)
@@ -143,11 +126,6 @@ def check_single_chains(streams):
     for name, wrappers, text, calls, wanted in cases:
         for answers in streams.chain_answers(wrappers, text, [calls]):
             streams.expect(name, answers, wanted)
-
-
-def check_records(streams):
-    for name, words, text, lines in RECORDS:
-        streams.expect("a record, " + name, streams.answers(words.split(), text), [numbers(lines)])
 
 
 def check_pump(streams):
@@ -265,10 +243,8 @@ def check_recorders(streams):
 def check(program, failures):
     """Counts the checks, and adds a line to the failures for each that went wrong."""
     streams = Streams(program, failures)
-    check_wrappers(streams)
     check_chains(streams)
     check_single_chains(streams)
-    check_records(streams)
     check_pump(streams)
     check_stopping_readers(streams)
     check_stopping_writers(streams)

@@ -1,7 +1,17 @@
 //! The words of a call.
-use std::env::Args;
+use byte_streams::Way;
+use test_parts::Words;
 
 /// The next word, as a number.
-pub fn next_number(words: &mut Args) -> Option<u64> {
+pub fn next_size(words: &mut Words<'_>) -> Option<usize> {
     words.next()?.as_str().parse().ok()
+}
+
+/// The next word, as a way.
+pub fn next_way(words: &mut Words<'_>) -> Option<Way> {
+    match words.next()?.as_str() {
+        "input" => Some(Way::Input),
+        "output" => Some(Way::Output),
+        _ => None,
+    }
 }

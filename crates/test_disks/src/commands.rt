@@ -1,17 +1,17 @@
-//! The commands that any directory takes. Each makes one call, apart from `replace`, `patched` and `install`.
-use dir_calls::{Dir, DirFault, Name, RulesFile, replace_file};
+//! The commands that any directory takes. Each makes one call, apart from `replace`, `patched`, `install` and `limited`.
+use dir_calls::{ClearableDir, Dir, DirFault, Name, RulesFile, replace_file};
 use rule_lines::Limits;
-use rules_install::FileNames;
 use rules_install::whole::install;
 use std::alloc::Global;
-use test_parts::Answer;
+use std::io;
+use test_parts::{Answer, add_fault, names};
 
 /// The greatest number of bytes of a file that are shown.
 const SHOWN: usize = 4_096;
 
 /// The words of a command; those that are missing are empty.
 #[derive(Clone, Copy)]
-pub struct Words<'a> {
+pub struct Command<'a> {
     pub call: &'a str,
     pub first: &'a str,
     pub second: &'a str,
@@ -21,88 +21,102 @@ pub struct Words<'a> {
 /// A directory that takes further commands.
 pub trait OwnCommands {
     /// Obeys one of the further commands.
-    fn own(&mut self, alloc: Global, words: &Words<'_>, out: &mut Answer);
+    fn own(&mut self, alloc: Global, command: &Command<'_>, out: &mut Answer);
 }
 
-/// Obeys a command, and adds its answer.
-pub fn obey<D: Dir + OwnCommands>(
-    alloc: Global,
-    dir: &mut D,
-    kept: &mut Vec<D::File>,
-    words: &Words<'_>,
-    out: &mut Answer,
-) {
-    match words.call {
-        "patched" => patched(alloc, dir, words, out),
-        "open" => show_name(alloc, dir, words.first, out),
-        "keep" => keep(alloc, dir, kept, words, out),
-        "kept" => show_kept(kept, words, out),
-        "replace" => replace(alloc, dir, words, out),
-        "install" => install_rules(alloc, dir, words, out),
-        _ => {
-            if !is_call(alloc, dir, words, out) {
-                dir.own(alloc, words, out);
-            }
-        }
+/// The word at a position of a line, or an empty one. One space stands between each two.
+fn word_of(line: &str, position: usize) -> &str {
+    line.split(' ').nth(position).unwrap_or("")
+}
+
+/// The command in a line.
+pub fn command_of(line: &str) -> Command<'_> {
+    Command {
+        call: word_of(line, 0),
+        first: word_of(line, 1),
+        second: word_of(line, 2),
+        third: word_of(line, 3),
     }
 }
 
-/// Makes one call of a directory, and adds its answer. Other words ask for no such call.
-pub fn is_call<D: Dir>(alloc: Global, dir: &mut D, words: &Words<'_>, out: &mut Answer) -> bool {
-    match words.call {
-        "fresh" => fresh(alloc, dir, words, out),
-        "append" => append(alloc, dir, words, out),
+/// Obeys a command that any directory takes, and adds its answer. It answers whether it is one.
+pub fn is_obeyed<D: ClearableDir>(
+    alloc: Global,
+    dir: &mut D,
+    kept: &mut Vec<D::File>,
+    command: &Command<'_>,
+    out: &mut Answer,
+) -> bool {
+    match command.call {
+        "fresh" => fresh(alloc, dir, command, out),
+        "append" => append(alloc, dir, command, out),
         "sync" => out.done(dir.sync(alloc)),
-        "rename" => rename(alloc, dir, words, out),
+        "rename" => rename(alloc, dir, command, out),
         "settle" => out.done(dir.settle()),
         "failures" => out.number_line(dir.failures()),
+        "remove" => remove(alloc, dir, command, out),
+        "patched" => patched(alloc, dir, command, out),
+        "open" => show_name(alloc, dir, command.first, out),
+        "keep" => keep(alloc, dir, kept, command, out),
+        "kept" => show_kept(kept, command, out),
+        "replace" => replace(alloc, dir, command, out),
+        "install" => install_text(alloc, dir, command.first, &Limits::profile(), out),
+        "limited" => install_limited(alloc, dir, command, out),
         _ => return false,
     }
     true
 }
 
 /// The name that a word is.
-pub fn name_of(alloc: Global, word: &str) -> Option<Name> {
+fn name_of(alloc: Global, word: &str) -> Option<Name> {
     Name::new(alloc, word.as_bytes()).ok()
 }
 
 /// The names that the first two words are.
-fn two_names(alloc: Global, words: &Words<'_>) -> Option<(Name, Name)> {
-    let first = name_of(alloc, words.first)?;
-    Some((first, name_of(alloc, words.second)?))
+fn two_names(alloc: Global, command: &Command<'_>) -> Option<(Name, Name)> {
+    let first = name_of(alloc, command.first)?;
+    Some((first, name_of(alloc, command.second)?))
 }
 
 /// `fresh NAME` makes a scratch file.
-fn fresh<D: Dir>(alloc: Global, dir: &mut D, words: &Words<'_>, out: &mut Answer) {
-    match name_of(alloc, words.first) {
+fn fresh<D: Dir>(alloc: Global, dir: &mut D, command: &Command<'_>, out: &mut Answer) {
+    match name_of(alloc, command.first) {
         Some(name) => out.done(dir.fresh(alloc, &name)),
         None => out.fail(),
     }
 }
 
 /// `append TEXT` puts bytes at its end.
-fn append<D: Dir>(alloc: Global, dir: &mut D, words: &Words<'_>, out: &mut Answer) {
-    match dir.append(alloc, words.first.as_bytes()) {
+fn append<D: Dir>(alloc: Global, dir: &mut D, command: &Command<'_>, out: &mut Answer) {
+    match dir.append(alloc, command.first.as_bytes()) {
         Ok(count) => out.number_line(count as u64),
         Err(fault) => out.show_line(&fault),
     }
 }
 
 /// `rename FROM TO` moves one name onto another.
-fn rename<D: Dir>(alloc: Global, dir: &mut D, words: &Words<'_>, out: &mut Answer) {
-    match two_names(alloc, words) {
+fn rename<D: Dir>(alloc: Global, dir: &mut D, command: &Command<'_>, out: &mut Answer) {
+    match two_names(alloc, command) {
         Some((from, to)) => out.done(dir.rename(alloc, &from, &to)),
         None => out.fail(),
     }
 }
 
+/// `remove NAME` takes a name away.
+fn remove<D: ClearableDir>(alloc: Global, dir: &mut D, command: &Command<'_>, out: &mut Answer) {
+    match name_of(alloc, command.first) {
+        Some(name) => out.done(dir.take_away(alloc, &name)),
+        None => out.fail(),
+    }
+}
+
 /// `patched NAME TEXT BYTE` makes a file with a text, and overwrites its first byte.
-fn patched<D: Dir>(alloc: Global, dir: &mut D, words: &Words<'_>, out: &mut Answer) {
-    let Some(first) = words.third.as_bytes().first() else {
+fn patched<D: Dir>(alloc: Global, dir: &mut D, command: &Command<'_>, out: &mut Answer) {
+    let Some(first) = command.third.as_bytes().first() else {
         return out.fail();
     };
-    match name_of(alloc, words.first) {
-        Some(name) => out.done(make_patched(alloc, dir, &name, words.second.as_bytes(), *first)),
+    match name_of(alloc, command.first) {
+        Some(name) => out.done(make_patched(alloc, dir, &name, command.second.as_bytes(), *first)),
         None => out.fail(),
     }
 }
@@ -123,7 +137,7 @@ fn make_patched<D: Dir>(
 }
 
 /// Opens a file under a name, or adds why there is none.
-pub fn open<D: Dir>(alloc: Global, dir: &mut D, word: &str, out: &mut Answer) -> Option<D::File> {
+fn open<D: Dir>(alloc: Global, dir: &mut D, word: &str, out: &mut Answer) -> Option<D::File> {
     let Some(name) = name_of(alloc, word) else {
         out.fail();
         return None;
@@ -148,10 +162,10 @@ fn keep<D: Dir>(
     alloc: Global,
     dir: &mut D,
     kept: &mut Vec<D::File>,
-    words: &Words<'_>,
+    command: &Command<'_>,
     out: &mut Answer,
 ) {
-    if let Some(file) = open(alloc, dir, words.first, out) {
+    if let Some(file) = open(alloc, dir, command.first, out) {
         match kept.push(file) {
             Ok(()) => out.line("done"),
             Err(_) => out.show_line(&DirFault::OutOfMemory),
@@ -160,8 +174,8 @@ fn keep<D: Dir>(
 }
 
 /// `kept NUMBER` shows a file that was kept, counted from 0.
-fn show_kept<F: RulesFile>(kept: &[F], words: &Words<'_>, out: &mut Answer) {
-    let Ok(number) = words.first.parse::<usize>() else {
+fn show_kept<F: RulesFile>(kept: &[F], command: &Command<'_>, out: &mut Answer) {
+    let Ok(number) = command.first.parse::<usize>() else {
         return out.fail();
     };
     match kept.get(number) {
@@ -184,10 +198,10 @@ fn show<F: RulesFile>(file: &F, out: &mut Answer) {
 }
 
 /// `replace SCRATCH NAME TEXT` puts a whole file in place of another.
-fn replace<D: Dir>(alloc: Global, dir: &mut D, words: &Words<'_>, out: &mut Answer) {
-    match two_names(alloc, words) {
+fn replace<D: Dir>(alloc: Global, dir: &mut D, command: &Command<'_>, out: &mut Answer) {
+    match two_names(alloc, command) {
         Some((scratch, name)) => {
-            replace_by(alloc, dir, &scratch, &name, words.third.as_bytes(), out)
+            replace_by(alloc, dir, &scratch, &name, command.third.as_bytes(), out)
         }
         None => out.fail(),
     }
@@ -208,27 +222,29 @@ fn replace_by<D: Dir>(
     out.done(replace_file(alloc, dir, scratch, name, bytes));
 }
 
-/// `install TEXT` installs a rule text under the name `rules`, by the name `tmp`; each `|` of the word ends a line.
-fn install_rules<D: Dir>(alloc: Global, dir: &mut D, words: &Words<'_>, out: &mut Answer) {
-    match words.first.replace(alloc, '|', "\n") {
-        Ok(text) => install_text(alloc, dir, text.as_str(), out),
-        Err(_) => out.show_line(&DirFault::OutOfMemory),
-    }
+/// A rule text that is a word; each `~` of the word ends a line.
+pub fn text_of(alloc: Global, word: &str) -> io::Result<String> {
+    Ok(word.replace(alloc, '~', "\n")?)
 }
 
-/// Installs a rule text.
-fn install_text<D: Dir>(alloc: Global, dir: &mut D, text: &str, out: &mut Answer) {
-    let Some(names) = names(alloc) else {
+/// `limited FILE TEXT` installs a rule text under a limit of the compiled file.
+fn install_limited<D: Dir>(alloc: Global, dir: &mut D, command: &Command<'_>, out: &mut Answer) {
+    let limits = Limits {
+        text: 100,
+        line: 100,
+        file: command.first.parse().unwrap_or(0),
+    };
+    install_text(alloc, dir, command.second, &limits, out);
+}
+
+/// Installs the rule text that a word is, under the name `rules`, by the name `tmp`.
+fn install_text<D: Dir>(alloc: Global, dir: &mut D, word: &str, limits: &Limits, out: &mut Answer) {
+    let (Ok(text), Ok(names)) = (text_of(alloc, word), names(alloc)) else {
         return out.fail();
     };
-    match install(alloc, dir, names, &Limits::profile(), text.as_bytes()) {
-        Ok(()) => out.line("done"),
-        Err(fault) => out.show_line(&fault),
+    match install(alloc, dir, names, limits, text.as_str().as_bytes()) {
+        Ok(()) => out.text("done"),
+        Err(fault) => add_fault(&fault, out),
     }
-}
-
-/// The names of an installation.
-fn names(alloc: Global) -> Option<FileNames> {
-    let name = name_of(alloc, "rules")?;
-    FileNames::new(name, name_of(alloc, "tmp")?).ok()
+    out.end_line();
 }

@@ -1,8 +1,12 @@
 //! The commands that directories of one kind take.
 //!
 //! In memory `crash CHOICE NAME` shows what a stop leaves under a name, and `stop CHOICE` goes on with what a stop
-//! leaves; a choice may be `torn` too. A directory over a disk takes `remove NAME` and `calls`.
-use crate::commands::{OwnCommands, Words, name_of, show_name};
+//! leaves; a choice may be `torn` too. `steps TEXT` installs a rule text step by step. A disk with a mishap takes
+//! `crash` and `calls`.
+ghost use Rattle.std.specs.Prelude.{◌≡◌, IsTrue, None};
+
+use crate::commands::{Command, OwnCommands, show_name};
+use crate::steps::make_all_steps;
 use crate::test_disk::TestDisk;
 use dir_calls::{Choice, Dir, DirFault, FuseDir, MemDir};
 use dir_disk::{Disk, DiskDir, MemDisk};
@@ -20,8 +24,8 @@ fn choice_of(word: &str) -> Option<Choice> {
 }
 
 /// The directory that a stop leaves, by a choice or torn, or adds why there is none.
-fn stopped(alloc: Global, dir: &MemDir, words: &Words<'_>, out: &mut Answer) -> Option<MemDir> {
-    let left = match (words.first, choice_of(words.first)) {
+fn stopped(alloc: Global, dir: &MemDir, choice: &str, out: &mut Answer) -> Option<MemDir> {
+    let left = match (choice, choice_of(choice)) {
         ("torn", _) => dir.crash_torn(alloc),
         (_, Some(choice)) => dir.crash(alloc, choice),
         _ => {
@@ -36,79 +40,69 @@ fn stopped(alloc: Global, dir: &MemDir, words: &Words<'_>, out: &mut Answer) -> 
 }
 
 /// Shows what a stop leaves under a name.
-fn show_stopped(alloc: Global, dir: &MemDir, words: &Words<'_>, out: &mut Answer) {
-    if let Some(mut left) = stopped(alloc, dir, words, out) {
-        show_name(alloc, &mut left, words.second, out);
+pub fn show_stopped(alloc: Global, dir: &MemDir, choice: &str, name: &str, out: &mut Answer) {
+    if let Some(mut left) = stopped(alloc, dir, choice, out) {
+        show_name(alloc, &mut left, name, out);
     }
 }
 
-/// Goes on with what a stop leaves.
-fn stop(alloc: Global, dir: &mut MemDir, words: &Words<'_>, out: &mut Answer) {
-    if let Some(left) = stopped(alloc, dir, words, out) {
-        *dir = left;
+/// Goes on with what a stop leaves, of which no call fails.
+fn stop(alloc: Global, dir: &mut FuseDir<MemDir>, choice: &str, out: &mut Answer) {
+    if let Some(left) = stopped(alloc, dir.inner(), choice, out) {
+        *dir = FuseDir::new(left, 0);
         out.line("done");
     }
 }
 
-impl OwnCommands for MemDir {
-    fn own(&mut self, alloc: Global, words: &Words<'_>, out: &mut Answer) {
-        match words.call {
-            "crash" => show_stopped(alloc, self, words, out),
-            "stop" => stop(alloc, self, words, out),
-            _ => out.fail(),
-        }
-    }
-}
-
 impl OwnCommands for FuseDir<MemDir> {
-    fn own(&mut self, alloc: Global, words: &Words<'_>, out: &mut Answer) {
-        match words.call {
-            "crash" => show_stopped(alloc, self.inner(), words, out),
+    fn own(&mut self, alloc: Global, command: &Command<'_>, out: &mut Answer) {
+        match command.call {
+            "crash" => show_stopped(alloc, self.inner(), command.first, command.second, out),
+            "stop" => stop(alloc, self, command.first, out),
+            "steps" => make_all_steps(alloc, self, command.first, out),
             _ => out.fail(),
         }
     }
 }
 
 /// Shows what a stop of the disk leaves under a name, with the names that are not settled or without them.
-fn show_left(alloc: Global, disk: &TestDisk, words: &Words<'_>, out: &mut Answer) {
-    match disk.after_stop(alloc, words.first == "kept") {
-        Ok(left) => show_over(alloc, left, words.second, out),
+fn show_left(alloc: Global, disk: &TestDisk, command: &Command<'_>, out: &mut Answer) {
+    match disk.after_stop(alloc, command.first == "kept") {
+        Ok(left) => show_over(alloc, left, command.second, out),
         Err(_) => out.show_line(&DirFault::OutOfMemory),
     }
 }
 
 /// Shows what stands on a disk under a name.
-fn show_over(alloc: Global, disk: TestDisk, name: &str, out: &mut Answer) {
+fn show_over<D: Disk + Drop>(alloc: Global, disk: D, name: &str, out: &mut Answer)
+    requires { IsTrue D.honest → (D.state disk).scratch ≡ None }
+{
     match DiskDir::over(alloc, disk) {
-        Ok(mut dir) => show_name(alloc, &mut dir, name, out),
+        Ok(mut dir) => {
+            show_name(alloc, &mut dir, name, out);
+            drop(dir);
+        }
         Err(_) => out.show_line(&DirFault::OutOfMemory),
     }
 }
 
-/// Takes a file away.
-fn remove<D: Disk + Drop>(alloc: Global, dir: &mut DiskDir<D>, word: &str, out: &mut Answer) {
-    match name_of(alloc, word) {
-        Some(name) => out.done(dir.remove(&name)),
-        None => out.fail(),
+/// Obeys a command that a disk with a mishap answers.
+fn ask_disk(alloc: Global, disk: &TestDisk, command: &Command<'_>, out: &mut Answer) {
+    match command.call {
+        "crash" => show_left(alloc, disk, command, out),
+        "calls" => out.number_line(disk.calls()),
+        _ => out.fail(),
     }
 }
 
 impl OwnCommands for DiskDir<TestDisk> {
-    fn own(&mut self, alloc: Global, words: &Words<'_>, out: &mut Answer) {
-        match words.call {
-            "crash" => show_left(alloc, self.disk(), words, out),
-            "calls" => out.number_line(self.disk().calls()),
-            "remove" => remove(alloc, self, words.first, out),
-            _ => out.fail(),
-        }
+    fn own(&mut self, alloc: Global, command: &Command<'_>, out: &mut Answer) {
+        ask_disk(alloc, self.disk(), command, out);
     }
 }
 
 impl OwnCommands for DiskDir<MemDisk> {
-    fn own(&mut self, alloc: Global, words: &Words<'_>, out: &mut Answer) {
-        match words.call {
-            "remove" => remove(alloc, self, words.first, out),
-            _ => out.fail(),
-        }
+    fn own(&mut self, _alloc: Global, _command: &Command<'_>, out: &mut Answer) {
+        out.fail();
     }
 }

@@ -4,30 +4,9 @@ ghost use Rattle.std.specs.Prelude.{◌≡◌, Some, false, ⊤};
 use child_jobs::{Job, Launcher, NoEnds, Program, WaitFault};
 use connection_facts::{StartFault, Status};
 use std::alloc::Global;
-use std::io;
-use std::io::{Read, Write};
+use std::io::{Empty, Sink};
 use std::snapshot::Snapshot;
 use ucspi_env::Environment;
-
-/// A pipe end without a pipe.
-#[derive(Drop)]
-pub struct NoPipe;
-
-impl Read for NoPipe {
-    fn read(&mut self, _buf: &mut [u8]) -> io::Result<usize> {
-        Ok(0)
-    }
-}
-
-impl Write for NoPipe {
-    fn write(&mut self, buf: &[u8]) -> io::Result<usize> {
-        Ok(buf.len())
-    }
-
-    fn flush(&mut self) -> io::Result<()> {
-        Ok(())
-    }
-}
 
 /// A job that has ended with a status, or that can't be waited for.
 pub struct EndedJob {
@@ -37,9 +16,9 @@ pub struct EndedJob {
 }
 
 impl Job for EndedJob {
-    type Input = NoPipe;
+    type Input = Sink;
 
-    type Output = NoPipe;
+    type Output = Empty;
 
     ghost program = { λ job. job.program.value };
 
@@ -51,7 +30,9 @@ impl Job for EndedJob {
 
     ghost ended = { λ job status. job.status ≡ Some status };
 
-    fn ends(&mut self) -> Result<(NoPipe, NoPipe), NoEnds> {
+    ghost refused_wait = { λ _ _ _. ⊤ };
+
+    fn ends(&mut self) -> Result<(Sink, Empty), NoEnds> {
         Err(NoEnds)
     }
 

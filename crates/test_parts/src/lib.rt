@@ -1,20 +1,24 @@
-//! What the small programs of the tests print for the words with which they are called.
+//! What the small programs of the tests take as words, and what they print.
 #![tactic(auto)]
 
 pub mod connections;
 pub mod events;
+pub mod installs;
 pub mod jobs;
 pub mod rules;
+pub mod words;
 pub mod yards;
 
 pub use connections::{decide_for, finish_for, give_up, open_for, start_for};
 pub use events::{add_event, verdict_word};
-pub use jobs::{EndedJob, EndedJobs, NoPipe};
+pub use installs::{add_fault, add_step};
+pub use jobs::{EndedJob, EndedJobs};
 pub use rules::{names, rules_name, stuck, with_rules};
 use std::alloc::{AllocError, Global};
 use std::fmt::{Debug, Display};
 use std::io;
 use std::io::{Error, ErrorKind, Write};
+pub use words::{Words, next_number};
 pub use yards::yard_over;
 
 /// The bytes of an answer, and whether it has failed. It has if its words ask for no call, or if memory was lacking for
@@ -45,33 +49,24 @@ impl Answer {
     pub fn note(&mut self, done: Result<(), AllocError>) {
         self.has_failed |= done.is_err();
     }
-    /// Takes all bytes back if it has failed.
-    pub fn keep_whole(&mut self) {
-        if self.has_failed {
-            self.bytes.clear();
-        }
-    }
-    /// Prints the bytes.
+    /// Prints the bytes: nothing if it has failed.
     ///
     /// # Errors
     /// It has failed, or the standard output did.
     pub fn print<R: Print>(&self, rt: &R) -> io::Result<()> {
-        io::writer(rt).write_all(self.bytes.as_slice())?;
         if self.has_failed {
             return Err(Error::from(ErrorKind::InvalidInput));
         }
-        Ok(())
+        io::writer(rt).write_all(self.bytes.as_slice())
     }
     /// Adds some bytes.
     pub fn raw(&mut self, bytes: &[u8]) {
         self.has_failed |= self.bytes.extend_from_slice(bytes).is_err();
     }
-    /// Adds the bytes that a step made, if it made them.
-    pub fn made(&mut self, bytes: Result<Vec<u8>, AllocError>) {
-        match bytes {
-            Ok(bytes) => self.raw(&bytes),
-            Err(_) => self.fail(),
-        }
+    /// Adds another answer behind it. It has failed if the other has.
+    pub fn append(&mut self, other: &Answer) {
+        self.raw(&other.bytes);
+        self.has_failed |= other.has_failed;
     }
     /// Adds a text.
     pub fn text(&mut self, text: &str) {
@@ -85,12 +80,6 @@ impl Answer {
     pub fn line(&mut self, text: &str) {
         self.text(text);
         self.end_line();
-    }
-    /// Adds texts as lines.
-    pub fn lines(&mut self, texts: &[String]) {
-        for text in texts {
-            self.line(text.as_str());
-        }
     }
     /// Adds a number.
     pub fn number(&mut self, number: u64) {

@@ -1,33 +1,20 @@
 //! A program between two pumps.
 use crate::scripts::{ScriptedJob, Scripts, ServedTally};
-use byte_streams::{Chain, FixCr, NoTap, PumpEnd, Why};
-use child_jobs::{Launcher, Program};
-use std::alloc::{AllocError, Global};
-use std::io;
+use byte_streams::{Chain, FixCr, NoTap};
+use child_jobs::Program;
+use connection_facts::Status;
+use std::alloc::Global;
 use std::marker::PhantomData;
 use std::sync::atomic::Ordering;
 use std::sync::{Mutex, Wait};
 use std::thread::Threads;
 use std::time::Clock;
-use stream_tools::between::{PumpEnds, RunEnd, end_of};
 use stream_tools::{Between, BetweenFault, Lane, SharedWriter, run_between};
+use test_parts::Answer;
 use ucspi_env::Environment;
 
 /// What the program is sent.
-const SENT: &[u8] = b"down\r\n.\n";
-
-/// The end of a pump that passed nothing on.
-const NOTHING: PumpEnd = PumpEnd {
-    taken: 0,
-    given: 0,
-    why: Why::End,
-};
-
-/// The ends of two pumps that passed nothing on.
-const NO_TEXTS: PumpEnds = PumpEnds {
-    input: NOTHING,
-    output: NOTHING,
-};
+const SENT: &[u8] = b"down\n.\n";
 
 /// What is on both sides of the pumps: bytes, and a program by a script.
 struct Scripted<'a, R> {
@@ -48,54 +35,38 @@ impl<'a, R: Wait + Clock> Between for Scripted<'a, R> {
     type Launcher = Scripts<'a, R>;
 }
 
-/// A chain that puts carriage returns where they are missing.
-fn one_stage(alloc: Global) -> Result<Chain<FixCr>, AllocError> {
-    let mut stages = Vec::new(alloc);
-    stages.push(FixCr::new())?;
-    Ok(Chain::new(alloc, stages))
-}
-
-/// Prints how a program's run ended, and how often it was killed and waited for.
-fn print_run<R: Print>(
+/// Runs a program by a script between two pumps. It adds how it ended, how often it was killed and waited for, what it
+/// was given and what was written.
+pub fn add_between<R: Threads + Wait + Clock + Sync>(
     rt: &R,
-    end: Result<RunEnd, BetweenFault>,
-    tally: &ServedTally,
-) -> io::Result<()> {
-    let end = end.map(|end| end.status);
-    let kills = tally.kills.load(Ordering::SeqCst);
-    let waits = tally.waits.load(Ordering::SeqCst);
-    println!(rt; "{end:?}, {kills} kills, {waits} waits")
-}
-
-/// Runs a program by a script between two pumps. Prints how it ended, what it was given and what was written.
-pub fn print_between<R>(rt: &R, alloc: Global, scripts: &[String]) -> io::Result<()>
-where
-    R: Print + Threads + Wait + Clock + Sync,
-{
+    alloc: Global,
+    scripts: &[String],
+    out: &mut Answer,
+) {
     let (tally, written) = (ServedTally::new(alloc), Mutex::new(Vec::new(alloc)));
-    let end = run(rt, alloc, scripts, &tally, &written)?;
-    print_run(rt, end, &tally)?;
-    print_text(rt, "given", &tally.given.lock(rt))?;
-    print_text(rt, "written", &written.lock(rt))
+    let status = run(rt, alloc, scripts, &tally, &written);
+    out.debug(&status);
+    out.count(", ", tally.kills.load(Ordering::SeqCst));
+    out.count(" kills, ", tally.waits.load(Ordering::SeqCst));
+    out.line(" waits");
+    add_text("given ", &tally.given.lock(rt), out);
+    add_text("written ", &written.lock(rt), out);
 }
 
-/// Prints a text, with what it is.
-fn print_text<R: Print>(rt: &R, name: &str, text: &[u8]) -> io::Result<()> {
-    let text = str::from_utf8(text).unwrap_or_default();
-    println!(rt; "{name} {text:?}")
+/// Adds a text, with what it is.
+fn add_text(name: &str, text: &[u8], out: &mut Answer) {
+    out.text(name);
+    out.debug_line(&str::from_utf8(text).unwrap_or_default());
 }
 
-/// Runs a program by a script.
-fn run<R>(
+/// Runs a program by a script, and answers how it ended.
+fn run<R: Threads + Wait + Clock + Sync>(
     rt: &R,
     alloc: Global,
     scripts: &[String],
     tally: &ServedTally,
     written: &Mutex<Vec<u8>>,
-) -> Result<Result<RunEnd, BetweenFault>, AllocError>
-where
-    R: Threads + Wait + Clock + Sync,
-{
+) -> Result<Status, BetweenFault> {
     let launcher = Scripts {
         rt,
         words: scripts,
@@ -103,44 +74,24 @@ where
     };
     let program = Program::new(String::new(alloc), Vec::new(alloc));
     let variables = Environment::new(alloc);
-    let input = Lane {
+    let input: Lane<_, FixCr, _> = Lane {
         stream: SENT,
-        chain: one_stage(alloc)?,
+        chain: Chain::new(alloc, Vec::new(alloc)),
         tap: NoTap,
     };
     let output = Lane {
         stream: SharedWriter::new(rt, written),
-        chain: one_stage(alloc)?,
+        chain: Chain::new(alloc, Vec::new(alloc)),
         tap: NoTap,
     };
     let run = (&program, &variables);
-    Ok(run_between::<_, Scripted<'_, R>, _, _, _>(
+    let end = run_between::<_, Scripted<'_, R>, _, _, _>(
         rt,
         alloc,
         launcher,
         run,
         (input, output),
         |_| None,
-    ))
-}
-
-/// Prints how a program by a script ends, which was served or was not.
-pub fn print_end<R>(rt: &R, alloc: Global, scripts: &[String], served: bool) -> io::Result<()>
-where
-    R: Print + Wait + Clock,
-{
-    let tally = ServedTally::new(alloc);
-    let launcher = Scripts {
-        rt,
-        words: scripts,
-        tally: &tally,
-    };
-    let program = Program::new(String::new(alloc), Vec::new(alloc));
-    match launcher.start(alloc, &program, &Environment::new(alloc)) {
-        Ok(job) => {
-            let pumps = if served { Some(NO_TEXTS) } else { None };
-            print_run(rt, end_of(job, pumps), &tally)
-        }
-        Err(_) => Err(io::Error::from(io::ErrorKind::InvalidInput)),
-    }
+    );
+    end.map(|end| end.status)
 }

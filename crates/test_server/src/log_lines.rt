@@ -5,8 +5,8 @@ use rule_lines::Verdict;
 use server_log::{Cause, Log, LogFault, Told};
 use server_words::Level;
 use std::alloc::Global;
-use std::io;
 use std::io::Write;
+use test_parts::Answer;
 use ucspi_env::Local;
 
 /// The level with a name; silence has none.
@@ -18,32 +18,23 @@ fn level_of(name: &str) -> Level {
     }
 }
 
-/// The voice with a name; other names are of the plain one.
-pub fn voice_of(name: &str) -> Voice {
-    match name {
+/// Tells a log of this level and voice, with a limit of 40, of a connection that goes well, of each fault, and of a
+/// connection that was denied.
+///
+/// Its writer takes only `room` bytes. It adds whether all was taken, and this room with what was written.
+pub fn add_log(alloc: Global, level: &str, voice: &str, room: usize, out: &mut Answer) {
+    let Ok(mut written) = vec![in alloc; 0u8; room] else {
+        return out.fail();
+    };
+    let voice = match voice {
         "helpful" => Voice::Helpful,
         _ => Voice::Plain,
-    }
-}
-
-/// Tells a log of this level and voice, with a limit of 40, of a connection that goes well, of each fault, and of a connection
-/// that was denied.
-///
-/// Its writer takes only `room` bytes. Prints whether all was taken, and what was written.
-pub fn print_log<R: Print>(
-    rt: &R,
-    alloc: Global,
-    level: &str,
-    voice: Voice,
-    room: usize,
-) -> io::Result<()> {
-    let mut written = vec![in alloc; 0u8; room]?;
+    };
     let mut log = Log::new(alloc, written.as_mut_slice(), level_of(level), voice, 40);
     let is_taken = tell(alloc, &mut log);
     drop(log);
-    let lines = str::from_utf8(&written).unwrap_or_default();
-    println!(rt; "{}", if is_taken { "taken" } else { "not taken" })?;
-    print!(rt; "{}", lines.trim_end_matches('\0'))
+    out.line(if is_taken { "taken" } else { "not taken" });
+    out.raw(&written);
 }
 
 /// Tells a log of all events, and answers whether it has taken all lines.

@@ -1,21 +1,19 @@
 //! The log of a server that also keeps what its site answers.
 use server_log::{Log, Told};
 use shared_site::Made;
-use std::alloc::{AllocError, Global};
-use std::io;
+use std::alloc::Global;
 use std::io::Write;
 use std::sync::{Mutex, Wait};
 use tcp_service::Observer;
-use test_parts::verdict_word;
+use test_parts::{Answer, verdict_word};
 
 /// A log that keeps a receipt of each event that it is told of, as the site answered it.
 #[derive(Drop)]
 pub struct ReceiptsLog<'a, R, W> {
     rt: &'a R,
-    alloc: Global,
     log: Mutex<Log<W>>,
-    // a line for each receipt, or that there was no memory for one
-    receipts: Mutex<Result<String, AllocError>>,
+    // a line for each receipt
+    receipts: Mutex<Answer>,
 }
 
 impl<'a, R: Wait, W: Write + Drop> ReceiptsLog<'a, R, W> {
@@ -23,29 +21,17 @@ impl<'a, R: Wait, W: Write + Drop> ReceiptsLog<'a, R, W> {
     pub fn new(rt: &'a R, alloc: Global, log: Log<W>) -> ReceiptsLog<'a, R, W> {
         ReceiptsLog {
             rt,
-            alloc,
             log: Mutex::new(log),
-            receipts: Mutex::new(Ok(String::new(alloc))),
+            receipts: Mutex::new(Answer::new(alloc)),
         }
     }
 
-    /// The receipts in the order in which they came, each in a line.
+    /// Adds the receipts in the order in which they came, each in a line.
     ///
     /// A line has the place of the event in the history, the number of its caller, what it was, the serial of its
     /// connection, and of a decision the verdict.
-    ///
-    /// # Errors
-    /// There was no memory for one of them.
-    pub fn into_receipts(self) -> io::Result<String> {
-        let ReceiptsLog {
-            rt: _,
-            alloc: _,
-            log: _,
-            receipts,
-        } = self;
-        receipts
-            .into_inner()
-            .map_err(|_| io::Error::from(io::ErrorKind::OutOfMemory))
+    pub fn add_receipts(&self, out: &mut Answer) {
+        out.append(&self.receipts.lock(self.rt));
     }
 }
 
@@ -57,31 +43,23 @@ impl<R: Wait, W: Write> Observer for ReceiptsLog<'_, R, W> {
     }
 
     fn made(&self, made: &Made, told: &Told<'_>) {
-        let mut receipts = self.receipts.lock(self.rt);
-        if let Ok(lines) = &mut *receipts
-            && let Err(error) = add_receipt(self.alloc, lines, made, told)
-        {
-            *receipts = Err(error);
-        }
+        add_receipt(made, told, &mut self.receipts.lock(self.rt));
     }
 }
 
 // Adds the line of a receipt; behind a decision stands its verdict.
-fn add_receipt(
-    alloc: Global,
-    lines: &mut String,
-    made: &Made,
-    told: &Told<'_>,
-) -> Result<(), AllocError> {
-    let (at, caller) = (made.at(), made.caller());
+fn add_receipt(made: &Made, told: &Told<'_>, out: &mut Answer) {
     let (what, serial) = parts_of(told);
-    let line = format!(in alloc; "{at} {caller} {what} {serial}")?;
-    lines.push_str(&line)?;
+    out.number(made.at());
+    out.count(" ", made.caller());
+    out.text(" ");
+    out.text(what);
+    out.count(" ", serial);
     if let Told::Decided { verdict, .. } = told {
-        lines.push_str(" ")?;
-        lines.push_str(verdict_word(*verdict))?;
+        out.text(" ");
+        out.text(verdict_word(*verdict));
     }
-    lines.push_str("\n")
+    out.end_line();
 }
 
 // What an event was, and the serial of its connection.

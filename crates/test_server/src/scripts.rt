@@ -1,10 +1,10 @@
 //! Connections and jobs that answer as they are told.
-ghost use Rattle.std.specs.Prelude.{is_some, ⊤};
+ghost use Rattle.std.specs.Prelude.{is_some, true, ⊤};
 
 use child_jobs::{Job, Launcher, NoEnds, Program, WaitFault};
 use connection_facts::{StartFault, Status};
 use std::alloc::Global;
-use std::io::{Read, Write};
+use std::io::{Empty, Write};
 use std::snapshot::Snapshot;
 use std::sync::atomic::{AtomicU64, Ordering};
 use std::sync::{Mutex, Wait};
@@ -17,15 +17,9 @@ use ucspi_env::{Environment, Local};
 /// How many milliseconds a job waits at most for another one's start.
 const PATIENCE: u64 = 10_000;
 
-/// A stream that has ended, and takes all that is written.
+/// A stream that takes all that is written.
 #[derive(Drop)]
 pub struct Silent;
-
-impl Read for Silent {
-    fn read(&mut self, _buf: &mut [u8]) -> io::Result<usize> {
-        Ok(0)
-    }
-}
 
 impl Write for Silent {
     fn write(&mut self, buf: &[u8]) -> io::Result<usize> {
@@ -56,13 +50,15 @@ pub struct Clients {
 }
 
 impl Acceptor for Clients {
-    type Reader = Silent;
+    type Reader = Empty;
 
     type Writer = Silent;
 
     type Shut = Silent;
 
-    fn accept(&mut self) -> Result<Accepted<Silent, Silent, Silent>, AcceptFault> {
+    ghost failed_last = { λ _ _. true };
+
+    fn accept(&mut self) -> Result<Accepted<Empty, Silent, Silent>, AcceptFault> {
         if let Some(lost) = self.lost.checked_sub(1) {
             self.lost = lost;
             return Err(AcceptFault::OutOfMemory);
@@ -70,7 +66,7 @@ impl Acceptor for Clients {
         self.left = self.left.checked_sub(1).ok_or(AcceptFault::Other)?;
         let last = (self.left % u64::from(self.addresses.max(1))) as u8;
         Ok(Accepted {
-            reader: Silent,
+            reader: io::empty(),
             writer: Silent,
             shut: Silent,
             ip: [127, 0, 0, last.saturating_add(1)],
@@ -255,6 +251,8 @@ impl<'a, R: Clock + Wait> Job for ScriptedJob<'a, R> {
     ghost killed = { λ _ _ _. ⊤ };
 
     ghost ended = { λ _ _. ⊤ };
+
+    ghost refused_wait = { λ _ _ _. ⊤ };
 
     fn ends(&mut self) -> Result<(SharedWriter<'a, R, Vec<u8>>, &'static [u8]), NoEnds> {
         self.ends.take().ok_or(NoEnds)

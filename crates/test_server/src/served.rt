@@ -1,14 +1,14 @@
 //! A server without a rules file, over a directory in memory.
-ghost use Rattle.std.specs.Prelude.{◌≡◌, ◌<◌, false, IfOk, vec_len};
+ghost use Rattle.std.specs.Prelude.{◌≡◌, ◌<◌, false, IfOk, None, ⊤, vec_len};
 ghost use Rattle.shared_site.specs.Callers.{total_share};
 
-use crate::history::add_history;
+use crate::history::Lists;
 use crate::receipts::ReceiptsLog;
 use crate::scripts::{Clients, ScriptedJob, Scripts, ServedTally, Silent};
 use byte_streams::{Chain, FixCr};
 use child_jobs::{Plan, Program};
 use connection_facts::Peer;
-use dir_calls::{DirFault, MemDir, MemFile};
+use dir_calls::{Dir, DirFault, MemDir, MemFile};
 use event_journals::{Full, Journal};
 use fault_hints::Voice;
 use server_words::Level;
@@ -16,7 +16,7 @@ use server_yard::{Assumptions, Finding, Yard};
 use shared_site::{Caller, Callers, Site};
 use std::alloc::{AllocError, Global};
 use std::io;
-use std::io::Write;
+use std::io::Empty;
 use std::marker::{Brand, PhantomData};
 use std::sync::Wait;
 use std::sync::atomic::Ordering;
@@ -55,6 +55,8 @@ struct NoRules;
 impl<L: Assumptions> Rules<L, MemFile> for NoRules {
     type Handle = NoRules;
 
+    ghost gives = { λ _ _. ⊤ };
+
     fn handle(&self, _alloc: Global) -> Result<NoRules, AllocError> {
         Ok(NoRules)
     }
@@ -63,18 +65,20 @@ impl<L: Assumptions> Rules<L, MemFile> for NoRules {
         ""
     }
 
+    fn error(&self, _handle: &NoRules) -> Option<i32> {
+        None
+    }
+
     fn damaged_rule(&self, _alloc: Global, _peer: &Peer) -> Option<String> {
         None
     }
 }
 
 impl<L: Assumptions> RulesHandle<L, MemFile> for NoRules {
-    fn open(&mut self, _alloc: Global) -> Result<Finding<L, MemFile>, DirFault> {
-        Ok(Finding::new(None))
-    }
+    ghost opened = { λ _ _ there _. there ≡ None };
 
-    fn error(&self) -> Option<i32> {
-        None
+    fn open(&mut self, _alloc: Global, _serial: u64) -> Result<Finding<L, MemFile>, DirFault> {
+        Ok(Finding::new(None))
     }
 }
 
@@ -92,7 +96,7 @@ impl<'s, 'l, 'w, R: Wait + Clock, L, N> Streams for InMemory<'s, 'l, 'w, R, L, N
 
     type Lines = &'w mut Vec<u8>;
 
-    type Reader = Silent;
+    type Reader = Empty;
 
     type Writer = Silent;
 
@@ -134,29 +138,17 @@ where
     type Chains = Unwrapped;
 }
 
-/// How a server ended: its fault, how many connections were alive, its history, and the receipts of its log.
-#[derive(Drop)]
-struct Ending {
-    end: ServeEnd,
-    live: u64,
-    is_finished: bool,
-    history: Answer,
-    receipts: String,
-}
-
 /// Serves connections by jobs of these scripts, under a full log, until the server ends.
 ///
-/// Prints how it ended, how many connections were alive then and how often jobs were killed; its history and the
-/// receipts, if they are asked for; and the log.
-pub fn print_served<R>(
+/// It adds how it ended, how many connections were alive then and how often jobs were killed; its history, the receipts
+/// and the log, with an empty line in front of each of the last two.
+pub fn add_served<R: Threads + Wait + Clock + Sync>(
     rt: &R,
     alloc: Global,
     asked: Asked,
     scripts: &[String],
-    with_history: bool,
-) -> io::Result<()>
-where
-    R: Print + Threads + Wait + Clock + Sync,
+    out: &mut Answer,
+)
     requires { (0 < asked.limit) × (asked.limit < 10001) }
 {
     let tally = ServedTally::new(alloc);
@@ -167,26 +159,9 @@ where
     };
     let mut lines = Vec::new(alloc);
     let (places, parts) = (Blank::new(asked.limit), Blank::new(2));
-    let ending = serve_by::<R, Brand, Brand>(
-        rt, alloc, asked, &launcher, &mut lines, places, parts,
-    )?;
-    let kills = tally.kills.load(Ordering::SeqCst);
-    let Ending {
-        end,
-        live,
-        is_finished,
-        history,
-        receipts,
-    } = ending;
-    let rest = if is_finished { "" } else { ", unfinished" };
-    let log = str::from_utf8(&lines).unwrap_or_default();
-    println!(rt; "{end:?}, {live} alive, {kills} kills{rest}")?;
-    if with_history {
-        history.print(rt)?;
-        io::writer(rt).write_all(b"\n")?;
-        println!(rt; "{receipts}")?;
-    }
-    print!(rt; "{log}")
+    serve_by::<R, Brand, Brand>(rt, alloc, asked, &launcher, &mut lines, places, parts, out);
+    out.end_line();
+    out.raw(&lines);
 }
 
 /// The server, over a yard and a site of its own.
@@ -198,7 +173,8 @@ fn serve_by<R, L: Assumptions + Send + Sync, N: Callers + Send + Sync>(
     lines: &mut Vec<u8>,
     places: Blank,
     parts: Blank,
-) -> io::Result<Ending>
+    out: &mut Answer,
+)
 where
     R: Threads + Wait + Clock + Sync,
     requires limit { (0 < asked.limit) × (asked.limit < 10001) }
@@ -207,7 +183,9 @@ where
     requires parts { (parts.name ≡ N.name) × (parts.parts ≡ N.parts) × (parts.parts ≡ 2) }
     requires callers { (N.all ≡ 2) × (N.before ≡ 0) }
 {
-    let (site, callers) = site_of::<L, N>(alloc, asked, places, parts)?;
+    let Ok((site, callers)) = site_of::<L, N>(alloc, asked, places, parts) else {
+        return out.fail();
+    };
     let log = ReceiptsLog::new(
         rt,
         alloc,
@@ -231,30 +209,31 @@ where
         &service(asked),
         &log,
     );
-    let receipts = log.into_receipts()?;
     match served {
-        Ok(closed) => ending_of(alloc, closed.end, &closed.yard, true, receipts),
-        Err(unfinished) => ending_of(alloc, unfinished.end, &unfinished.yard, false, receipts),
+        Ok(closed) => add_end(&closed.end, &closed.yard, "", launcher.tally, out),
+        Err(unfinished) => {
+            let rest = ", unfinished";
+            add_end(&unfinished.end, &unfinished.yard, rest, launcher.tally, out);
+        }
     }
+    log.add_receipts(out);
 }
 
-/// How a server ended that left this yard.
-fn ending_of<L: Assumptions>(
-    alloc: Global,
-    end: ServeEnd,
-    yard: &Yard<L, MemDir, Full>,
-    is_finished: bool,
-    receipts: String,
-) -> io::Result<Ending> {
-    let mut history = Answer::new(alloc);
-    add_history(yard.journal(), &mut history);
-    Ok(Ending {
-        end,
-        live: yard.live(),
-        is_finished,
-        history,
-        receipts,
-    })
+/// Adds how a server ended that left this yard, with the rest of that line, and its history.
+fn add_end<L: Assumptions, D: Dir + Drop, J: Journal + Lists>(
+    end: &ServeEnd,
+    yard: &Yard<L, D, J>,
+    rest: &str,
+    tally: &ServedTally,
+    out: &mut Answer,
+) {
+    out.debug(end);
+    out.count(", ", yard.live());
+    out.count(" alive, ", tally.kills.load(Ordering::SeqCst));
+    out.text(" kills");
+    out.line(rest);
+    yard.journal().add_history(out);
+    out.end_line();
 }
 
 /// A site over an empty directory, and its callers.

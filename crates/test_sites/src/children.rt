@@ -33,6 +33,8 @@ impl Job for Idle {
 
     ghost ended = { λ _ status. status ≡ Code 7 };
 
+    ghost refused_wait = { λ _ _ _. ⊤ };
+
     fn ends(&mut self) -> Result<(Sink, Empty), NoEnds> {
         Err(NoEnds)
     }

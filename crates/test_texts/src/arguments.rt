@@ -4,60 +4,41 @@ use rule_lookup::parse_address;
 use std::alloc::{AllocError, Global};
 use ucspi_env::{Environment, Local};
 
-/// The arguments of a call by their names, its variables, and its standard input.
-#[derive(Drop)]
+/// The arguments of a call, as words such as `port=25`, its variables, as words such as `+HOME=/`, and its standard
+/// input.
+#[derive(Clone, Copy)]
 pub struct Arguments<'a> {
-    named: Environment,
-    variables: Environment,
-    input: &'a [u8],
+    pub words: &'a [String],
+    pub input: &'a [u8],
 }
 
 impl<'a> Arguments<'a> {
-    /// No arguments and no variables.
-    pub fn new(alloc: Global, input: &'a [u8]) -> Arguments<'a> {
-        Arguments {
-            named: Environment::new(alloc),
-            variables: Environment::new(alloc),
-            input,
-        }
-    }
-
-    /// Adds the arguments of words such as `port=25`, and the variables of words such as `+HOME=/`, in order.
-    pub fn add_all(&mut self, alloc: Global, words: &[String]) -> Result<(), AllocError> {
-        for word in words {
-            self.add(alloc, word.as_str())?;
-        }
-        Ok(())
-    }
-
-    /// Adds the argument or the variable of a word.
-    fn add(&mut self, alloc: Global, word: &str) -> Result<(), AllocError> {
-        match word.strip_prefix('+') {
-            Some(variable) => put(alloc, &mut self.variables, variable),
-            None => put(alloc, &mut self.named, word),
-        }
-    }
-
-    /// The standard input.
-    pub fn input(&self) -> &[u8] {
-        self.input
-    }
-
     /// The variables.
-    pub fn variables(&self) -> &Environment {
-        &self.variables
+    pub fn variables(&self, alloc: Global) -> Result<Environment, AllocError> {
+        let mut variables = Environment::new(alloc);
+        for word in self.words {
+            if let Some(variable) = word.as_str().strip_prefix('+') {
+                let (name, value) = variable.split_once('=').unwrap_or((variable, ""));
+                variables.put(alloc, name, value)?;
+            }
+        }
+        Ok(variables)
     }
 
-    /// The text of an argument, if it is given. `@` stands for the standard input.
-    pub fn known(&self, name: &str) -> Option<&str> {
-        match self.named.get(name) {
-            Some("@") => Some(shown(self.input)),
-            text => text,
+    /// The text of the first argument of a name, if it is given. `@` stands for the standard input.
+    pub fn known(&self, name: &str) -> Option<&'a str> {
+        for word in self.words {
+            if let Some((key, text)) = word.as_str().split_once('=')
+                && key == name
+            {
+                return Some(if text == "@" { shown(self.input) } else { text });
+            }
         }
+        None
     }
 
     /// The text of an argument, or an empty one.
-    pub fn text(&self, name: &str) -> &str {
+    pub fn text(&self, name: &str) -> &'a str {
         self.known(name).unwrap_or("")
     }
 
@@ -97,12 +78,6 @@ impl<'a> Arguments<'a> {
         };
         Ok(Local::new(ip, port, host))
     }
-}
-
-/// Puts the variable of a text like `NAME=VALUE`.
-fn put(alloc: Global, variables: &mut Environment, text: &str) -> Result<(), AllocError> {
-    let (name, value) = text.split_once('=').unwrap_or((text, ""));
-    variables.put(alloc, name, value)
 }
 
 /// Bytes as a text.

@@ -14,13 +14,15 @@ pub fn push_built(
     decision: &Decision,
     out: &mut Answer,
 ) {
-    let Ok(local) = given.local(alloc) else {
+    let (Ok(variables), Ok(local)) = (given.variables(alloc), given.local(alloc)) else {
         return out.fail();
     };
-    match build(alloc, given.variables(), &local, peer, decision) {
+    match build(alloc, &variables, &local, peer, decision) {
         Ok(built) => push_all(given, &built, out),
         Err(_) => out.fail(),
     }
+    drop(local);
+    drop(variables);
 }
 
 /// Adds the variables in their order, and the value of one by its name.
@@ -35,7 +37,7 @@ fn push_all(given: &Arguments<'_>, variables: &Environment, out: &mut Answer) {
 
 /// Adds the name that a host table gives an address, or whether it says that a name has the address.
 pub fn push_hosts(alloc: Global, given: &Arguments<'_>, out: &mut Answer) {
-    match HostTable::read(alloc, given.input()) {
+    match HostTable::read(alloc, given.input) {
         Ok(table) => push_host(given, &table, out),
         Err(fault) => out.show_line(&fault),
     }

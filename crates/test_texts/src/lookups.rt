@@ -42,7 +42,11 @@ fn push_peer(peer: &Peer, out: &mut Answer) {
 /// Adds the lookup forms of a peer.
 fn push_forms(alloc: Global, peer: &Peer, out: &mut Answer) {
     match forms(alloc, peer) {
-        Ok(forms) => out.lines(&forms),
+        Ok(forms) => {
+            for form in forms {
+                out.line(form.as_str());
+            }
+        }
         Err(_) => out.fail(),
     }
 }
@@ -60,7 +64,7 @@ fn push_decided(alloc: Global, call: &str, given: &Arguments<'_>, peer: &Peer, o
 
 /// The decision for a peer: by the rules of the standard input, by a source with a fault, or without a file.
 fn decided(alloc: Global, given: &Arguments<'_>, peer: &Peer) -> Result<Decision, DecideFault> {
-    match parse(alloc, given.input(), &Limits::profile()) {
+    match parse(alloc, given.input, &Limits::profile()) {
         Ok(list) => decided_by(alloc, given, &list, peer),
         Err(_) => Err(DecideFault::OutOfMemory),
     }

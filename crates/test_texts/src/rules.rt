@@ -22,7 +22,7 @@ fn limits_of(given: &Arguments<'_>) -> Limits {
 
 /// Adds what a call says of the list of a text and then of its copy alone, or the fault of the text.
 pub fn push_lists(alloc: Global, call: &str, given: &Arguments<'_>, out: &mut Answer) {
-    match parse(alloc, given.input(), &limits_of(given)) {
+    match parse(alloc, given.input, &limits_of(given)) {
         Ok(list) => push_both(alloc, call, given, list, out),
         Err(ParseFault::Line(fault)) => push_line_fault(&fault, out),
         Err(ParseFault::OutOfMemory) => out.fail(),
@@ -121,7 +121,7 @@ fn push_code(code: Option<&[u8]>, out: &mut Answer) {
 
 /// Adds the instruction of the code on standard input.
 pub fn push_decoded(alloc: Global, given: &Arguments<'_>, out: &mut Answer) {
-    match decode_instr(alloc, given.input()) {
+    match decode_instr(alloc, given.input) {
         Ok(instr) => push_instr(alloc, &instr, out),
         Err(fault) => out.show_line(&fault),
     }

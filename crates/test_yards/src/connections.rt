@@ -1,39 +1,33 @@
 //! Connections one after another, which end in five ways by turns.
 ghost use Rattle.std.specs.Prelude.{◌≡◌};
-ghost use Rattle.server_yard.specs.Kept.{HasNoEvents};
 
+use crate::parts::yard_of;
 use crate::shown::{Lists, add_report, peer_of};
 use child_jobs::Place;
 use connection_facts::{DropCause, Peer, StartFault, Status};
-use dir_calls::MemDir;
+use dir_calls::Dir;
 use event_journals::Journal;
 use rule_lines::Verdict;
-use rule_lookup::WhenMissing;
 use server_yard::{Assumptions, Yard};
 use std::alloc::Global;
 use std::io;
 use std::sync::ledger::Blank;
-use test_parts::{
-    Answer, EndedJobs, decide_for, finish_for, give_up, open_for, start_for, stuck, with_rules,
-    yard_over,
-};
+use test_parts::{Answer, EndedJobs, decide_for, finish_for, give_up, open_for, start_for, stuck};
 
 /// The rules: the last kind of connection is denied.
 const RULES: &[u8] = b"10.0.4.:deny\n:allow\n";
 
-/// Serves a number of connections, and adds the report, the number of events, and the events that the journal lists.
-pub fn run_connections<L: Assumptions, J: Journal + Lists>(
+/// Serves a number of connections, and adds the report, the number of events, and the events.
+pub fn run_connections<L: Assumptions>(
     alloc: Global,
     blank: Blank,
-    journal: J,
     connections: u64,
     out: &mut Answer,
 )
     requires name { blank.name ≡ L.name }
     requires parts { (blank.parts ≡ L.parts) × (blank.parts ≡ connections) }
-    requires journal { HasNoEvents (J.books journal) }
 {
-    match yard_of::<L, J>(alloc, blank, journal, connections) {
+    match yard_of::<L>(alloc, blank, RULES, 0, connections) {
         Ok(mut yard) => {
             serve_all(alloc, &mut yard, connections, out);
             drop(yard);
@@ -42,25 +36,10 @@ pub fn run_connections<L: Assumptions, J: Journal + Lists>(
     }
 }
 
-/// A yard whose directory has the rules.
-fn yard_of<L: Assumptions, J: Journal>(
+/// Serves the connections by a yard, and adds the report of its journal and the events.
+fn serve_all<L: Assumptions, D: Dir + Drop, J: Journal + Lists>(
     alloc: Global,
-    blank: Blank,
-    journal: J,
-    limit: u64,
-) -> io::Result<Yard<L, MemDir, J>>
-    requires name { blank.name ≡ L.name }
-    requires parts { (blank.parts ≡ L.parts) × (blank.parts ≡ limit) }
-    requires journal { HasNoEvents (J.books journal) }
-{
-    let dir = with_rules(alloc, RULES)?;
-    yard_over(alloc, blank, dir, WhenMissing::Deny, limit, journal)
-}
-
-/// Serves the connections by a yard, and adds what its journal tells.
-fn serve_all<L: Assumptions, J: Journal + Lists>(
-    alloc: Global,
-    yard: &mut Yard<L, MemDir, J>,
+    yard: &mut Yard<L, D, J>,
     connections: u64,
     out: &mut Answer,
 ) {
@@ -73,9 +52,9 @@ fn serve_all<L: Assumptions, J: Journal + Lists>(
 }
 
 /// Serves one connection from its admission to its end, which is by the kind.
-fn serve<L: Assumptions, J: Journal>(
+fn serve<L: Assumptions, D: Dir + Drop, J: Journal>(
     alloc: Global,
-    yard: &mut Yard<L, MemDir, J>,
+    yard: &mut Yard<L, D, J>,
     kind: u8,
     out: &mut Answer,
 ) {
@@ -90,9 +69,9 @@ fn serve<L: Assumptions, J: Journal>(
 }
 
 /// Serves a connection that was let in.
-fn serve_admitted<L: Assumptions, J: Journal>(
+fn serve_admitted<L: Assumptions, D: Dir + Drop, J: Journal>(
     alloc: Global,
-    yard: &mut Yard<L, MemDir, J>,
+    yard: &mut Yard<L, D, J>,
     serial: u64,
     place: Place<L>,
     peer: &Peer,
@@ -110,9 +89,9 @@ fn serve_admitted<L: Assumptions, J: Journal>(
 }
 
 /// Why a connection that opened the rules is given up, unless it is allowed. The first kind is given up undecided.
-fn decided<L: Assumptions, J: Journal>(
+fn decided<L: Assumptions, D: Dir + Drop, J: Journal>(
     alloc: Global,
-    yard: &mut Yard<L, MemDir, J>,
+    yard: &mut Yard<L, D, J>,
     serial: u64,
     peer: &Peer,
     kind: u8,
@@ -139,9 +118,9 @@ fn jobs_of(kind: u8) -> EndedJobs {
 }
 
 /// Starts a child, and waits for it.
-fn run_child<L: Assumptions, J: Journal>(
+fn run_child<L: Assumptions, D: Dir + Drop, J: Journal>(
     alloc: Global,
-    yard: &mut Yard<L, MemDir, J>,
+    yard: &mut Yard<L, D, J>,
     place: Place<L>,
     kind: u8,
 ) {

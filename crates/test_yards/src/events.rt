@@ -5,25 +5,22 @@ use event_journals::{Counts, Full, Journal};
 use script_words::{Command, read_command};
 use server_events::{Event, replay};
 use std::alloc::Global;
-use std::io::Read;
 use test_parts::{Answer, add_event};
 
-/// Reads the events on standard input, and adds what they come to or what a journal tells of them, by the name.
+/// Adds what the events in these lines come to or what a journal tells of them, by the name.
 ///
 /// The numbers are the limit and the limit per address. For a journal the first is the greatest caller.
-pub fn run_events<R: Input>(
-    rt: &R,
+pub fn run_events(
     alloc: Global,
     name: &str,
+    lines: &[u8],
     number: u64,
     second: u64,
     out: &mut Answer,
 ) {
-    let mut input = Vec::new(alloc);
-    let mut events = Vec::new(alloc);
-    if rt.reader().read_to_end(&mut input).is_err() || !read_events(alloc, &input, &mut events) {
+    let Some(events) = events_in(alloc, lines) else {
         return out.fail();
-    }
+    };
     match name {
         "replay" => add_replayed(alloc, number, second, &events, out),
         "count_events" => note_all(&mut Counts::new(), events, number, out),
@@ -31,25 +28,16 @@ pub fn run_events<R: Input>(
     }
 }
 
-/// Reads the events in lines, and answers that one of them is none.
-fn read_events(alloc: Global, lines: &[u8], events: &mut Vec<Event>) -> bool {
-    let Ok(lines) = str::from_utf8(lines) else {
-        return false;
-    };
-    for line in lines.split('\n') {
-        if !line.is_empty() && !read_event(alloc, line, events) {
-            return false;
+/// The events in lines, unless one of them is none.
+fn events_in(alloc: Global, lines: &[u8]) -> Option<Vec<Event>> {
+    let mut events = Vec::new(alloc);
+    for line in str::from_utf8(lines).ok()?.lines() {
+        match read_command(alloc, line.as_bytes()) {
+            Ok(Command::Event(event)) => events.push(event).ok()?,
+            _ => return None,
         }
     }
-    true
-}
-
-/// Reads the event in a line, or answers that it is none.
-fn read_event(alloc: Global, line: &str, events: &mut Vec<Event>) -> bool {
-    match read_command(alloc, line.as_bytes()) {
-        Ok(Command::Event(event)) => events.push(event).is_ok(),
-        _ => false,
-    }
+    Some(events)
 }
 
 /// Adds what the events come to under a limit and a limit per address, or why they come to nothing.

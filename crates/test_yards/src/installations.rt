@@ -3,21 +3,40 @@ ghost use Rattle.std.specs.Prelude.{◌≡◌, IfSome, IsTrue};
 ghost use Rattle.server_yard.specs.Readers.{ReadersFind};
 ghost use Rattle.server_yard.specs.Yards.{yard_books, yard_rules, yard_state};
 
-use crate::shown::{Lists, add_answer, add_decided_after};
+use crate::parts::yard_of;
+use crate::shown::{Lists, add_decided_after};
 use dir_calls::{Choice, Dir, FuseDir, MemDir};
-use event_journals::Full;
+use event_journals::Journal;
 use rule_lines::Limits;
-use rule_lookup::WhenMissing;
 use rules_install::whole::prepare;
 use rules_install::{Install, InstallFault, Phase};
 use server_yard::{Assumptions, Yard};
 use std::alloc::Global;
 use std::io;
 use std::sync::ledger::Blank;
-use test_parts::{Answer, names, stuck, with_rules, yard_over};
+use test_parts::{Answer, add_step, names, stuck};
 
 /// More steps than an installation of one rule has.
 const STEPS: usize = 20;
+
+/// A directory of which a stop can be tried.
+trait Stops {
+    /// Adds what the rules file decides after each stop.
+    fn add_stops(&self, alloc: Global, out: &mut Answer);
+}
+
+impl Stops for FuseDir<MemDir> {
+    fn add_stops(&self, alloc: Global, out: &mut Answer) {
+        let dir = self.inner();
+        out.text(": kept ");
+        add_decided_after(alloc, dir, Choice::Kept, out);
+        out.text(", empty ");
+        add_decided_after(alloc, dir, Choice::Empty, out);
+        out.text(", junk ");
+        add_decided_after(alloc, dir, Choice::Junk, out);
+        out.end_line();
+    }
+}
 
 /// Installs `:deny` over `:allow`, while call `call` of the directory fails. It adds each answer with what stops then
 /// leave, and the events.
@@ -28,32 +47,18 @@ pub fn run_installation<L: Assumptions>(alloc: Global, blank: Blank, call: u64, 
     requires parts { (blank.parts ≡ L.parts) × (blank.parts ≡ 1) }
     requires met { IsTrue L.met }
 {
-    match yard_of::<L>(alloc, blank, call) {
+    match yard_of::<L>(alloc, blank, b":allow\n", call, 1) {
         Ok(mut yard) => {
             install(alloc, &mut yard, out);
-            keeps_whole(&yard);
             drop(yard);
         }
         Err(_) => out.fail(),
     }
 }
 
-/// A yard whose directory has the rule `:allow`, and fails at call `call`.
-fn yard_of<L: Assumptions>(
-    alloc: Global,
-    blank: Blank,
-    call: u64,
-) -> io::Result<Yard<L, FuseDir<MemDir>, Full>>
-    requires name { blank.name ≡ L.name }
-    requires parts { (blank.parts ≡ L.parts) × (blank.parts ≡ 1) }
-{
-    let dir = FuseDir::new(with_rules(alloc, b":allow\n")?, call);
-    yard_over(alloc, blank, dir, WhenMissing::Deny, 1, Full::new(alloc))
-}
-
 /// A law of such a yard, whatever it installed. Its rules file is whole, whatever a stop leaves. Once an installation
 /// is done the file is that of its text or of a later one.
-fn keeps_whole<L: Assumptions>(yard: &Yard<L, FuseDir<MemDir>, Full>)
+fn keeps_whole<L: Assumptions, D: Dir + Drop, J: Journal>(yard: &Yard<L, D, J>)
     requires met { IsTrue L.met }
     ensures { IfSome (yard_rules yard.now) (λ rules.
         ∥ ReadersFind (yard_books yard.now) (yard_state yard.now) rules ∥₁) }
@@ -61,19 +66,27 @@ fn keeps_whole<L: Assumptions>(yard: &Yard<L, FuseDir<MemDir>, Full>)
     yard.consistent();
 }
 
-/// Installs `:deny` by a yard, and adds each answer and the events.
-fn install<L: Assumptions>(
+/// Installs `:deny` by a yard, and adds each answer with what stops then leave, and the events.
+fn install<L: Assumptions, D: Dir + Drop + Stops, J: Journal + Lists>(
     alloc: Global,
-    yard: &mut Yard<L, FuseDir<MemDir>, Full>,
+    yard: &mut Yard<L, D, J>,
     out: &mut Answer,
-) {
-    match prepared(alloc) {
-        Ok(install) => {
-            let begun = begin(alloc, yard, install);
-            go_on(alloc, yard, begun, out);
+)
+    requires met { IsTrue L.met }
+{
+    let Ok(install) = prepared(alloc) else {
+        return out.fail();
+    };
+    let mut answer = begin(alloc, yard, install);
+    for _ in 0..STEPS {
+        add_step(&answer, out);
+        yard.directory().add_stops(alloc, out);
+        if matches!(answer, Ok(Phase::Done) | Err(_)) {
+            break;
         }
-        Err(_) => out.fail(),
+        answer = yard.install_step(alloc, 1);
     }
+    keeps_whole(yard);
     yard.journal().add_events(out);
 }
 
@@ -86,9 +99,9 @@ fn prepared(alloc: Global) -> io::Result<Install> {
 }
 
 /// The answer of the first step of an installation.
-fn begin<L: Assumptions, D: Dir + Drop>(
+fn begin<L: Assumptions, D: Dir + Drop, J: Journal>(
     alloc: Global,
-    yard: &mut Yard<L, D, Full>,
+    yard: &mut Yard<L, D, J>,
     install: Install,
 ) -> Result<Phase, InstallFault> {
     match yard.install_begin(alloc, install) {
@@ -98,41 +111,4 @@ fn begin<L: Assumptions, D: Dir + Drop>(
             Err(fault)
         }
     }
-}
-
-/// Makes the further steps, and adds each answer, that of the first step too.
-fn go_on<L: Assumptions>(
-    alloc: Global,
-    yard: &mut Yard<L, FuseDir<MemDir>, Full>,
-    begun: Result<Phase, InstallFault>,
-    out: &mut Answer,
-) {
-    let mut answer = begun;
-    for _ in 0..STEPS {
-        add_step(alloc, yard.directory().inner(), &answer, out);
-        if matches!(answer, Ok(Phase::Done) | Err(_)) {
-            break;
-        }
-        answer = step(alloc, yard);
-    }
-}
-
-/// The answer of a further step of an installation.
-fn step<L: Assumptions, D: Dir + Drop>(
-    alloc: Global,
-    yard: &mut Yard<L, D, Full>,
-) -> Result<Phase, InstallFault> {
-    yard.install_step(alloc, 1)
-}
-
-/// Adds an answer, and what each stop then leaves.
-fn add_step(alloc: Global, dir: &MemDir, answer: &Result<Phase, InstallFault>, out: &mut Answer) {
-    add_answer(answer, out);
-    out.text(": kept ");
-    add_decided_after(alloc, dir, Choice::Kept, out);
-    out.text(", empty ");
-    add_decided_after(alloc, dir, Choice::Empty, out);
-    out.text(", junk ");
-    add_decided_after(alloc, dir, Choice::Junk, out);
-    out.end_line();
 }

@@ -2,9 +2,8 @@
 ghost use Rattle.std.specs.Prelude.{◌≡◌, false};
 
 use crate::shown::peer_of;
-use connection_facts::Peer;
-use dir_calls::MemDir;
-use event_journals::Counts;
+use dir_calls::{Dir, MemDir};
+use event_journals::{Counts, Journal};
 use server_yard::{Assumptions, Yard};
 use std::alloc::Global;
 use std::sync::ledger::Blank;
@@ -26,23 +25,24 @@ pub fn run_limit<L: Assumptions>(alloc: Global, blank: Blank, limit: u64, out: &
     }
 }
 
-/// Adds what two connections from one address get, and how many are alive then.
-fn admit_two<L: Assumptions>(alloc: Global, yard: &mut Yard<L, MemDir, Counts>, out: &mut Answer) {
+/// Adds what two connections from one address get, and how many are alive then. They stay in for good.
+fn admit_two<L: Assumptions, D: Dir + Drop, J: Journal>(
+    alloc: Global,
+    yard: &mut Yard<L, D, J>,
+    out: &mut Answer,
+) {
     let Some(peer) = peer_of(alloc, 1) else {
         return out.fail();
     };
-    admit(yard, &peer, out);
-    admit(yard, &peer, out);
-    out.count_line("live ", yard.live());
-}
-
-/// Lets a connection in, and adds its serial or why it isn't let in. It stays in for good.
-fn admit<L: Assumptions>(yard: &mut Yard<L, MemDir, Counts>, peer: &Peer, out: &mut Answer) {
-    match yard.admit(peer) {
-        Ok((serial, place)) => {
-            place.strand();
-            out.count_line("admitted ", serial);
+    for _ in 0..2 {
+        match yard.admit(&peer) {
+            Ok((serial, place)) => {
+                place.strand();
+                out.count_line("admitted ", serial);
+            }
+            Err(fault) => out.show_line(&fault),
         }
-        Err(fault) => out.show_line(&fault),
     }
+    out.count_line("live ", yard.live());
+    drop(peer);
 }

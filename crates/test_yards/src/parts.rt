@@ -1,19 +1,20 @@
-//! The parts of the cases: a launcher that counts, a writer that takes a part, and damaged rules.
+//! The parts of the cases: a launcher that counts, a writer that takes a part, and yards.
 ghost use Rattle.std.specs.Prelude.{◌≡◌, ◌⊎◌};
 ghost use Rattle.connection_facts.specs.declared.outcome.StartFault.TheVariants.{OutOfMemory};
 
 use child_jobs::{Launcher, Program};
 use connection_facts::StartFault;
-use dir_calls::{Dir, DirFault, MemDir, Name, RulesFile};
+use dir_calls::{FuseDir, MemDir};
+use event_journals::Full;
+use rule_lookup::WhenMissing;
+use server_yard::{Assumptions, Yard};
 use std::alloc::Global;
 use std::io;
 use std::io::Write;
 use std::sync::atomic::{AtomicU64, Ordering};
-use test_parts::{EndedJob, EndedJobs, rules_name, stuck, with_rules};
+use std::sync::ledger::Blank;
+use test_parts::{EndedJob, EndedJobs, stuck, with_rules, yard_over};
 use ucspi_env::Environment;
-
-/// To how many bytes the file of `:deny` is cut: one less than it has.
-const CUT: usize = 2_073;
 
 /// How much memory the start of a job takes.
 const ROOM: usize = 64;
@@ -69,39 +70,24 @@ impl Write for Narrow {
     }
 }
 
-/// Fills the room with the front of the rules file in a directory, or answers that it can't.
-fn read_rules(alloc: Global, dir: &mut MemDir, room: &mut [u8]) -> bool {
-    let Ok(name) = rules_name(alloc) else {
-        return false;
-    };
-    let Ok(Some(file)) = dir.open(alloc, &name) else {
-        return false;
-    };
-    file.read_at(0, room) == Ok(room.len())
-}
-
-/// A directory in memory whose rules file is a front of what is compiled of `:deny`.
-pub fn with_cut_rules(alloc: Global) -> io::Result<MemDir> {
-    let mut bytes = [0; CUT];
-    let mut dir = with_rules(alloc, b":deny\n")?;
-    if read_rules(alloc, &mut dir, &mut bytes) && put_rules(alloc, &mut dir, &bytes) {
-        return Ok(dir);
-    }
-    Err(stuck())
-}
-
-/// Puts these bytes in place of the rules file, or answers that it can't.
-fn put_rules(alloc: Global, dir: &mut MemDir, bytes: &[u8]) -> bool {
-    match rules_name(alloc) {
-        Ok(name) => put(alloc, dir, &name, bytes).is_ok(),
-        Err(_) => false,
-    }
-}
-
-/// Makes a file of these bytes under a name.
-fn put<D: Dir>(alloc: Global, dir: &mut D, name: &Name, bytes: &[u8]) -> Result<(), DirFault> {
-    dir.fresh(alloc, name)?;
-    dir.append(alloc, bytes)?;
-    dir.sync(alloc)?;
-    dir.settle()
+/// A yard over a directory in memory that has the rules of a text, and fails at call `call`.
+pub fn yard_of<L: Assumptions>(
+    alloc: Global,
+    blank: Blank,
+    text: &[u8],
+    call: u64,
+    limit: u64,
+) -> io::Result<Yard<L, FuseDir<MemDir>, Full>>
+    requires name { blank.name ≡ L.name }
+    requires parts { (blank.parts ≡ L.parts) × (blank.parts ≡ limit) }
+{
+    let dir = FuseDir::new(with_rules(alloc, text)?, call);
+    yard_over(
+        alloc,
+        blank,
+        dir,
+        WhenMissing::Deny,
+        limit,
+        Full::new(alloc),
+    )
 }

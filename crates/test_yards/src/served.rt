@@ -2,19 +2,19 @@
 ghost use Rattle.std.specs.Prelude.{◌≡◌, false};
 ghost use Rattle.server_yard.specs.Kept.{HasNoEvents};
 
-use crate::parts::{Counted, Narrow, with_cut_rules};
+use crate::parts::{Counted, Narrow};
 use crate::shown::peer_of;
-use crate::unread::UnreadStream;
 use child_jobs::{Place, Plan, Program};
 use connection_facts::{Peer, StartFault, Status};
 use dir_calls::{Dir, FuseDir, MemDir};
-use event_journals::Journal;
+use event_journals::{Full, Journal};
 use one_connection::{Served, YardAgent, is_admitted, serve_by_yard};
 use rule_lookup::WhenMissing;
 use server_yard::{Assumptions, Yard};
 use std::alloc::{AllocError, Global};
 use std::fmt::Debug;
 use std::io;
+use std::marker::Brand;
 use std::sync::atomic::{AtomicU64, Ordering};
 use std::sync::ledger::Blank;
 use test_parts::{Answer, EndedJob, EndedJobs, finish_for, with_rules, yard_over};
@@ -27,7 +27,7 @@ const BANNER: &[u8] = b"220 here\n";
 const CONNECTIONS: usize = 2;
 
 /// What the connections of a case meet.
-#[derive(Clone, Copy, PartialEq, Eq)]
+#[derive(Clone, Copy)]
 pub enum Case {
     /// No rules file, and that denies.
     Missing,
@@ -39,19 +39,29 @@ pub enum Case {
     Denied,
     /// A program that is not there.
     NotFound,
-    /// A rules file that was cut.
-    Cut,
-    /// A rules file whose every read fails.
-    UnreadStream,
     /// A directory whose first call fails.
     Directory,
     /// A client that takes a part of the banner.
     Banner,
 }
 
+/// The case with a name.
+pub fn case_of(name: &str) -> Option<Case> {
+    match name {
+        "missing" => Some(Case::Missing),
+        "missing_allowed" => Some(Case::MissingAllowed),
+        "allowed" => Some(Case::Allowed),
+        "denied" => Some(Case::Denied),
+        "not_found" => Some(Case::NotFound),
+        "directory" => Some(Case::Directory),
+        "banner" => Some(Case::Banner),
+        _ => None,
+    }
+}
+
 /// The connections of a case: what they meet, by which plan they are served, and their two ends.
 #[derive(Drop)]
-pub struct YardSetting {
+struct YardSetting {
     case: Case,
     plan: Plan,
     peer: Peer,
@@ -59,7 +69,7 @@ pub struct YardSetting {
 }
 
 /// The setting of a case.
-pub fn setting_of(alloc: Global, case: Case) -> Option<YardSetting> {
+fn setting_of(alloc: Global, case: Case) -> Option<YardSetting> {
     let plan = plan(alloc).ok()?;
     let peer = peer_of(alloc, 0)?;
     let local = Local::new([127, 0, 0, 1], 25, None);
@@ -78,57 +88,25 @@ fn plan(alloc: Global) -> Result<Plan, AllocError> {
     Ok(Plan::new(program, Environment::new(alloc), banner))
 }
 
-/// Runs a case, and adds how its connections were served.
-pub fn serve_case<L: Assumptions, J: Journal>(
-    alloc: Global,
-    blank: Blank,
-    journal: J,
-    setting: &YardSetting,
-    out: &mut Answer,
-)
-    requires name { blank.name ≡ L.name }
-    requires parts { (blank.parts ≡ L.parts) × (blank.parts ≡ 1) }
-    requires unmet { L.met ≡ false }
-    requires journal { HasNoEvents (J.books journal) }
-{
-    if setting.case == Case::UnreadStream {
-        return serve_over::<L, UnreadStream, J>(alloc, blank, UnreadStream, journal, setting, out);
-    }
-    match rules_of(alloc, setting.case) {
-        Ok(dir) => serve_rules::<L, J>(alloc, blank, dir, journal, setting, out),
-        Err(_) => out.fail(),
-    }
-}
-
 /// The directory of a case.
-fn rules_of(alloc: Global, case: Case) -> io::Result<MemDir> {
-    match case {
-        Case::Missing | Case::MissingAllowed => Ok(MemDir::new(alloc)),
-        Case::Denied => with_rules(alloc, b":deny\n"),
-        Case::Cut => with_cut_rules(alloc),
-        _ => with_rules(alloc, b":allow\n"),
-    }
+fn directory_of(alloc: Global, case: Case) -> io::Result<FuseDir<MemDir>> {
+    let dir = match case {
+        Case::Missing | Case::MissingAllowed => MemDir::new(alloc),
+        Case::Denied => with_rules(alloc, b":deny\n")?,
+        _ => with_rules(alloc, b":allow\n")?,
+    };
+    Ok(FuseDir::new(dir, u64::from(matches!(case, Case::Directory))))
 }
 
-/// Serves the connections by rules in memory. In one case the directory's first call fails.
-fn serve_rules<L: Assumptions, J: Journal>(
-    alloc: Global,
-    blank: Blank,
-    dir: MemDir,
-    journal: J,
-    setting: &YardSetting,
-    out: &mut Answer,
-)
-    requires name { blank.name ≡ L.name }
-    requires parts { (blank.parts ≡ L.parts) × (blank.parts ≡ 1) }
-    requires unmet { L.met ≡ false }
-    requires journal { HasNoEvents (J.books journal) }
-{
-    if setting.case == Case::Directory {
-        let dir = FuseDir::new(dir, 1);
-        serve_over::<L, FuseDir<MemDir>, J>(alloc, blank, dir, journal, setting, out);
-    } else {
-        serve_over::<L, MemDir, J>(alloc, blank, dir, journal, setting, out);
+/// Runs a case, and adds how its connections were served.
+pub fn run_case(alloc: Global, case: Case, out: &mut Answer) {
+    match (directory_of(alloc, case), setting_of(alloc, case)) {
+        (Ok(dir), Some(setting)) => {
+            let (blank, journal) = (Blank::new(1), Full::new(alloc));
+            serve_over::<Brand, FuseDir<MemDir>, Full>(alloc, blank, dir, journal, &setting, out);
+            drop(setting);
+        }
+        _ => out.fail(),
     }
 }
 
@@ -189,7 +167,7 @@ fn jobs_of(case: Case) -> EndedJobs {
 /// The writer that takes the banner of a case.
 fn writer_of(case: Case) -> Narrow {
     Narrow {
-        room: if case == Case::Banner { 3 } else { 100 },
+        room: if matches!(case, Case::Banner) { 3 } else { 100 },
         taken: 0,
     }
 }

@@ -2,9 +2,8 @@
 use cdb_read::CdbFile;
 use connection_facts::Peer;
 use dir_calls::{Choice, Dir, MemDir, MemFile};
-use event_journals::{Counts, Full, Journal};
+use event_journals::{Full, Journal};
 use rule_lookup::{WhenMissing, decide};
-use rules_install::{InstallFault, Phase};
 use server_events::Report;
 use std::alloc::Global;
 use test_parts::{Answer, add_event, rules_name, verdict_word};
@@ -46,19 +45,6 @@ fn add_decided_by(alloc: Global, file: &CdbFile<MemFile>, out: &mut Answer) {
     drop(peer);
 }
 
-/// Adds what a step of an installation answered.
-pub fn add_answer(answer: &Result<Phase, InstallFault>, out: &mut Answer) {
-    match answer {
-        Ok(phase) => out.text(phase.as_str()),
-        Err(InstallFault::Disk(fault, phase)) => {
-            out.show(fault);
-            out.text(" at ");
-            out.show(phase);
-        }
-        Err(fault) => out.show(fault),
-    }
-}
-
 /// Adds a report and a number of events.
 pub fn add_report(report: &Report, events: u64, out: &mut Answer) {
     out.count("admitted ", report.admitted);
@@ -69,14 +55,10 @@ pub fn add_report(report: &Report, events: u64, out: &mut Answer) {
     out.line(" events");
 }
 
-/// A journal that may be able to list its events.
+/// A journal that lists its events.
 pub trait Lists {
-    /// Adds all events, in the words of a script, if it stores them.
+    /// Adds all events, in the words of a script.
     fn add_events(&self, out: &mut Answer);
-}
-
-impl Lists for Counts {
-    fn add_events(&self, _out: &mut Answer) {}
 }
 
 impl Lists for Full {

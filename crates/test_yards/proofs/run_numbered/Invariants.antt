@@ -13,5 +13,8 @@ ghosts-run_installation-L-Ledger a = record { name = a.blank.name; parts = a.bla
 abbrev pub ghosts-run_installation-L-Assumptions : goal.ghosts-run_installation-L-Assumptions
 ghosts-run_installation-L-Assumptions a = record { met = true }
 
-abbrev pub ghosts-run_job : goal.ghosts-run_job
-ghosts-run_job a = record { name = a.blank.name; parts = a.blank.parts }
+abbrev pub ghosts-run_connections-L-Ledger : goal.ghosts-run_connections-L-Ledger
+ghosts-run_connections-L-Ledger a = record { name = a.blank.name; parts = a.blank.parts }
+
+abbrev pub ghosts-run_connections-L-Assumptions : goal.ghosts-run_connections-L-Assumptions
+ghosts-run_connections-L-Assumptions a = record { met = true }

@@ -1,5 +1,5 @@
 use Rattle.std.specs.Prelude.{false}
-use Rattle.test_server.proofs.served.print_served.Given as goal
+use Rattle.test_server.proofs.served.add_served.Given as goal
 
 abbrev pub ghosts-serve_by-L-Ledger : goal.ghosts-serve_by-L-Ledger
 ghosts-serve_by-L-Ledger g a = record { name = a.places.name; parts = a.places.parts }

@@ -1,5 +1,5 @@
 use Rattle.std.proofs.Common.{refl}
-use Rattle.test_calls.proofs.files.folders.append_steps.Goals as goal
+use Rattle.test_disks.proofs.steps.make_steps.Goals as goal
 
 pub loop-init : goal.loop-init
 loop-init g c = g.requires c

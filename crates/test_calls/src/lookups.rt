@@ -1,14 +1,13 @@
 //! Look-ups in a compiled file.
 ghost use Rattle.std.specs.Prelude.{[], false};
 
-use crate::words::next_number;
+use crate::words::next_size;
 use cdb_read::CdbFile;
 use dir_calls::{DeviceFault, MemFile, RulesFile};
 use rule_lines::{FindFault, PairSource};
 use std::alloc::Global;
 use std::cell::Cell;
-use std::env::Args;
-use test_parts::Answer;
+use test_parts::{Answer, Words, next_number};
 
 /// What a file was asked for, and what it gave.
 #[derive(Drop)]
@@ -82,7 +81,7 @@ fn look_up(
 }
 
 /// Adds what was found.
-fn append_value(found: Result<Option<Vec<u8>>, FindFault>, out: &mut Answer) {
+fn add_value(found: Result<Option<Vec<u8>>, FindFault>, out: &mut Answer) {
     match found {
         Ok(Some(value)) => {
             out.text("value ");
@@ -94,47 +93,31 @@ fn append_value(found: Result<Option<Vec<u8>>, FindFault>, out: &mut Answer) {
     }
 }
 
-/// The greatest length of a read, and the number of the read that fails, in the next words.
-fn next_limits(words: &mut Args) -> Option<(usize, u64)> {
-    let most = next_number(words)?;
-    let failing = next_number(words)?;
-    Some((usize::try_from(most).unwrap_or(usize::MAX), failing))
-}
-
-/// What is found under a key if reads are short and one of them may fail.
-pub fn append_found(alloc: Global, words: &mut Args, given: &[u8], out: &mut Answer) {
-    match (words.next(), next_limits(words)) {
-        (Some(key), Some((most, failing))) => {
-            let found = look_up(alloc, &Log::new(), given, most, failing, key.as_str());
-            append_value(found, out);
-        }
-        _ => out.fail(),
-    }
-}
-
-/// How many reads a look-up makes, and how many bytes they give.
-pub fn append_reads(alloc: Global, words: &mut Args, given: &[u8], out: &mut Answer) {
-    let Some(key) = words.next() else {
+/// Adds what is found under a key if reads are short and one of them may fail, and how many reads gave how many bytes.
+pub fn add_found(alloc: Global, words: &mut Words<'_>, given: &[u8], out: &mut Answer) {
+    let (Some(key), Some(most), Some(failing)) = (
+        words.next(),
+        next_size(words),
+        next_number(words),
+    ) else {
         return out.fail();
     };
     let log = Log::new();
-    let _found = look_up(alloc, &log, given, usize::MAX, 0, key.as_str());
+    let found = look_up(alloc, &log, given, most, failing, key.as_str());
+    add_value(found, out);
     out.number(log.reads.get());
     out.count(" reads of ", log.bytes.get() as u64);
     out.line(" bytes");
 }
 
-/// What is found under a key in each front of this file, from the empty one on.
-pub fn append_cuts(alloc: Global, words: &mut Args, given: &[u8], out: &mut Answer) {
-    match words.next() {
-        Some(key) => append_all_cuts(alloc, key.as_str(), given, out),
-        None => out.fail(),
-    }
-}
-
-fn append_all_cuts(alloc: Global, key: &str, given: &[u8], out: &mut Answer) {
+/// Adds what is found under a key in each front of a file, from the empty one on.
+pub fn add_cuts(alloc: Global, words: &mut Words<'_>, given: &[u8], out: &mut Answer) {
+    let Some(key) = words.next() else {
+        return out.fail();
+    };
     for len in 0..given.len() {
-        let found = look_up(alloc, &Log::new(), &given[..len], usize::MAX, 0, key);
-        append_value(found, out);
+        let front = &given[..len];
+        let found = look_up(alloc, &Log::new(), front, usize::MAX, 0, key.as_str());
+        add_value(found, out);
     }
 }

@@ -1,10 +1,10 @@
 //! A reader and a writer that move pieces of a size, and stop at a call.
 ghost use Rattle.std.specs.Prelude.{◌≤◌, IfOk};
 
-use crate::streams::words::next_size;
-use std::env::Args;
+use crate::words::next_size;
 use std::io;
 use std::io::{Error, ErrorKind, Read, Write};
+use test_parts::Words;
 
 /// How a reader or a writer moves bytes: at most a number of them by each call, up to the call that stops. That one
 /// fails, or moves nothing.
@@ -17,7 +17,7 @@ pub struct GivenPieces {
 }
 
 /// The next words: the number of bytes, how a call stops, and which call it is.
-pub fn next_pieces(words: &mut Args) -> Option<GivenPieces> {
+pub fn next_pieces(words: &mut Words<'_>) -> Option<GivenPieces> {
     let most = next_size(words)?;
     let stop = next_stop(words)?;
     let stop_at = next_size(words)?;
@@ -30,7 +30,7 @@ pub fn next_pieces(words: &mut Args) -> Option<GivenPieces> {
 }
 
 /// The next word: how a call stops.
-fn next_stop(words: &mut Args) -> Option<Option<ErrorKind>> {
+fn next_stop(words: &mut Words<'_>) -> Option<Option<ErrorKind>> {
     match words.next()?.as_str() {
         "fails" => Some(Some(ErrorKind::Other)),
         "interrupted" => Some(Some(ErrorKind::Interrupted)),

@@ -4,14 +4,12 @@
 //! which call it is. The tap is `none`, `keeper WAY`, or `recorder WAY NUMBER WRITER`.
 ghost use Rattle.std.specs.Prelude.{⊤};
 
-use crate::streams::chains::Stream;
-use crate::streams::pieces::{Source, Target, next_pieces};
-use crate::streams::words::next_way;
-use crate::words::next_number;
+use crate::chains::Stream;
+use crate::pieces::{Source, Target, next_pieces};
+use crate::words::next_way;
 use byte_streams::{NoTap, Recorder, Tap, Way, pump};
 use std::alloc::Global;
-use std::env::Args;
-use test_parts::Answer;
+use test_parts::{Answer, Words, next_number};
 
 /// A tap that keeps what it is told: each piece with a bar behind it, and a point for the end.
 #[derive(Drop)]
@@ -50,7 +48,7 @@ struct Run<'a> {
 }
 
 /// Runs the pump that the next words describe, and adds how it ended and what its tap has.
-pub fn pump_next(alloc: Global, stream: &mut Stream<'_>, words: &mut Args, out: &mut Answer) {
+pub fn pump_next(alloc: Global, stream: &mut Stream<'_>, words: &mut Words<'_>, out: &mut Answer) {
     let Some(mut run) = next_run(alloc, stream.left, words) else {
         return out.fail();
     };
@@ -61,7 +59,7 @@ pub fn pump_next(alloc: Global, stream: &mut Stream<'_>, words: &mut Args, out: 
 }
 
 /// The greatest number of reads, the reader and the writer that the next words describe.
-fn next_run<'a>(alloc: Global, text: &'a [u8], words: &mut Args) -> Option<Run<'a>> {
+fn next_run<'a>(alloc: Global, text: &'a [u8], words: &mut Words<'_>) -> Option<Run<'a>> {
     let most_reads = next_number(words)?;
     let pieces = next_pieces(words)?;
     let target = next_target(alloc, words)?;
@@ -73,7 +71,7 @@ fn next_run<'a>(alloc: Global, text: &'a [u8], words: &mut Args) -> Option<Run<'
 }
 
 /// The writer that the next words describe.
-fn next_target(alloc: Global, words: &mut Args) -> Option<Target> {
+fn next_target(alloc: Global, words: &mut Words<'_>) -> Option<Target> {
     let pieces = next_pieces(words)?;
     Some(Target {
         bytes: Vec::new(alloc),
@@ -87,7 +85,7 @@ fn pump_tapped<'a>(
     stream: &mut Stream<'a>,
     run: &mut Run<'a>,
     tap: &str,
-    words: &mut Args,
+    words: &mut Words<'_>,
     out: &mut Answer,
 ) {
     match tap {
@@ -106,7 +104,7 @@ fn pump_kept<'a>(
     alloc: Global,
     stream: &mut Stream<'a>,
     run: &mut Run<'a>,
-    words: &mut Args,
+    words: &mut Words<'_>,
     out: &mut Answer,
 ) {
     let Some(way) = next_way(words) else {
@@ -126,7 +124,7 @@ fn pump_recorded<'a>(
     alloc: Global,
     stream: &mut Stream<'a>,
     run: &mut Run<'a>,
-    words: &mut Args,
+    words: &mut Words<'_>,
     out: &mut Answer,
 ) {
     let (Some(way), Some(number)) = (next_way(words), next_number(words)) else {

@@ -2,14 +2,13 @@
 //!
 //! A number feeds that many of the next bytes. `finish`, `renew` and `is_empty` are the chain's own. `show` adds what
 //! was written. `back` goes back to the beginning of the text, with nothing written. `pump` is of the module `pumps`.
-use crate::streams::pumps::pump_next;
-use crate::streams::words::next_size;
-use byte_streams::{AddCr, BoxedWrapper, Chain, ChainFault, DelCr, FixCr};
+use crate::pumps::pump_next;
+use crate::words::next_size;
+use byte_streams::{AddCr, BoxedWrapper, Chain, DelCr, FixCr};
 use std::alloc::Global;
-use std::env::Args;
 use std::io;
 use std::io::{Error, ErrorKind};
-use test_parts::Answer;
+use test_parts::{Answer, Words};
 
 /// A chain, a text, what is left of it, and what was written.
 #[derive(Drop)]
@@ -20,21 +19,13 @@ pub struct Stream<'a> {
     pub out: Vec<u8>,
 }
 
-/// A kind of line wrapper.
-#[derive(Clone, Copy)]
-enum Kind {
-    AddCr,
-    DelCr,
-    FixCr,
-}
-
 /// The error of a word that is missing or may not stand there.
 fn bad_word() -> Error {
     Error::from(ErrorKind::InvalidInput)
 }
 
 /// Makes all calls on a chain. The next words say how many line wrappers it has, and which.
-pub fn run_calls(alloc: Global, text: &[u8], words: &mut Args, out: &mut Answer) {
+pub fn run_calls(alloc: Global, text: &[u8], words: &mut Words<'_>, out: &mut Answer) {
     if call_chain(alloc, text, words, out).is_err() {
         out.fail();
     }
@@ -42,13 +33,19 @@ pub fn run_calls(alloc: Global, text: &[u8], words: &mut Args, out: &mut Answer)
 
 /// Makes the chain, and all calls on it. It hands no boxed wrapper out, so that its contract holds whatever a wrapper
 /// is.
-fn call_chain(alloc: Global, text: &[u8], words: &mut Args, out: &mut Answer) -> io::Result<()> {
+fn call_chain(
+    alloc: Global,
+    text: &[u8],
+    words: &mut Words<'_>,
+    out: &mut Answer,
+) -> io::Result<()> {
     let mut wrappers: Vec<BoxedWrapper> = Vec::new(alloc);
     for _ in 0..next_size(words).ok_or(bad_word())? {
-        match next_kind(words).ok_or(bad_word())? {
-            Kind::AddCr => wrappers.push(Box::new(alloc, AddCr)?)?,
-            Kind::DelCr => wrappers.push(Box::new(alloc, DelCr::new())?)?,
-            Kind::FixCr => wrappers.push(Box::new(alloc, FixCr::new())?)?,
+        match words.next().ok_or(bad_word())?.as_str() {
+            "addcr" => wrappers.push(Box::new(alloc, AddCr)?)?,
+            "delcr" => wrappers.push(Box::new(alloc, DelCr::new())?)?,
+            "fixcrio" => wrappers.push(Box::new(alloc, FixCr::new())?)?,
+            _ => return Err(bad_word()),
         }
     }
     let mut stream = Stream {
@@ -61,18 +58,8 @@ fn call_chain(alloc: Global, text: &[u8], words: &mut Args, out: &mut Answer) ->
     Ok(())
 }
 
-/// The kind of line wrapper that the next word names.
-fn next_kind(words: &mut Args) -> Option<Kind> {
-    match words.next()?.as_str() {
-        "addcr" => Some(Kind::AddCr),
-        "delcr" => Some(Kind::DelCr),
-        "fixcrio" => Some(Kind::FixCr),
-        _ => None,
-    }
-}
-
 /// Makes the calls that the other words ask for, up to one that fails.
-fn call_all(alloc: Global, stream: &mut Stream<'_>, words: &mut Args, out: &mut Answer) {
+fn call_all(alloc: Global, stream: &mut Stream<'_>, words: &mut Words<'_>, out: &mut Answer) {
     for _ in 0..u64::MAX {
         let Some(word) = words.next() else {
             break;
@@ -85,9 +72,15 @@ fn call_all(alloc: Global, stream: &mut Stream<'_>, words: &mut Args, out: &mut 
 }
 
 /// Makes a call, and adds its answer.
-fn call(alloc: Global, stream: &mut Stream<'_>, word: &str, words: &mut Args, out: &mut Answer) {
+fn call(
+    alloc: Global,
+    stream: &mut Stream<'_>,
+    word: &str,
+    words: &mut Words<'_>,
+    out: &mut Answer,
+) {
     match word {
-        "finish" => add_done(stream.chain.finish(&mut stream.out), out),
+        "finish" => out.done(stream.chain.finish(&mut stream.out)),
         "is_empty" => out.line(if stream.chain.is_empty() {
             "true"
         } else {
@@ -115,13 +108,5 @@ fn feed(stream: &mut Stream<'_>, size: &str, out: &mut Answer) {
     };
     let (piece, left) = stream.left.split_at(size.min(stream.left.len()));
     stream.left = left;
-    add_done(stream.chain.feed(piece, &mut stream.out), out);
-}
-
-/// Adds that a call is done, or why it took nothing.
-fn add_done(done: Result<(), ChainFault>, out: &mut Answer) {
-    match done {
-        Ok(()) => out.line("done"),
-        Err(fault) => out.show_line(&fault),
-    }
+    out.done(stream.chain.feed(piece, &mut stream.out));
 }
