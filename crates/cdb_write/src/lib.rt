@@ -2,7 +2,7 @@
 //!
 //! `rules_install` uses the pieces (`header`, `record_piece`, `table_piece`) and writes one after another. By
 //! `laws::pieces` the joined pieces are a compiled file of the pairs, if it fits into 32 bits; by `laws::same_file`
-//! there is one such file. `Maker` makes the file whole in memory. No tool uses it: tests do, and benchmarks.
+//! there is one such file. `Maker` makes the file whole in memory. No tool uses it: tests do.
 #![tactic(auto)]
 
 mod append;

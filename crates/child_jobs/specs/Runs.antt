@@ -1,6 +1,5 @@
 -- A child that runs, with its place.
 use Rattle.std.specs.Prelude.{◌≡◌, ℕ}
-use Rattle.connection_facts.specs.declared.outcome.Status.{Status}
 use Rattle.ucspi_env.specs.Variables.{Variables}
 use Rattle.child_jobs.specs.Programs.{ProgramText}
 use Rattle.child_jobs.specs.declared.running.Running.{Running}
@@ -20,11 +19,3 @@ job_of running = running.job
 -- the same place, and a job of the same program with the same variables; the functions say what a job tells of these
 abbrev pub IsSameRun : {L : _} {J : Type 0} {I O : _} → (J → ProgramText) → (J → Variables) → (old new : Running L J I O) → Type 0
 IsSameRun program_of environment_of old new = IsSameChild program_of environment_of (job_of old) (job_of new) × (place_of new ≡ place_of old)
-
--- the program of a job ended so, by what a job tells of the same program with the same variables: the job itself, once
--- it was killed or waited for
-pub record EndsAs {J : Type 0} (program_of : J → ProgramText) (environment_of : J → Variables) (ended : J → Status → Type 0)
-    (first : J) (status : Status) : Type 0 where
-  pub last : J
-  pub same : IsSameChild program_of environment_of first last
-  pub told : ended last status

@@ -99,6 +99,10 @@ pub trait Job {
     /// any way.
     ghost ended: { Self → StatusOf → Type 0 };
 
+    /// What a wait that fails may answer, with the job before it and after it. If nothing is known of a job, it may
+    /// answer anything.
+    ghost refused_wait: { Self → Self → WaitFault → Type 0 };
+
     /// Gives the two ends of its pipes, once. It takes no memory.
     ///
     /// The program reads on descriptor 0 what is written into the first end. What it writes on descriptor 1 is read
@@ -131,6 +135,7 @@ pub trait Job {
     where
         Self: Sized,
         ensures told { IfOk result (ended self) }
+        ensures refused { IfErr result (λ refused. refused_wait self refused.0 refused.1) }
         ensures program { IfErr result (λ refused. program refused.0 ≡ program self) }
         ensures environment { IfErr result (λ refused. environment refused.0 ≡ environment self) }
         ensures no_ends { IfErr result (λ refused. has_ends refused.0 ≡ false) };

@@ -108,6 +108,7 @@ pub fn finish<L: Ledger, J: Job>(
 ) -> Result<(Place<L>, Status), (Running<L, J>, WaitFault)>
     ensures place { IfOk result (λ ended. ended.0 ≡ place_of running) }
     ensures told { IfOk result (λ ended. J.ended (job_of running) ended.1) }
+    ensures refused { IfErr result (λ refused. J.refused_wait (job_of running) (job_of refused.0) refused.1) }
     ensures same { IfErr result (λ refused. IsSameRun J.program J.environment running refused.0) }
     ensures no_ends { IfErr result (λ refused. J.has_ends (job_of refused.0) ≡ false) }
 {

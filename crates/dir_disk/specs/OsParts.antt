@@ -1,14 +1,19 @@
 -- What a directory over a disk is made of.
-use Rattle.std.specs.Prelude.{ℕ, List, Option}
+use Rattle.std.specs.Prelude.{ℕ, List, Option, string_bytes}
 use Rattle.std.specs.Option.{option_map}
 use Rattle.dir_calls.specs.Directory.{Directory}
 use Rattle.dir_calls.specs.Moments.{ImagesSince}
 use Rattle.dir_disk.specs.OsDir.{kept_back}
 use Rattle.dir_disk.specs.declared.os_dir.DiskDir.{DiskDir}
+use Rattle.dir_disk.specs.declared.system_disk.ClaimedDisk.{ClaimedDisk}
 
 -- its disk
 abbrev pub os_disk : {D F H P Q : Type 0} {d : _} {f : _} → DiskDir D F H P Q d f → D
 os_disk dir = dir.disk
+
+-- the path of a folder of the system
+abbrev pub system_folder : {R C D F : Type 0} → ClaimedDisk R C D F → List ℕ
+system_folder disk = string_bytes disk.folder
 
 -- the bytes that are kept back
 abbrev pub os_pending : {D F H P Q : Type 0} {d : _} {f : _} → DiskDir D F H P Q d f → List ℕ

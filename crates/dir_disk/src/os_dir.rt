@@ -179,6 +179,8 @@ impl<R: Files + Drop> DiskDir<SystemDisk<R>>
 where
     R::File: FileExt,
 {
+    ghost use Rattle.dir_disk.specs.OsParts.{os_disk, system_folder};
+
     /// The folder of the system at a path, such as `/etc/tcprules` or `.`. An empty path leads to none. The folder is
     /// looked at, and not opened yet.
     ///
@@ -202,7 +204,9 @@ where
     ///
     /// # Errors
     /// Want of memory.
-    pub fn at(alloc: Global, files: R, folder: &str) -> Result<Self, AllocError> {
+    pub fn at(alloc: Global, files: R, folder: &str) -> Result<Self, AllocError>
+        ensures folder { IfOk result (λ dir. system_folder (os_disk dir) ≡ folder.now) }
+    {
         let disk = ClaimedDisk::new(alloc, files, Alone, folder)?;
         DiskDir::over(alloc, disk)
     }

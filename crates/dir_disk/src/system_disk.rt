@@ -1,6 +1,7 @@
 //! Folders of the system, call by call.
-ghost use Rattle.std.specs.Prelude.{◌≡◌, [], ⊤, true, false, refl};
+ghost use Rattle.std.specs.Prelude.{◌≡◌, [], ⊤, true, false, refl, IfOk};
 ghost use Rattle.dir_calls.specs.NoDirectory.{no_directory, not_honest};
+ghost use Rattle.dir_disk.specs.OsParts.{system_folder};
 
 use crate::claims::{Alone, Claims};
 use crate::disk::{Disk, DiskFile, Look};
@@ -87,12 +88,9 @@ pub struct SystemFile<F: FileExt + Drop> {
 
 impl<R: Files + Drop, C: Drop> ClaimedDisk<R, C> {
     /// The folder at a path.
-    pub(crate) fn new(
-        alloc: Global,
-        files: R,
-        claims: C,
-        folder: &str,
-    ) -> Result<Self, AllocError> {
+    pub(crate) fn new(alloc: Global, files: R, claims: C, folder: &str) -> Result<Self, AllocError>
+        ensures folder { IfOk result (λ disk. system_folder disk ≡ folder.now) }
+    {
         Ok(ClaimedDisk {
             files,
             folder: String::from_str(alloc, folder)?,

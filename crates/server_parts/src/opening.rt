@@ -9,7 +9,7 @@ ghost use Rattle.stream_tools.specs.Entries.{with_entries};
 use crate::fault::{ServerFailure, ServerFault};
 use child_jobs::{Plan, Program};
 use dir_calls::{Name, NameFault};
-use dir_disk::{FolderFault, OsDir};
+use dir_disk::{FolderError, FolderFault, find_folder};
 use rule_lookup::WhenMissing;
 use rules_tools::path::{folder_path, split_path};
 use server_words::ServerWords;
@@ -25,9 +25,6 @@ use ucspi_env::{HostFault, HostTable};
 
 /// The descriptor of standard error, the last of the standard ones.
 const STANDARD_ERROR: i32 = 2;
-
-/// The folder of a server without a rules file, which uses none: everybody may look at this one.
-const ROOT: &str = "/";
 
 /// Holds a standard descriptor, where the server was started without it, so that no connection gets it: a line of the log would go to a
 /// client else. Without such a descriptor nothing is held.
@@ -99,22 +96,20 @@ fn read_file<F: Files + AllocGlobal>(files: &F, path: &str) -> Result<Vec<u8>, S
     }
 }
 
-/// The folder of the rules file, and its name there with what is done where it is missing; without a rules file the folder is not used.
+/// The name of the rules file in its folder, which is looked at, with what is done where the file is missing; `None` without a rules file.
 ///
 /// # Errors
 /// `Device` where the folder can't be used, or the last part of the path is no name; `OutOfMemory`.
-pub fn open_rules<'a, R>(
+pub fn find_rules<R: Files>(
     alloc: Global,
-    files: &'a R,
+    files: &R,
     words: &ServerWords<'_>,
-) -> Result<(OsDir<&'a R>, Option<(Name, WhenMissing)>), ServerFailure>
-where
-    R: Files<File = File>,
-    ensures asked { IfOk result (λ opened. AreRulesOf words.now opened.1) }
+) -> Result<Option<(Name, WhenMissing)>, ServerFailure>
+    ensures asked { IfOk result (AreRulesOf words.now) }
     ensures refused { IfErr result (λ failure. FailsRules failure.fault) }
 {
     let Some(path) = words.rules() else {
-        return Ok((open_folder(alloc, files, ROOT)?, None));
+        return Ok(None);
     };
     let (folder, name) = split_path(path);
     let name = match Name::new(alloc, name.as_bytes()) {
@@ -122,30 +117,22 @@ where
         Err(NameFault::OutOfMemory) => return Err(ServerFailure::from(ServerFault::OutOfMemory)),
         Err(_) => return Err(ServerFailure::from(ServerFault::Device)),
     };
-    let dir = open_folder(alloc, files, folder_path(folder))?;
-    Ok((dir, Some((name, words.missing()))))
+    match find_folder(files, folder_path(folder)) {
+        Ok(()) => Ok(Some((name, words.missing()))),
+        Err(refused) => Err(failure_of(refused)),
+    }
 }
 
-fn open_folder<'a, R>(
-    alloc: Global,
-    files: &'a R,
-    path: &str,
-) -> Result<OsDir<&'a R>, ServerFailure>
-where
-    R: Files<File = File>,
-    ensures refused { IfErr result (λ failure. FailsRules failure.fault) }
+// The failure of a server whose folder can't be used.
+fn failure_of(refused: FolderError) -> ServerFailure
+    ensures refused { FailsRules result.fault }
 {
-    match OsDir::find(alloc, files, path) {
-        Ok(dir) => Ok(dir),
-        Err(refused) => {
-            let fault = match refused.fault {
-                FolderFault::OutOfMemory => ServerFault::OutOfMemory,
-                FolderFault::NoFolder | FolderFault::Device => ServerFault::Device,
-            };
-            let error = refused.error;
-            Err(ServerFailure { fault, error })
-        }
-    }
+    let fault = match refused.fault {
+        FolderFault::OutOfMemory => ServerFault::OutOfMemory,
+        FolderFault::NoFolder | FolderFault::Device => ServerFault::Device,
+    };
+    let error = refused.error;
+    ServerFailure { fault, error }
 }
 
 /// So many clients may wait with the system until they are accepted, or as many as it allows at all. Where fewer may, a burst of clients makes it

@@ -153,6 +153,8 @@ impl<R: Wait> Job for HandedJob<'_, R> {
 
     ghost ended = { λ _ _. ⊤ };
 
+    ghost refused_wait = { λ _ _ _. ⊤ };
+
     fn ends(&mut self) -> Result<(ChildStdin, ChildStdout), NoEnds> {
         self.job.ends()
     }
@@ -265,6 +267,8 @@ impl<'a, R: Wait + Clock> Job for ServiceJob<'a, R> {
     ghost killed = { λ _ _ _. ⊤ };
 
     ghost ended = { λ _ _. ⊤ };
+
+    ghost refused_wait = { λ _ _ _. ⊤ };
 
     fn ends(&mut self) -> Result<(ProgramInput<'a, R>, ChildStdout), NoEnds> {
         let (pipe, output) = self.job.ends()?;

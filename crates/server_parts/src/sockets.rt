@@ -1,5 +1,5 @@
 //! Connections of the system's sockets.
-ghost use Rattle.std.specs.Prelude.{◌≡◌, Some};
+ghost use Rattle.std.specs.Prelude.{◌≡◌, Some, true};
 
 use crate::client::ClientWriter;
 use std::alloc::Global;
@@ -133,6 +133,8 @@ where
 
     type Shut = Holder;
 
+    ghost failed_last = { λ _ _. true };
+
     fn accept(&mut self) -> Result<Accepted<Holder, ClientWriter<'a, R>, Holder>, AcceptFault> {
         let Incoming {
             stream,
@@ -260,6 +262,8 @@ where
     type Writer = Handle<'a, R>;
 
     type Shut = Handle<'a, R>;
+
+    ghost failed_last = { λ _ _. true };
 
     fn accept(&mut self) -> Result<Accepted<Unread, Handle<'a, R>, Handle<'a, R>>, AcceptFault> {
         let Incoming {

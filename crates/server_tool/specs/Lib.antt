@@ -1,3 +1,4 @@
 -- What a server has by its words, and what is told of its end.
 pub mod Asked
 pub mod Ends
+pub mod Opened

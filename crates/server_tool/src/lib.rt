@@ -8,6 +8,7 @@
 #![tactic(auto)]
 
 mod causes;
+mod no_folder;
 mod rules;
 mod system;
 pub mod tool;

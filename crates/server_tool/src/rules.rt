@@ -1,5 +1,7 @@
 //! The rules of a server in their folder, which each connection opens for itself.
-ghost use Rattle.std.specs.Prelude.{◌≡◌, false};
+ghost use Rattle.std.specs.Prelude.{◌≡◌, false, IfOk};
+ghost use Rattle.dir_disk.specs.OsParts.{os_disk, os_state, system_folder};
+ghost use Rattle.server_tool.specs.Opened.{IsFolderOfPath, IsThere};
 
 use cdb_read::CdbFile;
 use connection_facts::Peer;
@@ -42,7 +44,9 @@ impl<'a, R: Files<File = File>> RulesPath<'a, R> {
     }
 
     // The folder; the system is not called.
-    fn folder(&self, alloc: Global) -> Result<OsDir<&'a R>, AllocError> {
+    fn folder(&self, alloc: Global) -> Result<OsDir<&'a R>, AllocError>
+        ensures its { IfOk result (λ dir. IsFolderOfPath self.now.path.now (system_folder (os_disk dir))) }
+    {
         OsDir::at(alloc, self.files, folder_path(split_path(self.path).0))
     }
 
@@ -76,6 +80,9 @@ impl<'a, L: Assumptions, R> FolderRules<'a, L, R> {
 impl<'a, L: Assumptions, R: Files<File = File>> Rules<L, RulesOnDisk> for FolderRules<'a, L, R> {
     type Handle = FolderHandle<'a, L, SystemDisk<&'a R>>;
 
+    ghost gives = { λ rules handle.
+        (handle.name ≡ rules.at.name) × IsFolderOfPath rules.at.path.now (system_folder (os_disk handle.dir)) };
+
     fn handle(&self, alloc: Global) -> Result<FolderHandle<'a, L, SystemDisk<&'a R>>, AllocError> {
         Ok(FolderHandle {
             dir: self.at.folder(alloc)?,
@@ -86,6 +93,10 @@ impl<'a, L: Assumptions, R: Files<File = File>> Rules<L, RulesOnDisk> for Folder
 
     fn path(&self) -> &str {
         self.at.path
+    }
+
+    fn error(&self, handle: &FolderHandle<'a, L, SystemDisk<&'a R>>) -> Option<i32> {
+        Some(handle.dir.disk().failure()?.error)
     }
 
     fn damaged_rule(&self, alloc: Global, peer: &Peer) -> Option<String> {
@@ -103,17 +114,19 @@ pub(crate) struct FolderHandle<'a, L: Assumptions, D: Disk + Drop> {
     ghost unmet: { L.met ≡ false },
 }
 
-impl<'a, L: Assumptions, R: Files<File = File>> RulesHandle<L, RulesOnDisk>
-    for FolderHandle<'a, L, SystemDisk<&'a R>> {
-    fn open(&mut self, alloc: Global) -> Result<Finding<L, RulesOnDisk>, DirFault> {
+impl<'a, L: Assumptions, D: Disk + Drop> RulesHandle<L, OsFile<D::File>>
+    for FolderHandle<'a, L, D> {
+    ghost opened = { λ handle _ there _. IsThere D.honest (os_state D.state) handle.dir handle.name there };
+
+    fn open(
+        &mut self,
+        alloc: Global,
+        _serial: u64,
+    ) -> Result<Finding<L, OsFile<D::File>>, DirFault> {
         match self.name {
             Some(name) => Ok(Finding::new(self.dir.open(alloc, name)?)),
             None => Ok(Finding::new(None)),
         }
-    }
-
-    fn error(&self) -> Option<i32> {
-        Some(self.dir.disk().failure()?.error)
     }
 }
 

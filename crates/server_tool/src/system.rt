@@ -2,9 +2,10 @@
 ghost use Rattle.std.specs.Prelude.{◌≡◌, ⊤, ℕ, List, IfOk, IfErr};
 ghost use Rattle.server_parts.specs.declared.fault.ServerFault.TheVariants.{CannotListen};
 
+use crate::no_folder::NoFolder;
 use crate::rules::{FolderHandle, FolderRules, RulesOnDisk};
 use crate::wrappers::Wrappers;
-use dir_disk::{OsDir, SystemDisk};
+use dir_disk::SystemDisk;
 use event_journals::Counts;
 use server_parts::client::ClientWriter;
 use server_parts::opening::listen;
@@ -146,7 +147,7 @@ impl<'a, P: System, L: Assumptions + Send + Sync, N: Callers + Send + Sync> Host
 
     type File = RulesOnDisk;
 
-    type Folder = OsDir<&'a P::Runtime>;
+    type Folder = NoFolder;
 
     type Journal = Counts;
 
@@ -196,7 +197,7 @@ impl<'a, P: System, L: Assumptions + Send + Sync, N: Callers + Send + Sync> Host
 
     type File = RulesOnDisk;
 
-    type Folder = OsDir<&'a P::Runtime>;
+    type Folder = NoFolder;
 
     type Journal = Counts;
 

@@ -10,17 +10,17 @@ ghost use Rattle.server_yard.specs.Yards.{yard_books, yard_rules, yard_server};
 ghost use Rattle.shared_site.specs.Callers.{total_share};
 
 use crate::causes::{tell_failure, tell_words};
+use crate::no_folder::NoFolder;
 use crate::rules::{FolderRules, RulesPath};
 use crate::system::{HandsOver, Pumps, System, SystemOf};
 use crate::wrappers::Wrappers;
 use child_jobs::Plan;
 use dir_calls::{Dir, Name};
-use dir_disk::OsDir;
 use event_journals::Counts;
 use fault_hints::Voice;
 use rule_lookup::WhenMissing;
 use server_parts::limits::supply_for;
-use server_parts::opening::{end_of_listener, names_of, open_rules, plan_of, print_port, stand_in};
+use server_parts::opening::{end_of_listener, find_rules, names_of, plan_of, print_port, stand_in};
 use server_parts::signals::forgets_programs;
 use server_parts::{
     HandedAcceptor, HandingLauncher, PumpedAcceptor, ServerFailure, ServerFault, ServiceLauncher,
@@ -192,7 +192,7 @@ fn service_of<R: AllocGlobal + Files>(
     })
 }
 
-// Opens the folder of the rules and the socket, and runs the server on them.
+// Looks for the folder of the rules, opens the socket, and runs the server on them.
 fn open_and_run<P: System + Send + Sync>(
     rt: &P::Runtime,
     server: &ServerParts<P>,
@@ -202,7 +202,7 @@ fn open_and_run<P: System + Send + Sync>(
 {
     let limits = words.limits();
     let alloc = rt.alloc();
-    let (dir, rules) = open_rules(alloc, rt, words)?;
+    let rules = find_rules(alloc, rt, words)?;
     let name = match &rules {
         Some((name, _)) => Some(name.copy(alloc)?),
         None => None,
@@ -214,16 +214,7 @@ fn open_and_run<P: System + Send + Sync>(
         let _ = server.log.lock(rt).no_names();
     }
     let (places, parts) = (Blank::new(limits.connections), Blank::new(CALLERS));
-    let served = run_site::<Brand, Brand, P>(
-        rt,
-        server,
-        listener,
-        (dir, rules),
-        at,
-        words,
-        places,
-        parts,
-    );
+    let served = run_site::<Brand, Brand, P>(rt, server, listener, rules, at, words, places, parts);
     served
 }
 
@@ -255,7 +246,7 @@ fn run_site<'a, L: Assumptions + Send + Sync, N: Callers + Send + Sync, P: Syste
     rt: &'a P::Runtime,
     server: &'a ServerParts<P>,
     listener: P::Listener,
-    rules: (OsDir<&'a P::Runtime>, Option<(Name, WhenMissing)>),
+    rules: Option<(Name, WhenMissing)>,
     at: RulesPath<'a, P::Runtime>,
     words: &'a ServerWords<'_>,
     places: Blank,
@@ -266,10 +257,10 @@ fn run_site<'a, L: Assumptions + Send + Sync, N: Callers + Send + Sync, P: Syste
     requires parts { (parts.name ≡ N.name) × (parts.parts ≡ N.parts) × (parts.parts ≡ 2) }
     requires callers { (N.all ≡ 2) × (N.before ≡ 0) }
     requires asked { AreAsked words.now server.now.plan server.now.service }
-    requires rules { AreRulesOf words.now rules.1 }
+    requires rules { AreRulesOf words.now rules }
     requires listens { ListensAsAsked P.listens words.now listener }
 {
-    let yard = yard_of::<L, _>(rt.alloc(), rules.0, rules.1, words, places)?;
+    let yard = yard_of::<L, _>(rt.alloc(), NoFolder, rules, words, places)?;
     let made = site_of::<L, N, _>(rt.alloc(), yard, parts)?;
     serve_by_mode(rt, server, listener, made, at, words)
 }
@@ -326,11 +317,8 @@ fn site_of<L: Assumptions, N: Callers, D: Dir + Drop>(
     }
 }
 
-// A site of the system's folder that only counts its events, with its callers.
-type SystemSite<'a, L, N, P> = (
-    Site<L, N, OsDir<&'a <P as System>::Runtime>, Counts>,
-    Vec<Caller<N>>,
-);
+// A site without a folder that only counts its events, with its callers.
+type ServerSite<L, N> = (Site<L, N, NoFolder, Counts>, Vec<Caller<N>>);
 
 // Serves the connections of a socket at a site: their programs hold them, or the server passes their bytes on.
 fn serve_by_mode<
@@ -342,7 +330,7 @@ fn serve_by_mode<
     rt: &'a P::Runtime,
     server: &'a ServerParts<P>,
     listener: P::Listener,
-    site: SystemSite<'a, L, N, P>,
+    site: ServerSite<L, N>,
     at: RulesPath<'a, P::Runtime>,
     words: &'a ServerWords<'_>,
 ) -> Result<(), ServerFailure>
@@ -374,7 +362,7 @@ fn serve_handed<
     rt: &'a P::Runtime,
     server: &'a ServerParts<P>,
     acceptor: HandedAcceptor<'a, P::Runtime, P::Listener>,
-    site: SystemSite<'a, L, N, P>,
+    site: ServerSite<L, N>,
     at: RulesPath<'a, P::Runtime>,
     words: &'a ServerWords<'_>,
 ) -> Result<(), ServerFailure>
@@ -415,7 +403,7 @@ fn serve_pumped<
     rt: &'a P::Runtime,
     server: &'a ServerParts<P>,
     acceptor: PumpedAcceptor<'a, P::Runtime, P::Listener>,
-    site: SystemSite<'a, L, N, P>,
+    site: ServerSite<L, N>,
     at: RulesPath<'a, P::Runtime>,
     words: &'a ServerWords<'_>,
 ) -> Result<(), ServerFailure>

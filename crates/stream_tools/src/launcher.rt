@@ -220,6 +220,8 @@ impl Job for OsJob {
 
     ghost ended = { λ _ _. ⊤ };
 
+    ghost refused_wait = { λ _ _ _. ⊤ };
+
     fn ends(&mut self) -> Result<(ChildStdin, ChildStdout), NoEnds> {
         self.ends.take().ok_or(NoEnds)
     }

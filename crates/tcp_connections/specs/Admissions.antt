@@ -1,9 +1,11 @@
--- How many connections a server let in.
-use Rattle.std.specs.Prelude.{◌≡◌, ◌+◌, ◌-◌, ◌≤◌, ℕ, Option, Some, ⊤}
+-- How many connections a server let in, and when it ends by faults of accepting.
+use Rattle.std.specs.Prelude.{◌≡◌, ◌+◌, ◌-◌, ◌≤◌, ◌&&◌, ◌⊎◌, ℕ, Bool, IsTrue, true, false, nat_le, nat_lt, Option, None, Some, ⊤}
 use Rattle.tcp_connections.specs.declared.admission.AdmitOutcome.{AdmitOutcome}
 use Rattle.tcp_connections.specs.declared.admission.AdmitOutcome.TheVariants.{In, Refused, Spent}
 use Rattle.tcp_connections.specs.declared.admission.ServeEnd.{ServeEnd}
 use Rattle.tcp_connections.specs.declared.admission.ServeEnd.TheVariants as end
+use Rattle.tcp_connections.specs.declared.supply.Memory.{Memory}
+use Rattle.tcp_connections.specs.declared.supply.Supply.{Supply}
 
 -- what came of a connection, by how many were let in before and after it; nothing is said once no number is left
 abbrev pub LetsIn : {T : Type 0} → AdmitOutcome T → (old new : ℕ) → Type 0
@@ -15,3 +17,16 @@ LetsIn Spent old new = ⊤
 abbrev pub IsServed : ServeEnd → (count : Option ℕ) → (old new : ℕ) → Type 0
 IsServed end.Count count old new = (old ≤ new) × (count ≡ Some (new - old))
 IsServed other count old new = ⊤
+
+-- where memory is limited, at least one connection may begin
+abbrev pub may_begin : Option Memory → Bool
+may_begin None = true
+may_begin (Some memory) = nat_lt 0 memory.at_once
+
+-- what the system gives is enough for one connection: its descriptors, and its memory where that is limited
+abbrev pub suffices : Supply → Bool
+suffices supply = nat_le supply.to_begin supply.descriptors && may_begin supply.memory
+
+-- there was too little for one connection, or at least the last hundred calls failed
+abbrev pub FailedToAccept : (suffices : Bool) → (failed_last : ℕ → Bool) → Type 0
+FailedToAccept suffices failed_last = (suffices ≡ false) ⊎ IsTrue (failed_last 100)

@@ -2,4 +2,5 @@
 pub mod Names
 pub mod Refusals
 pub mod Admissions
+pub mod Rounds
 pub mod Ends

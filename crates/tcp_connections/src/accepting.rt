@@ -1,4 +1,6 @@
 //! Where connections come from.
+ghost use Rattle.std.specs.Prelude.{◌+◌, ℕ, OnErr, Bool, IsTrue};
+
 use std::io::{Read, Write};
 use std::time::Duration;
 use thiserror::Error;
@@ -68,15 +70,23 @@ pub trait Acceptor {
     /// What ends a connection both ways.
     type Shut: Shut + Send + Drop;
 
+    /// At least the last so many calls of `accept` failed.
+    ghost failed_last: { Self → ℕ → Bool };
+
     /// Waits for the next connection.
     ///
     /// # Errors
     /// There is no connection; the call may be made again.
-    fn accept(&mut self) -> Result<Accepted<Self::Reader, Self::Writer, Self::Shut>, AcceptFault>;
+    fn accept(&mut self) -> Result<Accepted<Self::Reader, Self::Writer, Self::Shut>, AcceptFault>
+        ensures once { OnErr result (IsTrue (failed_last self.new 1)) }
+        ensures again { OnErr result
+            ((n : ℕ) → IsTrue (failed_last self.old n) → IsTrue (failed_last self.new (n + 1))) }
+        ensures fewer { OnErr result ((n : ℕ) → IsTrue (failed_last self.old n) → IsTrue (failed_last self.new n)) };
 
     /// The system's number of the last error (`errno`), if it had one.
     fn error(&self) -> Option<i32>;
 
     /// Stops listening: nobody comes any more, and the system turns away those who wait.
-    fn close(&mut self);
+    fn close(&mut self)
+        ensures failed { (n : ℕ) → IsTrue (failed_last self.old n) → IsTrue (failed_last self.new n) };
 }

@@ -1,5 +1,5 @@
 //! Where connections are let in, and what serves them.
-ghost use Rattle.std.specs.Prelude.{◌≡◌, ℕ, IfOk, IfErr, OnErr};
+ghost use Rattle.std.specs.Prelude.{◌≡◌, ◌+◌, ℕ, IfOk, IfErr, OnErr, Bool, IsTrue};
 ghost use Rattle.tcp_connections.specs.Admissions.{LetsIn};
 
 use crate::accepting::AcceptFault;
@@ -13,7 +13,7 @@ pub enum ServeEnd {
     Spent,
     /// The children of all places could not be waited for.
     NoPlaces,
-    /// A hundred faults of accepting came in succession.
+    /// A hundred faults of accepting came in succession, or there was too little for one connection from the start.
     AcceptFaults,
     /// There was no memory for the server itself, or no thread that serves anybody.
     OutOfMemory,
@@ -37,6 +37,9 @@ pub trait Admission {
     /// How many were let in.
     ghost let_in: { Self → ℕ };
 
+    /// At least the last so many calls of `next` failed.
+    ghost failed_last: { Self → ℕ → Bool };
+
     /// Waits until fewer connections are alive than may be. `false` if all places are retired, so that this never
     /// comes.
     fn wait_for_room(&self) -> bool;
@@ -47,11 +50,16 @@ pub trait Admission {
     /// No connection came; the call may be made again.
     fn next(&mut self) -> Result<AdmitOutcome<Self::Work>, AcceptFault>
         ensures came { IfOk result (λ entry. LetsIn entry (let_in self.old) (let_in self.new)) }
-        ensures none { OnErr result (let_in self.new ≡ let_in self.old) };
+        ensures none { OnErr result (let_in self.new ≡ let_in self.old) }
+        ensures once { OnErr result (IsTrue (failed_last self.new 1)) }
+        ensures again { OnErr result
+            ((n : ℕ) → IsTrue (failed_last self.old n) → IsTrue (failed_last self.new (n + 1))) }
+        ensures fewer { OnErr result ((n : ℕ) → IsTrue (failed_last self.old n) → IsTrue (failed_last self.new n)) };
 
     /// Lets nobody in any more, and turns away those who wait.
     fn close(&mut self)
-        ensures nobody { let_in self.new ≡ let_in self.old };
+        ensures nobody { let_in self.new ≡ let_in self.old }
+        ensures failed { (n : ℕ) → IsTrue (failed_last self.old n) → IsTrue (failed_last self.new n) };
 }
 
 /// Serves the connections that were let in. A connection is a value that each call takes, and gives on to the next.

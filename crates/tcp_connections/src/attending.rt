@@ -1,8 +1,8 @@
 //! The streams of a connection, and its child from its start to its end.
-ghost use Rattle.std.specs.Prelude.{◌≡◌, ℕ, IfOk, OnErr, IfNone, IfSome};
-ghost use Rattle.child_jobs.specs.Runs.{IsSameRun};
+ghost use Rattle.std.specs.Prelude.{◌≡◌, ℕ, true, false, IfOk, OnErr, IfNone, IfSome};
+ghost use Rattle.child_jobs.specs.Runs.{IsSameChild, IsSameRun, job_of};
 ghost use Rattle.connection_facts.specs.declared.outcome.Status.{Status as StatusOf};
-ghost use Rattle.tcp_connections.specs.Ends.{IsEndTold};
+ghost use Rattle.tcp_connections.specs.Ends.{IsSeenOut, OfSameChild};
 
 use crate::accepting::{Follow, Patience, Shut};
 use crate::rounds::wait_in_rounds;
@@ -150,7 +150,9 @@ impl<S: Streams> Attendant<'_, S> {
         E: Endings<Place = Place<L>, Child = Running<L, S::Job>>,
         ensures same { IfSome result (λ begun. IsSameRun S.Job.program S.Job.environment running begun.0) }
         ensures untold { IfSome result (λ _. endings.new ≡ endings.old) }
-        ensures told { IfNone result (IsEndTold E.tells_end E.tells_retired serial endings.old endings.new) }
+        ensures told { IfNone result (OfSameChild S.Job.program S.Job.environment (job_of running)
+            (λ job. IsSeenOut S.Job.killed S.Job.refused_wait S.Job.ended true job
+            E.tells_end E.tells_retired serial endings.old endings.new)) }
     {
         let ClientStreams {
             port,
@@ -202,7 +204,8 @@ impl<S: Streams> Attendant<'_, S> {
     where
         L: Ledger,
         E: Endings<Place = Place<L>, Child = Running<L, S::Job>>,
-        ensures told { IsEndTold E.tells_end E.tells_retired serial endings.old endings.new }
+        ensures told { IsSeenOut S.Job.killed S.Job.refused_wait S.Job.ended false (job_of running)
+            E.tells_end E.tells_retired serial endings.old endings.new }
     {
         let Talk {
             port,
@@ -270,18 +273,21 @@ fn pump_down<S: Streams, T: Tap + Drop>(
 
 /// Waits for a child that holds its connection itself, and tells its end. Its place is given back only after a wait
 /// that succeeded.
+#[tactic(auto, using(crate::proofs::EndLemmas::told_as_it_was))]
 pub fn see_out<L, C, E>(endings: &mut E, running: Running<L, C>, serial: u64)
 where
     L: Ledger,
     C: Job,
     E: Endings<Place = Place<L>, Child = Running<L, C>>,
-    ensures told { IsEndTold E.tells_end E.tells_retired serial endings.old endings.new }
+    ensures told { IsSeenOut C.killed C.refused_wait C.ended false (job_of running)
+        E.tells_end E.tells_retired serial endings.old endings.new }
 {
     tell_end(endings, wait_in_rounds(running, false), serial);
 }
 
 // Waits for a child in rounds, ends its connection, and only then tells how the child ended. So a slow log keeps no
 // client waiting.
+#[tactic(auto, using(crate::proofs::EndLemmas::told_as_it_was))]
 fn end_child<S, L, E>(
     endings: &mut E,
     running: Running<L, S::Job>,
@@ -293,7 +299,8 @@ where
     S: Streams,
     L: Ledger,
     E: Endings<Place = Place<L>, Child = Running<L, S::Job>>,
-    ensures told { IsEndTold E.tells_end E.tells_retired serial endings.old endings.new }
+    ensures told { IsSeenOut S.Job.killed S.Job.refused_wait S.Job.ended by_force (job_of running)
+        E.tells_end E.tells_retired serial endings.old endings.new }
 {
     let ended = wait_in_rounds(running, by_force);
     shut.shut();
@@ -308,7 +315,6 @@ where
     E: Endings<Place = Place<L>, Child = Running<L, C>>,
     ensures ended { IfOk ended (λ end. E.tells_end endings.old serial end.1 endings.new) }
     ensures retired { OnErr ended (E.tells_retired endings.old serial endings.new) }
-    ensures told { IsEndTold E.tells_end E.tells_retired serial endings.old endings.new }
 {
     match ended {
         Ok((place, status)) => endings.ended(place, serial, status),

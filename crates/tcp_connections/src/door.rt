@@ -1,8 +1,8 @@
 //! The door: the value under the lock of the socket.
 ghost use Rattle.std.specs.Option.{ForSome};
-ghost use Rattle.std.specs.Prelude.{◌≡◌, ◌≢◌, Some};
+ghost use Rattle.std.specs.Prelude.{◌≡◌, ◌≢◌, ◌<◌, None, Some, true, false, IsTrue};
 ghost use Rattle.tcp_connections.specs.Admissions.{IsServed};
-ghost use Rattle.tcp_connections.specs.declared.admission.ServeEnd.TheVariants.{Count};
+ghost use Rattle.tcp_connections.specs.declared.admission.ServeEnd.TheVariants.{AcceptFaults, Count};
 
 use crate::accepting::AcceptFault;
 use crate::admission::{Admission, AdmitOutcome, ServeEnd};
@@ -44,7 +44,10 @@ impl Pause {
 struct Entrance<Q: Admission> {
     admission: Q,
     let_in: Option<u32>,
+    // how many of the last calls failed, up to a hundred
+    failed: u32,
     ghost counted: { ForSome let_in (λ n. Q.let_in admission ≡ n) },
+    ghost in_succession: { 0 < failed → IsTrue (Q.failed_last admission failed) },
 }
 
 impl<Q: Admission> Entrance<Q> {
@@ -54,6 +57,7 @@ impl<Q: Admission> Entrance<Q> {
         Entrance {
             admission,
             let_in: Some(0),
+            failed: 0,
         }
     }
 
@@ -63,15 +67,23 @@ impl<Q: Admission> Entrance<Q> {
         match &outcome {
             Ok(AdmitOutcome::In(_)) => {
                 self.let_in = self.let_in.and_then(|count| count.checked_add(1));
+                self.failed = 0;
             }
-            Ok(AdmitOutcome::Spent) => self.let_in = None,
-            Ok(AdmitOutcome::Refused) | Err(_) => {}
+            Ok(AdmitOutcome::Spent) => {
+                self.let_in = None;
+                self.failed = 0;
+            }
+            Ok(AdmitOutcome::Refused) => self.failed = 0,
+            Err(_) if self.failed < FAULTS => self.failed += 1,
+            Err(_) => {}
         }
         outcome
     }
 
     // Lets nobody in any more.
-    fn close(&mut self) {
+    fn close(&mut self)
+        ensures failed { IsTrue (Q.failed_last self.old.admission 100) → IsTrue (Q.failed_last self.new.admission 100) }
+    {
         self.admission.close();
     }
 }
@@ -84,10 +96,11 @@ pub(crate) struct Door<Q: Admission> {
     count: Option<u32>,
     // how it ended, if not by that count
     end: Option<ServeEnd>,
-    // how many faults of accepting came in succession, and the next pause after one for want of room
+    // how many of the faults of accepting that came in succession count, and the next pause after one for want of room
     faults: u32,
     pause: Pause,
     ghost otherwise: { end ≢ Some Count },
+    ghost by_faults: { end ≡ Some AcceptFaults → IsTrue (Q.failed_last entrance.admission 100) },
 }
 
 impl<Q: Admission> Door<Q> {
@@ -105,7 +118,9 @@ impl<Q: Admission> Door<Q> {
     }
 
     /// Whether nobody is let in any more.
-    pub fn is_over(&self) -> bool {
+    pub fn is_over(&self) -> bool
+        ensures open { result ≡ false → self.now.end ≡ None }
+    {
         self.end.is_some() || self.is_served()
     }
 
@@ -115,7 +130,9 @@ impl<Q: Admission> Door<Q> {
     }
 
     /// Waits until fewer connections are alive than may be; `false` if that never comes.
-    pub fn wait_for_room(&mut self) -> bool {
+    pub fn wait_for_room(&mut self) -> bool
+        ensures open { result ≡ true → self.new.end ≡ self.old.end }
+    {
         let is_room = self.entrance.admission.wait_for_room();
         if !is_room {
             self.close(ServeEnd::NoPlaces);
@@ -127,7 +144,9 @@ impl<Q: Admission> Door<Q> {
     ///
     /// # Errors
     /// No connection came.
-    pub fn next(&mut self) -> Result<Option<Q::Work>, AcceptFault> {
+    pub fn next(&mut self) -> Result<Option<Q::Work>, AcceptFault>
+        requires open { self.old.end ≡ None }
+    {
         match self.entrance.next()? {
             AdmitOutcome::In(work) => {
                 self.forget_faults();
@@ -160,15 +179,26 @@ impl<Q: Admission> Door<Q> {
 
     /// Counts a fault of accepting: the last of a hundred closes the door.
     pub fn count_fault(&mut self) {
-        self.faults = self.faults.saturating_add(1);
-        if self.faults >= FAULTS {
-            self.close(ServeEnd::AcceptFaults);
+        if self.faults < self.entrance.failed {
+            self.faults += 1;
+        }
+        if self.faults >= FAULTS && self.entrance.failed == FAULTS {
+            self.end_by_faults();
         }
     }
 
-    /// Closes the door for another reason than the count.
+    // Closes the door, since a hundred calls have failed.
+    fn end_by_faults(&mut self)
+        requires failed { IsTrue (Q.failed_last self.old.entrance.admission 100) }
+    {
+        self.entrance.close();
+        self.end = Some(ServeEnd::AcceptFaults);
+    }
+
+    /// Closes the door for another reason than the count or faults of accepting.
     pub fn close(&mut self, end: ServeEnd)
         requires other { end ≢ Count }
+        requires no_faults { end ≢ AcceptFaults }
     {
         self.end = Some(end);
         self.entrance.close();
@@ -177,9 +207,14 @@ impl<Q: Admission> Door<Q> {
     /// How the server ended, and its admission.
     pub fn into_end(self, count: Option<u32>) -> (ServeEnd, Q)
         ensures served { IsServed result.0 count 0 (Q.let_in result.1) }
+        ensures faults { result.0 ≡ AcceptFaults → IsTrue (Q.failed_last result.1 100) }
     {
         let Door { entrance, end, .. } = self;
-        let Entrance { admission, let_in } = entrance;
+        let Entrance {
+            admission,
+            let_in,
+            ..
+        } = entrance;
         if count.is_some() && count == let_in {
             return (ServeEnd::Count, admission);
         }

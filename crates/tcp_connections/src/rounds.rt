@@ -1,22 +1,26 @@
 //! The rounds in which a child is waited for.
-ghost use Rattle.std.specs.Prelude.{◌≡◌, IfOk, IfErr};
-ghost use Rattle.child_jobs.specs.Runs.{EndsAs, IsSameRun, job_of, place_of};
+ghost use Rattle.std.specs.Prelude.{◌≡◌, IfOk, IfErr, OnErr, true};
+ghost use Rattle.child_jobs.specs.Runs.{IsSameRun, job_of, place_of};
+ghost use Rattle.tcp_connections.specs.Rounds.{AllFail, IsReady, OneEnds, RoundEnds, RoundFails, rounds};
 
 use child_jobs::{Job, Place, Running, finish};
 use connection_facts::Status;
 use std::sync::ledger::Ledger;
 
 /// Waits for a child in up to three rounds. It is killed before the second and the third, and under `by_force` before
-/// the first too. Its place is given back with how it ended, as its job told in the last round.
+/// the first too. Its place is given back with how it ended, as the wait of the last round told.
 ///
 /// # Errors
 /// All three waits failed: the same child holds the same place.
+#[tactic(auto, using(crate::proofs::RoundLemmas::first_ends, crate::proofs::RoundLemmas::second_ends, crate::proofs::RoundLemmas::third_ends, crate::proofs::RoundLemmas::none_ends))]
 pub fn wait_in_rounds<L: Ledger, C: Job>(
     running: Running<L, C>,
     by_force: bool,
 ) -> Result<(Place<L>, Status), Running<L, C>>
     ensures place { IfOk result (λ ended. ended.0 ≡ place_of running) }
-    ensures told { IfOk result (λ ended. EndsAs C.program C.environment C.ended (job_of running) ended.1) }
+    ensures told { IfOk result (λ ended.
+        OneEnds C.killed C.refused_wait C.ended (rounds by_force) (job_of running) ended.1) }
+    ensures failed { OnErr result (AllFail C.killed C.refused_wait (rounds by_force) (job_of running)) }
     ensures same { IfErr result (IsSameRun C.program C.environment running) }
 {
     match wait_once(running, by_force) {
@@ -34,15 +38,24 @@ fn wait_once<L: Ledger, C: Job>(
     by_force: bool,
 ) -> Result<(Place<L>, Status), Running<L, C>>
     ensures place { IfOk result (λ ended. ended.0 ≡ place_of running) }
-    ensures told { IfOk result (λ ended. EndsAs C.program C.environment C.ended (job_of running) ended.1) }
+    ensures told { IfOk result (λ ended. RoundEnds C.killed C.ended by_force (job_of running) ended.1) }
+    ensures failed { IfErr result (λ left. RoundFails C.killed C.refused_wait by_force (job_of running) (job_of left)) }
     ensures same { IfErr result (IsSameRun C.program C.environment running) }
+{
+    match finish(make_ready(running, by_force)) {
+        Ok(ended) => Ok(ended),
+        Err((running, _)) => Err(running),
+    }
+}
+
+// Kills a child under `by_force`, and otherwise does nothing to it.
+fn make_ready<L: Ledger, C: Job>(running: Running<L, C>, by_force: bool) -> Running<L, C>
+    ensures ready { IsReady C.killed by_force (job_of running) (job_of result) }
+    ensures same { IsSameRun C.program C.environment running result }
 {
     let mut running = running;
     if by_force {
         let _ = running.kill();
     }
-    match finish(running) {
-        Ok(ended) => Ok(ended),
-        Err((running, _)) => Err(running),
-    }
+    running
 }

@@ -1,4 +1,7 @@
 //! What the system gives a server for its connections.
+ghost use Rattle.std.specs.Prelude.{◌≡◌};
+ghost use Rattle.tcp_connections.specs.Admissions.{suffices};
+
 use std::sync::{Condvar, CondvarTimeouts, Mutex, Wait};
 use std::time::{Clock, Duration};
 
@@ -44,6 +47,17 @@ impl Supply {
             Some(memory) => memory.at_once,
             None => u64::MAX,
         }
+    }
+
+    // Whether it is enough for one connection.
+    pub(crate) fn suffices(&self) -> bool
+        ensures { result ≡ suffices self.now }
+    {
+        let begins = match self.memory {
+            Some(memory) => memory.at_once > 0,
+            None => true,
+        };
+        self.to_begin <= self.descriptors && begins
     }
 
     // Whether there is memory for a thread that only waits: it is low if one connection begins at a time.

@@ -1,8 +1,8 @@
 //! Workers: each lets one connection after another in, and serves it up to the start of its program and on to its end.
 ghost use Rattle.std.specs.Prelude.{◌≡◌, ◌≢◌};
 ghost use Rattle.std.specs.Thread.{IsSend, IsSync};
-ghost use Rattle.tcp_connections.specs.Admissions.{IsServed};
-ghost use Rattle.tcp_connections.specs.declared.admission.ServeEnd.TheVariants.{Count};
+ghost use Rattle.tcp_connections.specs.Admissions.{FailedToAccept, IsServed, suffices};
+ghost use Rattle.tcp_connections.specs.declared.admission.ServeEnd.TheVariants.{AcceptFaults, Count};
 
 use crate::accepting::AcceptFault;
 use crate::admission::{Admission, ServeEnd, Serving};
@@ -38,7 +38,8 @@ const THREAD: usize = 192 * 1024;
 /// its program runs. Then a keeper goes on with it, or the worker itself if there is no keeper. A second thread passes
 /// on what the client sends, if `server` does that. This thread makes one more worker whenever none waits at the door.
 ///
-/// The count begins at 0, since nobody was let in by `admission` before.
+/// The count begins at 0, since nobody was let in by `admission` before. By faults of accepting it ends only if the last
+/// hundred calls of `admission` failed, or if `supply` doesn't suffice for one connection.
 pub fn serve_through<R, V, Q>(
     rt: &R,
     alloc: Global,
@@ -55,7 +56,13 @@ where
     Q: Admission + Send + Drop,
     requires nobody { Q.let_in admission ≡ 0 }
     ensures served { IsServed result.0 count 0 (Q.let_in result.1) }
+    ensures faults { result.0 ≡ AcceptFaults → FailedToAccept (suffices supply) (Q.failed_last result.1) }
 {
+    if !supply.suffices() {
+        let mut admission = admission;
+        admission.close();
+        return (ServeEnd::AcceptFaults, admission);
+    }
     let (means, seconds) = (Means::new(supply), Helpers::new(alloc));
     let workers = Workers {
         rt,
@@ -72,11 +79,7 @@ where
         found: AtomicUsize::new(0),
         reserve,
     };
-    if supply.descriptors < supply.to_begin || supply.at_once() == 0 {
-        workers.end(ServeEnd::AcceptFaults);
-    } else {
-        workers.run();
-    }
+    workers.run();
     let Workers { door, keepers, .. } = workers;
     keepers.discard();
     door.into_inner().into_end(count)
@@ -122,6 +125,7 @@ where
     // Ends the server in this way.
     fn end(&self, end: ServeEnd)
         requires other { end ≢ Count }
+        requires no_faults { end ≢ AcceptFaults }
     {
         self.door.lock(self.rt).close(end);
     }

@@ -1,3 +1,4 @@
 pub mod Asked
 pub mod Shares
 pub mod Told
+pub mod FoundLemmas

@@ -1,5 +1,5 @@
 -- What an agent knows of its connection by the answers of its site.
-use Rattle.std.specs.Prelude.{◌≡◌, ℕ, Bool, IsTrue, Option, None, Some, Result, Ok, Err, option_and_then, option_map}
+use Rattle.std.specs.Prelude.{◌≡◌, ℕ, Bool, IsTrue, List, Option, None, Some, Result, Ok, Err, option_and_then, option_map}
 use Rattle.one_connection.specs.Openings.{Opening}
 use Rattle.rule_lookup.specs.declared.decision.WhenMissing.{WhenMissing}
 use Rattle.server_events.specs.declared.event.Event.{Event}
@@ -42,6 +42,16 @@ IsGoneBy last serial = option_and_then leaver (asked last) ≡ Some serial
 -- where the assumptions are met it is compiled of rules, or there is none
 abbrev pub FindsWhole : (met : Bool) → Opening → Type 0
 FindsWhole met found = IsTrue met → ∥ IsWholeFile found.bytes ∥₁
+
+-- a new handle of the rules was opened for the connection with this serial, and this stood there; where the assumptions are met it is compiled of
+-- rules, or there is none
+pub record IsFoundFor {H : Type 0} (met : Bool) (gives : H → Type 0) (opened : H → ℕ → Option (List ℕ) → H → Type 0) (serial : ℕ)
+    (found : Opening) : Type 0 where
+  pub whole : FindsWhole met found
+  pub handle : H
+  pub new : gives handle
+  pub after : H
+  pub stood : opened handle serial found.bytes after
 
 -- what is decided without a file, as it was found
 abbrev pub IsMissingBy : Option Opening → WhenMissing → Type 0

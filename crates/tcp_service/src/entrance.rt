@@ -75,6 +75,8 @@ where
 
     ghost let_in = { λ entrance. caller_share entrance.admitter };
 
+    ghost failed_last = { λ entrance. A.failed_last entrance.acceptor.now };
+
     fn wait_for_room(&self) -> bool {
         self.context.site.room(self.context.rt) == Room::Free
     }

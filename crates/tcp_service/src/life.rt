@@ -1,8 +1,10 @@
 //! The life of a connection at a site, from its admission to its end: each value of it is made of the one before, and none can be let go.
-ghost use Rattle.std.specs.Prelude.{◌≡◌, None, IfOk, IfErr};
+ghost use Rattle.std.specs.Prelude.{◌≡◌, None, IfOk, IfErr, true, false};
 ghost use Rattle.child_jobs.specs.Runs.{IsSameRun, job_of, place_of};
 ghost use Rattle.one_connection.specs.Openings.{kept_opening};
-ghost use Rattle.tcp_service.specs.Lives.{IsOwnChild};
+ghost use Rattle.tcp_connections.specs.Ends.{OfSameChild};
+ghost use Rattle.tcp_service.specs.Lives.{IsEndOfChild, IsOwnChild};
+ghost use Rattle.tcp_service.specs.SiteAgents.{IsFoundFor, asked};
 
 use crate::host::{CallerOf, Host, SiteOf};
 use crate::opening::Rules;
@@ -46,12 +48,15 @@ pub(crate) struct Admitted<'a, H: Host> {
 }
 
 /// A connection whose child was started, with what it runs by (`child`): the program is the plan's, with the variables of the decision by what this very
-/// connection found, for its client and its end. It goes on as an `Attended`, which no other value gives.
+/// connection found, for its client and its end. It found that by a new handle of the rules, which was opened for it. It goes on as an `Attended`, which
+/// no other value gives.
 pub(crate) struct Started<'a, H: Host> {
     attended: Attended<'a, H>,
     peer: Snapshot<Peer>,
     found: FoundBy<H>,
-    ghost child: { IsOwnChild (kept_opening H.File.bytes found) H.Places.met H.File.honest H.File.sound peer.value attended.local
+    ghost child: { IsOwnChild (kept_opening H.File.bytes found)
+        (IsFoundFor H.Places.met (H.Rules.gives attended.context.now.rules.now) H.Handle.opened attended.serial)
+        H.File.honest H.File.sound peer.value attended.local
         attended.context.now.plan.now (H.Job.program (job_of attended.running)) (H.Job.environment (job_of attended.running)) },
 }
 
@@ -88,6 +93,7 @@ impl<'a, H: Host> Context<'a, H> {
     where
         'a: 'b,
         ensures own { (result.serial ≡ serial) × (result.agent.serial ≡ serial) }
+        ensures rules { result.agent.rules.now ≡ self.now.rules.now }
         ensures unasked { result.agent.last ≡ None }
     {
         LoggedAgent {
@@ -121,6 +127,7 @@ impl<'a, H: Host> Context<'a, H> {
     }
 
     // Serves a connection up to the start of its child.
+    #[tactic(auto, using(crate::proofs::FoundLemmas::own_child))]
     fn serve(
         &self,
         serial: u64,
@@ -132,8 +139,9 @@ impl<'a, H: Host> Context<'a, H> {
         writer: &mut H::Writer,
     ) -> Result<(Running<H::Places, H::Job>, FoundBy<H>, Option<Process>), Over>
         ensures own { IfOk result (λ ran. place_of ran.0 ≡ place) }
-        ensures child { IfOk result (λ ran. IsOwnChild (kept_opening H.File.bytes ran.1) H.Places.met H.File.honest H.File.sound
-            peer.now local.now self.now.plan.now (H.Job.program (job_of ran.0)) (H.Job.environment (job_of ran.0))) }
+        ensures child { IfOk result (λ ran. IsOwnChild (kept_opening H.File.bytes ran.1)
+            (IsFoundFor H.Places.met (H.Rules.gives self.now.rules.now) H.Handle.opened serial)
+            H.File.honest H.File.sound peer.now local.now self.now.plan.now (H.Job.program (job_of ran.0)) (H.Job.environment (job_of ran.0))) }
         ensures over { IfErr result (λ over. over.serial ≡ serial) }
     {
         let notes = Notes::of(None);
@@ -154,7 +162,7 @@ impl<'a, H: Host> Context<'a, H> {
     }
 
     // Takes the pipe ends of the child of a connection.
-    #[tactic(auto, using(crate::proofs::Told::over_told))]
+    #[tactic(auto, using(crate::proofs::Told::over_by_force))]
     fn begin(
         &self,
         attendant: &Attendant<'_, H>,
@@ -167,6 +175,8 @@ impl<'a, H: Host> Context<'a, H> {
     ) -> Result<Piped<H, H::Places>, Over>
         ensures same { IfOk result (λ begun. IsSameRun H.Job.program H.Job.environment running begun.0) }
         ensures over { IfErr result (λ over. over.serial ≡ serial) }
+        ensures ended { IfErr result (λ over. OfSameChild H.Job.program H.Job.environment (job_of running) (λ job.
+            IsEndOfChild H.Job.killed H.Job.refused_wait H.Job.ended true job (asked over.last.value) serial)) }
     {
         let mut agent = self.agent(serial, local, notes);
         match attendant.begin(&mut agent, running, serial, streams, chains) {
@@ -258,6 +268,8 @@ impl<'a, H: Host> Attended<'a, H> {
         ensures own { IfOk result (λ passed. passed.1.serial ≡ self.entry.serial) }
         ensures same { IfOk result (λ passed. IsSameRun H.Job.program H.Job.environment self.entry.running passed.1.running) }
         ensures over { IfErr result (λ over. over.serial ≡ self.entry.serial) }
+        ensures ended { IfErr result (λ over. OfSameChild H.Job.program H.Job.environment (job_of self.entry.running) (λ job.
+            IsEndOfChild H.Job.killed H.Job.refused_wait H.Job.ended true job (asked over.last.value) self.entry.serial)) }
     {
         let Attended {
             context,
@@ -287,6 +299,8 @@ impl<'a, H: Host> Attended<'a, H> {
     #[tactic(auto, using(crate::proofs::Told::over_told))]
     pub(crate) fn see_out(self) -> Over
         ensures own { result.serial ≡ self.entry.serial }
+        ensures ended { IsEndOfChild H.Job.killed H.Job.refused_wait H.Job.ended false (job_of self.entry.running)
+            (asked result.last.value) self.entry.serial }
     {
         let Attended {
             context,
@@ -305,6 +319,8 @@ impl<'a, H: Host> Attended<'a, H> {
     #[tactic(auto, using(crate::proofs::Told::over_told))]
     pub(crate) fn pass_down(self, attendant: &Attendant<'_, H>, talk: Talk<H>) -> Over
         ensures own { result.serial ≡ self.entry.serial }
+        ensures ended { IsEndOfChild H.Job.killed H.Job.refused_wait H.Job.ended false (job_of self.entry.running)
+            (asked result.last.value) self.entry.serial }
     {
         let Attended {
             context,

@@ -1,4 +1,8 @@
 //! How connections open the rules, each by a handle of its own.
+ghost use Rattle.std.specs.Prelude.{ℕ, List, Option, IfOk};
+ghost use Rattle.std.specs.Option.{option_map};
+ghost use Rattle.server_yard.specs.Passes.{finding_file};
+
 use connection_facts::Peer;
 use dir_calls::{DirFault, RulesFile};
 use server_yard::{Assumptions, Finding};
@@ -9,11 +13,18 @@ pub trait Rules<L: Assumptions, F: RulesFile + Drop> {
     /// What one connection opens them by.
     type Handle: RulesHandle<L, F> + Drop;
 
+    /// Whether a handle is a new one of these rules.
+    ghost gives: { Self → Self.Handle → Type 0 };
+
     /// A handle for one connection. The system is not called.
     ///
     /// # Errors
     /// There was no memory.
-    fn handle(&self, alloc: Global) -> Result<Self::Handle, AllocError>;
+    fn handle(&self, alloc: Global) -> Result<Self::Handle, AllocError>
+        ensures new { IfOk result (gives self.now) };
+
+    /// The system's number of the error (`errno`) by which the last call of a handle failed, a read of what was opened too, where it has one.
+    fn error(&self, handle: &Self::Handle) -> Option<i32>;
 
     /// The path of the rules file as it was given; empty where there is none.
     fn path(&self) -> &str;
@@ -25,12 +36,14 @@ pub trait Rules<L: Assumptions, F: RulesFile + Drop> {
 
 /// What one connection opens the rules by. Nobody else waits meanwhile.
 pub trait RulesHandle<L: Assumptions, F: RulesFile + Drop> {
-    /// What stands under the rules name.
+    /// Between these two states it was opened for the connection with this serial number, and this stood under the rules name: a file of these bytes, or
+    /// nothing.
+    ghost opened: { Self → (serial : ℕ) → Option (List ℕ) → Self → Type 0 };
+
+    /// What stands under the rules name, for the connection with this serial number.
     ///
     /// # Errors
     /// `OutOfMemory`; any other is a call of the system that failed.
-    fn open(&mut self, alloc: Global) -> Result<Finding<L, F>, DirFault>;
-
-    /// The system's number of the error (`errno`) by which the last call failed, a read of what was opened too, where it has one.
-    fn error(&self) -> Option<i32>;
+    fn open(&mut self, alloc: Global, serial: u64) -> Result<Finding<L, F>, DirFault>
+        ensures found { IfOk result (λ finding. opened self.old serial (option_map F.bytes (finding_file finding)) self.new) };
 }

@@ -46,7 +46,7 @@ pub struct SiteAgent<'a, H: Host> {
     // and what it found
     found: FoundBy<H>,
     // what the site answered last
-    last: Option<Result<Made, OutOfTurn>>,
+    pub(crate) last: Option<Result<Made, OutOfTurn>>,
 }
 
 impl<'a, H: Host> SiteAgent<'a, H> {
@@ -59,6 +59,7 @@ impl<'a, H: Host> SiteAgent<'a, H> {
         serial: u64,
     ) -> SiteAgent<'a, H>
         ensures own { result.serial ≡ serial }
+        ensures rules { result.rules.now ≡ rules.now }
         ensures unasked { result.last ≡ None }
     {
         SiteAgent {
@@ -120,7 +121,7 @@ impl<H: Host> SiteAgent<'_, H> {
     ghost use Rattle.std.specs.Prelude.{◌≡◌, ◌-◌, ◌^◌, Some, true, IfErr, IfOk, OnErr, is_some};
     ghost use Rattle.one_connection.specs.Openings.{FailsToOpen, kept_opening, opening_of};
     ghost use Rattle.server_events.specs.declared.event.Event.TheVariants as event;
-    ghost use Rattle.server_yard.specs.Passes.{pass_file, pass_serial};
+    ghost use Rattle.server_yard.specs.Passes.{finding_file, pass_file, pass_serial};
     ghost use Rattle.tcp_service.specs.SiteAgents.{IsAnswer, made};
 
     // A turn of the caller.
@@ -139,6 +140,7 @@ impl<H: Host> SiteAgent<'_, H> {
         finding: Finding<H::Places, H::File>,
     ) -> Result<Pass<H::Places, H::File>, DropCause>
         ensures its { IfOk result (λ pass. pass_serial pass ≡ serial) }
+        ensures file { IfOk result (λ pass. pass_file pass ≡ finding_file finding) }
         ensures keeps { IfOk result (λ pass. kept_opening H.File.bytes self.new.found ≡ Some (opening_of H.File.bytes pass)) }
         ensures told { IfOk result (λ pass. made self.new.last ≡ Some (event.Opened serial (is_some (pass_file pass)))) }
         ensures refused { OnErr result (self.new.last ≡ self.old.last) }
@@ -219,7 +221,7 @@ impl<H: Host> LoggedAgent<'_, H> {
     fn reason_of(&self, cause: DropCause, peer: &Peer) -> Option<Reason> {
         match cause {
             DropCause::Directory | DropCause::ReadFault => {
-                let error = self.agent.handle.as_ref()?.error()?;
+                let error = self.agent.rules.error(self.agent.handle.as_ref()?)?;
                 Some(Reason::Rules(words_of_error(self.alloc, error).ok()?))
             }
             DropCause::Damaged => {
@@ -291,7 +293,7 @@ impl<H: Host> Agent<H::Places> for LoggedAgent<'_, H> {
     ghost use Rattle.server_events.specs.declared.event.Event.TheVariants as event;
     ghost use Rattle.server_events.specs.declared.event.Stage.TheVariants as stage;
     ghost use Rattle.server_yard.specs.Passes.{IsDecidedBy, pass_missing, pass_serial};
-    ghost use Rattle.tcp_service.specs.SiteAgents.{FindsWhole, IsGoneBy, IsMissingBy, StandsBy, asked};
+    ghost use Rattle.tcp_service.specs.SiteAgents.{IsFoundFor, IsGoneBy, IsMissingBy, StandsBy, asked};
 
     type Place = Place<H::Places>;
 
@@ -311,7 +313,8 @@ impl<H: Host> Agent<H::Places> for LoggedAgent<'_, H> {
 
     ghost is_gone = { λ logged serial. IsGoneBy logged.agent.last serial };
 
-    ghost finds = { λ _ found. FindsWhole H.Places.met found };
+    ghost finds = { λ logged.
+        IsFoundFor H.Places.met (H.Rules.gives logged.agent.rules.now) H.Handle.opened logged.agent.serial };
 
     ghost found = { λ logged. kept_opening H.File.bytes logged.agent.found };
 
@@ -327,6 +330,7 @@ impl<H: Host> Agent<H::Places> for LoggedAgent<'_, H> {
 
     ghost is_shared = { true };
 
+    #[tactic(auto, using(crate::proofs::FoundLemmas::found_for))]
     fn open(
         &mut self,
         alloc: Global,
@@ -337,7 +341,7 @@ impl<H: Host> Agent<H::Places> for LoggedAgent<'_, H> {
         let Ok(mut handle) = self.agent.rules.handle(alloc) else {
             return Err(DropCause::Memory);
         };
-        let found = handle.open(alloc);
+        let found = handle.open(alloc, self.agent.serial);
         self.agent.handle = Some(handle);
         match found {
             Ok(finding) => self.agent.opened(serial, finding),
