@@ -57,8 +57,8 @@ PAIRS = [(b"key %d" % number, b"D") for number in range(40)]
 EVENTS = b"".join(b"event admitted %d 10.0.0.%d\n" % (serial, serial) for serial in range(1, 41))
 HOSTS = b"".join(b"10.0.0.%d host%d.example\n=host%d.example 10.0.0.%d\n" % (n, n, n, n) for n in range(10))
 NO_MEMORY = b"out of memory\n"
-# the program and its words, what it is given, and what it may answer for want of memory, beside nothing with exit code 1: a maker goes on without
-# the pair for which there was none
+# the program and its words, what it is given, and what it may answer for want of memory, beside nothing with exit code 1, or what it answers with
+# ample memory, where it found less of it enough: a maker goes on without the pair for which there was none
 CALLS = [
     ("test_calls", ["pairs", "1000000"], b"".join(key + b"\t" + value + b"\n" for key, value in PAIRS),
      [NO_MEMORY + compiled_files.cdb(PAIRS[:at] + PAIRS[at + 1:]) for at in range(len(PAIRS))]),
@@ -76,13 +76,14 @@ def check_calls(programs, failures):
         requests = refusals.Requests(folder)
         for name, words, given, without in CALLS:
             program = programs[name]
-            ample = refusals.run([program] + words, folder, given, dict(os.environ))
-            allowed = [(1, b"", b"")] + [(0, answer, b"") for answer in without]
+            ample, told = refusals.run([program] + words, folder, given, dict(os.environ)), 0
+            refused = [(1, b"", b"")] + [(0, answer, b"") for answer in without]
             for request, variables in requests.each():
                 outcome = refusals.run([program] + words, folder, given, variables)
-                checks.holds("%s, request %d refused" % (words[0], request), outcome in (allowed if requests.is_refused() else [ample]), outcome)
-            if ample[0] != 0:
-                checks.fail("%s with ample memory" % words[0], ample)
+                told += outcome in refused
+                checks.holds("%s, request %d refused" % (words[0], request), outcome in [ample] + refused * requests.is_refused(), outcome)
+            if ample[0] != 0 or told == 0:
+                checks.fail("%s with ample memory, and refusals that are told" % words[0], (ample, told))
     return checks.tests
 
 
