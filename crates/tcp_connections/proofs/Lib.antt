@@ -1,2 +1,1 @@
-pub mod RoundLemmas
 pub mod EndLemmas

@@ -12,7 +12,6 @@ use std::sync::ledger::Ledger;
 ///
 /// # Errors
 /// All three waits failed: the same child holds the same place.
-#[tactic(auto, using(crate::proofs::RoundLemmas::first_ends, crate::proofs::RoundLemmas::second_ends, crate::proofs::RoundLemmas::third_ends, crate::proofs::RoundLemmas::none_ends))]
 pub fn wait_in_rounds<L: Ledger, C: Job>(
     running: Running<L, C>,
     by_force: bool,

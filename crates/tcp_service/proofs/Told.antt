@@ -1,31 +1,14 @@
--- A connection is over once its end was told.
-use Rattle.std.proofs.Common.{◌≡◌, ◌∙◌, ℕ, Bool, true, Option, Some, ap, inl, inr}
-use Rattle.std.specs.Prelude.{option_and_then}
+-- What was told of the end of a child is as it was.
+use Rattle.std.proofs.Common.{◌≡◌, ◌∙◌, ℕ, Bool, true, Option, Some, inl, inr}
 use Rattle.child_jobs.specs.Programs.{ProgramText}
-use Rattle.connection_facts.specs.declared.outcome.Status.{Status}
 use Rattle.server_events.specs.declared.event.Event.{Event}
 use Rattle.server_events.specs.declared.event.Event.TheVariants.{Ended, Retired}
-use Rattle.server_yard.specs.Seating.{leaver}
-use Rattle.tcp_connections.specs.Ends.{IsEndTold, IsSeenOut, OfSameChild}
+use Rattle.tcp_connections.specs.Ends.{IsSeenOut, OfSameChild}
 use Rattle.tcp_connections.specs.Rounds.{EndsAs, FailsToWait, Kills}
-use Rattle.tcp_service.specs.Lives.{IsEndOf, IsEndOfChild}
+use Rattle.tcp_service.specs.Lives.{IsEndOfChild}
 use Rattle.ucspi_env.specs.Variables.{Variables}
 
-is_over : {D : Type 0} (event_of : D → Option Event) (ended : Status → Type 0) (failed : Type 0) (serial : ℕ) (old new : D)
-    → IsEndTold ended failed (λ _ n status after. event_of after ≡ Some (Ended n status)) (λ _ n after. event_of after ≡ Some (Retired n)) serial old new
-    → IsEndOf (event_of new) serial
-is_over event_of ended failed serial old new (inl end) = inl (ap (option_and_then leaver) end.told)
-is_over event_of ended failed serial old new (inr retired) = inr retired.told
-
--- it was told to an agent, whose last event is this
-pub over_told : {D J : Type 0} (event_of : D → Option Event) (kills : Kills J) (fails : FailsToWait J) (ends : EndsAs J) (by_force : Bool) (job : J)
-    (serial : ℕ) (old new : D)
-    → IsSeenOut kills fails ends by_force job
-    (λ _ n status after. event_of after ≡ Some (Ended n status)) (λ _ n after. event_of after ≡ Some (Retired n)) serial old new
-    → IsEndOf (event_of new) serial
-over_told event_of kills fails ends by_force job serial old new told = is_over event_of _ _ serial old new told
-
--- and it was told as it was
+-- it was told to an agent, whose last event is this, as it was
 pub end_told : {D J : Type 0} (event_of : D → Option Event) (kills : Kills J) (fails : FailsToWait J) (ends : EndsAs J) (by_force : Bool) (job : J)
     (serial : ℕ) (old new : D) (last : Option Event)
     → IsSeenOut kills fails ends by_force job
@@ -35,14 +18,6 @@ end_told event_of kills fails ends by_force job serial old new last (inl end) is
 end_told event_of kills fails ends by_force job serial old new last (inr retired) is = inr (retired.true_of_it, is ∙ retired.told)
 
 -- the same of a child that had no pipe ends
-pub over_by_force : {D J : Type 0} (program_of : J → ProgramText) (environment_of : J → Variables) (event_of : D → Option Event)
-    (kills : Kills J) (fails : FailsToWait J) (ends : EndsAs J) (first : J) (serial : ℕ) (old new : D)
-    → OfSameChild program_of environment_of first (λ job. IsSeenOut kills fails ends true job
-    (λ _ n status after. event_of after ≡ Some (Ended n status)) (λ _ n after. event_of after ≡ Some (Retired n)) serial old new)
-    → IsEndOf (event_of new) serial
-over_by_force program_of environment_of event_of kills fails ends first serial old new told =
-    over_told event_of kills fails ends true told.job serial old new told.so
-
 pub end_by_force : {D J : Type 0} (program_of : J → ProgramText) (environment_of : J → Variables) (event_of : D → Option Event)
     (kills : Kills J) (fails : FailsToWait J) (ends : EndsAs J) (first : J) (serial : ℕ) (old new : D) (last : Option Event)
     → OfSameChild program_of environment_of first (λ job. IsSeenOut kills fails ends true job

@@ -127,7 +127,6 @@ impl<'a, H: Host> Context<'a, H> {
     }
 
     // Serves a connection up to the start of its child.
-    #[tactic(auto, using(crate::proofs::FoundLemmas::own_child))]
     fn serve(
         &self,
         serial: u64,
@@ -162,7 +161,6 @@ impl<'a, H: Host> Context<'a, H> {
     }
 
     // Takes the pipe ends of the child of a connection.
-    #[tactic(auto, using(crate::proofs::Told::over_by_force))]
     fn begin(
         &self,
         attendant: &Attendant<'_, H>,
@@ -296,7 +294,6 @@ impl<'a, H: Host> Attended<'a, H> {
     }
 
     /// Its child, which holds it itself, is waited for.
-    #[tactic(auto, using(crate::proofs::Told::over_told))]
     pub(crate) fn see_out(self) -> Over
         ensures own { result.serial ≡ self.entry.serial }
         ensures ended { IsEndOfChild H.Job.killed H.Job.refused_wait H.Job.ended false (job_of self.entry.running)
@@ -316,7 +313,6 @@ impl<'a, H: Host> Attended<'a, H> {
     }
 
     /// What its child says is passed on to the end; then its child is waited for, and it ends.
-    #[tactic(auto, using(crate::proofs::Told::over_told))]
     pub(crate) fn pass_down(self, attendant: &Attendant<'_, H>, talk: Talk<H>) -> Over
         ensures own { result.serial ≡ self.entry.serial }
         ensures ended { IsEndOfChild H.Job.killed H.Job.refused_wait H.Job.ended false (job_of self.entry.running)
