@@ -57,8 +57,8 @@ PAIRS = [(b"key %d" % number, b"D") for number in range(40)]
 EVENTS = b"".join(b"event admitted %d 10.0.0.%d\n" % (serial, serial) for serial in range(1, 41))
 HOSTS = b"".join(b"10.0.0.%d host%d.example\n=host%d.example 10.0.0.%d\n" % (n, n, n, n) for n in range(10))
 NO_MEMORY = b"out of memory\n"
-# the program and its words, what it is given, and what it may answer for want of memory, beside nothing with exit code 1, or what it answers with
-# ample memory, where it found less of it enough: a maker goes on without the pair for which there was none
+# the program and its words, what it is given, and what it may answer for want of memory, beside nothing with exit code 1, or all that it answers with
+# ample memory: a maker goes on without the pair for which there was none
 CALLS = [
     ("test_calls", ["pairs", "1000000"], b"".join(key + b"\t" + value + b"\n" for key, value in PAIRS),
      [NO_MEMORY + compiled_files.cdb(PAIRS[:at] + PAIRS[at + 1:]) for at in range(len(PAIRS))]),
