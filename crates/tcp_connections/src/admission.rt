@@ -54,7 +54,8 @@ pub trait Admission {
         ensures once { OnErr result (IsTrue (failed_last self.new 1)) }
         ensures again { OnErr result
             ((n : ℕ) → IsTrue (failed_last self.old n) → IsTrue (failed_last self.new (n + 1))) }
-        ensures fewer { OnErr result ((n : ℕ) → IsTrue (failed_last self.old n) → IsTrue (failed_last self.new n)) };
+        ensures fewer { OnErr result
+            ((n : ℕ) → IsTrue (failed_last self.old n) → IsTrue (failed_last self.new n)) };
 
     /// Lets nobody in any more, and turns away those who wait.
     fn close(&mut self)

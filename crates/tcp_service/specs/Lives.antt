@@ -2,6 +2,7 @@
 use Rattle.std.specs.Prelude.{◌≡◌, ◌⊎◌, ℕ, Bool, Option, Some, ⊤, option_and_then}
 use Rattle.child_jobs.specs.Plans.{PlanText}
 use Rattle.child_jobs.specs.Programs.{ProgramText}
+use Rattle.child_jobs.specs.Runs.{IsSameChild}
 use Rattle.connection_facts.specs.Peers.{Client}
 use Rattle.connection_facts.specs.declared.outcome.Status.{Status}
 use Rattle.one_connection.specs.Openings.{Opening, WasFound}
@@ -31,6 +32,13 @@ abbrev pub IsEndOfChild : {J : Type 0} → Kills J → FailsToWait J → EndsAs 
 IsEndOfChild kills fails ends by_force job event serial =
     ((status : Status) × OneEnds kills fails ends (rounds by_force) job status × (event ≡ Some (Ended serial status)))
     ⊎ (AllFail kills fails (rounds by_force) job × (event ≡ Some (Retired serial)))
+
+-- this is so of a job of the same program with the same variables
+pub record OfSameChild {J : Type 0} (program_of : J → ProgramText) (environment_of : J → Variables) (first : J)
+    (is_so : J → Type 0) : Type 0 where
+  pub job : J
+  pub same : IsSameChild program_of environment_of first job
+  pub so : is_so job
 
 -- a program that runs for a connection is the one of its decision, by what that connection found when it opened the rules: the plan's, with the
 -- variables that this decision gives
