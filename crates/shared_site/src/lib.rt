@@ -3,8 +3,8 @@
 //! The server uses `Site::turn`, which runs any value that is a `Turn` and counts its event for its caller, and
 //! `Site::close`. A turn is the yard's call of its name if the table allows the event; otherwise it is an error that
 //! changes nothing but the speaker. Only tests use receipts, `audit`, `close_and_audit` and the turns of installations.
-//! Nothing is proved about the answers of `room` and `live`. That threads get the lock and go on is tested
-//! (`test_sites`).
+//! `room` answers that all places are retired only if they are. Nothing is proved about the answer of `live`. That
+//! threads get the lock and go on is tested (`test_sites`).
 #![tactic(auto)]
 
 pub mod audit;
@@ -20,5 +20,5 @@ pub mod turns;
 pub use caller::{Caller, Callers};
 pub use closing::{NotWhole, audit_whole, close_and_audit};
 pub use receipt::{Made, OutOfTurn, Receipt};
-pub use site::{Room, Site};
+pub use site::{AllRetired, Site};
 pub use turn::Turn;

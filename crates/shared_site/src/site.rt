@@ -12,13 +12,21 @@ use std::alloc::{AllocError, Global};
 use std::sync::ledger::{Blank, Book, Share};
 use std::sync::{Condvar, Mutex, Wait};
 
-/// Why a wait for a place ended.
-#[derive(Clone, Copy, PartialEq, Eq, Debug)]
-pub enum Room {
-    /// Fewer connections are alive than may be.
-    Free,
-    /// All places are retired, and none will ever be free.
-    AllRetired,
+/// Evidence that all places of a site are retired, so that none will ever be free. Only a yard that is so makes it.
+#[derive(Drop)]
+pub struct AllRetired {
+    // this field is private, so that nobody else makes one
+    seal: (),
+}
+
+impl AllRetired {
+    // That this yard is so.
+    fn of<L: Assumptions, D: Dir + Drop, J: Journal>(yard: &Yard<L, D, J>) -> AllRetired
+        requires retired { (yard_server yard.now).limit ≤ (yard_books yard.now).report.retired }
+    {
+        let _ = yard;
+        AllRetired { seal: () }
+    }
 }
 
 // A yard, and how many events it had since the site was made.
@@ -119,16 +127,18 @@ impl<L: Assumptions, N: Callers, D: Dir + Drop, J: Journal> Site<L, N, D, J> {
         self.guarded.lock(rt).yard.live()
     }
 
-    /// Waits until a place is free or all places are retired. The wait is no event.
-    pub fn room<R: Wait>(&self, rt: &R) -> Room {
+    /// Waits until a place is free. The wait is no event.
+    ///
+    /// # Errors
+    /// All places are retired.
+    pub fn room<R: Wait>(&self, rt: &R) -> Result<(), AllRetired> {
         let guarded = self
             .freed
             .wait_while(rt, self.guarded.lock(rt), |guarded| guarded.is_taken());
-        if guarded.yard.live() < guarded.yard.limit() {
-            Room::Free
-        } else {
-            Room::AllRetired
+        if guarded.yard.journal().report().retired < guarded.yard.limit() {
+            return Ok(());
         }
+        Err(AllRetired::of(&guarded.yard))
     }
 
     /// The yard, once all callers are back. Its history has as many events as when the site was made, and those of all

@@ -1,5 +1,5 @@
 //! How a connection is let in: accepted, named, and counted.
-ghost use Rattle.std.specs.Prelude.{◌≡◌};
+ghost use Rattle.std.specs.Prelude.{◌≡◌, is_some};
 ghost use Rattle.shared_site.specs.Callers.{caller_share};
 ghost use Rattle.tcp_connections.specs.Admissions.{LetsIn};
 ghost use Rattle.tcp_connections.specs.declared.admission.AdmitOutcome.TheVariants.{Refused};
@@ -12,7 +12,7 @@ use crate::server::Server;
 use crate::telling::{AdmittedBy, TellingAdmission};
 use connection_facts::{DropCause, Peer};
 use server_yard::AdmitFault;
-use shared_site::Room;
+use shared_site::AllRetired;
 use shared_site::turns::Dropped;
 use std::alloc::AllocError;
 use std::snapshot::Snapshot;
@@ -26,17 +26,29 @@ pub(crate) struct Entrance<'a, H: Host> {
     pub server: &'a Server<'a, H>,
     pub acceptor: H::Acceptor,
     pub admitter: CallerOf<H>,
+    /// That all places are retired, once the site has said so.
+    pub retired: Option<AllRetired>,
 }
 
 impl<'a, H: Host> Admission for Entrance<'a, H> {
     type Work = Admitted<'a, H>;
 
+    type Refusal = Refused;
+
     ghost let_in = { λ entrance. caller_share entrance.admitter };
 
     ghost failed_last = { λ entrance. H.Acceptor.failed_last entrance.acceptor };
 
-    fn wait_for_room(&self) -> bool {
-        self.server.site.room(self.server.rt) == Room::Free
+    ghost all_retired = { λ entrance. is_some entrance.retired };
+
+    fn wait_for_room(&mut self) -> bool {
+        match self.server.site.room(self.server.rt) {
+            Ok(()) => true,
+            Err(retired) => {
+                self.retired = Some(retired);
+                false
+            }
+        }
     }
 
     fn next(&mut self) -> Result<AdmitOutcome<Admitted<'a, H>>, AcceptFault> {

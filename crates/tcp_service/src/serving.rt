@@ -126,6 +126,7 @@ where
         server: &server,
         acceptor,
         admitter,
+        retired: None,
     };
     let (end, entrance) = serve_through(
         rt,
@@ -141,6 +142,7 @@ where
         server: _,
         acceptor,
         admitter,
+        retired: _,
     } = entrance;
     close(end, acceptor, site, callers, admitter, teller.into_inner())
 }
