@@ -1,5 +1,5 @@
 -- What a caller gets for an event: evidence that it made it, or that it was out of turn; and the receipt.
-use Rattle.std.specs.Prelude.{◌≡◌, ◌⊎◌, ℕ, Option, Some, None, Result, Ok, Err, IfOk, OnErr}
+use Rattle.std.specs.Prelude.{◌≡◌, ◌⊎◌, ℕ, Result, Ok, Err, IfOk, OnErr}
 use Rattle.connection_facts.specs.Peers.{Client}
 use Rattle.event_journals.specs.Journals.{one_more}
 use Rattle.server_events.specs.declared.event.Event.{Event}
@@ -36,11 +36,6 @@ refused_event refusal = shown_event refusal.asked
 -- a turn makes one event or none; a journal that only counts stays at its last number
 abbrev pub CountsAtMostOne : (old new : ℕ) → Type 0
 CountsAtMostOne old new = (new ≡ old) ⊎ (new ≡ one_more old)
-
--- one event more if one was made, and otherwise none
-abbrev pub CountsMade : Option Made → (before after : ℕ) → Type 0
-CountsMade None before after = after ≡ before
-CountsMade (Some made) before after = after ≡ one_more before
 
 -- the caller with this number made this event, the next after this many; or it was out of turn, and no event was made
 abbrev pub MakesOrNot : Event → (who before : ℕ) → Result Made OutOfTurn → (after : ℕ) → Type 0

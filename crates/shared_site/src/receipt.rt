@@ -13,23 +13,12 @@ pub enum EventSnapshot {
     Admitted(Snapshot<u64>, Snapshot<Peer>),
     /// The connection with this serial was decided so.
     Decided(Snapshot<u64>, Snapshot<Decision>),
-    /// Any other event; it owns nothing.
+    /// This event, which owns nothing.
     Other(Snapshot<Event>),
 }
 
-impl EventSnapshot {
-    ghost use Rattle.shared_site.specs.Receipts.{shown_event};
-
-    /// The snapshot of an event.
-    pub(crate) fn of(event: &Event) -> EventSnapshot
-        ensures { shown_event result ≡ event.now }
-    {
-        EventSnapshot::Other(Snapshot::of(event))
-    }
-}
-
-/// Evidence that a caller made an event, at a position of the history. Only the calls of `turns` make one. Whoever audits
-/// makes a receipt of it.
+/// Evidence that a caller made an event, at a position of the history. Only `turn::made` makes one, of an event that was
+/// just made. Whoever audits makes a receipt of it.
 #[derive(Drop)]
 pub struct Made {
     pub(crate) caller: u64,
@@ -85,16 +74,5 @@ pub struct Receipt {
 /// one.
 #[derive(Drop)]
 pub struct OutOfTurn {
-    asked: EventSnapshot,
-}
-
-impl OutOfTurn {
-    ghost use Rattle.shared_site.specs.Receipts.{refused_event, shown_event};
-
-    /// Evidence that this event was out of turn.
-    pub(crate) fn of(asked: EventSnapshot) -> OutOfTurn
-        ensures { refused_event result ≡ shown_event asked }
-    {
-        OutOfTurn { asked }
-    }
+    pub(crate) asked: EventSnapshot,
 }

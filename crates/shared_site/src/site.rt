@@ -31,16 +31,18 @@ struct Guarded<L: Assumptions, N: Callers, D: Dir + Drop, J: Journal> {
 }
 
 impl<L: Assumptions, N: Callers, D: Dir + Drop, J: Journal> Guarded<L, N, D, J> {
-    // Runs a turn of a caller. The journal's number before and after it says how many events it made.
-    fn turn<T: Turn<L, D, J>>(&mut self, caller: &mut Caller<N>, turn: T) -> T::Answer
+    // Runs a turn of a caller, and answers also whether it made room when there was none. The journal's number before and
+    // after it says how many events it made.
+    fn turn<T: Turn<L, D, J>>(&mut self, caller: &mut Caller<N>, turn: T) -> (T::Answer, bool)
         requires may { T.may turn }
-        ensures counted { CountsForIts (T.answers turn) result caller.old caller.new }
+        ensures counted { CountsForIts (T.answers turn) result.0 caller.old caller.new }
     {
+        let was_taken = self.is_taken();
         let before = self.yard.journal().events();
         let answer = turn.run(&mut self.yard, caller.number);
         let made = self.yard.journal().events() - before;
         self.events.add(&mut caller.share, made);
-        answer
+        (answer, was_taken && !self.is_taken())
     }
 
     // Whether no place is free, but one may become free.
@@ -107,7 +109,7 @@ impl<L: Assumptions, N: Callers, D: Dir + Drop, J: Journal> Site<L, N, D, J> {
         requires may { T.may turn }
         ensures counted { CountsForIts (T.answers turn) result caller.old caller.new }
     {
-        let (answer, makes_room) = turn_under(&mut self.guarded.lock(rt), caller, turn);
+        let (answer, makes_room) = self.guarded.lock(rt).turn(caller, turn);
         if makes_room {
             self.freed.notify_all();
         }
@@ -158,20 +160,6 @@ impl<L: Assumptions, N: Callers, D: Dir + Drop, J: Journal> Site<L, N, D, J> {
         events.audit(&mut all);
         Ok(yard)
     }
-}
-
-// Runs a turn. Whether it made room when there was none.
-fn turn_under<L: Assumptions, N: Callers, D: Dir + Drop, J: Journal, T: Turn<L, D, J>>(
-    guarded: &mut Guarded<L, N, D, J>,
-    caller: &mut Caller<N>,
-    turn: T,
-) -> (T::Answer, bool)
-    requires may { T.may turn }
-    ensures counted { CountsForIts (T.answers turn) result.0 caller.old caller.new }
-{
-    let was_taken = guarded.is_taken();
-    let answer = guarded.turn(caller, turn);
-    (answer, was_taken && !guarded.is_taken())
 }
 
 // This many callers, each with one part and a share of 0.
