@@ -21,10 +21,9 @@ pub struct AllRetired {
 
 impl AllRetired {
     // That this yard is so.
-    fn of<L: Assumptions, D: Dir + Drop, J: Journal>(yard: &Yard<L, D, J>) -> AllRetired
-        requires retired { (yard_server yard.now).limit ≤ (yard_books yard.now).report.retired }
+    fn of<L: Assumptions, D: Dir + Drop, J: Journal>(_yard: &Yard<L, D, J>) -> AllRetired
+        requires retired { (yard_server _yard.now).limit ≤ (yard_books _yard.now).report.retired }
     {
-        let _ = yard;
         AllRetired { seal: () }
     }
 }
@@ -39,16 +38,18 @@ struct Guarded<L: Assumptions, N: Callers, D: Dir + Drop, J: Journal> {
 }
 
 impl<L: Assumptions, N: Callers, D: Dir + Drop, J: Journal> Guarded<L, N, D, J> {
-    // Runs a turn of a caller. The journal's number before and after it says how many events it made.
-    fn turn<T: Turn<L, D, J>>(&mut self, caller: &mut Caller<N>, turn: T) -> T::Answer
+    // Runs a turn of a caller, and answers also whether it made room when there was none. The journal's number before and
+    // after it says how many events it made.
+    fn turn<T: Turn<L, D, J>>(&mut self, caller: &mut Caller<N>, turn: T) -> (T::Answer, bool)
         requires may { T.may turn }
-        ensures counted { CountsForIts (T.answers turn) result caller.old caller.new }
+        ensures counted { CountsForIts (T.answers turn) result.0 caller.old caller.new }
     {
+        let was_taken = self.is_taken();
         let before = self.yard.journal().events();
         let answer = turn.run(&mut self.yard, caller.number);
         let made = self.yard.journal().events() - before;
         self.events.add(&mut caller.share, made);
-        answer
+        (answer, was_taken && !self.is_taken())
     }
 
     // Whether no place is free, but one may become free.
@@ -115,7 +116,7 @@ impl<L: Assumptions, N: Callers, D: Dir + Drop, J: Journal> Site<L, N, D, J> {
         requires may { T.may turn }
         ensures counted { CountsForIts (T.answers turn) result caller.old caller.new }
     {
-        let (answer, makes_room) = turn_under(&mut self.guarded.lock(rt), caller, turn);
+        let (answer, makes_room) = self.guarded.lock(rt).turn(caller, turn);
         if makes_room {
             self.freed.notify_all();
         }
@@ -168,20 +169,6 @@ impl<L: Assumptions, N: Callers, D: Dir + Drop, J: Journal> Site<L, N, D, J> {
         events.audit(&mut all);
         Ok(yard)
     }
-}
-
-// Runs a turn. Whether it made room when there was none.
-fn turn_under<L: Assumptions, N: Callers, D: Dir + Drop, J: Journal, T: Turn<L, D, J>>(
-    guarded: &mut Guarded<L, N, D, J>,
-    caller: &mut Caller<N>,
-    turn: T,
-) -> (T::Answer, bool)
-    requires may { T.may turn }
-    ensures counted { CountsForIts (T.answers turn) result.0 caller.old caller.new }
-{
-    let was_taken = guarded.is_taken();
-    let answer = guarded.turn(caller, turn);
-    (answer, was_taken && !guarded.is_taken())
 }
 
 // This many callers, each with one part and a share of 0.

@@ -19,7 +19,7 @@ use Rattle.ucspi_env.specs.Ends.{LocalEnd}
 use Rattle.ucspi_env.specs.Variables.{Variables}
 
 -- where a client is let in, the event that was made is the admission of it, by the serial that it has
-abbrev pub AdmitsOwn : {P : Type 0} → AdmitOutcome (ℕ × P × Made) → Client → Type 0
+abbrev pub AdmitsOwn : {P E : Type 0} → AdmitOutcome (ℕ × P × Made) E → Client → Type 0
 AdmitsOwn (In r) client = made_event r.2 ≡ Admitted r.0 client
 AdmitsOwn outcome client = ⊤
 

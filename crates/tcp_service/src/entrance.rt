@@ -2,7 +2,8 @@
 ghost use Rattle.std.specs.Prelude.{◌≡◌, is_some};
 ghost use Rattle.shared_site.specs.Callers.{caller_share};
 ghost use Rattle.tcp_connections.specs.Admissions.{LetsIn};
-ghost use Rattle.tcp_connections.specs.declared.admission.AdmitOutcome.TheVariants.{Refused};
+ghost use Rattle.tcp_connections.specs.declared.admission.AdmitOutcome.TheVariants as outcome;
+ghost use Rattle.tcp_service.specs.declared.entrance.Refused.TheVariants.{OutOfMemory};
 ghost use Rattle.tcp_service.specs.Lives.{AdmitsOwn};
 
 use crate::host::{AcceptedBy, CallerOf, Host};
@@ -12,12 +13,26 @@ use crate::server::Server;
 use crate::telling::{AdmittedBy, TellingAdmission};
 use connection_facts::{DropCause, Peer};
 use server_yard::AdmitFault;
-use shared_site::AllRetired;
 use shared_site::turns::Dropped;
+use shared_site::{AllRetired, Refusal};
 use std::alloc::AllocError;
 use std::snapshot::Snapshot;
 use tcp_connections::{AcceptFault, Acceptor, Admission, AdmitOutcome};
 use ucspi_env::Local;
+
+/// Why a connection was refused.
+#[derive(Drop)]
+pub(crate) enum Refused {
+    /// There was no memory for it.
+    OutOfMemory,
+    /// Its site has not let it in.
+    BySite(Refusal),
+}
+
+/// What came of a connection, and of its turn at the site.
+type LetIn<'a, H> = AdmitOutcome<Admitted<'a, H>, Refused>;
+
+type Counted<H> = AdmitOutcome<AdmittedBy<H>, Refusal>;
 
 /// Lets the connections of an acceptor in, by a caller of a site that makes no other events: its share is how many were
 /// let in.
@@ -51,11 +66,11 @@ impl<'a, H: Host> Admission for Entrance<'a, H> {
         }
     }
 
-    fn next(&mut self) -> Result<AdmitOutcome<Admitted<'a, H>>, AcceptFault> {
+    fn next(&mut self) -> Result<LetIn<'a, H>, AcceptFault> {
         let server = self.server;
         match self.acceptor.accept() {
             Ok(accepted) => Ok(let_in(server, &mut self.admitter, accepted)),
-            Err(AcceptFault::OutOfMemory) => Ok(refuse_for_memory(server)),
+            Err(AcceptFault::OutOfMemory) => Ok(lack_memory(server)),
             Err(fault) => Err(fault),
         }
     }
@@ -77,11 +92,11 @@ fn ends_of<H: Host>(
 }
 
 // A connection has found no memory.
-fn refuse_for_memory<H: Host, T>(server: &Server<'_, H>) -> AdmitOutcome<T>
-    ensures refused { result ≡ Refused }
+fn lack_memory<'a, H: Host>(server: &'a Server<'a, H>) -> LetIn<'a, H>
+    ensures refused { result ≡ outcome.Refused OutOfMemory }
 {
     let _ = server.log.lock(server.rt).out_of_memory();
-    AdmitOutcome::Refused
+    AdmitOutcome::Refused(Refused::OutOfMemory)
 }
 
 // Lets a connection in; one that is refused is closed.
@@ -89,11 +104,11 @@ fn let_in<'a, H: Host>(
     server: &'a Server<'a, H>,
     admitter: &mut CallerOf<H>,
     accepted: AcceptedBy<H>,
-) -> AdmitOutcome<Admitted<'a, H>>
+) -> LetIn<'a, H>
     ensures came { LetsIn result (caller_share admitter.old) (caller_share admitter.new) }
 {
     let Ok((peer, local)) = ends_of(server, &accepted) else {
-        return refuse_for_memory(server);
+        return lack_memory(server);
     };
     match admit(server, admitter, &peer) {
         AdmitOutcome::In((serial, place, made)) => AdmitOutcome::In(Admitted {
@@ -105,7 +120,7 @@ fn let_in<'a, H: Host>(
             streams: ClientStreams::of(accepted),
             made: Snapshot::of(&made),
         }),
-        AdmitOutcome::Refused => AdmitOutcome::Refused,
+        AdmitOutcome::Refused(refusal) => AdmitOutcome::Refused(Refused::BySite(refusal)),
         AdmitOutcome::Spent => AdmitOutcome::Spent,
     }
 }
@@ -116,7 +131,7 @@ fn admit<H: Host>(
     server: &Server<'_, H>,
     admitter: &mut CallerOf<H>,
     peer: &Peer,
-) -> AdmitOutcome<AdmittedBy<H>>
+) -> Counted<H>
     ensures came { LetsIn result (caller_share admitter.old) (caller_share admitter.new) }
     ensures own { AdmitsOwn result peer.now }
 {
@@ -135,7 +150,9 @@ fn admit<H: Host>(
             }
             AdmitOutcome::In((serial, place, made))
         }
-        Err(AdmitFault::Spent) => AdmitOutcome::Spent,
-        Err(_) => AdmitOutcome::Refused,
+        Err(refusal) => match refusal.fault() {
+            AdmitFault::Spent => AdmitOutcome::Spent,
+            _ => AdmitOutcome::Refused(refusal),
+        },
     }
 }

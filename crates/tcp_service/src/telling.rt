@@ -8,7 +8,7 @@ use connection_facts::Peer;
 use server_log::{Log, Told};
 use server_yard::AdmitFault;
 use shared_site::turns::Admit;
-use shared_site::{Made, OutOfTurn, Turn};
+use shared_site::{Made, OutOfTurn, Refusal, Turn};
 use std::sync::Mutex;
 
 /// A turn of a connection that was let in, and what the log is told of its event.
@@ -56,13 +56,13 @@ pub(crate) struct TellingAdmission<'a, H: Host> {
 }
 
 impl<H: Host> Turn<H::Places, H::Folder, H::Journal> for TellingAdmission<'_, H> {
-    type Answer = Result<AdmittedBy<H>, AdmitFault>;
+    type Answer = Result<AdmittedBy<H>, Refusal>;
 
     ghost may = { λ _. ⊤ };
 
     ghost answers = { λ turn. AdmitsOrNot turn.peer.now };
 
-    fn run(self, yard: &mut YardOf<H>, caller: u64) -> Result<AdmittedBy<H>, AdmitFault> {
+    fn run(self, yard: &mut YardOf<H>, caller: u64) -> Result<AdmittedBy<H>, Refusal> {
         let TellingAdmission { peer, rt, log } = self;
         let admitted = Admit { peer }.run(yard, caller);
         tell_admission::<H>(rt, log, peer, yard.live(), &admitted);
@@ -76,7 +76,7 @@ fn tell_admission<H: Host>(
     log: &Mutex<Log<H::Lines>>,
     peer: &Peer,
     live: u64,
-    admitted: &Result<AdmittedBy<H>, AdmitFault>,
+    admitted: &Result<AdmittedBy<H>, Refusal>,
 ) {
     let (ip, mut log) = (peer.ip(), log.lock(rt));
     let _ = match admitted {
@@ -84,8 +84,10 @@ fn tell_admission<H: Host>(
             let serial = *serial;
             log.tell(made.at(), live, Told::Admitted { serial, ip })
         }
-        Err(AdmitFault::FullForAddress) => log.address_full(ip),
-        Err(AdmitFault::OutOfMemory) => log.out_of_memory(),
-        Err(AdmitFault::Full | AdmitFault::Spent) => Ok(()),
+        Err(refusal) => match refusal.fault() {
+            AdmitFault::FullForAddress => log.address_full(ip),
+            AdmitFault::OutOfMemory => log.out_of_memory(),
+            AdmitFault::Full | AdmitFault::Spent => Ok(()),
+        },
     };
 }

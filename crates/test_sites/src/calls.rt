@@ -14,12 +14,12 @@ use rule_lookup::{DecideFault, Decision, decide};
 use rules_install::{FileNames, Install, Phase};
 use server_events::Event;
 use server_yard::{AdmitFault, Assumptions, Pass};
-use shared_site::install_turns::{InstallBegin, InstallStep};
-use shared_site::turns::{Admit, Decided, Dropped, Ended, Open, Started};
+use shared_site::turns::{Admit, Decided, Dropped, Ended, Started};
 use shared_site::{Caller, Callers, Made, OutOfTurn, Receipt, Room, Site, Turn};
 use std::alloc::Global;
 use std::process::Abort;
 use std::sync::Wait;
+use whole_yard::{InstallBegin, InstallStep, Open};
 
 /// More steps than an installation of a short text takes.
 const STEPS: u64 = 64;
