@@ -45,7 +45,8 @@ LeadsFound serial bytes old new = bytes ≡ standing_of old → LeadsOpened seri
 module _ {L D J F : Type 0} {p : assumptions.Ghosts L} {d : dir.Ghosts D F} {f : file.Ghosts F} {j : journal.Ghosts J} where
   -- a turn of a caller gave this answer between these states of a yard, as it may by the numbers of events before and
   -- after it
-  abbrev pub Answers : {A : Type 0} → (answers : ℕ → ℕ → A → ℕ → Type 0) → (who : ℕ) → A → (old new : Yard L D J F p d f j) → Type 0
+  abbrev pub Answers : {A : Type 0} → (answers : ℕ → ℕ → A → ℕ → Type 0) → (who : ℕ) → A
+      → (old new : Yard L D J F p d f j) → Type 0
   Answers answers who answer old new = answers who (yard_books old).count answer (yard_books new).count
 
   -- a yard is as before, but for the speaker
@@ -57,7 +58,8 @@ module _ {L D J F : Type 0} {p : assumptions.Ghosts L} {d : dir.Ghosts D F} {f :
   -- A turn of a caller made this event, or it was out of turn and made none. An event that was made is noted as the
   -- caller's, and over an honest directory it leads the yard on in this way. Out of turn nothing changed but the
   -- speaker. In turn or not, the yard is the same beside its events, and so are all seats.
-  pub record MakesBy (who : ℕ) (event : Event) (leads : (old new : YardState) → Type 0) (was_made : Bool) (old new : Yard L D J F p d f j) : Type 0 where
+  pub record MakesBy (who : ℕ) (event : Event) (leads : (old new : YardState) → Type 0) (was_made : Bool)
+      (old new : Yard L D J F p d f j) : Type 0 where
     pub noted : OnTrue was_made (NotesBy who event (yard_roll old) (yard_roll new))
     pub step : IsTrue d.honest → OnTrue was_made (leads (yard_state old) (yard_state new))
     pub out : OnFalse was_made (IsPassedOver who old new)

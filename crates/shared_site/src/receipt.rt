@@ -20,8 +20,8 @@ pub enum EventSnapshot {
     Other(Snapshot<Event>),
 }
 
-/// Evidence that a caller made an event, at a position of the history. Only `turn::made` makes one, of an event that was
-/// just made. Whoever audits makes a receipt of it.
+/// Evidence that a caller made an event, at a position of the history. Only `turn::made` makes one, and only of an
+/// event that this caller has just made. Whoever audits makes a receipt of it.
 #[derive(Drop)]
 pub struct Made {
     pub(crate) caller: u64,

@@ -38,8 +38,8 @@ struct Guarded<L: Assumptions, N: Callers, D: Dir + Drop, J: Journal> {
 }
 
 impl<L: Assumptions, N: Callers, D: Dir + Drop, J: Journal> Guarded<L, N, D, J> {
-    // Runs a turn of a caller, and answers also whether it made room when there was none. The journal's number before and
-    // after it says how many events it made.
+    // Runs a turn of a caller. It also answers whether that made room when there was none. The journal's number before
+    // and after the turn says how many events it made.
     fn turn<T: Turn<L, D, J>>(&mut self, caller: &mut Caller<N>, turn: T) -> (T::Answer, bool)
         requires may { T.may turn }
         ensures counted { CountsForIts (T.answers turn) result.0 caller.old caller.new }

@@ -63,7 +63,8 @@ impl<L: Assumptions, D: Dir + Drop, J: Journal> Turn<L, D, J> for Admit<'_> {
         ensures seat { IfOk result (λ r. GivesSeat r.1 r.0 (yard_seat yard.old) (yard_seat yard.new)) }
         ensures same { IsSameBeside yard.old yard.new }
         ensures refused { OnErr result (IsQuiet (spoken_by caller (yard_roll yard.old)) (yard_roll yard.new)) }
-        ensures same_seats { OnErr result (KeepsSerials (yard_server yard.old) (yard_seat yard.old) (yard_seat yard.new)) }
+        ensures same_seats { OnErr result
+            (KeepsSerials (yard_server yard.old) (yard_seat yard.old) (yard_seat yard.new)) }
     {
         let Admit { peer } = self;
         yard.speaker(caller);

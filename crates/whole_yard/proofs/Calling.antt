@@ -64,4 +64,4 @@ some_counted who (Some event) old mid new speaks noted = one_counted who event o
 pub last_of_some : (who : ℕ) (event : Option Event) (old mid new : Roll)
     → mid ≡ spoken_by who old → NotesSome event mid new → IfSome event (λ (e : Event). IsLastOf who e new)
 last_of_some who None old mid new speaks noted = tt
-last_of_some who (Some event) old mid new speaks noted = last_of who event old mid new speaks noted
+last_of_some who (Some event) old mid new speaks noted = last_of who event event old mid new speaks noted refl

@@ -15,8 +15,8 @@ use thiserror::Error;
 #[error("receipt {0} is wrong")]
 pub struct Mismatch(pub usize);
 
-/// Compares receipts with the history. Each has to be the event and the caller at its position there, and that position has
-/// to be above those of its caller's earlier receipts in the list. Then no position stands in the list twice.
+/// Compares receipts with the history. Each has to be the event and the caller at its position there, and that position
+/// has to be above those of its caller's earlier receipts in the list. Then no position stands in the list twice.
 ///
 /// It takes no memory. For each receipt it goes back in the list to the last one of the same caller. That takes at most
 /// as many steps as there are receipts for each caller, and few if the receipts of each caller stand together.

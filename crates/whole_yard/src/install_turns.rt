@@ -100,22 +100,27 @@ impl<L: Assumptions, D: Dir + Drop, J: Journal> Turn<L, D, J> for InstallStep {
         ensures answers { StepsOrNot caller (yard_books yard.old).count result (yard_books yard.new).count }
         ensures counts { CountsAtMostOne (yard_books yard.old).count (yard_books yard.new).count }
         ensures receipt { option_map receipt_of result.1
-            ≡ option_map (receipt_after (yard_books yard.old).count caller) (event_of_step (kept_under yard.old self.number) result.0) }
+            ≡ option_map (receipt_after (yard_books yard.old).count caller)
+            (event_of_step (kept_under yard.old self.number) result.0) }
         ensures over { (result.0 ≡ Err Over) ↔ (kept_number yard.old ≢ Some self.number) }
-        ensures after_done { kept_number yard.old ≡ Some self.number → yard_installing yard.old ≡ None → result.0 ≡ Ok Done }
+        ensures after_done { kept_number yard.old ≡ Some self.number
+            → yard_installing yard.old ≡ None → result.0 ≡ Ok Done }
         ensures noted { NotesSome (event_of_step (kept_under yard.old self.number) result.0)
             (spoken_by caller (yard_roll yard.old)) (yard_roll yard.new) }
         ensures step { IsTrue D.honest → LeadsSome (event_of_step (kept_under yard.old self.number) result.0)
             (yard_state yard.old) (yard_state yard.new) }
         ensures stops { IsTrue D.honest → LeavesNothingElse yard.old yard.new }
-        ensures goes { IfSome (kept_under yard.old self.number) (λ s. GoesAsStep s (yard_installing yard.new) result.0) }
+        ensures goes { IfSome (kept_under yard.old self.number)
+            (λ s. GoesAsStep s (yard_installing yard.new) result.0) }
         ensures kept { kept_number yard.new ≡ kept_after_step result.0 (kept_number yard.old) }
         ensures begun { last_begun yard.new ≡ last_begun yard.old }
         ensures rules { yard_rules yard.new ≡ yard_rules yard.old }
         ensures lists { (yard_books yard.new).lists ≡ (yard_books yard.old).lists }
         ensures device { IsTrue D.honest → IsOfDevice result.0 }
-        ensures blames { BlamesDevice (D.failed (yard_directory yard.old)) (D.failed (yard_directory yard.new)) result.0 }
-        ensures untouched { kept_under yard.old self.number ≡ None → yard_directory yard.new ≡ yard_directory yard.old }
+        ensures blames { BlamesDevice
+            (D.failed (yard_directory yard.old)) (D.failed (yard_directory yard.new)) result.0 }
+        ensures untouched { kept_under yard.old self.number ≡ None
+            → yard_directory yard.new ≡ yard_directory yard.old }
         ensures seats { KeepsSeats (yard_seat yard.old) (yard_seat yard.new) }
     {
         let InstallStep { alloc, number } = self;

@@ -1,5 +1,5 @@
-//! The turn by which the yard itself opens the rules for a connection. The server doesn't make it: there a connection opens
-//! them by a handle of its own (`shared_site::turns::Opened`).
+//! The turn by which the yard itself opens the rules for a connection. The server doesn't make it: there a connection
+//! opens them by a handle of its own (`shared_site::turns::Opened`).
 ghost use Rattle.std.specs.Prelude.{⊤, ◌≡◌, ◌↔◌, false, Err, None, IsTrue, IfOk, OnErr, is_some};
 ghost use Rattle.server_events.specs.ServerState.{is_admitted, stage_of};
 ghost use Rattle.server_events.specs.Worlds.{missing_by};
@@ -79,7 +79,8 @@ impl<L: Assumptions, D: Dir + Drop, J: Journal> Turn<L, D, J> for Open {
         ensures out { result ≡ Err open_fault.OutOfTurn → IsPassedOver caller yard.old yard.new }
         ensures refused { OnErr result (IsQuiet (spoken_by caller (yard_roll yard.old)) (yard_roll yard.new)) }
         ensures err_state { IsTrue D.honest → OnErr result (yard_state yard.new ≡ yard_state yard.old) }
-        ensures counted { CountsDevice (D.failed (yard_directory yard.old)) (D.failed (yard_directory yard.new)) result }
+        ensures counted { CountsDevice
+            (D.failed (yard_directory yard.old)) (D.failed (yard_directory yard.new)) result }
         ensures stops { IsTrue D.honest → LeavesNothingElse yard.old yard.new }
         ensures without { yard_rules yard.old ≡ None → yard_directory yard.new ≡ yard_directory yard.old }
         ensures same { IsSameButDirectory yard.old yard.new }

@@ -40,7 +40,8 @@ pub fn serve_by_yard<L: Assumptions, D: Dir + Drop, J: Journal, S: Launcher + Dr
     ensures headline { IsTrue D.honest → (history : List EventOf) (files : List KeptFile)
         → IsReachedBy history (yard_state agent.old.yard) files
         → GoesOnTo history (last_event serial result) (yard_state agent.new.yard) }
-    ensures started { IfRunning result (λ child. StandsAt agent.new.yard (place_of child) serial peer.now stage.Started) }
+    ensures started { IfRunning result
+        (λ child. StandsAt agent.new.yard (place_of child) serial peer.now stage.Started) }
     ensures gone { UnlessRunning result (IsGoneFrom agent.new.yard serial) }
 {
     serve_one(

@@ -96,8 +96,8 @@ returns-clause-answers g c =
     c.speaker.ensures.speaks c.install_begin-answer.ensures.noted in
     (receipt, counts_made c.args.caller old.books.count c.evidence-made.result (begin_event call.result) old (yard_roll call.new.self) receipt noted, call.ensures.back)
 
-pub evidence-requires : goal.evidence-requires
-evidence-requires g c =
+pub evidence-made-requires : goal.evidence-made-requires
+evidence-made-requires g c =
     let new = yard_roll c.install_begin-answer.new.self in
     subst (λ (e : Option Event). IfSome e (λ (one : Event). IsLastOf c.args.caller one new)) (sym c.begin_event.ensures)
     (last_of_some c.args.caller (begin_event c.install_begin-answer.result)

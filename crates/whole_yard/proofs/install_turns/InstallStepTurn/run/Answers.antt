@@ -96,8 +96,8 @@ returns-clause-answers g c =
       counts_made c.args.caller old.books.count c.evidence-made.result (event_of_step kept call.result) old (yard_roll call.new.self) (returns-clause-receipt g c) (returns-clause-noted g c),
     )
 
-pub evidence-requires : goal.evidence-requires
-evidence-requires g c =
+pub evidence-made-requires : goal.evidence-made-requires
+evidence-made-requires g c =
     let mid = c.speaker.new.self in
     let new = yard_roll c.install_step-answer.new.self in
     let answer = c.install_step-answer.result in

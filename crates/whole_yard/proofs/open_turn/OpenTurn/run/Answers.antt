@@ -111,12 +111,13 @@ returns-in-Ok-clause-counts g c =
 
 pub made-requires : goal.made-requires
 made-requires g c = record {
-  last = last_of c.args.caller (event.Opened c.args.self.serial (is_some (pass_file c.in-Ok.pass)))
-      (yard_roll c.args.yard.now) (yard_roll c.speaker.new.self) (yard_roll c.open.new.self) c.speaker.ensures.speaks (search rules);
+  last = last_of c.args.caller _ _ (yard_roll c.args.yard.now) (yard_roll c.speaker.new.self) (yard_roll c.open.new.self)
+      c.speaker.ensures.speaks c.in-Ok.ensures.noted (search rules);
 }
 
 pub returns-in-Ok-clause-answers : goal.returns-in-Ok-clause-answers
 returns-in-Ok-clause-answers g c =
     let e = event.Opened c.args.self.serial (is_some (pass_file c.in-Ok.pass)) in
-    let noted = returns-in-Ok-clause-noted g c in
-    ((c.in-Ok.ensures.its, answered c.args.caller e c.made.result (yard_roll c.args.yard.now) (yard_roll c.open.new.self) noted (search rules)), tt)
+    let its = answered c.args.caller e e c.made.result
+    (yard_roll c.args.yard.now) (yard_roll c.open.new.self) (returns-in-Ok-clause-noted g c) refl (search rules) in
+    ((c.in-Ok.ensures.its, its.0, its.1), tt)
