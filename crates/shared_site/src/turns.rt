@@ -68,12 +68,13 @@ impl<L: Assumptions, D: Dir + Drop, J: Journal> Turn<L, D, J> for Admit<'_> {
     {
         let Admit { peer } = self;
         yard.speaker(caller);
-        let (serial, place) = match yard.admit(peer) {
-            Ok(admitted) => admitted,
-            Err(fault) => return Err(Refusal::of(yard, peer, fault)),
-        };
-        let event = EventSnapshot::Admitted(Snapshot::of(&serial), Snapshot::of(peer));
-        Ok((serial, place, made(yard, caller, event)))
+        match yard.admit(peer) {
+            Ok((serial, place)) => {
+                let event = EventSnapshot::Admitted(Snapshot::of(&serial), Snapshot::of(peer));
+                Ok((serial, place, made(yard, caller, event)))
+            }
+            Err(fault) => Err(Refusal::of(yard, peer, fault)),
+        }
     }
 }
 
