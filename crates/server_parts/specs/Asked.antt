@@ -4,9 +4,10 @@ use Rattle.child_jobs.specs.Plans.{PlanText}
 use Rattle.server_parts.specs.Services.{program_by}
 use Rattle.server_parts.specs.declared.fault.ServerFault.{ServerFault}
 use Rattle.server_parts.specs.declared.fault.ServerFault.TheVariants.{BadHosts, Device, OutOfMemory, ReadFault}
-use Rattle.server_parts.specs.declared.sockets.HandedAcceptor.{HandedAcceptor}
-use Rattle.server_parts.specs.declared.sockets.PumpedAcceptor.{PumpedAcceptor}
+use Rattle.server_parts.specs.declared.programs.ProgramStarter.{ProgramStarter}
+use Rattle.server_parts.specs.declared.sockets.SocketAcceptor.{SocketAcceptor}
 use Rattle.server_words.specs.Plans.{ServerPlan}
+use Rattle.server_words.specs.declared.mode.Mode.{Mode}
 
 -- all connections have the program of the words, with all its arguments in their order, and the banner of `-B`
 pub record IsAskedPlan (words : ServerPlan) (plan : PlanText) : Type 0 where
@@ -26,15 +27,16 @@ FailsRules Device = ⊤
 FailsRules OutOfMemory = ⊤
 FailsRules fault = ⊥
 
--- the socket whose connections an acceptor accepts, and whether what is written to them is sent at once
-abbrev pub handed_from : {R T : Type 0} → HandedAcceptor R T → Option T
-handed_from acceptor = acceptor.listening.listener
+-- whether an acceptor's connections are handed over or pumped, the socket that they come from, and whether what is written to them is sent at once
+abbrev pub accepts_in : {R T : Type 0} → SocketAcceptor R T → Mode
+accepts_in acceptor = acceptor.mode
 
-abbrev pub handed_at_once : {R T : Type 0} → HandedAcceptor R T → Bool
-handed_at_once acceptor = acceptor.listening.sends_at_once
+abbrev pub accepts_from : {R T : Type 0} → SocketAcceptor R T → Option T
+accepts_from acceptor = acceptor.listener
 
-abbrev pub pumped_from : {R T : Type 0} → PumpedAcceptor R T → Option T
-pumped_from acceptor = acceptor.listening.listener
+abbrev pub accepts_at_once : {R T : Type 0} → SocketAcceptor R T → Bool
+accepts_at_once acceptor = acceptor.sends_at_once
 
-abbrev pub pumped_at_once : {R T : Type 0} → PumpedAcceptor R T → Bool
-pumped_at_once acceptor = acceptor.listening.sends_at_once
+-- whether a starter's programs hold their connections themselves, or have pipes
+abbrev pub starts_in : {R : Type 0} → ProgramStarter R → Mode
+starts_in starter = starter.mode

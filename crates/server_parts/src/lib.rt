@@ -1,10 +1,11 @@
 //! What `tcpserver` has of the system: its sockets, its programs, and the files, the folder and the socket that its
 //! words ask for.
 //!
-//! The server uses two launchers: `ServiceLauncher` gives a program pipes, and `HandingLauncher` hands it the
-//! connection. Of both it is proved that a job has the program and the variables that were asked for. `chain_of` makes
-//! the wrappers of `-w` in order. Tested only: descriptors 0 and 1 are the connection, a write to a program waits no
-//! longer than the program runs, and the bounds on clients that take nothing (`ClientWriter`).
+//! In either mode one `SocketAcceptor` accepts connections, and one `ProgramStarter` starts their programs: it hands a
+//! program the connection, or gives it pipes. It is proved that a job has the program and the variables that were asked
+//! for. `chain_of` makes the wrappers of `-w` in order. Tested only: descriptors 0 and 1 are the connection or the
+//! pipes, a write to a program waits no longer than the program runs, and the bounds on clients that take nothing
+//! (`ClientWriter`).
 #![tactic(auto)]
 
 pub mod client;
@@ -20,6 +21,6 @@ pub mod wrappers;
 pub use client::ClientWriter;
 pub use fault::{ServerFailure, ServerFault};
 pub use named_rules::has_named_rule;
-pub use programs::{HandingLauncher, ServiceLauncher};
-pub use sockets::{HandedAcceptor, PumpedAcceptor};
+pub use programs::ProgramStarter;
+pub use sockets::SocketAcceptor;
 pub use wrappers::{Wrapper, chain_of};

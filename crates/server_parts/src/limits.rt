@@ -173,21 +173,16 @@ pub fn small_limit(mode: Mode, limits: MemoryLimits) -> Option<SmallLimit>
         Mode::Pumped => START_ALONE + PUMPED_ALONE,
     };
     let (data, addresses) = (DATA_ALONE + connection, ADDRESSES_ALONE + connection);
-    if limits.data < data {
-        Some(SmallLimit {
-            counted: Counted::Data,
-            limit: limits.data,
-            wanted: data,
-        })
-    } else if limits.addresses < addresses {
-        Some(SmallLimit {
-            counted: Counted::Addresses,
-            limit: limits.addresses,
-            wanted: addresses,
-        })
+    let (counted, limit, wanted) = if limits.data < data {
+        (Counted::Data, limits.data, data)
     } else {
-        None
-    }
+        (Counted::Addresses, limits.addresses, addresses)
+    };
+    (limit < wanted).then_some(SmallLimit {
+        counted,
+        limit,
+        wanted,
+    })
 }
 
 /// How many descriptors this process may open beside those that it has. Numbers from `most` on are not looked at: they count as taken.

@@ -1,11 +1,12 @@
 //! Programs of the system, each with an input that holds up nothing once the program is over.
-ghost use Rattle.std.specs.Prelude.{⊤};
+ghost use Rattle.std.specs.Prelude.{◌≡◌, ⊤, IfOk};
 
-use crate::sockets::Handle;
+use crate::sockets::Holder;
 use child_jobs::{Job, NoEnds, Program, WaitFault};
 use connection_facts::{StartFault, Status};
 use libc::net::POLLOUT;
 use libc::types::pollfd;
+use server_words::Mode;
 use std::alloc::Global;
 use std::fs::Files;
 use std::io::{Error, ErrorKind, Write};
@@ -25,8 +26,8 @@ const PAUSE: i32 = 100;
 /// The same where the system doesn't tell whether the pipe has room.
 const SHORT_PAUSE: u64 = 5;
 
-/// For so many milliseconds a program waits that the system has no process for: at first, and at most, each time twice as long as before; and so
-/// often, which takes about a minute.
+/// For so many milliseconds a program waits that the system has no process for: at first, and at most, each time twice
+/// as long as before; and so often, which takes about a minute.
 const FIRST_WAIT: u64 = 10;
 
 const LONGEST_WAIT: u64 = 1_000;
@@ -36,49 +37,75 @@ const WAITS: u32 = 66;
 /// After so many of them each is the longest.
 const LONGER: u32 = 8;
 
-/// Starts programs as `OsLauncher` does; where the system has no process for one, the one in reserve is given back, and it waits for some time for
-/// the end of another. What is written to a program's input waits for it as long as it runs, and no longer: a process that it left behind, which
-/// holds its input and reads nothing, holds up nobody.
+/// Starts programs as `OsLauncher` does. Where the system has no process for one, the one in reserve is given back, and
+/// it waits for some time for the end of another.
+///
+/// A connection that is handed over is the standard input and output of its program, one socket twice, and this process
+/// holds it no more. Else both are pipes. What is written to a program's input waits for it as long as it runs, and no
+/// longer: a process that it left behind, which holds its input and reads nothing, holds up nobody.
 #[derive(Drop)]
-pub struct ServiceLauncher<'a, R> {
+pub struct ProgramStarter<'a, R> {
     rt: &'a R,
+    mode: Mode,
     launcher: OsLauncher<'a, R>,
     reserve: &'a Reserve,
 }
 
-impl<'a, R: Processes> ServiceLauncher<'a, R> {
-    /// A launcher over the system's processes, which looks for programs in these folders.
-    pub fn new(rt: &'a R, search: &'a SearchPath, reserve: &'a Reserve) -> ServiceLauncher<'a, R> {
-        ServiceLauncher {
+impl<'a, R: Processes + Files + Wait + Clock> ProgramStarter<'a, R> {
+    ghost use Rattle.server_parts.specs.Asked.{starts_in};
+
+    /// A starter over the system's processes, which looks for programs in these folders.
+    pub fn new(
+        rt: &'a R,
+        mode: Mode,
+        search: &'a SearchPath,
+        reserve: &'a Reserve,
+    ) -> ProgramStarter<'a, R>
+        ensures mode { starts_in result ≡ mode }
+    {
+        ProgramStarter {
             rt,
+            mode,
             launcher: OsLauncher::new(rt, search),
             reserve,
         }
     }
-}
 
-/// Starts programs that hold their connections themselves: the standard input and output of each is its connection, one socket twice, and this
-/// process holds that no more.
-#[derive(Drop)]
-pub struct HandingLauncher<'a, R> {
-    rt: &'a R,
-    launcher: OsLauncher<'a, R>,
-    reserve: &'a Reserve,
-}
-
-impl<'a, R: Processes> HandingLauncher<'a, R> {
-    /// A launcher over the system's processes, which looks for programs in these folders.
-    pub fn new(rt: &'a R, search: &'a SearchPath, reserve: &'a Reserve) -> HandingLauncher<'a, R> {
-        HandingLauncher {
-            rt,
-            launcher: OsLauncher::new(rt, search),
-            reserve,
+    // Starts a program on this socket, or else between pipes, once the system has a process for it, if that is before
+    // long.
+    fn start_in_time(
+        &self,
+        alloc: Global,
+        program: &Program,
+        environment: &Environment,
+        stream: Option<&OwnedFd>,
+    ) -> Result<OsJob, NotStarted>
+        ensures program { IfOk result (λ job. ⟦<OsJob as Job>⟧.program job ≡ program.now) }
+        ensures environment { IfOk result (λ job. ⟦<OsJob as Job>⟧.environment job ≡ environment.now) }
+    {
+        let start = || match stream {
+            Some(stream) => self.launcher.start_on(alloc, program, environment, stream),
+            None => self.launcher.start_between(alloc, program, environment),
+        };
+        for waits in 0..WAITS {
+            match start() {
+                Err(refused) if refused.error == Some(libc::EAGAIN) => self.wait_for_process(waits),
+                outcome => return outcome,
+            }
         }
+        start()
+    }
+
+    // Waits for a process, after so many such waits: the one in reserve, or that of another program that ends.
+    fn wait_for_process(&self, waits: u32) {
+        self.reserve.give_back(self.rt);
+        let longer = FIRST_WAIT << waits.min(LONGER);
+        thread::sleep(self.rt, Duration::from_millis(longer.min(LONGEST_WAIT)));
     }
 }
 
-impl<'a, R: Processes + Wait + Clock, H: Wait> Starter<Handle<'a, H>> for HandingLauncher<'a, R> {
-    type Job = HandedJob<'a, R>;
+impl<'a, R: Processes + Files + Wait + Clock> Starter<Holder<'a, R>> for ProgramStarter<'a, R> {
+    type Job = ServiceJob<'a, R>;
 
     ghost refuses = { λ _ _ _ _ _. ⊤ };
 
@@ -86,171 +113,45 @@ impl<'a, R: Processes + Wait + Clock, H: Wait> Starter<Handle<'a, H>> for Handin
     fn start_for(
         &self,
         alloc: Global,
-        connection: &Handle<'a, H>,
-        program: &Program,
-        environment: &Environment,
-    ) -> Result<HandedJob<'a, R>, NotStarted> {
-        let stream = connection.take().ok_or(StartFault::Other)?;
-        let (rt, signal) = (self.rt, signal_note(alloc));
-        for waits in 0..WAITS {
-            match self.launcher.start_on(alloc, program, environment, &stream) {
-                Err(not_started) if wants_process(not_started) => {
-                    wait_for_process(self.rt, self.reserve, waits);
-                }
-                Err(not_started) => return Err(not_started),
-                Ok(job) => return Ok(HandedJob { rt, job, signal }),
-            }
-        }
-        let job = self
-            .launcher
-            .start_on(alloc, program, environment, &stream)?;
-        Ok(HandedJob { rt, job, signal })
-    }
-
-    fn process_of(&self, job: &HandedJob<'a, R>) -> Option<Process> {
-        process_by(&job.job, job.signal.as_ref())
-    }
-}
-
-// Where the signal is noted that ends a program, if there is memory for it.
-fn signal_note(alloc: Global) -> Option<SignalNote> {
-    Arc::new(alloc, Mutex::new(None)).ok()
-}
-
-// The process of a program whose signal is noted there.
-fn process_by(job: &OsJob, signal: Option<&SignalNote>) -> Option<Process> {
-    let number = job.process()?;
-    let signal = Arc::try_clone(signal?).ok()?;
-    Some(Process { number, signal })
-}
-
-// Notes the signal that ended a program.
-fn note_signal<R: Wait>(rt: &R, note: Option<&SignalNote>, signal: Option<u32>) {
-    if let Some(note) = note {
-        *note.lock(rt) = signal;
-    }
-}
-
-/// A program that holds its connection itself. The language lets nobody drop it: it is waited for, or abandoned.
-pub struct HandedJob<'a, R> {
-    rt: &'a R,
-    job: OsJob,
-    signal: Option<SignalNote>,
-}
-
-impl<R: Wait> Job for HandedJob<'_, R> {
-    type Input = ChildStdin;
-
-    type Output = ChildStdout;
-
-    ghost program = { λ job. ⟦<OsJob as Job>⟧.program job.job };
-
-    ghost environment = { λ job. ⟦<OsJob as Job>⟧.environment job.job };
-
-    ghost has_ends = { λ job. ⟦<OsJob as Job>⟧.has_ends job.job };
-
-    ghost killed = { λ _ _ _. ⊤ };
-
-    ghost ended = { λ _ _. ⊤ };
-
-    ghost refused_wait = { λ _ _ _. ⊤ };
-
-    fn ends(&mut self) -> Result<(ChildStdin, ChildStdout), NoEnds> {
-        self.job.ends()
-    }
-
-    fn kill(&mut self) -> Result<(), WaitFault> {
-        self.job.kill()
-    }
-
-    fn wait(self) -> Result<Status, (Self, WaitFault)> {
-        let HandedJob { rt, job, signal } = self;
-        match job.wait_for_signal() {
-            Ok((status, by)) => {
-                note_signal(rt, signal.as_ref(), by);
-                Ok(status)
-            }
-            Err((job, fault)) => Err((HandedJob { rt, job, signal }, fault)),
-        }
-    }
-
-    fn abandon(self) {
-        let HandedJob {
-            rt: _,
-            job,
-            signal: _,
-        } = self;
-        job.abandon();
-    }
-}
-
-// Whether a program was not started for want of a process, which the end of another one mends.
-fn wants_process(not_started: NotStarted) -> bool {
-    not_started.error == Some(libc::EAGAIN)
-}
-
-// Waits for a process, after so many such waits: the one in reserve, or that of another program that ends.
-fn wait_for_process<R: Wait + Clock>(rt: &R, reserve: &Reserve, waits: u32) {
-    reserve.give_back(rt);
-    let longer = FIRST_WAIT << waits.min(LONGER);
-    thread::sleep(rt, Duration::from_millis(longer.min(LONGEST_WAIT)));
-}
-
-/// A program, and whether it is over: once it was waited for, or could not be. The language lets nobody drop it: it is waited for, or abandoned.
-pub struct ServiceJob<'a, R> {
-    rt: &'a R,
-    job: OsJob,
-    over: Arc<Mutex<bool>, Global>,
-    signal: Option<SignalNote>,
-}
-
-impl<'a, R, X> Starter<X> for ServiceLauncher<'a, R>
-where
-    R: Processes + Files + Wait + Clock,
-{
-    type Job = ServiceJob<'a, R>;
-
-    ghost refuses = { λ _ _ _ _ _. ⊤ };
-
-    fn start_for(
-        &self,
-        alloc: Global,
-        _connection: &X,
+        connection: &Holder<'a, R>,
         program: &Program,
         environment: &Environment,
     ) -> Result<ServiceJob<'a, R>, NotStarted> {
-        let Ok(over) = Arc::new(alloc, Mutex::new(false)) else {
-            return Err(NotStarted::from(StartFault::OutOfMemory));
-        };
-        let (rt, signal) = (self.rt, signal_note(alloc));
-        for waits in 0..WAITS {
-            match self.launcher.start_between(alloc, program, environment) {
-                Err(not_started) if wants_process(not_started) => {
-                    wait_for_process(rt, self.reserve, waits);
-                }
-                Err(not_started) => return Err(not_started),
-                Ok(job) => {
-                    return Ok(ServiceJob {
-                        rt,
-                        job,
-                        over,
-                        signal,
-                    });
-                }
+        let (stream, over) = match self.mode {
+            Mode::HandedOver => (Some(connection.take().ok_or(StartFault::Other)?), None),
+            Mode::Pumped => {
+                let over = Arc::new(alloc, Mutex::new(false)).ok();
+                (None, Some(over.ok_or(StartFault::OutOfMemory)?))
             }
-        }
-        let job = self.launcher.start_between(alloc, program, environment)?;
-        Ok(ServiceJob {
-            rt,
-            job,
-            over,
-            signal,
-        })
+        };
+        let signal = Arc::new(alloc, Mutex::new(None)).ok();
+        let job = self.start_in_time(alloc, program, environment, stream.as_ref())?;
+        let rt = self.rt;
+        let end = End { rt, over, signal };
+        Ok(ServiceJob { job, end })
     }
 
     fn process_of(&self, job: &ServiceJob<'a, R>) -> Option<Process> {
-        process_by(&job.job, job.signal.as_ref())
+        let number = job.job.process()?;
+        let signal = Arc::try_clone(job.end.signal.as_ref()?).ok()?;
+        Some(Process { number, signal })
     }
+}
+
+/// The program of a connection. The language lets nobody drop it: it is waited for, or abandoned.
+pub struct ServiceJob<'a, R> {
+    job: OsJob,
+    end: End<'a, R>,
+}
+
+// What is noted of the end of a program.
+#[derive(Drop)]
+struct End<'a, R> {
+    rt: &'a R,
+    // whether it is over, for one that is pumped: it was waited for, or could not be
+    over: Option<Arc<Mutex<bool>, Global>>,
+    // the signal that ended it, if there was memory for that
+    signal: Option<SignalNote>,
 }
 
 impl<'a, R: Wait + Clock> Job for ServiceJob<'a, R> {
@@ -272,15 +173,11 @@ impl<'a, R: Wait + Clock> Job for ServiceJob<'a, R> {
 
     fn ends(&mut self) -> Result<(ProgramInput<'a, R>, ChildStdout), NoEnds> {
         let (pipe, output) = self.job.ends()?;
-        let Ok(over) = Arc::try_clone(&self.over) else {
+        let Ok(over) = Arc::try_clone(self.end.over.as_ref().ok_or(NoEnds)?) else {
             return Err(NoEnds);
         };
-        let input = ProgramInput {
-            rt: self.rt,
-            pipe: without_waiting(pipe),
-            over,
-        };
-        Ok((input, output))
+        let (rt, pipe) = (self.end.rt, without_waiting(pipe));
+        Ok((ProgramInput { rt, pipe, over }, output))
     }
 
     fn kill(&mut self) -> Result<(), WaitFault> {
@@ -288,50 +185,38 @@ impl<'a, R: Wait + Clock> Job for ServiceJob<'a, R> {
     }
 
     fn wait(self) -> Result<Status, (ServiceJob<'a, R>, WaitFault)> {
-        let ServiceJob {
-            rt,
-            job,
-            over,
-            signal,
-        } = self;
+        let ServiceJob { job, end } = self;
         let outcome = job.wait_for_signal();
-        *over.lock(rt) = true;
+        if let Some(over) = &end.over {
+            *over.lock(end.rt) = true;
+        }
         match outcome {
             Ok((status, by)) => {
-                note_signal(rt, signal.as_ref(), by);
+                if let Some(signal) = &end.signal {
+                    *signal.lock(end.rt) = by;
+                }
                 Ok(status)
             }
-            Err((job, fault)) => Err((
-                ServiceJob {
-                    rt,
-                    job,
-                    over,
-                    signal,
-                },
-                fault,
-            )),
+            Err((job, fault)) => Err((ServiceJob { job, end }, fault)),
         }
     }
 
     fn abandon(self) {
-        let ServiceJob {
-            rt: _,
-            job,
-            over: _,
-            signal: _,
-        } = self;
+        let ServiceJob { job, end: _ } = self;
         job.abandon();
     }
 }
 
-// A pipe whose writes do not wait. The mode is one of a descriptor, whatever it is of; where it can't be set, writes wait as before.
+// A pipe whose writes do not wait. The mode is one of a descriptor, whatever it is of; where it can't be set, writes
+// wait as before.
 fn without_waiting(pipe: ChildStdin) -> ChildStdin {
     let descriptor = TcpStream::from(OwnedFd::from(pipe));
     let _ = descriptor.set_nonblocking(true);
     ChildStdin::from(OwnedFd::from(descriptor))
 }
 
-/// The input of a program. A write waits until the program has read enough; once the program is over it fails instead of waiting.
+/// The input of a program. A write waits until the program has read enough; once the program is over it fails instead
+/// of waiting.
 #[derive(Drop)]
 pub struct ProgramInput<'a, R> {
     rt: &'a R,

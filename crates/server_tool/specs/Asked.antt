@@ -1,11 +1,12 @@
 -- Whether what a server has is what its words ask for.
-use Rattle.std.specs.Prelude.{◌≡◌, ℕ, List}
+use Rattle.std.specs.Prelude.{◌≡◌, ℕ, List, IfSome}
 use Rattle.child_jobs.specs.Plans.{PlanText}
 use Rattle.fault_hints.specs.declared.voice.Voice.{Voice}
 use Rattle.server_log.specs.Logs.{level_of, limit_of, voice_of}
 use Rattle.server_log.specs.declared.log.Log.{Log}
-use Rattle.server_parts.specs.Asked.{IsAskedPlan}
+use Rattle.server_parts.specs.Asked.{IsAskedPlan, accepts_at_once, accepts_from, accepts_in}
 use Rattle.server_parts.specs.Services.{AreNamesOf, IsSupplyIn}
+use Rattle.server_parts.specs.declared.sockets.SocketAcceptor.{SocketAcceptor}
 use Rattle.server_words.specs.Plans.{ServerPlan}
 use Rattle.tcp_service.specs.declared.service.Service.{Service}
 
@@ -29,9 +30,11 @@ pub record IsAskedLog {W : Type 0} (words : ServerPlan) (speaker : Voice) (log :
   pub voice : voice_of log ≡ speaker
   pub limit : limit_of log ≡ words.limits.connections
 
--- a socket listens at the address and the port of the words
-abbrev pub ListensAsAsked : {T : Type 0} → (listens : T → List ℕ → ℕ → Type 0) → ServerPlan → T → Type 0
-ListensAsAsked listens words listener = listens listener words.service.address words.service.port
+-- connections come from a socket that listens at the address and the port of the words, are handed over or pumped as they say, and send at once by `-D`
+pub record AcceptsAsAsked {R T : Type 0} (listens : T → List ℕ → ℕ → Type 0) (words : ServerPlan) (acceptor : SocketAcceptor R T) : Type 0 where
+  pub from : IfSome (accepts_from acceptor) (λ listener. listens listener words.service.address words.service.port)
+  pub mode : accepts_in acceptor ≡ words.mode
+  pub at_once : accepts_at_once acceptor ≡ words.no_delay
 
 -- as many connections are let in at once as `-c` says, and as many from one address as `-m` says
 abbrev pub AreAskedLimits : ServerPlan → (limit per_address : ℕ) → Type 0

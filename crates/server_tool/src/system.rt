@@ -9,21 +9,21 @@ use dir_disk::SystemDisk;
 use event_journals::Counts;
 use server_parts::client::ClientWriter;
 use server_parts::opening::listen;
-use server_parts::programs::{HandedJob, ProgramInput, ServiceJob};
-use server_parts::sockets::{Handle, Holder, Unread};
-use server_parts::{HandingLauncher, ServerFailure, ServiceLauncher, Wrapper};
+use server_parts::programs::{ProgramInput, ServiceJob};
+use server_parts::sockets::Holder;
+use server_parts::{ProgramStarter, ServerFailure, SocketAcceptor, Wrapper};
 use server_yard::Assumptions;
 use shared_site::Callers;
 use std::fs::{File, Files};
 use std::io::{Read, Write};
 use std::marker::PhantomData;
 use std::net::{Net, OpenListener, TcpStream};
-use std::process::{ChildStdin, ChildStdout, OpenProcess, Processes};
+use std::process::{ChildStdout, Processes};
 use std::rt::Env;
 use std::sync::{Mutex, Wait};
 use std::thread::Threads;
 use std::time::Clock;
-use tcp_service::{Host, Log, Streams};
+use tcp_service::Host;
 
 /// What the tool has of the system. It is a name for these types together, and has no values.
 pub(crate) trait System {
@@ -32,7 +32,7 @@ pub(crate) trait System {
         + Print
         + AllocGlobal
         + Files<File = File, Dir = Self::Folder>
-        + Processes<Started = Self::Process>
+        + Processes
         + Threads
         + Wait
         + Clock
@@ -43,21 +43,6 @@ pub(crate) trait System {
 
     /// A socket that listens.
     type Listener: OpenListener<Stream = TcpStream> + Send + Sync + Drop;
-
-    /// A program that was started, with the ends of its pipes.
-    type Process: OpenProcess<
-        Stdin = ChildStdin,
-        Stdout = Self::ProcessOutput,
-        Stderr = Self::ProcessErrors,
-    >
-        + Send
-        + Drop;
-
-    /// The end of a pipe that a program writes.
-    type ProcessOutput: Read + Send + Drop;
-
-    /// The end of the pipe to which it writes its errors.
-    type ProcessErrors: Read + Send + Drop;
 
     /// What takes the lines of the log.
     type Errors: Write + Send + Drop;
@@ -86,9 +71,6 @@ where
     R: Net<Stream = TcpStream>,
     R::Dir: Send + Sync,
     R::Listener: Send + Sync,
-    R::Started: OpenProcess<Stdin = ChildStdin> + Send,
-    <R::Started as OpenProcess>::Stdout: Send,
-    <R::Started as OpenProcess>::Stderr: Send,
     E: Write + Send + Drop,
 {
     type Runtime = R;
@@ -96,12 +78,6 @@ where
     type Folder = R::Dir;
 
     type Listener = R::Listener;
-
-    type Process = R::Started;
-
-    type ProcessOutput = <R::Started as OpenProcess>::Stdout;
-
-    type ProcessErrors = <R::Started as OpenProcess>::Stderr;
 
     type Errors = E;
 
@@ -112,35 +88,17 @@ where
     }
 }
 
-/// What a server stands on whose programs hold their connections themselves, over these ledgers of places and of callers.
-pub(crate) struct HandsOver<'a, P: System, L, N> {
+/// What a server stands on, over these ledgers of places and of callers.
+pub(crate) struct OnSystem<'a, P: System, L, N> {
     system: PhantomData<&'a P::Runtime>,
     places: PhantomData<L>,
     callers: PhantomData<N>,
 }
 
-impl<'a, P: System, L, N> Streams for HandsOver<'a, P, L, N> {
+impl<'a, P: System, L: Assumptions + Send + Sync, N: Callers + Send + Sync> Host
+    for OnSystem<'a, P, L, N> {
     type Runtime = P::Runtime;
 
-    type Lines = P::Errors;
-
-    type Reader = Unread;
-
-    type Writer = Handle<'a, P::Runtime>;
-
-    type Shut = Handle<'a, P::Runtime>;
-
-    type Input = ChildStdin;
-
-    type Output = ChildStdout;
-
-    type Job = HandedJob<'a, P::Runtime>;
-
-    type Wrapper = Wrapper;
-}
-
-impl<'a, P: System, L: Assumptions + Send + Sync, N: Callers + Send + Sync> Host
-    for HandsOver<'a, P, L, N> {
     type Places = L;
 
     type Callers = N;
@@ -155,59 +113,25 @@ impl<'a, P: System, L: Assumptions + Send + Sync, N: Callers + Send + Sync> Host
 
     type Rules = FolderRules<'a, L, P::Runtime>;
 
-    type Observer = Mutex<Log<P::Errors>>;
-
-    type Starter = HandingLauncher<'a, P::Runtime>;
-
-    type Chains = Wrappers<'a>;
-}
-
-/// What a server stands on that passes bytes on, over these ledgers of places and of callers.
-pub(crate) struct Pumps<'a, P: System, L, N> {
-    system: PhantomData<&'a P::Runtime>,
-    places: PhantomData<L>,
-    callers: PhantomData<N>,
-}
-
-impl<'a, P: System, L, N> Streams for Pumps<'a, P, L, N> {
-    type Runtime = P::Runtime;
-
     type Lines = P::Errors;
 
-    type Reader = Holder;
+    type Acceptor = SocketAcceptor<'a, P::Runtime, P::Listener>;
+
+    type Reader = Holder<'a, P::Runtime>;
 
     type Writer = ClientWriter<'a, P::Runtime>;
 
-    type Shut = Holder;
+    type Shut = Holder<'a, P::Runtime>;
+
+    type Starter = ProgramStarter<'a, P::Runtime>;
+
+    type Job = ServiceJob<'a, P::Runtime>;
 
     type Input = ProgramInput<'a, P::Runtime>;
 
     type Output = ChildStdout;
 
-    type Job = ServiceJob<'a, P::Runtime>;
-
     type Wrapper = Wrapper;
-}
-
-impl<'a, P: System, L: Assumptions + Send + Sync, N: Callers + Send + Sync> Host
-    for Pumps<'a, P, L, N> {
-    type Places = L;
-
-    type Callers = N;
-
-    type File = RulesOnDisk;
-
-    type Folder = NoFolder;
-
-    type Journal = Counts;
-
-    type Handle = FolderHandle<'a, L, SystemDisk<&'a P::Runtime>>;
-
-    type Rules = FolderRules<'a, L, P::Runtime>;
-
-    type Observer = Mutex<Log<P::Errors>>;
-
-    type Starter = ServiceLauncher<'a, P::Runtime>;
 
     type Chains = Wrappers<'a>;
 }

@@ -1,10 +1,10 @@
 //! The tool: its words, what it opens, and the server.
 ghost use Rattle.std.specs.Prelude.{◌≡◌, ◌⊎◌, false, Err, None, IfOk, IfErr, IfSome, OnErr, vec_len};
-ghost use Rattle.server_parts.specs.Asked.{FailsNames, handed_at_once, handed_from, pumped_at_once, pumped_from};
+ghost use Rattle.server_parts.specs.Asked.{FailsNames, starts_in};
 ghost use Rattle.server_parts.specs.Services.{AreRulesOf};
 ghost use Rattle.server_parts.specs.declared.fault.ServerFault.TheVariants.{CannotListen, LostConnection, OutOfMemory, WriteFault};
-ghost use Rattle.server_tool.specs.Asked.{AreAsked, AreAskedLimits, IsAskedLog, IsAskedService, ListensAsAsked};
-ghost use Rattle.server_tool.specs.Ends.{told_of};
+ghost use Rattle.server_tool.specs.Asked.{AcceptsAsAsked, AreAsked, AreAskedLimits, IsAskedLog, IsAskedService};
+ghost use Rattle.server_tool.specs.Ends.{IsToldOf, told_of};
 ghost use Rattle.server_yard.specs.Kept.{rules_of};
 ghost use Rattle.server_yard.specs.Yards.{yard_books, yard_rules, yard_server};
 ghost use Rattle.shared_site.specs.Callers.{total_share};
@@ -12,7 +12,7 @@ ghost use Rattle.shared_site.specs.Callers.{total_share};
 use crate::causes::{tell_failure, tell_words};
 use crate::no_folder::NoFolder;
 use crate::rules::{FolderRules, RulesPath};
-use crate::system::{HandsOver, Pumps, System, SystemOf};
+use crate::system::{OnSystem, System, SystemOf};
 use crate::wrappers::Wrappers;
 use child_jobs::Plan;
 use dir_calls::{Dir, Name};
@@ -22,10 +22,8 @@ use rule_lookup::WhenMissing;
 use server_parts::limits::supply_for;
 use server_parts::opening::{end_of_listener, find_rules, names_of, plan_of, print_port, stand_in};
 use server_parts::signals::forgets_programs;
-use server_parts::{
-    HandedAcceptor, HandingLauncher, PumpedAcceptor, ServerFailure, ServerFault, ServiceLauncher,
-};
-use server_words::{Level, Mode, ServerWords, read_server_words};
+use server_parts::{ProgramStarter, ServerFailure, ServerFault, SocketAcceptor};
+use server_words::{Level, ServerWords, read_server_words};
 use server_yard::{Assumptions, Yard};
 use shared_site::{Caller, Callers, Site};
 use std::alloc::Global;
@@ -33,7 +31,7 @@ use std::fs::{File, Files};
 use std::io::Write;
 use std::marker::Brand;
 use std::net::{Net, TcpStream};
-use std::process::{ChildStdin, OpenProcess, Processes};
+use std::process::Processes;
 use std::rt::Env;
 use std::sync::ledger::Blank;
 use std::sync::{Mutex, Wait};
@@ -72,9 +70,6 @@ where
     R: Net<Stream = TcpStream>,
     R::Dir: Send + Sync,
     R::Listener: Send + Sync,
-    R::Started: OpenProcess<Stdin = ChildStdin> + Send,
-    <R::Started as OpenProcess>::Stdout: Send,
-    <R::Started as OpenProcess>::Stderr: Send,
     E: Write + Send + Drop,
 {
     let alloc = rt.alloc();
@@ -200,7 +195,6 @@ fn open_and_run<P: System + Send + Sync>(
 ) -> Result<(), ServerFailure>
     requires asked { AreAsked words.now server.now.plan server.now.service }
 {
-    let limits = words.limits();
     let alloc = rt.alloc();
     let rules = find_rules(alloc, rt, words)?;
     let name = match &rules {
@@ -208,44 +202,40 @@ fn open_and_run<P: System + Send + Sync>(
         None => None,
     };
     let at = RulesPath::new(rt, words.rules().unwrap_or_default(), name.as_ref());
-    let listener = open_socket::<P>(rt, words)?;
-    tell_listening::<P>(rt, server, &listener);
+    let acceptor = open_socket::<P>(rt, &server.log, words)?;
     if words.hosts().is_none() && words.level() == Level::All && at.name_someone(alloc) {
         let _ = server.log.lock(rt).no_names();
     }
-    let (places, parts) = (Blank::new(limits.connections), Blank::new(CALLERS));
-    let served = run_site::<Brand, Brand, P>(rt, server, listener, rules, at, words, places, parts);
-    served
+    let (places, parts) = (Blank::new(words.limits().connections), Blank::new(CALLERS));
+    run_site::<Brand, Brand, P>(rt, server, acceptor, rules, at, words, places, parts)
 }
 
-// Tells a person where the socket listens.
-fn tell_listening<P: System>(rt: &P::Runtime, server: &ServerParts<P>, listener: &P::Listener) {
-    if let Some(end) = end_of_listener(listener) {
-        let ip = end.0;
-        let _ = server.log.lock(rt).listening(ip, end.1);
-    }
-}
-
-// The socket that listens where the words say, its port printed where they ask for that.
-fn open_socket<P: System>(
-    rt: &P::Runtime,
+// The connections of a socket that listens where the words say, which a person is told. Its port is printed where the
+// words ask for that.
+fn open_socket<'a, P: System>(
+    rt: &'a P::Runtime,
+    log: &Mutex<Log<P::Errors>>,
     words: &ServerWords<'_>,
-) -> Result<P::Listener, ServerFailure>
-    ensures asked { IfOk result (ListensAsAsked P.listens words.now) }
+) -> Result<SocketAcceptor<'a, P::Runtime, P::Listener>, ServerFailure>
+    ensures asked { IfOk result (AcceptsAsAsked P.listens words.now) }
     ensures refused { IfErr result (λ failure. (failure.fault ≡ CannotListen) ⊎ (failure.fault ≡ WriteFault)) }
 {
     let listener = P::listen(rt, words.service().address(), words.service().port())?;
     if words.prints_port() {
         print_port(rt, &listener)?;
     }
-    Ok(listener)
+    if let Some((ip, port)) = end_of_listener(&listener) {
+        let _ = log.lock(rt).listening(ip, port);
+    }
+    let (mode, at_once) = (words.mode(), words.sends_at_once());
+    Ok(SocketAcceptor::new(rt, rt.alloc(), mode, listener, at_once))
 }
 
 // The server over a yard and a site of its own.
 fn run_site<'a, L: Assumptions + Send + Sync, N: Callers + Send + Sync, P: System + Send + Sync>(
     rt: &'a P::Runtime,
     server: &'a ServerParts<P>,
-    listener: P::Listener,
+    acceptor: SocketAcceptor<'a, P::Runtime, P::Listener>,
     rules: Option<(Name, WhenMissing)>,
     at: RulesPath<'a, P::Runtime>,
     words: &'a ServerWords<'_>,
@@ -258,11 +248,12 @@ fn run_site<'a, L: Assumptions + Send + Sync, N: Callers + Send + Sync, P: Syste
     requires callers { (N.all ≡ 2) × (N.before ≡ 0) }
     requires asked { AreAsked words.now server.now.plan server.now.service }
     requires rules { AreRulesOf words.now rules }
-    requires listens { ListensAsAsked P.listens words.now listener }
+    requires accepts { AcceptsAsAsked P.listens words.now acceptor }
 {
     let yard = yard_of::<L, _>(rt.alloc(), NoFolder, rules, words, places)?;
-    let made = site_of::<L, N, _>(rt.alloc(), yard, parts)?;
-    serve_by_mode(rt, server, listener, made, at, words)
+    let (site, callers) = site_of::<L, N, _>(rt.alloc(), yard, parts)?;
+    let starter = ProgramStarter::new(rt, words.mode(), &server.search, &server.service.reserve);
+    serve_on(rt, server, acceptor, site, callers, at, &starter, words)
 }
 
 // A yard of this folder and this rules file, with the limits of the words.
@@ -317,135 +308,63 @@ fn site_of<L: Assumptions, N: Callers, D: Dir + Drop>(
     }
 }
 
-// A site without a folder that only counts its events, with its callers.
-type ServerSite<L, N> = (Site<L, N, NoFolder, Counts>, Vec<Caller<N>>);
-
-// Serves the connections of a socket at a site: their programs hold them, or the server passes their bytes on.
-fn serve_by_mode<
-    'a,
-    L: Assumptions + Send + Sync,
-    N: Callers + Send + Sync,
-    P: System + Send + Sync,
->(
+// Serves the connections of a socket at a site, in the mode of the words.
+fn serve_on<'a, L: Assumptions + Send + Sync, N: Callers + Send + Sync, P: System + Send + Sync>(
     rt: &'a P::Runtime,
     server: &'a ServerParts<P>,
-    listener: P::Listener,
-    site: ServerSite<L, N>,
+    acceptor: SocketAcceptor<'a, P::Runtime, P::Listener>,
+    site: Site<L, N, NoFolder, Counts>,
+    callers: Vec<Caller<N>>,
     at: RulesPath<'a, P::Runtime>,
+    starter: &ProgramStarter<'a, P::Runtime>,
     words: &'a ServerWords<'_>,
 ) -> Result<(), ServerFailure>
     requires met { L.met ≡ false }
-    requires callers { (N.all ≡ 2) × (N.parts ≡ 2) × (vec_len site.1 ≡ 2) × (total_share site.1.items ≡ 0) }
+    requires callers { (N.all ≡ 2) × (N.parts ≡ 2) × (vec_len callers ≡ 2) × (total_share callers.items ≡ 0) }
     requires asked { AreAsked words.now server.now.plan server.now.service }
-    requires listens { ListensAsAsked P.listens words.now listener }
+    requires accepts { AcceptsAsAsked P.listens words.now acceptor }
+    requires starts { starts_in starter.now ≡ words.now.mode }
 {
-    let (alloc, at_once) = (rt.alloc(), words.sends_at_once());
-    match words.mode() {
-        Mode::HandedOver => {
-            let acceptor = HandedAcceptor::new(rt, alloc, listener, at_once);
-            serve_handed::<L, N, P>(rt, server, acceptor, site, at, words)
+    let rules = FolderRules::<L, P::Runtime>::new(at);
+    let served = serve::<OnSystem<'a, P, L, N>>(
+        rt,
+        rt.alloc(),
+        acceptor,
+        site,
+        callers,
+        &rules,
+        &Wrappers::new(words.wrapping()),
+        starter,
+        &server.plan,
+        &server.service,
+        &server.log,
+    );
+    end_of(served)
+}
+
+// How the tool ends, by how its server did and the system's last error of accepting.
+fn end_of<H: Host>(served: Result<Closed<H>, Unfinished<H>>) -> Result<(), ServerFailure>
+    ensures closed { IfOk served (λ closed. IsToldOf closed.end result) }
+    ensures lost { OnErr served (result ≡ Err (record { fault = LostConnection; error = None })) }
+{
+    match served {
+        Ok(closed) => {
+            let (end, error) = (closed.end, closed.acceptor.error());
+            drop(closed);
+            failure_of(end, error)
         }
-        Mode::Pumped => {
-            let acceptor = PumpedAcceptor::new(rt, alloc, listener, at_once);
-            serve_pumped::<L, N, P>(rt, server, acceptor, site, at, words)
+        Err(unfinished) => {
+            drop(unfinished);
+            Err(ServerFailure::from(ServerFault::LostConnection))
         }
     }
 }
 
-// Serves connections that their programs hold themselves.
-fn serve_handed<
-    'a,
-    L: Assumptions + Send + Sync,
-    N: Callers + Send + Sync,
-    P: System + Send + Sync,
->(
-    rt: &'a P::Runtime,
-    server: &'a ServerParts<P>,
-    acceptor: HandedAcceptor<'a, P::Runtime, P::Listener>,
-    site: ServerSite<L, N>,
-    at: RulesPath<'a, P::Runtime>,
-    words: &'a ServerWords<'_>,
-) -> Result<(), ServerFailure>
-    requires met { L.met ≡ false }
-    requires callers { (N.all ≡ 2) × (N.parts ≡ 2) × (vec_len site.1 ≡ 2) × (total_share site.1.items ≡ 0) }
-    requires mode { words.now.mode ≡ Mode.HandedOver }
-    requires asked { AreAsked words.now server.now.plan server.now.service }
-    requires listens { IfSome (handed_from acceptor) (ListensAsAsked P.listens words.now) }
-    requires at_once { handed_at_once acceptor ≡ words.now.no_delay }
+// How the tool ends, by how its server did and this error.
+fn failure_of(end: ServeEnd, error: Option<i32>) -> Result<(), ServerFailure>
+    ensures { result ≡ told_of end error }
 {
-    let mut acceptor = acceptor;
-    let starter = HandingLauncher::new(rt, &server.search, &server.service.reserve);
-    let rules = FolderRules::<L, P::Runtime>::new(at);
-    let (site, callers) = site;
-    let served = serve::<_, HandsOver<'a, P, L, N>>(
-        rt,
-        rt.alloc(),
-        &mut acceptor,
-        site,
-        callers,
-        &rules,
-        &Wrappers::new(words.wrapping()),
-        &starter,
-        &server.plan,
-        &server.service,
-        &server.log,
-    );
-    end_of(served, acceptor.error())
-}
-
-// Serves connections whose bytes it passes on.
-fn serve_pumped<
-    'a,
-    L: Assumptions + Send + Sync,
-    N: Callers + Send + Sync,
-    P: System + Send + Sync,
->(
-    rt: &'a P::Runtime,
-    server: &'a ServerParts<P>,
-    acceptor: PumpedAcceptor<'a, P::Runtime, P::Listener>,
-    site: ServerSite<L, N>,
-    at: RulesPath<'a, P::Runtime>,
-    words: &'a ServerWords<'_>,
-) -> Result<(), ServerFailure>
-    requires met { L.met ≡ false }
-    requires callers { (N.all ≡ 2) × (N.parts ≡ 2) × (vec_len site.1 ≡ 2) × (total_share site.1.items ≡ 0) }
-    requires mode { words.now.mode ≡ Mode.Pumped }
-    requires asked { AreAsked words.now server.now.plan server.now.service }
-    requires listens { IfSome (pumped_from acceptor) (ListensAsAsked P.listens words.now) }
-    requires at_once { pumped_at_once acceptor ≡ words.now.no_delay }
-{
-    let mut acceptor = acceptor;
-    let starter = ServiceLauncher::new(rt, &server.search, &server.service.reserve);
-    let rules = FolderRules::<L, P::Runtime>::new(at);
-    let (site, callers) = site;
-    let served = serve::<_, Pumps<'a, P, L, N>>(
-        rt,
-        rt.alloc(),
-        &mut acceptor,
-        site,
-        callers,
-        &rules,
-        &Wrappers::new(words.wrapping()),
-        &starter,
-        &server.plan,
-        &server.service,
-        &server.log,
-    );
-    end_of(served, acceptor.error())
-}
-
-// How the tool ends, by how its server did and the system's last error of accepting.
-fn end_of<H: Host>(
-    served: Result<Closed<H>, Unfinished<H>>,
-    error: Option<i32>,
-) -> Result<(), ServerFailure>
-    ensures closed { IfOk served (λ closed. result ≡ told_of closed.end error) }
-    ensures lost { OnErr served (result ≡ Err (record { fault = LostConnection; error = None })) }
-{
-    let Ok(closed) = served else {
-        return Err(ServerFailure::from(ServerFault::LostConnection));
-    };
-    match closed.end {
+    match end {
         ServeEnd::Count | ServeEnd::Spent => Ok(()),
         ServeEnd::NoPlaces => Err(ServerFailure::from(ServerFault::NoPlaces)),
         ServeEnd::AcceptFaults => Err(ServerFailure {

@@ -127,11 +127,7 @@ fn let_in<'a, H: Host>(
 
 // Counts a connection: its serial, and its place. Once the last number of an event is given nobody is let in any more.
 #[tactic(auto, using(crate::proofs::Shares::one_came, crate::proofs::Shares::none_came, crate::proofs::Shares::own_came))]
-fn admit<H: Host>(
-    server: &Server<'_, H>,
-    admitter: &mut CallerOf<H>,
-    peer: &Peer,
-) -> Counted<H>
+fn admit<H: Host>(server: &Server<'_, H>, admitter: &mut CallerOf<H>, peer: &Peer) -> Counted<H>
     ensures came { LetsIn result (caller_share admitter.old) (caller_share admitter.new) }
     ensures own { AdmitsOwn result peer.now }
 {
