@@ -224,8 +224,9 @@ fn open_socket<'a, P: System>(
     if words.prints_port() {
         print_port(rt, &listener)?;
     }
-    if let Some((ip, port)) = end_of_listener(&listener) {
-        let _ = log.lock(rt).listening(ip, port);
+    if let Some(end) = end_of_listener(&listener) {
+        let ip = end.0;
+        let _ = log.lock(rt).listening(ip, end.1);
     }
     let (mode, at_once) = (words.mode(), words.sends_at_once());
     Ok(SocketAcceptor::new(rt, rt.alloc(), mode, listener, at_once))
