@@ -3,7 +3,7 @@ ghost use Rattle.std.specs.Prelude.{◌≡◌, drop};
 ghost use Rattle.std.specs.List.{list_all};
 ghost use Rattle.std.specs.Str.{is_utf8};
 ghost use Rattle.stream_tools.specs.Programs.{texts_of};
-ghost use Rattle.ucspi_tools.specs.Choices.{CallsFor, Wanted, IsLastPart, alone, asked_by, choice_by_word, detail_by, is_verbose, operands, plain_detail, reviews, run_by_name, run_of, strictness, tcprules_by, tcprules_at, tcprulescheck_by, tcprulescheck_at, tcpserver_by, tool_in, wanted, with_program};
+ghost use Rattle.ucspi_tools.specs.Choices.{CallsFor, Wanted, IsLastPart, alone, asked_by, choice_by_word, detail_by, is_verbose, operands, plain_detail, reviews, run_by_name, run_of, strictness, tcprules_by, tcprules_at, tcprulescheck_by, tcprulescheck_at, tcpserver_by, tool_in, wanted, passes_by};
 
 use crate::tool::Tool;
 use fault_hints::{Detail, Voice};
@@ -49,15 +49,10 @@ pub enum ToolChoice<'a> {
     Addcr,
     /// A run of `delcr`.
     Delcr,
-    /// A run of `fixcrio` with a program.
-    Fixcrio {
-        /// Its path and arguments: at least the path, and each is UTF-8.
-        words: &'a [Vec<u8>],
-        /// What is told behind the line of a fault.
-        detail: Detail,
-    },
-    /// A run of `recordio` with a program.
-    Recordio {
+    /// A run of `recordio` or `fixcrio` with a program.
+    Passing {
+        /// Whether it is recorded.
+        recorded: bool,
         /// Its path and arguments: at least the path, and each is UTF-8.
         words: &'a [Vec<u8>],
         /// What is told behind the line of a fault.
@@ -93,8 +88,7 @@ impl ToolChoice<'_> {
             ToolChoice::Tcprulescheck { .. } => Some(Tool::Tcprulescheck),
             ToolChoice::Addcr => Some(Tool::Addcr),
             ToolChoice::Delcr => Some(Tool::Delcr),
-            ToolChoice::Fixcrio { .. } => Some(Tool::Fixcrio),
-            ToolChoice::Recordio { .. } => Some(Tool::Recordio),
+            ToolChoice::Passing { recorded, .. } => Some(Tool::passing(*recorded)),
             ToolChoice::HelpOf(tool) => Some(*tool),
             ToolChoice::UsageOf { tool, .. } => Some(*tool),
             ToolChoice::Version | ToolChoice::Help | ToolChoice::Usage => None,
@@ -171,7 +165,6 @@ fn choose_about<'a>(word: &[u8], words: &'a [Vec<u8>]) -> ToolChoice<'a>
 fn choose_tool(tool: Tool, words: &[Vec<u8>], voice: Voice) -> ToolChoice<'_>
     ensures { wanted result ≡ run_of voice tool (texts_of words.now) }
 {
-    let detail = plain_detail(voice);
     match tool {
         Tool::Tcpserver => choose_texts(words, voice),
         Tool::Rulesim => choose_alone(ToolChoice::Rulesim, voice, tool, words),
@@ -179,13 +172,8 @@ fn choose_tool(tool: Tool, words: &[Vec<u8>], voice: Voice) -> ToolChoice<'_>
         Tool::Delcr => choose_alone(ToolChoice::Delcr, voice, tool, words),
         Tool::Tcprules => choose_tcprules(voice, words),
         Tool::Tcprulescheck => choose_tcprulescheck(voice, words),
-        Tool::Fixcrio => choose_program(ToolChoice::Fixcrio { words, detail }, voice, tool, words),
-        Tool::Recordio => choose_program(
-            ToolChoice::Recordio { words, detail },
-            voice,
-            tool,
-            words,
-        ),
+        Tool::Fixcrio => choose_program(voice, false, words),
+        Tool::Recordio => choose_program(voice, true, words),
     }
 }
 
@@ -246,18 +234,18 @@ fn choose_texts(words: &[Vec<u8>], voice: Voice) -> ToolChoice<'_>
 }
 
 /// The run of a tool whose words are a program's.
-fn choose_program<'a>(
-    run: ToolChoice<'a>,
-    voice: Voice,
-    tool: Tool,
-    words: &[Vec<u8>],
-) -> ToolChoice<'a>
-    ensures { wanted result ≡ with_program voice (wanted run.entry) tool (texts_of words.now) }
+fn choose_program(voice: Voice, recorded: bool, words: &[Vec<u8>]) -> ToolChoice<'_>
+    ensures { wanted result ≡ passes_by voice recorded (texts_of words.now) }
 {
     if !words.is_empty() && are_texts(words) {
-        run
+        let detail = plain_detail(voice);
+        ToolChoice::Passing {
+            recorded,
+            words,
+            detail,
+        }
     } else {
-        usage_of(voice, tool)
+        usage_of(voice, Tool::passing(recorded))
     }
 }
 

@@ -1,6 +1,6 @@
 //! The tools: their names, and the words that they take.
 ghost use Rattle.std.specs.Prelude.{◌≡◌, bytes_eq};
-ghost use Rattle.ucspi_tools.specs.Choices.{name_of, purpose_text, tool_of, usage_text, words_text};
+ghost use Rattle.ucspi_tools.specs.Choices.{name_of, passing, purpose_text, tool_of, usage_text, words_text};
 
 use fault_hints::OPTIONS;
 
@@ -72,6 +72,17 @@ impl Tool {
             Some(Tool::Recordio)
         } else {
             None
+        }
+    }
+
+    /// The tool that runs a program between two streams, and records it or not.
+    pub fn passing(recorded: bool) -> Tool
+        ensures { result ≡ passing recorded }
+    {
+        if recorded {
+            Tool::Recordio
+        } else {
+            Tool::Fixcrio
         }
     }
 

@@ -1,5 +1,5 @@
 //! The tools over the system, and over the streams of the process.
-ghost use Rattle.ucspi_tools.specs.Systems.{anything};
+ghost use Rattle.ucspi_tools.specs.Runs.{anything};
 
 use byte_streams::Patient;
 use byte_text::NotingStream;
@@ -11,57 +11,102 @@ use rules_tools::{
 };
 use script_tool::{SimFault, run_script};
 use server_parts::ServerFault;
+use server_tool::run_tcpserver;
 use std::fs::{File, Files};
 use std::io;
 use std::io::{BufWriter, Write};
+use std::net::{Net, TcpStream};
 use std::os::unix::fs::FileExt;
+use std::process::{ChildStdin, OpenProcess, Processes};
 use std::rt::Env;
+use std::sync::Wait;
+use std::thread::Threads;
 use std::time::Clock;
-use stream_tools::BetweenFault;
-use ucspi_tools::Calls;
+use stream_tools::started::SystemGiven;
+use stream_tools::{BetweenFault, run_fixcrio, run_recordio};
+use ucspi_tools::{Calls, Program, ToolFault, run_program, write_fault};
 
-/// The tools over the system, and over its standard streams, each of which is waited for where it was left non-blocking. Those that start
-/// threads are lent as calls that may be made at any time, since the system has threads in `main` alone.
-#[derive(Drop)]
-pub struct StandardCalls<'a, R, E, S, F, P> {
-    /// The system.
-    pub rt: &'a R,
-    /// Standard error.
-    pub errors: E,
-    /// `tcpserver`.
-    pub serve: S,
-    /// `fixcrio`.
-    pub fix: F,
-    /// `recordio`.
-    pub record: P,
+/// Runs the program over the system, and answers its exit code. `errors` is standard error. A stream that was left
+/// non-blocking is waited for.
+pub fn run_system<R, E>(rt: &R, errors: E) -> u8
+where
+    R: Env
+        + Input
+        + Print
+        + AllocGlobal
+        + Files<File = File>
+        + Processes
+        + Threads
+        + Wait
+        + Clock
+        + Sync,
+    R: Net<Stream = TcpStream>,
+    R::Reader: Send,
+    R::Dir: Send + Sync,
+    R::Listener: Send + Sync,
+    R::Started: OpenProcess<Stdin = ChildStdin> + Send,
+    <R::Started as OpenProcess>::Stdout: Send,
+    <R::Started as OpenProcess>::Stderr: Send,
+    E: Write + Copy + Send + Drop,
+{
+    let mut program = Program {
+        alloc: rt.alloc(),
+        input: Patient::new(rt, rt.reader()),
+        output: Patient::new(rt, io::writer(rt)),
+        calls: StandardCalls { rt, errors },
+    };
+    let code = run_program(&SystemGiven(rt), &mut program);
+    drop(program);
+    code
 }
 
-impl<R, E, S, F, P> Calls for StandardCalls<'_, R, E, S, F, P>
-where
-    R: Env + Input + Print + AllocGlobal + Files<File = File> + Clock,
-    E: Write + Copy + Drop,
-    S: Fn(Voice, &[Vec<u8>], &mut Vec<u8>) -> Result<(), ServerFault>,
-    F: Fn(&[Vec<u8>], &mut Option<i32>) -> Result<Status, BetweenFault>,
-    P: Fn(&[Vec<u8>], &mut Option<i32>) -> Result<Status, BetweenFault>,
-{
-    ghost ready = { λ calls. S.IsAlwaysCallable calls.serve × F.IsAlwaysCallable calls.fix × P.IsAlwaysCallable calls.record };
+/// The tools over the system, and over its standard streams.
+#[derive(Drop)]
+struct StandardCalls<'a, R, E> {
+    /// The system.
+    rt: &'a R,
+    /// Standard error.
+    errors: E,
+}
 
-    ghost parts = { anything };
+impl<R, E> Calls for StandardCalls<'_, R, E>
+where
+    R: Env
+        + Input
+        + Print
+        + AllocGlobal
+        + Files<File = File>
+        + Processes
+        + Threads
+        + Wait
+        + Clock
+        + Sync,
+    R: Net<Stream = TcpStream>,
+    R::Reader: Send,
+    R::Dir: Send + Sync,
+    R::Listener: Send + Sync,
+    R::Started: OpenProcess<Stdin = ChildStdin> + Send,
+    <R::Started as OpenProcess>::Stdout: Send,
+    <R::Started as OpenProcess>::Stderr: Send,
+    E: Write + Copy + Send + Drop,
+{
+    ghost lent = { anything };
 
     fn serve(
-        &self,
+        &mut self,
         voice: Voice,
         words: &[Vec<u8>],
         causes: &mut Vec<u8>,
     ) -> Result<(), ServerFault> {
-        (self.serve)(voice, words, causes)
+        let errors = Patient::new(self.rt, self.errors);
+        run_tcpserver(self.rt, errors, words, voice, causes)
     }
 
-    fn simulate(&self) -> Result<(), SimFault> {
+    fn simulate(&mut self) -> Result<(), SimFault> {
         run_script(self.rt)
     }
 
-    fn install(&self, cdb: &str, tmp: &str, faulty: &mut Vec<u8>) -> Result<(), RulesFailure> {
+    fn install(&mut self, cdb: &str, tmp: &str, faulty: &mut Vec<u8>) -> Result<(), RulesFailure> {
         let alloc = self.rt.alloc();
         let mut reader = KeepingReader::new(alloc, Patient::new(self.rt, self.rt.reader()));
         let mut folders = SystemFolders::new(self.rt, Patient::new(self.rt, self.errors));
@@ -78,7 +123,7 @@ where
         done
     }
 
-    fn review(&self, faulty: &mut Vec<u8>) -> Result<bool, ReviewFault> {
+    fn review(&mut self, faulty: &mut Vec<u8>) -> Result<bool, ReviewFault> {
         let errors = Patient::new(self.rt, self.errors);
         let Ok(mut lines) = BufWriter::new(self.rt.alloc(), errors) else {
             return Err(ReviewFault::OutOfMemory);
@@ -88,18 +133,30 @@ where
         outcome
     }
 
-    fn check(&self, cdb: &str) -> Result<(), CheckFailure> {
+    fn check(&mut self, cdb: &str) -> Result<(), CheckFailure> {
         let errors = Patient::new(self.rt, self.errors);
         let output = Patient::new(self.rt, io::writer(self.rt));
         check_over(self.rt, errors, output, cdb)
     }
 
-    fn fix(&self, words: &[Vec<u8>], error: &mut Option<i32>) -> Result<Status, BetweenFault> {
-        (self.fix)(words, error)
+    fn pass(
+        &mut self,
+        recorded: bool,
+        words: &[Vec<u8>],
+        error: &mut Option<i32>,
+    ) -> Result<Status, BetweenFault> {
+        if recorded {
+            let errors = Patient::new(self.rt, self.errors);
+            run_recordio(self.rt, errors, words, error)
+        } else {
+            run_fixcrio(self.rt, words, error)
+        }
     }
 
-    fn record(&self, words: &[Vec<u8>], error: &mut Option<i32>) -> Result<Status, BetweenFault> {
-        (self.record)(words, error)
+    fn tell(&mut self, name: &str, fault: ToolFault, causes: &[u8]) {
+        let mut errors = Patient::new(self.rt, self.errors);
+        let _ = write_fault(&mut errors, name, fault, causes);
+        drop(errors);
     }
 }
 
