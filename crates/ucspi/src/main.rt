@@ -1,15 +1,29 @@
 //! The program `ucspi`: the name by which it was called, or its first word, names a tool; `rulesim` where there is
 //! none.
 //!
-//! `run_system` lends the system's streams, files, sockets and programs to `ucspi_tools::run_program`. What it lends is
-//! a premise, which its lines state: `docs/internals/PROOFS.md` lists them.
+//! `run_system` lends the system's streams, files, sockets and programs to `ucspi_tools::run_program`. What it and `main`
+//! lend is a premise, which their lines state: `docs/internals/PROOFS.md` lists them.
 #![tactic(auto)]
 
 mod system;
 
+use byte_streams::Patient;
+use fault_hints::Voice;
+use server_tool::run_tcpserver;
 use std::process::ExitCode;
+use stream_tools::{run_fixcrio, run_recordio};
 use system::run_system;
 
 fn main(rt: HostRuntime) -> ExitCode {
-    ExitCode::from(run_system(&rt, rt.stderr()))
+    let serve = |voice: Voice, words: &[Vec<u8>], causes: &mut Vec<u8>| {
+        run_tcpserver(&rt, Patient::new(&rt, rt.stderr()), words, voice, causes)
+    };
+    let pass = |recorded: bool, words: &[Vec<u8>], error: &mut Option<i32>| {
+        if recorded {
+            run_recordio(&rt, Patient::new(&rt, rt.stderr()), words, error)
+        } else {
+            run_fixcrio(&rt, words, error)
+        }
+    };
+    ExitCode::from(run_system(&rt, rt.stderr(), serve, pass))
 }

@@ -6,54 +6,43 @@ use byte_text::NotingStream;
 use connection_facts::Status;
 use fault_hints::{KeepingReader, Voice};
 use rules_tools::{
-    CheckFailure, ReviewFault, RulesFailure, SystemFolders, SystemVariables, TcprulesFault,
-    run_review, run_tcprules, run_tcprulescheck,
+    CheckFailure, Folders, InstallFolders, ReviewFault, RulesFailure, SystemFolders,
+    SystemVariables, TcprulesFault, Variables, run_review, run_tcprules, run_tcprulescheck,
 };
 use script_tool::{SimFault, run_script};
 use server_parts::ServerFault;
-use server_tool::run_tcpserver;
+use std::alloc::Global;
 use std::fs::{File, Files};
 use std::io;
-use std::io::{BufWriter, Write};
-use std::net::{Net, TcpStream};
+use std::io::{BufWriter, Read, Write};
 use std::os::unix::fs::FileExt;
-use std::process::{ChildStdin, OpenProcess, Processes};
 use std::rt::Env;
-use std::sync::Wait;
-use std::thread::Threads;
 use std::time::Clock;
+use stream_tools::BetweenFault;
 use stream_tools::started::SystemGiven;
-use stream_tools::{BetweenFault, run_fixcrio, run_recordio};
 use ucspi_tools::{Calls, Program, ToolFault, run_program, write_fault};
 
-/// Runs the program over the system, and answers its exit code. `errors` is standard error. A stream that was left
-/// non-blocking is waited for.
-pub fn run_system<R, E>(rt: &R, errors: E) -> u8
+/// Runs the program over the system, and answers its exit code. `errors` is standard error. Those tools that start
+/// threads are lent as calls that may be made at any time, since the system has threads in `main` alone. A stream that
+/// was left non-blocking is waited for.
+pub fn run_system<R, E, S, P>(rt: &R, errors: E, serve: S, pass: P) -> u8
 where
-    R: Env
-        + Input
-        + Print
-        + AllocGlobal
-        + Files<File = File>
-        + Processes
-        + Threads
-        + Wait
-        + Clock
-        + Sync,
-    R: Net<Stream = TcpStream>,
-    R::Reader: Send,
-    R::Dir: Send + Sync,
-    R::Listener: Send + Sync,
-    R::Started: OpenProcess<Stdin = ChildStdin> + Send,
-    <R::Started as OpenProcess>::Stdout: Send,
-    <R::Started as OpenProcess>::Stderr: Send,
-    E: Write + Copy + Send + Drop,
+    R: Env + Input + Print + AllocGlobal + Files<File = File> + Clock,
+    E: Write + Copy + Drop,
+    S: Fn(Voice, &[Vec<u8>], &mut Vec<u8>) -> Result<(), ServerFault> + Drop,
+    P: Fn(bool, &[Vec<u8>], &mut Option<i32>) -> Result<Status, BetweenFault> + Drop,
+    requires { S.IsAlwaysCallable serve × P.IsAlwaysCallable pass }
 {
     let mut program = Program {
         alloc: rt.alloc(),
         input: Patient::new(rt, rt.reader()),
         output: Patient::new(rt, io::writer(rt)),
-        calls: StandardCalls { rt, errors },
+        calls: StandardCalls {
+            rt,
+            errors,
+            serve,
+            pass,
+        },
     };
     let code = run_program(&SystemGiven(rt), &mut program);
     drop(program);
@@ -62,35 +51,27 @@ where
 
 /// The tools over the system, and over its standard streams.
 #[derive(Drop)]
-struct StandardCalls<'a, R, E> {
+struct StandardCalls<'a, R, E, S, P> {
     /// The system.
     rt: &'a R,
     /// Standard error.
     errors: E,
+    /// `tcpserver`.
+    serve: S,
+    /// `recordio` and `fixcrio`.
+    pass: P,
 }
 
-impl<R, E> Calls for StandardCalls<'_, R, E>
+impl<R, E, S, P> Calls for StandardCalls<'_, R, E, S, P>
 where
-    R: Env
-        + Input
-        + Print
-        + AllocGlobal
-        + Files<File = File>
-        + Processes
-        + Threads
-        + Wait
-        + Clock
-        + Sync,
-    R: Net<Stream = TcpStream>,
-    R::Reader: Send,
-    R::Dir: Send + Sync,
-    R::Listener: Send + Sync,
-    R::Started: OpenProcess<Stdin = ChildStdin> + Send,
-    <R::Started as OpenProcess>::Stdout: Send,
-    <R::Started as OpenProcess>::Stderr: Send,
-    E: Write + Copy + Send + Drop,
+    R: Env + Input + Print + AllocGlobal + Files<File = File> + Clock,
+    E: Write + Copy + Drop,
+    S: Fn(Voice, &[Vec<u8>], &mut Vec<u8>) -> Result<(), ServerFault>,
+    P: Fn(bool, &[Vec<u8>], &mut Option<i32>) -> Result<Status, BetweenFault>,
 {
     ghost lent = { anything };
+
+    ghost ready = { λ calls. S.IsAlwaysCallable calls.serve × P.IsAlwaysCallable calls.pass };
 
     fn serve(
         &mut self,
@@ -98,8 +79,7 @@ where
         words: &[Vec<u8>],
         causes: &mut Vec<u8>,
     ) -> Result<(), ServerFault> {
-        let errors = Patient::new(self.rt, self.errors);
-        run_tcpserver(self.rt, errors, words, voice, causes)
+        (self.serve)(voice, words, causes)
     }
 
     fn simulate(&mut self) -> Result<(), SimFault> {
@@ -107,30 +87,19 @@ where
     }
 
     fn install(&mut self, cdb: &str, tmp: &str, faulty: &mut Vec<u8>) -> Result<(), RulesFailure> {
-        let alloc = self.rt.alloc();
-        let mut reader = KeepingReader::new(alloc, Patient::new(self.rt, self.rt.reader()));
-        let mut folders = SystemFolders::new(self.rt, Patient::new(self.rt, self.errors));
-        let mut noting = NotingStream::new(&mut reader);
-        let done = run_tcprules(alloc, &mut folders, &mut noting, cdb, tmp);
-        drop(noting);
-        if let Err(failure) = done
-            && let TcprulesFault::Line(fault) = failure.fault
-        {
-            reader.copy_line(fault.line, faulty);
-        }
-        drop(folders);
-        drop(reader);
-        done
+        let folders = SystemFolders::new(self.rt, Patient::new(self.rt, self.errors));
+        let input = Patient::new(self.rt, self.rt.reader());
+        install_by(self.rt.alloc(), folders, input, (cdb, tmp), faulty)
     }
 
     fn review(&mut self, faulty: &mut Vec<u8>) -> Result<bool, ReviewFault> {
-        let errors = Patient::new(self.rt, self.errors);
-        let Ok(mut lines) = BufWriter::new(self.rt.alloc(), errors) else {
-            return Err(ReviewFault::OutOfMemory);
-        };
-        let outcome = review_on(self.rt, &mut lines, faulty);
-        drop(lines);
-        outcome
+        let input = Patient::new(self.rt, self.rt.reader());
+        review_by(
+            self.rt.alloc(),
+            input,
+            Patient::new(self.rt, self.errors),
+            faulty,
+        )
     }
 
     fn check(&mut self, cdb: &str) -> Result<(), CheckFailure> {
@@ -145,18 +114,57 @@ where
         words: &[Vec<u8>],
         error: &mut Option<i32>,
     ) -> Result<Status, BetweenFault> {
-        if recorded {
-            let errors = Patient::new(self.rt, self.errors);
-            run_recordio(self.rt, errors, words, error)
-        } else {
-            run_fixcrio(self.rt, words, error)
-        }
+        (self.pass)(recorded, words, error)
     }
 
     fn tell(&mut self, name: &str, fault: ToolFault, causes: &[u8]) {
-        let mut errors = Patient::new(self.rt, self.errors);
-        let _ = write_fault(&mut errors, name, fault, causes);
-        drop(errors);
+        let _ = write_fault(&mut Patient::new(self.rt, self.errors), name, fault, causes);
+    }
+}
+
+// `tcprules` in these folders, by the rule text that a reader gives.
+fn install_by<F: InstallFolders + Drop, I: Read + Drop>(
+    alloc: Global,
+    mut folders: F,
+    input: I,
+    paths: (&str, &str),
+    faulty: &mut Vec<u8>,
+) -> Result<(), RulesFailure> {
+    let mut reader = KeepingReader::new(alloc, input);
+    let mut noting = NotingStream::new(&mut reader);
+    let done = run_tcprules(alloc, &mut folders, &mut noting, paths.0, paths.1);
+    drop(noting);
+    drop(folders);
+    if let Err(failure) = done
+        && let TcprulesFault::Line(fault) = failure.fault
+    {
+        reader.copy_line(fault.line, faulty);
+    }
+    drop(reader);
+    done
+}
+
+// Looks over the rule text that a reader gives, and writes all its warnings.
+fn review_by<I: Read + Drop, E: Write + Drop>(
+    alloc: Global,
+    input: I,
+    errors: E,
+    faulty: &mut Vec<u8>,
+) -> Result<bool, ReviewFault> {
+    let Ok(mut lines) = BufWriter::new(alloc, errors) else {
+        return Err(ReviewFault::OutOfMemory);
+    };
+    let mut reader = KeepingReader::new(alloc, input);
+    let outcome = run_review(alloc, &mut reader, &mut lines);
+    if let Err(ReviewFault::Text(fault)) = outcome {
+        reader.copy_line(fault.line, faulty);
+    }
+    drop(reader);
+    let flushed = lines.flush();
+    drop(lines);
+    match (outcome, flushed) {
+        (Ok(_), Err(_)) => Err(ReviewFault::WriteFault),
+        (outcome, _) => outcome,
     }
 }
 
@@ -168,30 +176,27 @@ where
     E: Write + Drop,
     W: Write + Drop,
 {
-    let variables = SystemVariables(system);
-    let mut folders = SystemFolders::new(system, errors);
+    let folders = SystemFolders::new(system, errors);
+    check_by(
+        system.alloc(),
+        &SystemVariables(system),
+        folders,
+        output,
+        cdb,
+    )
+}
+
+// The same by these variables, in these folders.
+fn check_by<V: Variables, F: Folders + Drop, W: Write + Drop>(
+    alloc: Global,
+    variables: &V,
+    mut folders: F,
+    output: W,
+    cdb: &str,
+) -> Result<(), CheckFailure> {
     let mut writer = NotingStream::new(output);
-    let told = run_tcprulescheck(system.alloc(), &variables, &mut folders, &mut writer, cdb);
+    let told = run_tcprulescheck(alloc, variables, &mut folders, &mut writer, cdb);
     drop(writer);
     drop(folders);
     told
-}
-
-// Looks over the rule text that standard input has, and writes all its warnings.
-fn review_on<R: Input + AllocGlobal + Clock, W: Write>(
-    system: &R,
-    lines: &mut W,
-    faulty: &mut Vec<u8>,
-) -> Result<bool, ReviewFault> {
-    let alloc = system.alloc();
-    let mut reader = KeepingReader::new(alloc, Patient::new(system, system.reader()));
-    let outcome = run_review(alloc, &mut reader, lines);
-    if let Err(ReviewFault::Text(fault)) = outcome {
-        reader.copy_line(fault.line, faulty);
-    }
-    drop(reader);
-    match (outcome, lines.flush()) {
-        (Ok(_), Err(_)) => Err(ReviewFault::WriteFault),
-        (outcome, _) => outcome,
-    }
 }

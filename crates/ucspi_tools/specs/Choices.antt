@@ -41,16 +41,16 @@ pub data Wanted : Type 0 where
 abbrev pub wanted : ToolChoice → Wanted
 wanted (choice.Tcpserver voice words) = serves voice (texts_of words.now)
 wanted choice.Rulesim = simulates
-wanted (choice.Tcprules cdb tmp detail) = installs detail cdb.now tmp.now
-wanted (choice.Review strict detail) = reviews detail strict
-wanted (choice.Tcprulescheck cdb detail) = checks detail cdb.now
+wanted (choice.Tcprules detail cdb tmp) = installs detail cdb.now tmp.now
+wanted (choice.Review detail strict) = reviews detail strict
+wanted (choice.Tcprulescheck detail cdb) = checks detail cdb.now
 wanted choice.Addcr = adds
 wanted choice.Delcr = deletes
-wanted (choice.Passing recorded words detail) = passes recorded detail (texts_of words.now)
+wanted (choice.Passing recorded detail words) = passes recorded detail (texts_of words.now)
 wanted choice.Version = version
 wanted choice.Help = help
 wanted (choice.HelpOf tool) = help_of tool
-wanted (choice.UsageOf tool detail) = usage_of detail tool
+wanted (choice.UsageOf detail tool) = usage_of detail tool
 wanted choice.Usage = usage
 
 -- what is told behind the line of a fault where the words say nothing of it, and where they ask for causes

@@ -15,6 +15,9 @@ pub trait Calls {
     /// What each of the calls does.
     ghost lent: { Lent Self };
 
+    /// Whether those may be called that start threads.
+    ghost ready: { Self → Type 0 };
+
     /// `tcpserver`, by a voice and its words. What is told behind the line of its fault is left in `causes`.
     ///
     /// # Errors
@@ -25,6 +28,7 @@ pub trait Calls {
         words: &[Vec<u8>],
         causes: &mut Vec<u8>,
     ) -> Result<(), ServerFault>
+        requires { ready self.old }
         ensures { lent.serves voice (texts_of words.now) self.old self.new causes.new.items result };
 
     /// `rulesim`.
@@ -67,6 +71,7 @@ pub trait Calls {
         words: &[Vec<u8>],
         error: &mut Option<i32>,
     ) -> Result<Status, BetweenFault>
+        requires { ready self.old }
         ensures { lent.passes recorded (texts_of words.now) self.old self.new error.new result };
 
     /// Tells a fault under a name, of a tool or of the program, and behind it its causes.

@@ -10,10 +10,10 @@ use fault_hints::Detail;
 use rules_tools::{CheckFault, ReviewFault, TcprulesFault};
 use script_tool::SimFault;
 use server_parts::ServerFault;
-use std::io;
+use std::fmt::Display;
 use std::io::{Cursor, Write};
+use std::{fmt, io};
 use stream_tools::{BetweenFault, FilterFault};
-use thiserror::Error;
 
 /// The exit code of wrong words and bad input.
 pub const BAD_INPUT: u8 = 100;
@@ -28,41 +28,51 @@ pub const WARNED: u8 = 1;
 const LINE: usize = 512;
 
 /// Why a run of a tool fails. It prints as what stands behind the tool's name.
-#[derive(Clone, Copy, Debug, Error)]
+#[derive(Clone, Copy)]
 pub enum ToolFault {
     /// The words are not those of this tool.
-    #[error("usage: {usage}", usage = .0.usage())]
     UsageOf(Tool, Detail),
     /// The words ask for no tool.
-    #[error("usage: ucspi TOOL ...")]
     Usage,
     /// The server could not be started, or it ended by itself.
-    #[error("{0}")]
     Server(ServerFault),
     /// A script was not run to its end.
-    #[error("{0}")]
     Script(SimFault),
     /// Rules were not installed.
-    #[error("{0}")]
     Rules(TcprulesFault),
     /// A text was not looked over to its end.
-    #[error("{0}")]
     Review(ReviewFault),
     /// No decision is told.
-    #[error("{0}")]
     Check(CheckFault),
     /// A stream was not passed on to its end.
-    #[error("{0}")]
     Filter(FilterFault),
     /// A program could not be run between two streams.
-    #[error("{0}")]
     Between(BetweenFault),
     /// What is told of the program could not be written.
-    #[error("write fault")]
     WriteFault,
     /// There was no memory for the words.
-    #[error("out of memory")]
     OutOfMemory,
+}
+
+impl Display for ToolFault {
+    fn fmt<W: fmt::Write>(&self, f: &mut fmt::Formatter<W>) -> fmt::Result {
+        match self {
+            ToolFault::UsageOf(tool, _) => {
+                f.write_str("usage: ")?;
+                f.write_str(tool.usage())
+            }
+            ToolFault::Usage => f.write_str("usage: ucspi TOOL ..."),
+            ToolFault::Server(fault) => fault.fmt(f),
+            ToolFault::Script(fault) => fault.fmt(f),
+            ToolFault::Rules(fault) => fault.fmt(f),
+            ToolFault::Review(fault) => fault.fmt(f),
+            ToolFault::Check(fault) => fault.fmt(f),
+            ToolFault::Filter(fault) => fault.fmt(f),
+            ToolFault::Between(fault) => fault.fmt(f),
+            ToolFault::WriteFault => f.write_str("write fault"),
+            ToolFault::OutOfMemory => f.write_str("out of memory"),
+        }
+    }
 }
 
 impl ToolFault {

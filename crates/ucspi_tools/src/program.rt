@@ -38,12 +38,11 @@ pub struct Program<I, O, C> {
 
 /// Runs the tool that the name by which the program was called and its words ask for, and answers the exit code. A
 /// fault is told under the name of the tool, or under the program's.
-pub fn run_program<G, I, O, C>(given: &G, program: &mut Program<I, O, C>) -> u8
-where
-    G: Given,
-    I: Read,
-    O: Write,
-    C: Calls,
+pub fn run_program<G: Given, I: Read, O: Write, C: Calls>(
+    given: &G,
+    program: &mut Program<I, O, C>,
+) -> u8
+    requires { C.ready program.old.calls }
     ensures runs { Runs G.honest (G.words given.now) (record { lent = C.lent; left = I.remaining; holds = O.contents })
         program.old program.new result }
 {
@@ -69,11 +68,12 @@ fn words_of<G: Given>(alloc: Global, given: &G) -> Result<(Vec<u8>, Vec<Vec<u8>>
 }
 
 /// Runs the tool that a path and words ask for.
-fn run_words<I, O, C>(program: &mut Program<I, O, C>, path: &[u8], words: &[Vec<u8>]) -> u8
-where
-    I: Read,
-    O: Write,
-    C: Calls,
+fn run_words<I: Read, O: Write, C: Calls>(
+    program: &mut Program<I, O, C>,
+    path: &[u8],
+    words: &[Vec<u8>],
+) -> u8
+    requires { C.ready program.old.calls }
     ensures { RunsBy (record { lent = C.lent; left = I.remaining; holds = O.contents })
         path.now (texts_of words.now) program.old program.new result }
 {
@@ -113,15 +113,12 @@ fn name_of(choice: ToolChoice<'_>) -> &'static str
 }
 
 /// Runs what words ask for. What is told behind the line of a fault is appended to `causes`.
-fn run<I, O, C>(
+fn run<I: Read, O: Write, C: Calls>(
     program: &mut Program<I, O, C>,
     causes: &mut Vec<u8>,
     choice: ToolChoice<'_>,
 ) -> Result<u8, ToolFault>
-where
-    I: Read,
-    O: Write,
-    C: Calls,
+    requires { C.ready program.old.calls }
     ensures { Ran (record { lent = C.lent; left = I.remaining; holds = O.contents }) (wanted choice.entry)
         program.old program.new causes.old.items causes.new.items result }
 {
@@ -129,7 +126,7 @@ where
     let (input, output) = (&mut program.input, &mut program.output);
     let calls = &mut program.calls;
     match choice {
-        ToolChoice::Tcpserver { voice, words } => match calls.serve(voice, words, causes) {
+        ToolChoice::Tcpserver(voice, words) => match calls.serve(voice, words, causes) {
             Ok(()) => Ok(0),
             Err(fault) => Err(ToolFault::Server(fault)),
         },
@@ -137,22 +134,18 @@ where
             Ok(()) => Ok(0),
             Err(fault) => Err(ToolFault::Script(fault)),
         },
-        ToolChoice::Tcprules { cdb, tmp, detail } => {
-            install(calls, alloc, causes, detail, (cdb, tmp))
-        }
-        ToolChoice::Review { strict, detail } => review(calls, alloc, causes, detail, strict),
-        ToolChoice::Tcprulescheck { cdb, detail } => check(calls, alloc, causes, detail, cdb),
+        ToolChoice::Tcprules(detail, cdb, tmp) => install(calls, alloc, causes, detail, (cdb, tmp)),
+        ToolChoice::Review(detail, strict) => review(calls, alloc, causes, detail, strict),
+        ToolChoice::Tcprulescheck(detail, cdb) => check(calls, alloc, causes, detail, cdb),
         ToolChoice::Addcr => filtered(add_returns(alloc, input, output)),
         ToolChoice::Delcr => filtered(delete_returns(alloc, input, output)),
-        ToolChoice::Passing {
-            recorded,
-            words,
-            detail,
-        } => { pass(calls, alloc, causes, detail, (recorded, words)) }
+        ToolChoice::Passing(recorded, detail, words) => {
+            pass(calls, alloc, causes, detail, (recorded, words))
+        }
         ToolChoice::Version => written(tell_version(output)),
         ToolChoice::Help => written(tell_tools(output)),
         ToolChoice::HelpOf(tool) => written(tell_words(output, tool)),
-        ToolChoice::UsageOf { tool, detail } => Err(ToolFault::UsageOf(tool, detail)),
+        ToolChoice::UsageOf(detail, tool) => Err(ToolFault::UsageOf(tool, detail)),
         ToolChoice::Usage => Err(ToolFault::Usage),
     }
 }
@@ -237,6 +230,7 @@ fn pass<C: Calls>(
     detail: Detail,
     told: (bool, &[Vec<u8>]),
 ) -> Result<u8, ToolFault>
+    requires { C.ready calls.old }
     ensures { Passes C.lent detail told.entry.0 (texts_of told.entry.1.now) calls.old calls.new
         causes.old.items causes.new.items result }
 {

@@ -29,7 +29,7 @@ pub const FILTER_WORDS: &str = "no words: standard input goes to standard output
 pub const SCRIPT_WORDS: &str = "no words: commands come from standard input\n";
 
 /// A tool.
-#[derive(Clone, Copy, Debug)]
+#[derive(Clone, Copy)]
 pub enum Tool {
     /// Serves TCP connections by a program.
     Tcpserver,
