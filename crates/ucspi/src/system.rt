@@ -87,19 +87,15 @@ where
     }
 
     fn install(&mut self, cdb: &str, tmp: &str, faulty: &mut Vec<u8>) -> Result<(), RulesFailure> {
-        let folders = SystemFolders::new(self.rt, Patient::new(self.rt, self.errors));
         let input = Patient::new(self.rt, self.rt.reader());
-        install_by(self.rt.alloc(), folders, input, (cdb, tmp), faulty)
+        let errors = Patient::new(self.rt, self.errors);
+        install_over(self.rt, self.rt.alloc(), input, errors, (cdb, tmp), faulty)
     }
 
     fn review(&mut self, faulty: &mut Vec<u8>) -> Result<bool, ReviewFault> {
         let input = Patient::new(self.rt, self.rt.reader());
-        review_by(
-            self.rt.alloc(),
-            input,
-            Patient::new(self.rt, self.errors),
-            faulty,
-        )
+        let errors = Patient::new(self.rt, self.errors);
+        review_by(self.rt.alloc(), input, errors, faulty)
     }
 
     fn check(&mut self, cdb: &str) -> Result<(), CheckFailure> {
@@ -122,7 +118,25 @@ where
     }
 }
 
-// `tcprules` in these folders, by the rule text that a reader gives.
+// `tcprules` over this system, by the rule text that a reader gives.
+fn install_over<R: Files<File = File> + Clock, I: Read + Drop, E: Write + Drop>(
+    system: &R,
+    alloc: Global,
+    input: I,
+    errors: E,
+    paths: (&str, &str),
+    faulty: &mut Vec<u8>,
+) -> Result<(), RulesFailure> {
+    install_by(
+        alloc,
+        SystemFolders::new(system, errors),
+        input,
+        paths,
+        faulty,
+    )
+}
+
+// The same in these folders.
 fn install_by<F: InstallFolders + Drop, I: Read + Drop>(
     alloc: Global,
     mut folders: F,
