@@ -1,8 +1,8 @@
 //! The program `ucspi`: the name by which it was called, or its first word, names a tool; `rulesim` where there is
 //! none.
 //!
-//! `run_system` lends the system's streams, files, sockets and programs to `ucspi_tools::run_program`. What it and `main`
-//! lend is a premise, which their lines state: `docs/internals/PROOFS.md` lists them.
+//! `main` and `run_system` lend the system's streams, files, sockets and programs to `ucspi_tools::run_program`. What
+//! they lend is a premise, which their lines state: `docs/internals/PROOFS.md` lists them.
 #![tactic(auto)]
 
 mod system;

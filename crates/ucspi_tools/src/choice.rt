@@ -3,7 +3,7 @@ ghost use Rattle.std.specs.Prelude.{◌≡◌, drop};
 ghost use Rattle.std.specs.List.{list_all};
 ghost use Rattle.std.specs.Str.{is_utf8};
 ghost use Rattle.stream_tools.specs.Programs.{texts_of};
-ghost use Rattle.ucspi_tools.specs.Choices.{CallsFor, Wanted, IsLastPart, alone, asked_by, choice_by_word, detail_by, is_verbose, operands, plain_detail, reviews, run_by_name, run_of, strictness, tcprules_by, tcprules_at, tcprulescheck_at, tcpserver_by, tool_in, wanted, passes_by};
+ghost use Rattle.ucspi_tools.specs.Choices.{CallsFor, Wanted, IsLastPart, alone, choice_by_word, detail_by, is_verbose, operands, plain_detail, reviews, run_by_name, run_of, strictness, tcprules_by, tcprules_at, tcprulescheck_at, tcpserver_by, tool_in, wanted, passes_by};
 
 use crate::tool::Tool;
 use fault_hints::{Detail, Voice};
@@ -60,8 +60,9 @@ impl ToolChoice<'_> {
     }
 }
 
-/// What a command line asks for: the path by which the program was called, and the words after it. Where the last part of that path is a
-/// tool's name, that is the tool, which speaks to a person, and all words are its own; else the first word names the tool.
+/// What a command line asks for: the path by which the program was called, and the words after it. Where the last part
+/// of that path is a tool's name, that is the tool, which speaks to a person, and all words are its own; else the first
+/// word names the tool.
 pub fn choose<'a>(path: &[u8], words: &'a [Vec<u8>]) -> ToolChoice<'a>
     ensures { CallsFor path.now (texts_of words.now) (wanted result) }
 {
@@ -92,7 +93,8 @@ fn choose_by_name(tool: Tool, words: &[Vec<u8>]) -> ToolChoice<'_>
     }
 }
 
-/// What words ask for of which the first names the tool.
+/// What words ask for of which the first names the tool. One that names none may ask for the version or for help, where
+/// it stands alone.
 fn choose_by_word(words: &[Vec<u8>]) -> ToolChoice<'_>
     ensures { wanted result ≡ choice_by_word (texts_of words.now) }
 {
@@ -101,7 +103,10 @@ fn choose_by_word(words: &[Vec<u8>]) -> ToolChoice<'_>
     };
     match Tool::named(tool) {
         Some(tool) => choose_tool(tool, words, Voice::Plain),
-        None => choose_about(tool, words),
+        None if !words.is_empty() => ToolChoice::Usage,
+        None if tool.as_slice() == VERSION.as_bytes() => ToolChoice::Version,
+        None if tool.as_slice() == HELP.as_bytes() => ToolChoice::Help,
+        None => ToolChoice::Usage,
     }
 }
 
@@ -109,21 +114,6 @@ fn choose_by_word(words: &[Vec<u8>]) -> ToolChoice<'_>
 const VERSION: &str = "--version";
 
 const HELP: &str = "--help";
-
-/// What a first word asks for that names no tool, and those behind it.
-fn choose_about<'a>(word: &[u8], words: &'a [Vec<u8>]) -> ToolChoice<'a>
-    ensures { wanted result ≡ asked_by word.now (texts_of words.now) }
-{
-    if !words.is_empty() {
-        ToolChoice::Usage
-    } else if word == VERSION.as_bytes() {
-        ToolChoice::Version
-    } else if word == HELP.as_bytes() {
-        ToolChoice::Help
-    } else {
-        ToolChoice::Usage
-    }
-}
 
 /// What the words of a tool ask for, which speaks in this voice.
 fn choose_tool(tool: Tool, words: &[Vec<u8>], voice: Voice) -> ToolChoice<'_>
