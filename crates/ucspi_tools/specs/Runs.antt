@@ -1,5 +1,5 @@
 -- What a run of the program is: the tool that its words ask for, what it does, and the code with which it exits.
-use Rattle.std.specs.Prelude.{◌≡◌, ◌⊎◌, ℕ, ℤ, Bool, true, false, List, [], Option, Some, None, Result, Ok, Err, IsTrue, IfSome, OnOk, drop, codes}
+use Rattle.std.specs.Prelude.{◌≡◌, ◌⊎◌, ℕ, ℤ, Bool, List, [], Option, Some, None, Result, Ok, Err, IsTrue, IfSome, OnOk, drop, codes}
 use Rattle.std.specs.Io.KnownBytes.{Appends}
 use Rattle.std.specs.declared.io.Error.{Error}
 use Rattle.byte_streams.specs.Wrapped.{added, deleted}
