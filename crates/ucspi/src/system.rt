@@ -6,8 +6,8 @@ use byte_text::NotingStream;
 use connection_facts::Status;
 use fault_hints::{KeepingReader, Voice};
 use rules_tools::{
-    CheckFailure, Folders, InstallFolders, ReviewFault, RulesFailure, SystemFolders,
-    SystemVariables, TcprulesFault, Variables, run_review, run_tcprules, run_tcprulescheck,
+    CheckFailure, ReviewFault, RulesFailure, SystemFolders, SystemVariables, TcprulesFault,
+    run_review, run_tcprules, run_tcprulescheck,
 };
 use script_tool::{SimFault, run_script};
 use server_parts::ServerFault;
@@ -127,23 +127,7 @@ fn install_over<R: Files<File = File> + Clock, I: Read + Drop, E: Write + Drop>(
     paths: (&str, &str),
     faulty: &mut Vec<u8>,
 ) -> Result<(), RulesFailure> {
-    install_by(
-        alloc,
-        SystemFolders::new(system, errors),
-        input,
-        paths,
-        faulty,
-    )
-}
-
-// The same in these folders.
-fn install_by<F: InstallFolders + Drop, I: Read + Drop>(
-    alloc: Global,
-    mut folders: F,
-    input: I,
-    paths: (&str, &str),
-    faulty: &mut Vec<u8>,
-) -> Result<(), RulesFailure> {
+    let mut folders = SystemFolders::new(system, errors);
     let mut reader = KeepingReader::new(alloc, input);
     let mut noting = NotingStream::new(&mut reader);
     let done = run_tcprules(alloc, &mut folders, &mut noting, paths.0, paths.1);
@@ -190,26 +174,10 @@ where
     E: Write + Drop,
     W: Write + Drop,
 {
-    let folders = SystemFolders::new(system, errors);
-    check_by(
-        system.alloc(),
-        &SystemVariables(system),
-        folders,
-        output,
-        cdb,
-    )
-}
-
-// The same by these variables, in these folders.
-fn check_by<V: Variables, F: Folders + Drop, W: Write + Drop>(
-    alloc: Global,
-    variables: &V,
-    mut folders: F,
-    output: W,
-    cdb: &str,
-) -> Result<(), CheckFailure> {
+    let variables = SystemVariables(system);
+    let mut folders = SystemFolders::new(system, errors);
     let mut writer = NotingStream::new(output);
-    let told = run_tcprulescheck(alloc, variables, &mut folders, &mut writer, cdb);
+    let told = run_tcprulescheck(system.alloc(), &variables, &mut folders, &mut writer, cdb);
     drop(writer);
     drop(folders);
     told
