@@ -333,7 +333,7 @@ def check_program(checks):
     if "tcpserver" not in tools:
         listed = {item for item in listed if not item.startswith("tcpserver ")}
     checks.same("ucspi: tools", listed, set(tools.values()))
-    usage = re.search(r'#\[error\("usage: ([^"{]*)"\)\]', read("ucspi_tools/src/fault.rt")).group(1)
+    usage = re.search(r'"usage: (ucspi [^"]*)"', read("ucspi_tools/src/fault.rt")).group(1)
     checks.same("ucspi: texts", page.texts(), {"ucspi: usage: " + usage: 100, "ucspi: write fault": 111, "ucspi: out of memory": 111})
     words = set(re.findall(r'const \w+: &str = "(--\w+)"', read("ucspi_tools/src/choice.rt")))
     checks.same("ucspi: words of its own", set(re.findall(r"--\w+", " ".join(page.section("DESCRIPTION")))), words)

@@ -1,2 +1,1 @@
-pub mod CauseLemmas
 pub mod WordLemmas

@@ -17,10 +17,11 @@ use Rattle.ucspi_tools.specs.declared.tool.TheConstants.{CHECK_WORDS, FILTER_WOR
 use Rattle.ucspi_tools.specs.declared.tool.Tool.{Tool}
 use Rattle.ucspi_tools.specs.declared.tool.Tool.TheVariants.{Tcpserver, Rulesim, Tcprules, Tcprulescheck, Addcr, Delcr, Fixcrio, Recordio}
 
--- a run of `tcpserver` in this voice with its words; of `rulesim`; of `tcprules` with the paths of the rules file and of the scratch file; of `tcprules`
--- over a text alone, and whether a warning makes it fail; of `tcprulescheck` with the path of the rules file; of `addcr`; of `delcr`; of `fixcrio` and of
--- `recordio` with a program and its arguments; the version of the program; a line for each tool; the words of a tool, a line each; the usage line of a
--- tool; or that of `ucspi`. A detail says what is told behind the line of a fault
+-- a run of `tcpserver` in this voice with its words; of `rulesim`; of `tcprules` with the paths of the rules file and of
+-- the scratch file; of `tcprules` over a text alone, and whether a warning makes it fail; of `tcprulescheck` with the path
+-- of the rules file; of `addcr`; of `delcr`; of `recordio`, where it is recorded, or of `fixcrio`, with a program and its
+-- arguments; the version of the program; a line for each tool; the words of a tool, a line each; the usage line of a tool;
+-- or that of `ucspi`. A detail says what is told behind the line of a fault
 pub data Wanted : Type 0 where
   serves : Voice → List (List ℕ) → Wanted
   simulates : Wanted
@@ -29,8 +30,7 @@ pub data Wanted : Type 0 where
   checks : Detail → List ℕ → Wanted
   adds : Wanted
   deletes : Wanted
-  fixes : Detail → List (List ℕ) → Wanted
-  records : Detail → List (List ℕ) → Wanted
+  passes : Bool → Detail → List (List ℕ) → Wanted
   version : Wanted
   help : Wanted
   help_of : Tool → Wanted
@@ -41,17 +41,16 @@ pub data Wanted : Type 0 where
 abbrev pub wanted : ToolChoice → Wanted
 wanted (choice.Tcpserver voice words) = serves voice (texts_of words.now)
 wanted choice.Rulesim = simulates
-wanted (choice.Tcprules cdb tmp detail) = installs detail cdb.now tmp.now
-wanted (choice.Review strict detail) = reviews detail strict
-wanted (choice.Tcprulescheck cdb detail) = checks detail cdb.now
+wanted (choice.Tcprules detail cdb tmp) = installs detail cdb.now tmp.now
+wanted (choice.Review detail strict) = reviews detail strict
+wanted (choice.Tcprulescheck detail cdb) = checks detail cdb.now
 wanted choice.Addcr = adds
 wanted choice.Delcr = deletes
-wanted (choice.Fixcrio words detail) = fixes detail (texts_of words.now)
-wanted (choice.Recordio words detail) = records detail (texts_of words.now)
+wanted (choice.Passing recorded detail words) = passes recorded detail (texts_of words.now)
 wanted choice.Version = version
 wanted choice.Help = help
 wanted (choice.HelpOf tool) = help_of tool
-wanted (choice.UsageOf tool detail) = usage_of detail tool
+wanted (choice.UsageOf detail tool) = usage_of detail tool
 wanted choice.Usage = usage
 
 -- what is told behind the line of a fault where the words say nothing of it, and where they ask for causes
@@ -111,10 +110,17 @@ tcprulescheck_at voice verbose words = usage_of (plain_detail voice) Tcprulesche
 abbrev pub tcprulescheck_by : Voice → List (List ℕ) → Wanted
 tcprulescheck_by voice words = tcprulescheck_at voice (is_verbose words) (operands words)
 
--- a tool whose words are a program and its arguments, which are text
-abbrev pub with_program : Voice → Wanted → Tool → List (List ℕ) → Wanted
-with_program voice run tool [] = usage_of (plain_detail voice) tool
-with_program voice run tool (word ∷ words) = if list_all is_utf8 (word ∷ words) then run else usage_of (plain_detail voice) tool
+-- the tool that records what it passes on, and the one that doesn't
+abbrev pub passing : Bool → Tool
+passing true = Recordio
+passing false = Fixcrio
+
+-- the words of both are a program and its arguments, which are text
+abbrev pub passes_by : Voice → Bool → List (List ℕ) → Wanted
+passes_by voice recorded [] = usage_of (plain_detail voice) (passing recorded)
+passes_by voice recorded (word ∷ words) =
+    if list_all is_utf8 (word ∷ words) then passes recorded (plain_detail voice) (word ∷ words)
+    else usage_of (plain_detail voice) (passing recorded)
 
 -- in this voice
 abbrev pub run_of : Voice → Tool → List (List ℕ) → Wanted
@@ -124,8 +130,8 @@ run_of voice Tcprules words = tcprules_by voice words
 run_of voice Tcprulescheck words = tcprulescheck_by voice words
 run_of voice Addcr words = alone voice adds Addcr words
 run_of voice Delcr words = alone voice deletes Delcr words
-run_of voice Fixcrio words = with_program voice (fixes (plain_detail voice) words) Fixcrio words
-run_of voice Recordio words = with_program voice (records (plain_detail voice) words) Recordio words
+run_of voice Fixcrio words = passes_by voice false words
+run_of voice Recordio words = passes_by voice true words
 
 -- the name of a tool
 abbrev pub name_of : Tool → List ℕ
@@ -236,8 +242,7 @@ tool_in (reviews detail strict) = Some Tcprules
 tool_in (checks detail cdb) = Some Tcprulescheck
 tool_in adds = Some Addcr
 tool_in deletes = Some Delcr
-tool_in (fixes detail words) = Some Fixcrio
-tool_in (records detail words) = Some Recordio
+tool_in (passes recorded detail words) = Some (passing recorded)
 tool_in version = None
 tool_in help = None
 tool_in (help_of tool) = Some tool

@@ -3,66 +3,32 @@ ghost use Rattle.std.specs.Prelude.{◌≡◌, drop};
 ghost use Rattle.std.specs.List.{list_all};
 ghost use Rattle.std.specs.Str.{is_utf8};
 ghost use Rattle.stream_tools.specs.Programs.{texts_of};
-ghost use Rattle.ucspi_tools.specs.Choices.{CallsFor, Wanted, IsLastPart, alone, asked_by, choice_by_word, detail_by, is_verbose, operands, plain_detail, reviews, run_by_name, run_of, strictness, tcprules_by, tcprules_at, tcprulescheck_by, tcprulescheck_at, tcpserver_by, tool_in, wanted, with_program};
+ghost use Rattle.ucspi_tools.specs.Choices.{CallsFor, Wanted, IsLastPart, alone, choice_by_word, detail_by, is_verbose, operands, plain_detail, reviews, run_by_name, run_of, strictness, tcprules_by, tcprules_at, tcprulescheck_at, tcpserver_by, tool_in, wanted, passes_by};
 
 use crate::tool::Tool;
 use fault_hints::{Detail, Voice};
 use memchr::memrchr;
 use server_words::Level;
 
-/// What words ask for.
+/// What words ask for. Paths are text, and so are words; a detail says what is told behind the line of a fault.
 #[derive(Clone, Copy)]
 pub enum ToolChoice<'a> {
-    /// A run of `tcpserver`.
-    Tcpserver {
-        /// Whom it speaks to.
-        voice: Voice,
-        /// Its words, each UTF-8.
-        words: &'a [Vec<u8>],
-    },
+    /// A run of `tcpserver` in a voice, with its words.
+    Tcpserver(Voice, &'a [Vec<u8>]),
     /// A run of `rulesim`.
     Rulesim,
     /// A run of `tcprules` with the paths of the rules file and of the scratch file.
-    Tcprules {
-        /// The path of the rules file.
-        cdb: &'a str,
-        /// The path of the scratch file.
-        tmp: &'a str,
-        /// What is told behind the line of a fault.
-        detail: Detail,
-    },
-    /// A run of `tcprules` over a text alone.
-    Review {
-        /// Whether a warning makes it fail.
-        strict: bool,
-        /// What is told behind the line of a fault.
-        detail: Detail,
-    },
+    Tcprules(Detail, &'a str, &'a str),
+    /// A run of `tcprules` over a text alone, and whether a warning makes it fail.
+    Review(Detail, bool),
     /// A run of `tcprulescheck` with the path of the rules file.
-    Tcprulescheck {
-        /// That path.
-        cdb: &'a str,
-        /// What is told behind the line of a fault.
-        detail: Detail,
-    },
+    Tcprulescheck(Detail, &'a str),
     /// A run of `addcr`.
     Addcr,
     /// A run of `delcr`.
     Delcr,
-    /// A run of `fixcrio` with a program.
-    Fixcrio {
-        /// Its path and arguments: at least the path, and each is UTF-8.
-        words: &'a [Vec<u8>],
-        /// What is told behind the line of a fault.
-        detail: Detail,
-    },
-    /// A run of `recordio` with a program.
-    Recordio {
-        /// Its path and arguments: at least the path, and each is UTF-8.
-        words: &'a [Vec<u8>],
-        /// What is told behind the line of a fault.
-        detail: Detail,
-    },
+    /// A run of `recordio`, where it is recorded, or of `fixcrio`, with a program's path and its arguments.
+    Passing(bool, Detail, &'a [Vec<u8>]),
     /// The version of the program.
     Version,
     /// A line for each tool.
@@ -70,12 +36,7 @@ pub enum ToolChoice<'a> {
     /// The words of a tool, a line each.
     HelpOf(Tool),
     /// The usage line of a tool.
-    UsageOf {
-        /// The tool.
-        tool: Tool,
-        /// What is told behind it.
-        detail: Detail,
-    },
+    UsageOf(Detail, Tool),
     /// The usage line of `ucspi`.
     Usage,
 }
@@ -86,24 +47,22 @@ impl ToolChoice<'_> {
         ensures { result ≡ tool_in (wanted self.now) }
     {
         match self {
-            ToolChoice::Tcpserver { .. } => Some(Tool::Tcpserver),
+            ToolChoice::Tcpserver(..) => Some(Tool::Tcpserver),
             ToolChoice::Rulesim => Some(Tool::Rulesim),
-            ToolChoice::Tcprules { .. } => Some(Tool::Tcprules),
-            ToolChoice::Review { .. } => Some(Tool::Tcprules),
-            ToolChoice::Tcprulescheck { .. } => Some(Tool::Tcprulescheck),
+            ToolChoice::Tcprules(..) | ToolChoice::Review(..) => Some(Tool::Tcprules),
+            ToolChoice::Tcprulescheck(..) => Some(Tool::Tcprulescheck),
             ToolChoice::Addcr => Some(Tool::Addcr),
             ToolChoice::Delcr => Some(Tool::Delcr),
-            ToolChoice::Fixcrio { .. } => Some(Tool::Fixcrio),
-            ToolChoice::Recordio { .. } => Some(Tool::Recordio),
-            ToolChoice::HelpOf(tool) => Some(*tool),
-            ToolChoice::UsageOf { tool, .. } => Some(*tool),
+            ToolChoice::Passing(recorded, ..) => Some(Tool::passing(*recorded)),
+            ToolChoice::HelpOf(tool) | ToolChoice::UsageOf(_, tool) => Some(*tool),
             ToolChoice::Version | ToolChoice::Help | ToolChoice::Usage => None,
         }
     }
 }
 
-/// What a command line asks for: the path by which the program was called, and the words after it. Where the last part of that path is a
-/// tool's name, that is the tool, which speaks to a person, and all words are its own; else the first word names the tool.
+/// What a command line asks for: the path by which the program was called, and the words after it. Where the last part
+/// of that path is a tool's name, that is the tool, which speaks to a person, and all words are its own; else the first
+/// word names the tool.
 pub fn choose<'a>(path: &[u8], words: &'a [Vec<u8>]) -> ToolChoice<'a>
     ensures { CallsFor path.now (texts_of words.now) (wanted result) }
 {
@@ -134,7 +93,8 @@ fn choose_by_name(tool: Tool, words: &[Vec<u8>]) -> ToolChoice<'_>
     }
 }
 
-/// What words ask for of which the first names the tool.
+/// What words ask for of which the first names the tool. One that names none may ask for the version or for help, where
+/// it stands alone.
 fn choose_by_word(words: &[Vec<u8>]) -> ToolChoice<'_>
     ensures { wanted result ≡ choice_by_word (texts_of words.now) }
 {
@@ -143,7 +103,10 @@ fn choose_by_word(words: &[Vec<u8>]) -> ToolChoice<'_>
     };
     match Tool::named(tool) {
         Some(tool) => choose_tool(tool, words, Voice::Plain),
-        None => choose_about(tool, words),
+        None if !words.is_empty() => ToolChoice::Usage,
+        None if tool.as_slice() == VERSION.as_bytes() => ToolChoice::Version,
+        None if tool.as_slice() == HELP.as_bytes() => ToolChoice::Help,
+        None => ToolChoice::Usage,
     }
 }
 
@@ -152,58 +115,33 @@ const VERSION: &str = "--version";
 
 const HELP: &str = "--help";
 
-/// What a first word asks for that names no tool, and those behind it.
-fn choose_about<'a>(word: &[u8], words: &'a [Vec<u8>]) -> ToolChoice<'a>
-    ensures { wanted result ≡ asked_by word.now (texts_of words.now) }
-{
-    if !words.is_empty() {
-        ToolChoice::Usage
-    } else if word == VERSION.as_bytes() {
-        ToolChoice::Version
-    } else if word == HELP.as_bytes() {
-        ToolChoice::Help
-    } else {
-        ToolChoice::Usage
-    }
-}
-
 /// What the words of a tool ask for, which speaks in this voice.
 fn choose_tool(tool: Tool, words: &[Vec<u8>], voice: Voice) -> ToolChoice<'_>
     ensures { wanted result ≡ run_of voice tool (texts_of words.now) }
 {
-    let detail = plain_detail(voice);
     match tool {
         Tool::Tcpserver => choose_texts(words, voice),
         Tool::Rulesim => choose_alone(ToolChoice::Rulesim, voice, tool, words),
         Tool::Addcr => choose_alone(ToolChoice::Addcr, voice, tool, words),
         Tool::Delcr => choose_alone(ToolChoice::Delcr, voice, tool, words),
         Tool::Tcprules => choose_tcprules(voice, words),
-        Tool::Tcprulescheck => choose_tcprulescheck(voice, words),
-        Tool::Fixcrio => choose_program(ToolChoice::Fixcrio { words, detail }, voice, tool, words),
-        Tool::Recordio => choose_program(
-            ToolChoice::Recordio { words, detail },
-            voice,
-            tool,
-            words,
-        ),
+        Tool::Tcprulescheck => {
+            let (verbose, paths) = split_verbose(words);
+            choose_check(voice, verbose, paths)
+        }
+        Tool::Fixcrio => choose_program(voice, false, words),
+        Tool::Recordio => choose_program(voice, true, words),
     }
 }
 
-/// What is told behind the line of a fault where the words say nothing of it.
-fn plain_detail(voice: Voice) -> Detail
-    ensures { result ≡ plain_detail voice }
-{
-    voice.detail(Level::Errors)
-}
-
-/// The same, where they may ask for causes.
+/// What is told behind the line of a fault, where the words may ask for causes.
 fn detail_by(voice: Voice, verbose: bool) -> Detail
     ensures { result ≡ detail_by voice verbose }
 {
     if verbose {
         voice.detail(Level::All)
     } else {
-        plain_detail(voice)
+        voice.detail(Level::Errors)
     }
 }
 
@@ -211,8 +149,7 @@ fn detail_by(voice: Voice, verbose: bool) -> Detail
 fn usage_of<'a>(voice: Voice, tool: Tool) -> ToolChoice<'a>
     ensures { wanted result ≡ Wanted.usage_of (plain_detail voice) tool }
 {
-    let detail = plain_detail(voice);
-    ToolChoice::UsageOf { tool, detail }
+    ToolChoice::UsageOf(detail_by(voice, false), tool)
 }
 
 /// The run of a tool that has no words of its own.
@@ -236,28 +173,20 @@ fn choose_texts(words: &[Vec<u8>], voice: Voice) -> ToolChoice<'_>
     ensures { wanted result ≡ tcpserver_by voice (texts_of words.now) }
 {
     if are_texts(words) {
-        ToolChoice::Tcpserver { voice, words }
+        ToolChoice::Tcpserver(voice, words)
     } else {
-        ToolChoice::UsageOf {
-            tool: Tool::Tcpserver,
-            detail: Detail::Line,
-        }
+        ToolChoice::UsageOf(Detail::Line, Tool::Tcpserver)
     }
 }
 
 /// The run of a tool whose words are a program's.
-fn choose_program<'a>(
-    run: ToolChoice<'a>,
-    voice: Voice,
-    tool: Tool,
-    words: &[Vec<u8>],
-) -> ToolChoice<'a>
-    ensures { wanted result ≡ with_program voice (wanted run.entry) tool (texts_of words.now) }
+fn choose_program(voice: Voice, recorded: bool, words: &[Vec<u8>]) -> ToolChoice<'_>
+    ensures { wanted result ≡ passes_by voice recorded (texts_of words.now) }
 {
     if !words.is_empty() && are_texts(words) {
-        run
+        ToolChoice::Passing(recorded, detail_by(voice, false), words)
     } else {
-        usage_of(voice, tool)
+        usage_of(voice, Tool::passing(recorded))
     }
 }
 
@@ -321,17 +250,8 @@ fn choose_review(voice: Voice, strict: bool, words: &[Vec<u8>]) -> ToolChoice<'_
     if words.len() > 1 {
         usage_of(voice, Tool::Tcprules)
     } else {
-        let detail = plain_detail(voice);
-        ToolChoice::Review { strict, detail }
+        ToolChoice::Review(detail_by(voice, false), strict)
     }
-}
-
-/// The run of `tcprulescheck`.
-fn choose_tcprulescheck(voice: Voice, words: &[Vec<u8>]) -> ToolChoice<'_>
-    ensures { wanted result ≡ tcprulescheck_by voice (texts_of words.now) }
-{
-    let (verbose, paths) = split_verbose(words);
-    choose_check(voice, verbose, paths)
 }
 
 /// The word that asks for causes, where it stands first.
@@ -355,7 +275,7 @@ fn choose_installation(voice: Voice, verbose: bool, paths: &[Vec<u8>]) -> ToolCh
     let detail = detail_by(voice, verbose);
     match paths {
         [cdb, tmp] => match (str::from_utf8(cdb), str::from_utf8(tmp)) {
-            (Ok(cdb), Ok(tmp)) => ToolChoice::Tcprules { cdb, tmp, detail },
+            (Ok(cdb), Ok(tmp)) => ToolChoice::Tcprules(detail, cdb, tmp),
             _ => usage_of(voice, Tool::Tcprules),
         },
         _ => usage_of(voice, Tool::Tcprules),
@@ -369,7 +289,7 @@ fn choose_check(voice: Voice, verbose: bool, paths: &[Vec<u8>]) -> ToolChoice<'_
     let detail = detail_by(voice, verbose);
     match paths {
         [cdb] => match str::from_utf8(cdb) {
-            Ok(cdb) => ToolChoice::Tcprulescheck { cdb, detail },
+            Ok(cdb) => ToolChoice::Tcprulescheck(detail, cdb),
             Err(_) => usage_of(voice, Tool::Tcprulescheck),
         },
         _ => usage_of(voice, Tool::Tcprulescheck),

@@ -1,5 +1,7 @@
 //! Why a run of a tool fails, and the code with which the program exits then.
-ghost use Rattle.std.specs.Prelude.{◌≡◌};
+ghost use Rattle.std.specs.Prelude.{◌≡◌, ◌++◌, OnOk};
+ghost use Rattle.std.specs.Io.KnownBytes.{Appends};
+ghost use Rattle.ucspi_tools.specs.Causes.{TellsLines, hint_of};
 ghost use Rattle.ucspi_tools.specs.Exits.{check_exit, end_code, exit_of, review_exit, rules_exit, script_exit, server_exit, status_exit, warned_exit};
 
 use crate::tool::Tool;
@@ -8,9 +10,10 @@ use fault_hints::Detail;
 use rules_tools::{CheckFault, ReviewFault, TcprulesFault};
 use script_tool::SimFault;
 use server_parts::ServerFault;
+use std::fmt::Display;
 use std::io::{Cursor, Write};
+use std::{fmt, io};
 use stream_tools::{BetweenFault, FilterFault};
-use thiserror::Error;
 
 /// The exit code of wrong words and bad input.
 pub const BAD_INPUT: u8 = 100;
@@ -25,41 +28,51 @@ pub const WARNED: u8 = 1;
 const LINE: usize = 512;
 
 /// Why a run of a tool fails. It prints as what stands behind the tool's name.
-#[derive(Clone, Copy, Debug, Error)]
+#[derive(Clone, Copy)]
 pub enum ToolFault {
     /// The words are not those of this tool.
-    #[error("usage: {usage}", usage = .0.usage())]
     UsageOf(Tool, Detail),
     /// The words ask for no tool.
-    #[error("usage: ucspi TOOL ...")]
     Usage,
     /// The server could not be started, or it ended by itself.
-    #[error("{0}")]
-    Server(#[from] ServerFault),
+    Server(ServerFault),
     /// A script was not run to its end.
-    #[error("{0}")]
-    Script(#[from] SimFault),
+    Script(SimFault),
     /// Rules were not installed.
-    #[error("{0}")]
-    Rules(#[from] TcprulesFault),
+    Rules(TcprulesFault),
     /// A text was not looked over to its end.
-    #[error("{0}")]
-    Review(#[from] ReviewFault),
+    Review(ReviewFault),
     /// No decision is told.
-    #[error("{0}")]
-    Check(#[from] CheckFault),
+    Check(CheckFault),
     /// A stream was not passed on to its end.
-    #[error("{0}")]
-    Filter(#[from] FilterFault),
+    Filter(FilterFault),
     /// A program could not be run between two streams.
-    #[error("{0}")]
-    Between(#[from] BetweenFault),
+    Between(BetweenFault),
     /// What is told of the program could not be written.
-    #[error("write fault")]
     WriteFault,
     /// There was no memory for the words.
-    #[error("out of memory")]
     OutOfMemory,
+}
+
+impl Display for ToolFault {
+    fn fmt<W: fmt::Write>(&self, f: &mut fmt::Formatter<W>) -> fmt::Result {
+        match self {
+            ToolFault::UsageOf(tool, _) => {
+                f.write_str("usage: ")?;
+                f.write_str(tool.usage())
+            }
+            ToolFault::Usage => f.write_str("usage: ucspi TOOL ..."),
+            ToolFault::Server(fault) => fault.fmt(f),
+            ToolFault::Script(fault) => fault.fmt(f),
+            ToolFault::Rules(fault) => fault.fmt(f),
+            ToolFault::Review(fault) => fault.fmt(f),
+            ToolFault::Check(fault) => fault.fmt(f),
+            ToolFault::Filter(fault) => fault.fmt(f),
+            ToolFault::Between(fault) => fault.fmt(f),
+            ToolFault::WriteFault => f.write_str("write fault"),
+            ToolFault::OutOfMemory => f.write_str("out of memory"),
+        }
+    }
 }
 
 impl ToolFault {
@@ -144,26 +157,47 @@ pub fn status_code(status: Status) -> u8
     }
 }
 
-/// The line that tells why a tool failed. It takes no memory of the heap.
-#[derive(Drop)]
-pub struct FaultLine {
-    bytes: [u8; LINE],
-    len: usize,
+/// Writes the line that tells why a tool failed, and behind it its causes and its hint.
+///
+/// # Errors
+/// Those of the writer: some of it may be written.
+pub fn write_fault<E: Write>(
+    errors: &mut E,
+    name: &str,
+    fault: ToolFault,
+    causes: &[u8],
+) -> io::Result<()>
+    ensures { TellsLines fault causes.now (E.contents errors.old) (E.contents errors.new) result }
+{
+    let (line, len) = line_of(name, fault);
+    write_parts(errors, &line[..len.min(LINE)], causes, hint_of(fault))
 }
 
-impl FaultLine {
-    /// That of a fault of this tool.
-    pub fn of(name: &str, fault: ToolFault) -> FaultLine {
-        let mut line = Cursor::new([0u8; LINE]);
-        let _ = writeln!(line, "{name}: {fault}");
-        let len = line.position().min(LINE as u64) as usize;
-        let bytes = line.into_inner();
-        FaultLine { bytes, len }
-    }
+/// The line that tells why a tool failed, and its length. It takes no memory of the heap.
+fn line_of(name: &str, fault: ToolFault) -> ([u8; LINE], usize) {
+    let mut line = Cursor::new([0u8; LINE]);
+    let _ = writeln!(line, "{name}: {fault}");
+    let len = line.position().min(LINE as u64) as usize;
+    (line.into_inner(), len)
+}
 
-    /// Its bytes, the line feed among them.
-    pub fn as_bytes(&self) -> &[u8] {
-        &self.bytes[..self.len.min(LINE)]
+/// Writes a line, causes and a hint.
+fn write_parts<E: Write>(errors: &mut E, line: &[u8], causes: &[u8], hint: &str) -> io::Result<()>
+    ensures { OnOk result (Appends (E.contents errors.old) (E.contents errors.new)
+        (line.now ++ causes.now ++ hint.now)) }
+{
+    errors.write_all(line)?;
+    errors.write_all(causes)?;
+    errors.write_all(hint.as_bytes())
+}
+
+/// What is told behind the line of a fault beside its causes: of a usage line what the words of the tool are.
+fn hint_of(fault: ToolFault) -> &'static str
+    ensures { result.now ≡ hint_of fault }
+{
+    match fault {
+        ToolFault::UsageOf(tool, Detail::Hint) => tool.words(),
+        _ => "",
     }
 }
 

@@ -1,6 +1,6 @@
 //! The tools: their names, and the words that they take.
 ghost use Rattle.std.specs.Prelude.{◌≡◌, bytes_eq};
-ghost use Rattle.ucspi_tools.specs.Choices.{name_of, purpose_text, tool_of, usage_text, words_text};
+ghost use Rattle.ucspi_tools.specs.Choices.{name_of, passing, purpose_text, tool_of, usage_text, words_text};
 
 use fault_hints::OPTIONS;
 
@@ -29,7 +29,7 @@ pub const FILTER_WORDS: &str = "no words: standard input goes to standard output
 pub const SCRIPT_WORDS: &str = "no words: commands come from standard input\n";
 
 /// A tool.
-#[derive(Clone, Copy, Debug)]
+#[derive(Clone, Copy)]
 pub enum Tool {
     /// Serves TCP connections by a program.
     Tcpserver,
@@ -72,6 +72,17 @@ impl Tool {
             Some(Tool::Recordio)
         } else {
             None
+        }
+    }
+
+    /// The tool that runs a program between two streams, and records it or not.
+    pub fn passing(recorded: bool) -> Tool
+        ensures { result ≡ passing recorded }
+    {
+        if recorded {
+            Tool::Recordio
+        } else {
+            Tool::Fixcrio
         }
     }
 
