@@ -244,8 +244,8 @@ fn go_on<H: Host>(
     streams: ClientStreams<H>,
     chains: Option<Chains<H::Wrapper>>,
 ) -> Result<Beginning<'_, H>, Over>
-    ensures own { IfOk result (λ begun. begun.1.serial ≡ alive.serial) }
-    ensures over { IfErr result (λ over. over.serial ≡ alive.serial) }
+    ensures own { IfOk result (λ begun. begun.1.serial ≡ alive.entry.serial) }
+    ensures over { IfErr result (λ over. over.serial ≡ alive.entry.serial) }
 {
     match chains {
         None => Ok((None, alive)),

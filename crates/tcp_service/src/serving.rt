@@ -1,9 +1,9 @@
 //! The server: it lets connections in, each served by threads that are kept, until it comes to an end.
-ghost use Rattle.std.specs.Prelude.{◌≡◌, ◌≢◌, ◌+◌, ◌≤◌, [], IfOk, IfErr, length, vec_capacity, vec_len};
+ghost use Rattle.std.specs.Prelude.{◌≡◌, ◌≢◌, ◌+◌, ◌≤◌, [], IfOk, IfErr, IsTrue, is_some, length, vec_capacity, vec_len};
 ghost use Rattle.server_yard.specs.Yards.{yard_books, yard_server};
 ghost use Rattle.shared_site.specs.Callers.{caller_share, total_share};
 ghost use Rattle.tcp_connections.specs.Admissions.{FailedToAccept, IsServed, suffices};
-ghost use Rattle.tcp_connections.specs.declared.admission.ServeEnd.TheVariants.{AcceptFaults};
+ghost use Rattle.tcp_connections.specs.declared.admission.ServeEnd.TheVariants.{AcceptFaults, NoPlaces};
 
 use crate::entrance::Entrance;
 use crate::host::{CallerOf, Host, SiteOf, YardOf};
@@ -12,7 +12,7 @@ use crate::service::Service;
 use child_jobs::Plan;
 use event_journals::Journal;
 use server_log::Log;
-use shared_site::{Caller, Callers};
+use shared_site::{AllRetired, Caller, Callers};
 use std::alloc::Global;
 use std::snapshot::Snapshot;
 use std::sync::Mutex;
@@ -21,7 +21,8 @@ use std::time::Clock;
 use tcp_connections::{ServeEnd, serve_through};
 
 /// A server that has come to its end: nobody is let in any more and its threads have ended, both callers of its site are
-/// back and the site is closed. Each connection that is alive still is a retired one.
+/// back and the site is closed. Each connection that is alive still is a retired one. For want of places it ended only if
+/// its site has said that all are retired.
 #[derive(Drop)]
 pub struct Closed<H: Host> {
     /// How it ended.
@@ -30,6 +31,8 @@ pub struct Closed<H: Host> {
     pub yard: YardOf<H>,
     /// Where its connections came from, closed.
     pub acceptor: H::Acceptor,
+    // that all places are retired, if its site has said so
+    retired: Option<AllRetired>,
     // the caller that let connections in, and the one that made all other events
     admitter: Snapshot<CallerOf<H>>,
     teller: Snapshot<CallerOf<H>>,
@@ -37,6 +40,7 @@ pub struct Closed<H: Host> {
     pub ghost all_back: { (yard_books yard).count
         ≡ H.Callers.before + (caller_share admitter.value + caller_share teller.value) },
     pub ghost all_retired: { (yard_books yard).report.retired ≡ length (yard_server yard).connections },
+    pub ghost by_places: { end ≡ NoPlaces → IsTrue (is_some retired) },
 }
 
 /// A server that has come to its end, but a connection is alive still that is not retired, though no thread has it.
@@ -142,9 +146,10 @@ where
         server: _,
         acceptor,
         admitter,
-        retired: _,
+        retired,
     } = entrance;
-    close(end, acceptor, site, callers, admitter, teller.into_inner())
+    let teller = teller.into_inner();
+    close(end, acceptor, retired, site, callers, admitter, teller)
 }
 
 // The two callers of a site, the second first.
@@ -166,11 +171,13 @@ fn both<N: Callers>(callers: &mut Vec<Caller<N>>) -> (Caller<N>, Caller<N>)
 fn close<H: Host>(
     end: ServeEnd,
     acceptor: H::Acceptor,
+    retired: Option<AllRetired>,
     site: SiteOf<H>,
     callers: Vec<CallerOf<H>>,
     admitter: CallerOf<H>,
     teller: CallerOf<H>,
 ) -> Result<Closed<H>, Unfinished<H>>
+    requires places { end ≡ NoPlaces → IsTrue (is_some retired) }
     requires all { (H.Callers.all ≡ 2) × (H.Callers.parts ≡ 2) }
     requires room { (callers.items ≡ []) × (2 ≤ vec_capacity callers) }
     ensures end { IfOk result (λ closed. (closed.end ≡ end) × (closed.admitter.value ≡ admitter)) }
@@ -189,6 +196,7 @@ fn close<H: Host>(
             end,
             yard,
             acceptor,
+            retired,
             admitter: admitter_then,
             teller: teller_then,
         })
