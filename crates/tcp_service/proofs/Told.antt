@@ -1,5 +1,5 @@
 -- What was told of the end of a child is as it was.
-use Rattle.std.proofs.Common.{◌≡◌, ℕ, Bool, Option, Some, Result, Ok, Err, inl, inr}
+use Rattle.std.proofs.Common.{◌≡◌, ◌∙◌, ap, ℕ, Bool, Option, Some, Result, Ok, Err, inl, inr}
 use Rattle.std.specs.Prelude.{IfOk, OnErr}
 use Rattle.connection_facts.specs.declared.outcome.Status.{Status}
 use Rattle.server_events.specs.declared.event.Event.{Event}
@@ -7,12 +7,15 @@ use Rattle.server_events.specs.declared.event.Event.TheVariants.{Ended, Retired}
 use Rattle.tcp_connections.specs.Rounds.{AllFail, EndsAs, FailsToWait, Kills, OneEnds, rounds}
 use Rattle.tcp_service.specs.Lives.{IsEndOfChild}
 
--- by how the waits for it went, and what was told of that
+-- by how the waits for it went, and what was told of that to an agent of the same connection
 pub end_told : {P C J : Type 0} (waited : Result (P × Status) C) (kills : Kills J) (fails : FailsToWait J) (ends : EndsAs J)
-    (by_force : Bool) (job : J) (serial : ℕ) (last : Option Event)
+    (by_force : Bool) (job : J) (serial own : ℕ) (last then : Option Event)
+    → own ≡ serial → last ≡ then
     → IfOk waited (λ r. OneEnds kills fails ends (rounds by_force) job r.1)
     → OnErr waited (AllFail kills fails (rounds by_force) job)
-    → IfOk waited (λ r. last ≡ Some (Ended serial r.1)) → OnErr waited (last ≡ Some (Retired serial))
+    → IfOk waited (λ r. then ≡ Some (Ended own r.1)) → OnErr waited (then ≡ Some (Retired own))
     → IsEndOfChild kills fails ends by_force job last serial
-end_told (Ok r) kills fails ends by_force job serial last its none told untold = inl (r.1, its, told)
-end_told (Err child) kills fails ends by_force job serial last none its untold told = inr (its, told)
+end_told (Ok r) kills fails ends by_force job serial own last then same is its none told untold =
+    inl (r.1, its, is ∙ (told ∙ ap (λ (n : ℕ). Some (Ended n r.1)) same))
+end_told (Err child) kills fails ends by_force job serial own last then same is none its untold told =
+    inr (its, is ∙ (told ∙ ap (λ (n : ℕ). Some (Retired n)) same))

@@ -84,7 +84,9 @@ impl<H: Host> Server<'_, H> {
         let notes = Notes::of(None);
         let mut agent = self.agent(serial, local, &notes);
         agent.dropped(place, serial, peer, cause);
-        Over::of(&agent, serial)
+        let over = Over::of(&agent, serial);
+        drop(agent);
+        over
     }
 
     // Serves a connection up to the start of its program.
@@ -120,14 +122,15 @@ impl<H: Host> Server<'_, H> {
                 Ok((running, agent.into_found(), process))
             }
             Served::Denied | Served::StartFailed(_) | Served::Dropped(_) => {
-                Err(Over::of(&agent, serial))
+                let over = Over::of(&agent, serial);
+                drop(agent);
+                Err(over)
             }
         }
     }
 
     // Waits for a program in rounds, ends its connection, and only then tells how the program ended. So a slow log keeps
     // no client waiting.
-    #[tactic(auto, using(crate::proofs::Told::end_told))]
     fn see_out(
         &self,
         serial: u64,
@@ -148,7 +151,9 @@ impl<H: Host> Server<'_, H> {
         let notes = Notes::of(process);
         let mut agent = self.agent(serial, local, &notes);
         agent.tell_end(ended);
-        Over::of(&agent, serial)
+        let over = Over::of(&agent, serial);
+        drop(agent);
+        over
     }
 }
 
