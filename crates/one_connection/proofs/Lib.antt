@@ -1,4 +1,2 @@
 -- Lemmas.
-pub mod Standings
-pub mod ServedByYards
 pub mod WholePasses

@@ -149,7 +149,7 @@ impl<'a, R: Wait, T: OpenListener<Stream = TcpStream>> SocketAcceptor<'a, R, T> 
 
 impl<'a, R, T> Acceptor for SocketAcceptor<'a, R, T>
 where
-    R: Wait + Clock + Sync,
+    R: Wait + Clock,
     T: OpenListener<Stream = TcpStream> + Drop,
 {
     type Reader = Holder<'a, R>;

@@ -11,7 +11,7 @@ use server_parts::client::ClientWriter;
 use server_parts::opening::listen;
 use server_parts::programs::{ProgramInput, ServiceJob};
 use server_parts::sockets::Holder;
-use server_parts::{ProgramStarter, ServerFailure, Wrapper};
+use server_parts::{ProgramStarter, ServerFailure, SocketAcceptor, Wrapper};
 use server_yard::Assumptions;
 use shared_site::Callers;
 use std::fs::{File, Files};
@@ -23,7 +23,7 @@ use std::rt::Env;
 use std::sync::{Mutex, Wait};
 use std::thread::Threads;
 use std::time::Clock;
-use tcp_service::{Host, Log, Streams};
+use tcp_service::Host;
 
 /// What the tool has of the system. It is a name for these types together, and has no values.
 pub(crate) trait System {
@@ -112,28 +112,10 @@ where
 /// What a server stands on, over these ledgers of places and of callers.
 pub(crate) struct OnSystem<'a, P: System, L, N>(PhantomData<(&'a P::Runtime, L, N)>);
 
-impl<'a, P: System, L, N> Streams for OnSystem<'a, P, L, N> {
-    type Runtime = P::Runtime;
-
-    type Lines = P::Errors;
-
-    type Reader = Holder<'a, P::Runtime>;
-
-    type Writer = ClientWriter<'a, P::Runtime>;
-
-    type Shut = Holder<'a, P::Runtime>;
-
-    type Input = ProgramInput<'a, P::Runtime>;
-
-    type Output = ChildStdout;
-
-    type Job = ServiceJob<'a, P::Runtime>;
-
-    type Wrapper = Wrapper;
-}
-
 impl<'a, P: System, L: Assumptions + Send + Sync, N: Callers + Send + Sync> Host
     for OnSystem<'a, P, L, N> {
+    type Runtime = P::Runtime;
+
     type Places = L;
 
     type Callers = N;
@@ -148,9 +130,25 @@ impl<'a, P: System, L: Assumptions + Send + Sync, N: Callers + Send + Sync> Host
 
     type Rules = FolderRules<'a, L, P::Runtime>;
 
-    type Observer = Mutex<Log<P::Errors>>;
+    type Lines = P::Errors;
+
+    type Acceptor = SocketAcceptor<'a, P::Runtime, P::Listener>;
+
+    type Reader = Holder<'a, P::Runtime>;
+
+    type Writer = ClientWriter<'a, P::Runtime>;
+
+    type Shut = Holder<'a, P::Runtime>;
 
     type Starter = ProgramStarter<'a, P::Runtime>;
+
+    type Job = ServiceJob<'a, P::Runtime>;
+
+    type Input = ProgramInput<'a, P::Runtime>;
+
+    type Output = ChildStdout;
+
+    type Wrapper = Wrapper;
 
     type Chains = Wrappers<'a>;
 }

@@ -4,7 +4,7 @@ ghost use Rattle.server_parts.specs.Asked.{FailsNames, starts_in};
 ghost use Rattle.server_parts.specs.Services.{AreRulesOf};
 ghost use Rattle.server_parts.specs.declared.fault.ServerFault.TheVariants.{CannotListen, LostConnection, OutOfMemory, WriteFault};
 ghost use Rattle.server_tool.specs.Asked.{AcceptsAsAsked, AreAsked, AreAskedLimits, IsAskedLog, IsAskedService};
-ghost use Rattle.server_tool.specs.Ends.{told_of};
+ghost use Rattle.server_tool.specs.Ends.{IsToldOf, told_of};
 ghost use Rattle.server_yard.specs.Kept.{rules_of};
 ghost use Rattle.server_yard.specs.Yards.{yard_books, yard_rules, yard_server};
 ghost use Rattle.shared_site.specs.Callers.{total_share};
@@ -321,12 +321,11 @@ fn serve_on<'a, L: Assumptions + Send + Sync, N: Callers + Send + Sync, P: Syste
     requires accepts { AcceptsAsAsked P.listens words.now acceptor }
     requires starts { starts_in starter.now ≡ words.now.mode }
 {
-    let mut acceptor = acceptor;
     let rules = FolderRules::<L, P::Runtime>::new(at);
-    let served = serve::<_, OnSystem<'a, P, L, N>>(
+    let served = serve::<OnSystem<'a, P, L, N>>(
         rt,
         rt.alloc(),
-        &mut acceptor,
+        acceptor,
         site,
         callers,
         &rules,
@@ -336,21 +335,32 @@ fn serve_on<'a, L: Assumptions + Send + Sync, N: Callers + Send + Sync, P: Syste
         &server.service,
         &server.log,
     );
-    end_of(served, acceptor.error())
+    end_of(served)
 }
 
 // How the tool ends, by how its server did and the system's last error of accepting.
-fn end_of<H: Host>(
-    served: Result<Closed<H>, Unfinished<H>>,
-    error: Option<i32>,
-) -> Result<(), ServerFailure>
-    ensures closed { IfOk served (λ closed. result ≡ told_of closed.end error) }
+fn end_of<H: Host>(served: Result<Closed<H>, Unfinished<H>>) -> Result<(), ServerFailure>
+    ensures closed { IfOk served (λ closed. IsToldOf closed.end result) }
     ensures lost { OnErr served (result ≡ Err (record { fault = LostConnection; error = None })) }
 {
-    let Ok(closed) = served else {
-        return Err(ServerFailure::from(ServerFault::LostConnection));
-    };
-    match closed.end {
+    match served {
+        Ok(closed) => {
+            let (end, error) = (closed.end, closed.acceptor.error());
+            drop(closed);
+            failure_of(end, error)
+        }
+        Err(unfinished) => {
+            drop(unfinished);
+            Err(ServerFailure::from(ServerFault::LostConnection))
+        }
+    }
+}
+
+// How the tool ends, by how its server did and this error.
+fn failure_of(end: ServeEnd, error: Option<i32>) -> Result<(), ServerFailure>
+    ensures { result ≡ told_of end error }
+{
+    match end {
         ServeEnd::Count | ServeEnd::Spent => Ok(()),
         ServeEnd::NoPlaces => Err(ServerFailure::from(ServerFault::NoPlaces)),
         ServeEnd::AcceptFaults => Err(ServerFailure {

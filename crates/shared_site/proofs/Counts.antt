@@ -1,9 +1,8 @@
 -- What a turn makes of the number of events, after its caller spoke: one more or none.
 use Rattle.std.proofs.Common.{◌≡◌, ℕ, ap, inl, inr, ◌∙◌}
-use Rattle.std.specs.Prelude.{None, Option, Some}
 use Rattle.event_journals.specs.Journals.{one_more}
 use Rattle.server_events.specs.declared.event.Event.{Event}
-use Rattle.server_yard.specs.Rolls.{IsQuiet, Notes, NotesSome, Roll}
+use Rattle.server_yard.specs.Rolls.{IsQuiet, Notes, Roll}
 use Rattle.shared_site.specs.Receipts.{CountsAtMostOne}
 use Rattle.shared_site.specs.Turns.{spoken_by}
 
@@ -24,9 +23,3 @@ none_counted who old mid speaks = inl (ap (λ (r : Roll). r.books.count) speaks)
 pub quiet_counted : (who : ℕ) (old mid new : Roll)
     → mid ≡ spoken_by who old → IsQuiet mid new → CountsAtMostOne old.books.count new.books.count
 quiet_counted who old mid new speaks quiet = inl (quiet.counts ∙ ap (λ (r : Roll). r.books.count) speaks)
-
--- one event or none
-pub some_counted : (who : ℕ) (event : Option Event) (old mid new : Roll)
-    → mid ≡ spoken_by who old → NotesSome event mid new → CountsAtMostOne old.books.count new.books.count
-some_counted who None old mid new speaks noted = quiet_counted who old mid new speaks noted
-some_counted who (Some event) old mid new speaks noted = one_counted who event old mid new speaks noted

@@ -1,6 +1,5 @@
-pub mod Auditing
+-- Lemmas.
 pub mod Counting
 pub mod Counts
-pub mod Installing
-pub mod Placed
+pub mod Making
 pub mod Spoken

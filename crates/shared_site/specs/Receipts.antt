@@ -1,13 +1,19 @@
--- What a caller gets for an event: evidence that it made it, or that it was out of turn; and the receipt.
-use Rattle.std.specs.Prelude.{◌≡◌, ◌⊎◌, ℕ, Option, Some, None, Result, Ok, Err, IfOk, OnErr}
+-- What a caller gets for an event: evidence that it made it, or that it was out of turn, or why a client was not let in;
+-- and the receipt.
+use Rattle.std.specs.Prelude.{⊤, ◌≡◌, ◌⊎◌, ℕ, List, Option, None, Some, Result, Ok, Err, IfOk, OnErr, length}
 use Rattle.connection_facts.specs.Peers.{Client}
 use Rattle.event_journals.specs.Journals.{one_more}
+use Rattle.server_events.specs.ServerState.{ServerState}
 use Rattle.server_events.specs.declared.event.Event.{Event}
 use Rattle.server_events.specs.declared.event.Event.TheVariants.{Admitted, Decided}
+use Rattle.server_yard.specs.Seating.{IsAddressFull, IsSpent}
+use Rattle.server_yard.specs.declared.register.AdmitFault.{AdmitFault}
+use Rattle.server_yard.specs.declared.register.AdmitFault.TheVariants.{Full, FullForAddress, OutOfMemory, Spent}
 use Rattle.shared_site.specs.declared.receipt.EventSnapshot.{EventSnapshot}
 use Rattle.shared_site.specs.declared.receipt.Made.{Made}
 use Rattle.shared_site.specs.declared.receipt.OutOfTurn.{OutOfTurn}
 use Rattle.shared_site.specs.declared.receipt.Receipt.{Receipt}
+use Rattle.shared_site.specs.declared.receipt.Refusal.{Refusal}
 
 -- the receipt of a caller's event at a position, and of one that follows this many events
 abbrev pub receipt_at : ℕ → ℕ → Event → Receipt
@@ -33,14 +39,24 @@ receipt_of made = receipt_at made.at made.caller (made_event made)
 abbrev pub refused_event : OutOfTurn → Event
 refused_event refusal = shown_event refusal.asked
 
+-- why a client was not let in
+abbrev pub refusal_fault : Refusal → AdmitFault
+refusal_fault refusal = refusal.fault
+
+abbrev pub refused_as : {T : Type 0} → Result T Refusal → Option AdmitFault
+refused_as (Ok admitted) = None
+refused_as (Err refusal) = Some (refusal_fault refusal)
+
+-- a server that is so lets no client from this address in, for this reason; memory may be short at any time
+abbrev pub Refuses : AdmitFault → (ip : List ℕ) → ServerState → Type 0
+Refuses Full ip server = length server.connections ≡ server.limit
+Refuses Spent ip server = IsSpent server
+Refuses FullForAddress ip server = IsAddressFull ip server
+Refuses OutOfMemory ip server = ⊤
+
 -- a turn makes one event or none; a journal that only counts stays at its last number
 abbrev pub CountsAtMostOne : (old new : ℕ) → Type 0
 CountsAtMostOne old new = (new ≡ old) ⊎ (new ≡ one_more old)
-
--- one event more if one was made, and otherwise none
-abbrev pub CountsMade : Option Made → (before after : ℕ) → Type 0
-CountsMade None before after = after ≡ before
-CountsMade (Some made) before after = after ≡ one_more before
 
 -- the caller with this number made this event, the next after this many; or it was out of turn, and no event was made
 abbrev pub MakesOrNot : Event → (who before : ℕ) → Result Made OutOfTurn → (after : ℕ) → Type 0

@@ -1,6 +1,10 @@
 -- What a turn does to a yard, and when its event is allowed.
-use Rattle.std.specs.Prelude.{◌≡◌, ◌+◌, ◌-◌, ◌^◌, ◌⊎◌, ℕ, Bool, true, Option, Some, Result, Err, IfErr, IfNone, IfOk, IfSome, OnErr, is_some, option_map}
+use Rattle.std.specs.Prelude.{◌≡◌, ℕ, Bool, true, List, Option, Some, IsTrue, IfNone, IfSome, is_some}
+use Rattle.std.specs.Bool.{OnFalse, OnTrue}
+use Rattle.dir_calls.specs.declared.dir.Dir as dir
+use Rattle.dir_calls.specs.declared.rules_file.RulesFile as file
 use Rattle.event_journals.specs.Journals.{one_more}
+use Rattle.event_journals.specs.declared.journal.Journal as journal
 use Rattle.connection_facts.specs.Peers.{Client}
 use Rattle.server_events.specs.ServerState.{stage_of}
 use Rattle.server_events.specs.Worlds.{missing_by, peer_of}
@@ -8,22 +12,16 @@ use Rattle.server_events.specs.declared.event.Event.{Event}
 use Rattle.server_events.specs.declared.event.Event.TheVariants.{Opened}
 use Rattle.server_events.specs.declared.event.Stage.{Stage}
 use Rattle.server_events.specs.declared.event.Stage.TheVariants as stage
-use Rattle.rules_install.specs.Installing.{Installing}
-use Rattle.rules_install.specs.Installs.{installing}
-use Rattle.rules_install.specs.declared.Phase.{Phase}
-use Rattle.rules_install.specs.declared.fault.InstallFault.{InstallFault}
-use Rattle.rules_install.specs.declared.install.Install.{Install}
 use Rattle.server_yard.specs.Passes.{pass_file, pass_missing, pass_serial}
 use Rattle.server_yard.specs.Rolls.{Notes, Roll}
 use Rattle.server_yard.specs.Seating.{KeepsSeats}
-use Rattle.server_yard.specs.Stepping.{BeginAnswer, HandsBack, begin_event, step_event}
-use Rattle.server_yard.specs.Yards.{IsSameBeside, number_of, stage_of_place, yard_roll, yard_rules, yard_seat, yard_server}
+use Rattle.server_yard.specs.Standing.{LeadsOn, LeadsOpened, YardState, standing_of}
+use Rattle.server_yard.specs.Yards.{IsSameBeside, number_of, stage_of_place, yard_books, yard_roll, yard_rules, yard_seat, yard_server, yard_state}
+use Rattle.server_yard.specs.declared.assumptions.Assumptions as assumptions
 use Rattle.server_yard.specs.declared.pass.Pass.{Pass}
 use Rattle.server_yard.specs.declared.yard.Yard.{Yard}
-use Rattle.shared_site.specs.Receipts.{CountsMade, made_event, receipt_after, receipt_of}
+use Rattle.shared_site.specs.Receipts.{receipt_after, receipt_of}
 use Rattle.shared_site.specs.declared.receipt.Made.{Made}
-use Rattle.shared_site.specs.declared.turns.OpenFault.{OpenFault}
-use Rattle.shared_site.specs.declared.turns.OpenFault.TheVariants.{Device}
 
 -- the same with another speaker
 abbrev pub spoken_by : ℕ → Roll → Roll
@@ -33,11 +31,49 @@ spoken_by who roll = record roll { speaker = who }
 abbrev pub NotesBy : ℕ → Event → (old new : Roll) → Type 0
 NotesBy who event old new = Notes event (spoken_by who old) new
 
--- a yard is as before, but for the speaker
-pub record IsPassedOver {L D J F : Type 0} {p : _} {l : _} {d : _} {j : _} (who : ℕ) (old new : Yard L D J F p l d j) : Type 0 where
-  pub roll : yard_roll new ≡ spoken_by who (yard_roll old)
-  pub beside : IsSameBeside old new
-  pub seats : KeepsSeats (yard_seat old) (yard_seat new)
+-- this event was noted last, as this caller's
+pub record IsLastOf (who : ℕ) (event : Event) (roll : Roll) : Type 0 where
+  pub before : Roll
+  pub noted : NotesBy who event before roll
+
+-- a connection that opened the rules by a handle of its own, and found these bytes or no file, leads a yard on if that
+-- stands there
+abbrev pub LeadsFound : ℕ → Option (List ℕ) → (old new : YardState) → Type 0
+LeadsFound serial bytes old new = bytes ≡ standing_of old → LeadsOpened serial bytes old new
+
+-- a yard with this ledger, this directory, this journal and these files, and what their traits tell of them
+module _ {L D J F : Type 0} {p : assumptions.Ghosts L} {d : dir.Ghosts D F} {f : file.Ghosts F} {j : journal.Ghosts J} where
+  -- a turn of a caller gave this answer between these states of a yard, as it may by the numbers of events before and
+  -- after it
+  abbrev pub Answers : {A : Type 0} → (answers : ℕ → ℕ → A → ℕ → Type 0) → (who : ℕ) → A
+      → (old new : Yard L D J F p d f j) → Type 0
+  Answers answers who answer old new = answers who (yard_books old).count answer (yard_books new).count
+
+  -- a yard is as before, but for the speaker
+  pub record IsPassedOver (who : ℕ) (old new : Yard L D J F p d f j) : Type 0 where
+    pub roll : yard_roll new ≡ spoken_by who (yard_roll old)
+    pub beside : IsSameBeside old new
+    pub seats : KeepsSeats (yard_seat old) (yard_seat new)
+
+  -- A turn of a caller made this event, or it was out of turn and made none. An event that was made is noted as the
+  -- caller's, and over an honest directory it leads the yard on in this way. Out of turn nothing changed but the
+  -- speaker. In turn or not, the yard is the same beside its events, and so are all seats.
+  pub record MakesBy (who : ℕ) (event : Event) (leads : (old new : YardState) → Type 0) (was_made : Bool)
+      (old new : Yard L D J F p d f j) : Type 0 where
+    pub noted : OnTrue was_made (NotesBy who event (yard_roll old) (yard_roll new))
+    pub step : IsTrue d.honest → OnTrue was_made (leads (yard_state old) (yard_state new))
+    pub out : OnFalse was_made (IsPassedOver who old new)
+    pub same : IsSameBeside old new
+    pub seats : KeepsSeats (yard_seat old) (yard_seat new)
+
+  -- the same of an event that leads on whatever files connections keep
+  abbrev pub Makes : (who : ℕ) → Event → (was_made : Bool) → (old new : Yard L D J F p d f j) → Type 0
+  Makes who event was_made old new = MakesBy who event (LeadsOn event) was_made old new
+
+  -- the connection at a place has this serial, and is in a stage that passes a test
+  pub record IsAt (passes : Option Stage → Bool) (serial : ℕ) (yard : Yard L D J F p d f j) (place : ℕ) : Type 0 where
+    pub has_serial : number_of yard place ≡ serial
+    pub has_stage : passes (stage_of_place yard place) ≡ true
 
 -- the connection of a pass may be decided: it opened the rules, this is its peer, and the pass has what the yard
 -- decides without a file
@@ -47,49 +83,15 @@ pub record MayBeDecided {L D J F G : Type 0} {p : _} {l : _} {d : _} {j : _} {q 
   pub missing : pass_missing pass ≡ missing_by (yard_rules yard)
   pub its_peer : peer_of (pass_serial pass) (yard_server yard).connections ≡ Some peer
 
--- the connection at a place has this serial, and is in a stage that passes a test
-pub record IsAt {L D J F : Type 0} {p : _} {l : _} {d : _} {j : _}
-    (passes : Option Stage → Bool) (serial : ℕ) (yard : Yard L D J F p l d j) (place : ℕ) : Type 0 where
-  pub has_serial : number_of yard place ≡ serial
-  pub has_stage : passes (stage_of_place yard place) ≡ true
-
--- one failure more is counted if the device is blamed, unless the count is at its end; otherwise none
-abbrev pub CountsDevice : {T : Type 0} → ℕ → ℕ → Result T OpenFault → Type 0
-CountsDevice before now (Err Device) = (now ≡ before + 1) ⊎ ((now ≡ before) × (before ≡ 2 ^ 64 - 1))
-CountsDevice before now result = now ≡ before
-
 -- the event that a connection opened the rules
 abbrev pub opened_by : {L F : Type 0} {p : _} {l : _} {f : _} → (serial : ℕ) → Pass L F p l f → Event
 opened_by serial pass = Opened serial (is_some (pass_file pass))
 
--- the caller with this number opened the rules for a connection, by the next event after this many; or no event was
--- made
-abbrev pub OpensOrNot : {L F O : Type 0} {p : _} {l : _} {f : _} → (serial : ℕ) → (who before : ℕ)
-    → Result (Pass L F p l f × Made) O → (after : ℕ) → Type 0
-OpensOrNot serial who before answer after =
-    IfOk answer (λ r. (pass_serial r.0 ≡ serial)
-    × (receipt_of r.1 ≡ receipt_after before who (opened_by serial r.0)) × (after ≡ one_more before))
-    × OnErr answer (after ≡ before)
-
--- the same for a connection that opened them by a handle of its own, and found this file; or it was out of turn
+-- the caller with this number opened the rules for a connection by a handle of the connection's own, which found this
+-- file, by the next event after this many; or it was out of turn, and no event was made
 abbrev pub OpensBy : {L F : Type 0} {p : _} {l : _} {f : _} → (serial : ℕ) → Option F → (who before : ℕ)
     → Option (Pass L F p l f × Made) → (after : ℕ) → Type 0
 OpensBy serial file who before answer after =
     IfSome answer (λ r. (pass_serial r.0 ≡ serial) × (pass_file r.0 ≡ file)
     × (receipt_of r.1 ≡ receipt_after before who (opened_by serial r.0)) × (after ≡ one_more before))
     × IfNone answer (after ≡ before)
-
--- the caller began an installation: its first step, or a fault of the directory, is the next event; otherwise there is
--- no event, and a refused installation is handed back
-abbrev pub BeginsOrNot : Installing → (who before : ℕ) → BeginAnswer Install × Option Made → (after : ℕ) → Type 0
-BeginsOrNot install who before answer after =
-    (option_map receipt_of answer.1 ≡ option_map (receipt_after before who) (begin_event answer.0))
-    × CountsMade answer.1 before after
-    × IfErr answer.0 (λ r. HandsBack install (installing r.0) r.1)
-
--- it made the next step of one: that step, or a fault of the directory, is the next event; otherwise there is no event
-abbrev pub StepsOrNot : (who before : ℕ) → Result Phase InstallFault × Option Made → (after : ℕ) → Type 0
-StepsOrNot who before answer after =
-    IfSome answer.1 (λ made. (step_event answer.0 ≡ Some (made_event made))
-    × (receipt_of made ≡ receipt_after before who (made_event made)))
-    × CountsMade answer.1 before after

@@ -2,8 +2,11 @@
 ghost use Rattle.std.specs.Prelude.{◌≡◌};
 
 use connection_facts::Peer;
+use dir_calls::Dir;
+use event_journals::Journal;
 use rule_lookup::Decision;
 use server_events::Event;
+use server_yard::{AdmitFault, Assumptions, Yard};
 use std::snapshot::Snapshot;
 
 /// A snapshot of an event, without what it owns. It takes no memory, and copies nothing.
@@ -13,23 +16,12 @@ pub enum EventSnapshot {
     Admitted(Snapshot<u64>, Snapshot<Peer>),
     /// The connection with this serial was decided so.
     Decided(Snapshot<u64>, Snapshot<Decision>),
-    /// Any other event; it owns nothing.
+    /// This event, which owns nothing.
     Other(Snapshot<Event>),
 }
 
-impl EventSnapshot {
-    ghost use Rattle.shared_site.specs.Receipts.{shown_event};
-
-    /// The snapshot of an event.
-    pub(crate) fn of(event: &Event) -> EventSnapshot
-        ensures { shown_event result ≡ event.now }
-    {
-        EventSnapshot::Other(Snapshot::of(event))
-    }
-}
-
-/// Evidence that a caller made an event, at a position of the history. Only the calls of `turns` make one. Whoever audits
-/// makes a receipt of it.
+/// Evidence that a caller made an event, at a position of the history. Only `turn::made` makes one, and only of an
+/// event that this caller has just made. Whoever audits makes a receipt of it.
 #[derive(Drop)]
 pub struct Made {
     pub(crate) caller: u64,
@@ -85,16 +77,35 @@ pub struct Receipt {
 /// one.
 #[derive(Drop)]
 pub struct OutOfTurn {
-    asked: EventSnapshot,
+    pub(crate) asked: EventSnapshot,
 }
 
-impl OutOfTurn {
-    ghost use Rattle.shared_site.specs.Receipts.{refused_event, shown_event};
+/// Evidence that a client was not let in, and why. Only an admission makes one, of a yard that has this reason.
+#[derive(Drop)]
+pub struct Refusal {
+    fault: AdmitFault,
+}
 
-    /// Evidence that this event was out of turn.
-    pub(crate) fn of(asked: EventSnapshot) -> OutOfTurn
-        ensures { refused_event result ≡ shown_event asked }
+impl Refusal {
+    ghost use Rattle.server_yard.specs.Yards.{yard_server};
+    ghost use Rattle.shared_site.specs.Receipts.{Refuses, refusal_fault};
+
+    /// Why the client was not let in.
+    pub fn fault(&self) -> AdmitFault
+        ensures { result ≡ refusal_fault self.now }
     {
-        OutOfTurn { asked }
+        self.fault
+    }
+
+    // That this yard has not let a client in.
+    pub(crate) fn of<L: Assumptions, D: Dir + Drop, J: Journal>(
+        _yard: &Yard<L, D, J>,
+        _peer: &Peer,
+        fault: AdmitFault,
+    ) -> Refusal
+        requires reason { Refuses fault _peer.now.ip (yard_server _yard.now) }
+        ensures { refusal_fault result ≡ fault }
+    {
+        Refusal { fault }
     }
 }

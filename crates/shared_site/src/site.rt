@@ -12,13 +12,20 @@ use std::alloc::{AllocError, Global};
 use std::sync::ledger::{Blank, Book, Share};
 use std::sync::{Condvar, Mutex, Wait};
 
-/// Why a wait for a place ended.
-#[derive(Clone, Copy, PartialEq, Eq, Debug)]
-pub enum Room {
-    /// Fewer connections are alive than may be.
-    Free,
-    /// All places are retired, and none will ever be free.
-    AllRetired,
+/// Evidence that all places of a site are retired, so that none will ever be free. Only a yard that is so makes it.
+#[derive(Drop)]
+pub struct AllRetired {
+    // this field is private, so that nobody else makes one
+    seal: (),
+}
+
+impl AllRetired {
+    // That this yard is so.
+    fn of<L: Assumptions, D: Dir + Drop, J: Journal>(_yard: &Yard<L, D, J>) -> AllRetired
+        requires retired { (yard_server _yard.now).limit ≤ (yard_books _yard.now).report.retired }
+    {
+        AllRetired { seal: () }
+    }
 }
 
 // A yard, and how many events it had since the site was made.
@@ -31,16 +38,18 @@ struct Guarded<L: Assumptions, N: Callers, D: Dir + Drop, J: Journal> {
 }
 
 impl<L: Assumptions, N: Callers, D: Dir + Drop, J: Journal> Guarded<L, N, D, J> {
-    // Runs a turn of a caller. The journal's number before and after it says how many events it made.
-    fn turn<T: Turn<L, D, J>>(&mut self, caller: &mut Caller<N>, turn: T) -> T::Answer
+    // Runs a turn of a caller. It also answers whether that made room when there was none. The journal's number before
+    // and after the turn says how many events it made.
+    fn turn<T: Turn<L, D, J>>(&mut self, caller: &mut Caller<N>, turn: T) -> (T::Answer, bool)
         requires may { T.may turn }
-        ensures counted { CountsForIts (T.answers turn) result caller.old caller.new }
+        ensures counted { CountsForIts (T.answers turn) result.0 caller.old caller.new }
     {
+        let was_taken = self.is_taken();
         let before = self.yard.journal().events();
         let answer = turn.run(&mut self.yard, caller.number);
         let made = self.yard.journal().events() - before;
         self.events.add(&mut caller.share, made);
-        answer
+        (answer, was_taken && !self.is_taken())
     }
 
     // Whether no place is free, but one may become free.
@@ -107,7 +116,7 @@ impl<L: Assumptions, N: Callers, D: Dir + Drop, J: Journal> Site<L, N, D, J> {
         requires may { T.may turn }
         ensures counted { CountsForIts (T.answers turn) result caller.old caller.new }
     {
-        let (answer, makes_room) = turn_under(&mut self.guarded.lock(rt), caller, turn);
+        let (answer, makes_room) = self.guarded.lock(rt).turn(caller, turn);
         if makes_room {
             self.freed.notify_all();
         }
@@ -119,16 +128,18 @@ impl<L: Assumptions, N: Callers, D: Dir + Drop, J: Journal> Site<L, N, D, J> {
         self.guarded.lock(rt).yard.live()
     }
 
-    /// Waits until a place is free or all places are retired. The wait is no event.
-    pub fn room<R: Wait>(&self, rt: &R) -> Room {
+    /// Waits until a place is free. The wait is no event.
+    ///
+    /// # Errors
+    /// All places are retired.
+    pub fn room<R: Wait>(&self, rt: &R) -> Result<(), AllRetired> {
         let guarded = self
             .freed
             .wait_while(rt, self.guarded.lock(rt), |guarded| guarded.is_taken());
-        if guarded.yard.live() < guarded.yard.limit() {
-            Room::Free
-        } else {
-            Room::AllRetired
+        if guarded.yard.journal().report().retired < guarded.yard.limit() {
+            return Ok(());
         }
+        Err(AllRetired::of(&guarded.yard))
     }
 
     /// The yard, once all callers are back. Its history has as many events as when the site was made, and those of all
@@ -158,20 +169,6 @@ impl<L: Assumptions, N: Callers, D: Dir + Drop, J: Journal> Site<L, N, D, J> {
         events.audit(&mut all);
         Ok(yard)
     }
-}
-
-// Runs a turn. Whether it made room when there was none.
-fn turn_under<L: Assumptions, N: Callers, D: Dir + Drop, J: Journal, T: Turn<L, D, J>>(
-    guarded: &mut Guarded<L, N, D, J>,
-    caller: &mut Caller<N>,
-    turn: T,
-) -> (T::Answer, bool)
-    requires may { T.may turn }
-    ensures counted { CountsForIts (T.answers turn) result.0 caller.old caller.new }
-{
-    let was_taken = guarded.is_taken();
-    let answer = guarded.turn(caller, turn);
-    (answer, was_taken && !guarded.is_taken())
 }
 
 // This many callers, each with one part and a share of 0.

@@ -1,7 +1,8 @@
 //! Turns as values: a caller hands one to its site, which runs it on the yard under its lock.
 ghost use Rattle.std.specs.Prelude.{◌≡◌, ℕ};
-ghost use Rattle.server_yard.specs.Yards.{yard_books};
-ghost use Rattle.shared_site.specs.Receipts.{CountsAtMostOne, made_event, shown_event};
+ghost use Rattle.server_yard.specs.Yards.{yard_books, yard_roll};
+ghost use Rattle.shared_site.specs.Receipts.{CountsAtMostOne, receipt_at, receipt_of, shown_event};
+ghost use Rattle.shared_site.specs.Turns.{IsLastOf};
 
 use crate::receipt::{EventSnapshot, Made};
 use dir_calls::Dir;
@@ -28,15 +29,15 @@ pub trait Turn<L: Assumptions, D: Dir + Drop, J: Journal> {
         ensures counts { CountsAtMostOne (yard_books yard.old).count (yard_books yard.new).count };
 }
 
-/// Evidence that a caller made a yard's last event.
-pub(crate) fn made<L: Assumptions, D: Dir + Drop, J: Journal>(
+/// Evidence that a caller made a yard's last event. This is the only way to evidence, and it is open only to a turn
+/// that has just made this very event for this caller.
+pub fn made<L: Assumptions, D: Dir + Drop, J: Journal>(
     yard: &Yard<L, D, J>,
     caller: u64,
     event: EventSnapshot,
 ) -> Made
-    ensures caller { result.caller ≡ caller }
-    ensures at { result.at ≡ (yard_books yard.now).count }
-    ensures event { made_event result ≡ shown_event event }
+    requires last { IsLastOf caller (shown_event event) (yard_roll yard.now) }
+    ensures its { receipt_of result ≡ receipt_at (yard_books yard.now).count caller (shown_event event) }
 {
     Made {
         caller,

@@ -2,53 +2,39 @@
 //! its caller as the speaker, and tests whether the table of events allows the event. If it does, the turn makes the
 //! yard's call of its name, and answers which event that was. Otherwise nothing changed but the speaker. No turn waits
 //! or takes memory of its own.
-ghost use Rattle.std.specs.Prelude.{⊤, ◌≡◌, ◌↔◌, true, false, Err, None, IsTrue, IsOk, IfOk, IfNone, IfSome, OnErr, OnOk, SomeIff, is_some, length};
+//!
+//! `in_turn` says when a turn's event is made, and `makes` all that the turn then does, or leaves as it was.
+ghost use Rattle.std.specs.Prelude.{⊤, ◌≡◌, ◌↔◌, false, true, Bool, Err, None, Option, Some, IsTrue, IsOk, IfOk, IfNone, IfSome, OnErr, OnOk, is_ok, is_some, length, option_map};
 ghost use Rattle.child_jobs.specs.Runs.{place_of};
 ghost use Rattle.server_events.specs.ServerState.{is_admitted, is_allowed, is_started, is_unstarted, stage_of};
 ghost use Rattle.server_events.specs.Worlds.{missing_by};
 ghost use Rattle.server_events.specs.declared.event.Event.TheVariants as event;
-ghost use Rattle.server_yard.specs.Passes.{IsDecidedBy, finding_file, pass_bytes, pass_file, pass_missing, pass_serial};
+ghost use Rattle.server_events.specs.declared.event.Stage.{Stage as StageOf};
+ghost use Rattle.server_yard.specs.Passes.{IsDecidedBy, finding_file, pass_bytes, pass_missing, pass_serial};
 ghost use Rattle.server_yard.specs.Rolls.{IsQuiet};
-ghost use Rattle.server_yard.specs.Seating.{GivesSeat, IsAddressFull, IsSpent, KeepsSeats, KeepsSerials};
-ghost use Rattle.server_yard.specs.Standing.{LeadsDecided, LeadsOn, LeadsOpened, standing_of};
-ghost use Rattle.server_yard.specs.Yards.{IsSameBeside, IsSameButDirectory, LeavesNothingElse, number_of, stage_of_place, yard_books, yard_directory, yard_roll, yard_rules, yard_seat, yard_server, yard_state};
+ghost use Rattle.server_yard.specs.Seating.{GivesSeat, IsAddressFull, IsSpent, KeepsSerials};
+ghost use Rattle.server_yard.specs.Standing.{LeadsDecided, LeadsOn};
+ghost use Rattle.server_yard.specs.Yards.{IsSameBeside, number_of, stage_of_place, yard_books, yard_roll, yard_rules, yard_seat, yard_server, yard_state};
 ghost use Rattle.server_yard.specs.declared.register.AdmitFault.TheVariants.{Full, FullForAddress, Spent};
-ghost use Rattle.shared_site.specs.Receipts.{AdmitsOrNot, CountsAtMostOne, MakesOrNot};
-ghost use Rattle.shared_site.specs.Turns.{CountsDevice, IsAt, IsPassedOver, MayBeDecided, NotesBy, OpensBy, OpensOrNot, spoken_by};
-ghost use Rattle.shared_site.specs.declared.turns.OpenFault.TheVariants as open_fault;
+ghost use Rattle.shared_site.specs.Receipts.{AdmitsOrNot, CountsAtMostOne, MakesOrNot, refused_as};
+ghost use Rattle.shared_site.specs.Turns.{Answers, IsAt, IsPassedOver, LeadsFound, Makes, MakesBy, MayBeDecided, NotesBy, OpensBy, spoken_by};
 
-use crate::receipt::{EventSnapshot, Made, OutOfTurn};
+use crate::receipt::{EventSnapshot, Made, OutOfTurn, Refusal};
 use crate::turn::{Turn, made};
 use child_jobs::{Job, Place, Running};
 use connection_facts::{DropCause, Peer, StartFault, Status};
-use dir_calls::{Dir, DirFault};
+use dir_calls::Dir;
 use event_journals::Journal;
 use rule_lines::Verdict;
 use rule_lookup::Decision;
 use server_events::{Event, Stage};
-use server_yard::{AdmitFault, Assumptions, Finding, Pass, Yard};
-use std::alloc::Global;
+use server_yard::{Assumptions, Finding, Pass, Yard};
 use std::snapshot::Snapshot;
-use thiserror::Error;
-
-/// Why the rules aren't opened. Nothing changed but the speaker.
-#[derive(Clone, Copy, PartialEq, Eq, Debug, Error)]
-pub enum OpenFault {
-    /// The connection isn't alive, or has opened them before.
-    #[error("out of turn")]
-    OutOfTurn,
-    /// The directory's device failed.
-    #[error("device fault")]
-    Device,
-    /// There was no memory.
-    #[error("out of memory")]
-    OutOfMemory,
-}
 
 /// Lets a connection in, as `Yard::admit` does.
 ///
 /// # Errors
-/// Those of `Yard::admit`.
+/// Those of `Yard::admit`, as evidence.
 #[derive(Drop)]
 pub struct Admit<'a> {
     /// The client.
@@ -56,20 +42,19 @@ pub struct Admit<'a> {
 }
 
 impl<L: Assumptions, D: Dir + Drop, J: Journal> Turn<L, D, J> for Admit<'_> {
-    type Answer = Result<(u64, Place<L>, Made), AdmitFault>;
+    type Answer = Result<(u64, Place<L>, Made), Refusal>;
 
     ghost may = { λ _. ⊤ };
 
     ghost answers = { λ turn. AdmitsOrNot turn.peer.now };
 
-    fn run(self, yard: &mut Yard<L, D, J>, caller: u64) -> Result<(u64, Place<L>, Made), AdmitFault>
-        ensures answers { AdmitsOrNot self.entry.peer.now
-            caller (yard_books yard.old).count result (yard_books yard.new).count }
+    fn run(self, yard: &mut Yard<L, D, J>, caller: u64) -> Result<(u64, Place<L>, Made), Refusal>
+        ensures answers { Answers (AdmitsOrNot self.entry.peer.now) caller result yard.old yard.new }
         ensures counts { CountsAtMostOne (yard_books yard.old).count (yard_books yard.new).count }
-        ensures full { (result ≡ Err Full)
+        ensures full { (refused_as result ≡ Some Full)
             ↔ (length (yard_server yard.old).connections ≡ (yard_server yard.old).limit) }
-        ensures spent { (result ≡ Err Spent) ↔ IsSpent (yard_server yard.old) }
-        ensures full_for_address { (result ≡ Err FullForAddress)
+        ensures spent { (refused_as result ≡ Some Spent) ↔ IsSpent (yard_server yard.old) }
+        ensures full_for_address { (refused_as result ≡ Some FullForAddress)
             ↔ IsAddressFull self.entry.peer.now.ip (yard_server yard.old) }
         ensures noted { IfOk result (λ r. NotesBy
             caller (event.Admitted r.0 self.entry.peer.now) (yard_roll yard.old) (yard_roll yard.new)) }
@@ -78,75 +63,17 @@ impl<L: Assumptions, D: Dir + Drop, J: Journal> Turn<L, D, J> for Admit<'_> {
         ensures seat { IfOk result (λ r. GivesSeat r.1 r.0 (yard_seat yard.old) (yard_seat yard.new)) }
         ensures same { IsSameBeside yard.old yard.new }
         ensures refused { OnErr result (IsQuiet (spoken_by caller (yard_roll yard.old)) (yard_roll yard.new)) }
-        ensures same_seats { OnErr result (KeepsSerials (yard_server yard.old) (yard_seat yard.old) (yard_seat yard.new)) }
+        ensures same_seats { OnErr result
+            (KeepsSerials (yard_server yard.old) (yard_seat yard.old) (yard_seat yard.new)) }
     {
         let Admit { peer } = self;
         yard.speaker(caller);
-        let (serial, place) = yard.admit(peer)?;
-        let event = EventSnapshot::Admitted(Snapshot::of(&serial), Snapshot::of(peer));
-        Ok((serial, place, made(yard, caller, event)))
-    }
-}
-
-/// Opens the rules for a connection, as `Yard::open` does.
-///
-/// # Errors
-/// `OutOfTurn` exactly if no connection with this serial is in the stage `Admitted`. Otherwise those of `Yard::open`:
-/// `Device`, if its failure was counted, and `OutOfMemory`.
-#[derive(Drop)]
-pub struct Open {
-    /// What gives memory.
-    pub alloc: Global,
-    /// The connection's serial.
-    pub serial: u64,
-}
-
-impl<L: Assumptions, D: Dir + Drop, J: Journal> Turn<L, D, J> for Open {
-    type Answer = Result<(Pass<L, D::File>, Made), OpenFault>;
-
-    ghost may = { λ _. ⊤ };
-
-    ghost answers = { λ turn. OpensOrNot turn.serial };
-
-    fn run(
-        self,
-        yard: &mut Yard<L, D, J>,
-        caller: u64,
-    ) -> Result<(Pass<L, D::File>, Made), OpenFault>
-        ensures answers { OpensOrNot self.serial
-            caller (yard_books yard.old).count result (yard_books yard.new).count }
-        ensures counts { CountsAtMostOne (yard_books yard.old).count (yard_books yard.new).count }
-        ensures in_turn { (result ≡ Err open_fault.OutOfTurn)
-            ↔ (is_admitted (stage_of self.serial (yard_server yard.old).connections) ≡ false) }
-        ensures missing { IfOk result (λ r. pass_missing r.0 ≡ missing_by (yard_rules yard.old)) }
-        ensures found { IsTrue D.honest → IfOk result (λ r.
-            pass_bytes D.File.bytes r.0 ≡ standing_of (yard_state yard.old)) }
-        ensures noted { IfOk result (λ r. NotesBy
-            caller (event.Opened self.serial (is_some (pass_file r.0))) (yard_roll yard.old) (yard_roll yard.new)) }
-        ensures step { IsTrue D.honest → IfOk result (λ r. LeadsOpened self.serial
-            (pass_bytes D.File.bytes r.0) (yard_state yard.old) (yard_state yard.new)) }
-        ensures out { result ≡ Err open_fault.OutOfTurn → IsPassedOver caller yard.old yard.new }
-        ensures refused { OnErr result (IsQuiet (spoken_by caller (yard_roll yard.old)) (yard_roll yard.new)) }
-        ensures err_state { IsTrue D.honest → OnErr result (yard_state yard.new ≡ yard_state yard.old) }
-        ensures counted { CountsDevice (D.failed (yard_directory yard.old)) (D.failed (yard_directory yard.new)) result }
-        ensures stops { IsTrue D.honest → LeavesNothingElse yard.old yard.new }
-        ensures without { yard_rules yard.old ≡ None → yard_directory yard.new ≡ yard_directory yard.old }
-        ensures same { IsSameButDirectory yard.old yard.new }
-        ensures seats { KeepsSeats (yard_seat yard.old) (yard_seat yard.new) }
-    {
-        let Open { alloc, serial } = self;
-        yard.speaker(caller);
-        if yard.stage(serial) != Some(Stage::Admitted) {
-            return Err(OpenFault::OutOfTurn);
-        }
-        match yard.open(alloc, serial) {
-            Ok(pass) => {
-                let there = pass.source().is_some();
-                let event = EventSnapshot::of(&Event::Opened { serial, there });
-                Ok((pass, made(yard, caller, event)))
+        match yard.admit(peer) {
+            Ok((serial, place)) => {
+                let event = EventSnapshot::Admitted(Snapshot::of(&serial), Snapshot::of(peer));
+                Ok((serial, place, made(yard, caller, event)))
             }
-            Err(DirFault::OutOfMemory) => Err(OpenFault::OutOfMemory),
-            Err(_) => Err(OpenFault::Device),
+            Err(fault) => Err(Refusal::of(yard, peer, fault)),
         }
     }
 }
@@ -169,18 +96,13 @@ impl<L: Assumptions, D: Dir + Drop, J: Journal> Turn<L, D, J> for Opened<L, D> {
     ghost answers = { λ turn. OpensBy turn.serial (finding_file turn.finding) };
 
     fn run(self, yard: &mut Yard<L, D, J>, caller: u64) -> Option<(Pass<L, D::File>, Made)>
-        ensures answers { OpensBy self.serial (finding_file self.finding)
-            caller (yard_books yard.old).count result (yard_books yard.new).count }
+        ensures answers { Answers (OpensBy self.serial (finding_file self.finding)) caller result yard.old yard.new }
         ensures counts { CountsAtMostOne (yard_books yard.old).count (yard_books yard.new).count }
         ensures in_turn { is_some result ≡ is_admitted (stage_of self.serial (yard_server yard.old).connections) }
         ensures missing { IfSome result (λ r. pass_missing r.0 ≡ missing_by (yard_rules yard.old)) }
-        ensures noted { IfSome result (λ r. NotesBy
-            caller (event.Opened self.serial (is_some (pass_file r.0))) (yard_roll yard.old) (yard_roll yard.new)) }
-        ensures step { IsTrue D.honest → IfSome result (λ r. pass_bytes D.File.bytes r.0 ≡ standing_of (yard_state yard.old)
-            → LeadsOpened self.serial (pass_bytes D.File.bytes r.0) (yard_state yard.old) (yard_state yard.new)) }
-        ensures out { IfNone result (IsPassedOver caller yard.old yard.new) }
-        ensures same { IsSameBeside yard.old yard.new }
-        ensures seats { KeepsSeats (yard_seat yard.old) (yard_seat yard.new) }
+        ensures makes { MakesBy caller (event.Opened self.serial (is_some (finding_file self.finding)))
+            (LeadsFound self.serial (option_map D.File.bytes (finding_file self.finding)))
+            (is_some result) yard.old yard.new }
     {
         let Opened { serial, finding } = self;
         yard.speaker(caller);
@@ -189,7 +111,7 @@ impl<L: Assumptions, D: Dir + Drop, J: Journal> Turn<L, D, J> for Opened<L, D> {
         }
         let pass = yard.opened(serial, finding);
         let there = pass.source().is_some();
-        let event = EventSnapshot::of(&Event::Opened { serial, there });
+        let event = EventSnapshot::Other(Snapshot::of(&Event::Opened { serial, there }));
         Some((pass, made(yard, caller, event)))
     }
 }
@@ -218,28 +140,20 @@ impl<L: Assumptions, D: Dir + Drop, J: Journal> Turn<L, D, J> for Decided<'_, L,
 
     fn run(self, yard: &mut Yard<L, D, J>, caller: u64) -> Result<Made, OutOfTurn>
         requires decides { IsDecidedBy D.File.honest D.File.sound D.File.bytes self.pass self.peer.now self.decision }
-        ensures answers { MakesOrNot (event.Decided (pass_serial self.entry.pass) self.entry.decision)
-            caller (yard_books yard.old).count result (yard_books yard.new).count }
+        ensures answers { Answers (MakesOrNot (event.Decided (pass_serial self.entry.pass) self.entry.decision))
+            caller result yard.old yard.new }
         ensures counts { CountsAtMostOne (yard_books yard.old).count (yard_books yard.new).count }
         ensures in_turn { IsOk result ↔ MayBeDecided yard.old self.entry.pass self.entry.peer.now }
-        ensures noted { OnOk result (NotesBy
-            caller (event.Decided (pass_serial self.entry.pass) self.entry.decision) (yard_roll yard.old) (yard_roll yard.new)) }
-        ensures step { IsTrue D.honest → OnOk result (LeadsDecided (pass_serial self.entry.pass)
-            (pass_bytes D.File.bytes self.entry.pass) self.entry.decision (yard_state yard.old) (yard_state yard.new)) }
-        ensures out { OnErr result (IsPassedOver caller yard.old yard.new) }
-        ensures same { IsSameBeside yard.old yard.new }
-        ensures seats { KeepsSeats (yard_seat yard.old) (yard_seat yard.new) }
+        ensures makes { MakesBy caller (event.Decided (pass_serial self.entry.pass) self.entry.decision)
+            (LeadsDecided (pass_serial self.entry.pass) (pass_bytes D.File.bytes self.entry.pass) self.entry.decision)
+            (is_ok result) yard.old yard.new }
     {
-        let Decided {
-            pass,
-            peer,
-            decision,
-        } = self;
+        let (pass, peer, decision) = (self.pass, self.peer, self.decision);
         yard.speaker(caller);
         let serial = pass.serial();
         let event = EventSnapshot::Decided(Snapshot::of(&serial), Snapshot::of(&decision));
         if !may_be_decided(yard, &pass, peer) {
-            return Err(OutOfTurn::of(event));
+            return Err(OutOfTurn { asked: event });
         }
         yard.decided(pass, peer, decision);
         Ok(made(yard, caller, event))
@@ -267,22 +181,15 @@ impl<L: Assumptions, D: Dir + Drop, J: Journal, C: Job> Turn<L, D, J> for Starte
     ghost answers = { λ turn. MakesOrNot (event.Started turn.serial) };
 
     fn run(self, yard: &mut Yard<L, D, J>, caller: u64) -> Result<Made, OutOfTurn>
-        ensures answers { MakesOrNot (event.Started self.entry.serial)
-            caller (yard_books yard.old).count result (yard_books yard.new).count }
+        ensures answers { Answers (MakesOrNot (event.Started self.entry.serial)) caller result yard.old yard.new }
         ensures counts { CountsAtMostOne (yard_books yard.old).count (yard_books yard.new).count }
         ensures in_turn { IsOk result ↔ IsAt is_allowed self.entry.serial yard.old (place_of self.entry.running.now) }
-        ensures noted { OnOk result (NotesBy caller (event.Started self.entry.serial) (yard_roll yard.old) (yard_roll yard.new)) }
-        ensures step { IsTrue D.honest → OnOk result (LeadsOn
-            (event.Started self.entry.serial) (yard_state yard.old) (yard_state yard.new)) }
-        ensures out { OnErr result (IsPassedOver caller yard.old yard.new) }
-        ensures same { IsSameBeside yard.old yard.new }
-        ensures seats { KeepsSeats (yard_seat yard.old) (yard_seat yard.new) }
+        ensures makes { Makes caller (event.Started self.entry.serial) (is_ok result) yard.old yard.new }
     {
         let Started { serial, running } = self;
-        yard.speaker(caller);
-        let event = EventSnapshot::of(&Event::Started { serial });
-        if allowed(yard, running.place()) != Some(serial) {
-            return Err(OutOfTurn::of(event));
+        let event = EventSnapshot::Other(Snapshot::of(&Event::Started { serial }));
+        if speak_at(yard, caller, running.place(), serial) != Some(Stage::Decided(Verdict::Allow)) {
+            return Err(OutOfTurn { asked: event });
         }
         yard.started(running);
         Ok(made(yard, caller, event))
@@ -311,28 +218,22 @@ impl<L: Assumptions, D: Dir + Drop, J: Journal> Turn<L, D, J> for StartFailed<L>
     ghost answers = { λ turn. MakesOrNot (event.StartFailed turn.serial turn.fault) };
 
     fn run(self, yard: &mut Yard<L, D, J>, caller: u64) -> Result<Made, OutOfTurn>
-        ensures answers { MakesOrNot (event.StartFailed self.serial self.fault)
-            caller (yard_books yard.old).count result (yard_books yard.new).count }
+        ensures answers { Answers (MakesOrNot (event.StartFailed self.serial self.fault))
+            caller result yard.old yard.new }
         ensures counts { CountsAtMostOne (yard_books yard.old).count (yard_books yard.new).count }
         ensures in_turn { IsOk result ↔ IsAt is_allowed self.serial yard.old self.place }
-        ensures noted { OnOk result (NotesBy caller (event.StartFailed self.serial self.fault) (yard_roll yard.old) (yard_roll yard.new)) }
-        ensures step { IsTrue D.honest → OnOk result (LeadsOn
-            (event.StartFailed self.serial self.fault) (yard_state yard.old) (yard_state yard.new)) }
+        ensures makes { Makes caller (event.StartFailed self.serial self.fault) (is_ok result) yard.old yard.new }
         ensures gone { OnOk result (stage_of self.serial (yard_server yard.new).connections ≡ None) }
-        ensures out { OnErr result (IsPassedOver caller yard.old yard.new) }
-        ensures same { IsSameBeside yard.old yard.new }
-        ensures seats { KeepsSeats (yard_seat yard.old) (yard_seat yard.new) }
     {
         let StartFailed {
             serial,
             place,
             fault,
         } = self;
-        yard.speaker(caller);
-        let event = EventSnapshot::of(&Event::StartFailed { serial, fault });
-        if allowed(yard, &place) != Some(serial) {
+        let event = EventSnapshot::Other(Snapshot::of(&Event::StartFailed { serial, fault }));
+        if speak_at(yard, caller, &place, serial) != Some(Stage::Decided(Verdict::Allow)) {
             place.strand();
-            return Err(OutOfTurn::of(event));
+            return Err(OutOfTurn { asked: event });
         }
         yard.start_failed(place, fault);
         Ok(made(yard, caller, event))
@@ -361,28 +262,21 @@ impl<L: Assumptions, D: Dir + Drop, J: Journal> Turn<L, D, J> for Ended<L> {
     ghost answers = { λ turn. MakesOrNot (event.Ended turn.serial turn.status) };
 
     fn run(self, yard: &mut Yard<L, D, J>, caller: u64) -> Result<Made, OutOfTurn>
-        ensures answers { MakesOrNot (event.Ended self.serial self.status)
-            caller (yard_books yard.old).count result (yard_books yard.new).count }
+        ensures answers { Answers (MakesOrNot (event.Ended self.serial self.status)) caller result yard.old yard.new }
         ensures counts { CountsAtMostOne (yard_books yard.old).count (yard_books yard.new).count }
         ensures in_turn { IsOk result ↔ IsAt is_started self.serial yard.old self.place }
-        ensures noted { OnOk result (NotesBy caller (event.Ended self.serial self.status) (yard_roll yard.old) (yard_roll yard.new)) }
-        ensures step { IsTrue D.honest → OnOk result (LeadsOn
-            (event.Ended self.serial self.status) (yard_state yard.old) (yard_state yard.new)) }
+        ensures makes { Makes caller (event.Ended self.serial self.status) (is_ok result) yard.old yard.new }
         ensures gone { OnOk result (stage_of self.serial (yard_server yard.new).connections ≡ None) }
-        ensures out { OnErr result (IsPassedOver caller yard.old yard.new) }
-        ensures same { IsSameBeside yard.old yard.new }
-        ensures seats { KeepsSeats (yard_seat yard.old) (yard_seat yard.new) }
     {
         let Ended {
             serial,
             place,
             status,
         } = self;
-        yard.speaker(caller);
-        let event = EventSnapshot::of(&Event::Ended { serial, status });
-        if served(yard, &place) != Some(serial) {
+        let event = EventSnapshot::Other(Snapshot::of(&Event::Ended { serial, status }));
+        if speak_at(yard, caller, &place, serial) != Some(Stage::Started) {
             place.strand();
-            return Err(OutOfTurn::of(event));
+            return Err(OutOfTurn { asked: event });
         }
         yard.ended(place, status);
         Ok(made(yard, caller, event))
@@ -410,23 +304,16 @@ impl<L: Assumptions, D: Dir + Drop, J: Journal, C: Job> Turn<L, D, J> for Retire
     ghost answers = { λ turn. MakesOrNot (event.Retired turn.serial) };
 
     fn run(self, yard: &mut Yard<L, D, J>, caller: u64) -> Result<Made, OutOfTurn>
-        ensures answers { MakesOrNot (event.Retired self.serial)
-            caller (yard_books yard.old).count result (yard_books yard.new).count }
+        ensures answers { Answers (MakesOrNot (event.Retired self.serial)) caller result yard.old yard.new }
         ensures counts { CountsAtMostOne (yard_books yard.old).count (yard_books yard.new).count }
         ensures in_turn { IsOk result ↔ IsAt is_started self.serial yard.old (place_of self.running) }
-        ensures noted { OnOk result (NotesBy caller (event.Retired self.serial) (yard_roll yard.old) (yard_roll yard.new)) }
-        ensures step { IsTrue D.honest → OnOk result (LeadsOn
-            (event.Retired self.serial) (yard_state yard.old) (yard_state yard.new)) }
-        ensures out { OnErr result (IsPassedOver caller yard.old yard.new) }
-        ensures same { IsSameBeside yard.old yard.new }
-        ensures seats { KeepsSeats (yard_seat yard.old) (yard_seat yard.new) }
+        ensures makes { Makes caller (event.Retired self.serial) (is_ok result) yard.old yard.new }
     {
         let Retired { serial, running } = self;
-        yard.speaker(caller);
-        let event = EventSnapshot::of(&Event::Retired { serial });
-        if served(yard, running.place()) != Some(serial) {
+        let event = EventSnapshot::Other(Snapshot::of(&Event::Retired { serial }));
+        if speak_at(yard, caller, running.place(), serial) != Some(Stage::Started) {
             running.strand();
-            return Err(OutOfTurn::of(event));
+            return Err(OutOfTurn { asked: event });
         }
         yard.retired(running);
         Ok(made(yard, caller, event))
@@ -455,28 +342,21 @@ impl<L: Assumptions, D: Dir + Drop, J: Journal> Turn<L, D, J> for Dropped<L> {
     ghost answers = { λ turn. MakesOrNot (event.Dropped turn.serial turn.cause) };
 
     fn run(self, yard: &mut Yard<L, D, J>, caller: u64) -> Result<Made, OutOfTurn>
-        ensures answers { MakesOrNot (event.Dropped self.serial self.cause)
-            caller (yard_books yard.old).count result (yard_books yard.new).count }
+        ensures answers { Answers (MakesOrNot (event.Dropped self.serial self.cause)) caller result yard.old yard.new }
         ensures counts { CountsAtMostOne (yard_books yard.old).count (yard_books yard.new).count }
         ensures in_turn { IsOk result ↔ IsAt is_unstarted self.serial yard.old self.place }
-        ensures noted { OnOk result (NotesBy caller (event.Dropped self.serial self.cause) (yard_roll yard.old) (yard_roll yard.new)) }
-        ensures step { IsTrue D.honest → OnOk result (LeadsOn
-            (event.Dropped self.serial self.cause) (yard_state yard.old) (yard_state yard.new)) }
+        ensures makes { Makes caller (event.Dropped self.serial self.cause) (is_ok result) yard.old yard.new }
         ensures gone { OnOk result (stage_of self.serial (yard_server yard.new).connections ≡ None) }
-        ensures out { OnErr result (IsPassedOver caller yard.old yard.new) }
-        ensures same { IsSameBeside yard.old yard.new }
-        ensures seats { KeepsSeats (yard_seat yard.old) (yard_seat yard.new) }
     {
         let Dropped {
             serial,
             place,
             cause,
         } = self;
-        yard.speaker(caller);
-        let event = EventSnapshot::of(&Event::Dropped { serial, cause });
-        if unstarted(yard, &place) != Some(serial) {
+        let event = EventSnapshot::Other(Snapshot::of(&Event::Dropped { serial, cause }));
+        if !is_unstarted(speak_at(yard, caller, &place, serial)) {
             place.strand();
-            return Err(OutOfTurn::of(event));
+            return Err(OutOfTurn { asked: event });
         }
         yard.dropped(place, cause);
         Ok(made(yard, caller, event))
@@ -496,44 +376,32 @@ fn may_be_decided<L: Assumptions, D: Dir + Drop, J: Journal>(
         && yard.is_peer(pass.serial(), peer)
 }
 
-// The serial of the connection at a place, if it was allowed.
-fn allowed<L: Assumptions, D: Dir + Drop, J: Journal>(
-    yard: &Yard<L, D, J>,
+// Makes a caller the speaker, and answers the stage of the connection at a place, if that has this serial.
+fn speak_at<L: Assumptions, D: Dir + Drop, J: Journal>(
+    yard: &mut Yard<L, D, J>,
+    caller: u64,
     place: &Place<L>,
-) -> Option<u64>
-    ensures { SomeIff result (is_allowed (stage_of_place yard.now place.now) ≡ true) (number_of yard.now place.now) }
+    serial: u64,
+) -> Option<Stage>
+    ensures spoken { IsPassedOver caller yard.old yard.new }
+    ensures passes { (passes : Option StageOf → Bool) → passes None ≡ false
+        → (passes result ≡ true) ↔ IsAt passes serial yard.old place.now }
+    ensures stays { (passes : Option StageOf → Bool) → passes None ≡ false
+        → passes result ≡ true → IsAt passes serial yard.new place.now }
 {
-    let serial = yard.serial_of(place)?;
-    match yard.stage(serial) {
-        Some(Stage::Decided(Verdict::Allow)) => Some(serial),
+    yard.speaker(caller);
+    match yard.stage_of(place) {
+        Some((own, stage)) if own == serial => Some(stage),
         _ => None,
     }
 }
 
-// The serial of the connection at a place, if its child was started.
-fn served<L: Assumptions, D: Dir + Drop, J: Journal>(
-    yard: &Yard<L, D, J>,
-    place: &Place<L>,
-) -> Option<u64>
-    ensures { SomeIff result (is_started (stage_of_place yard.now place.now) ≡ true) (number_of yard.now place.now) }
+// Whether no child was started in this stage.
+fn is_unstarted(stage: Option<Stage>) -> bool
+    ensures { result ≡ is_unstarted stage }
 {
-    let serial = yard.serial_of(place)?;
-    match yard.stage(serial) {
-        Some(Stage::Started) => Some(serial),
-        _ => None,
-    }
-}
-
-// The serial of the connection at a place, if no child was started for it.
-fn unstarted<L: Assumptions, D: Dir + Drop, J: Journal>(
-    yard: &Yard<L, D, J>,
-    place: &Place<L>,
-) -> Option<u64>
-    ensures { SomeIff result (is_unstarted (stage_of_place yard.now place.now) ≡ true) (number_of yard.now place.now) }
-{
-    let serial = yard.serial_of(place)?;
-    match yard.stage(serial) {
-        Some(Stage::Admitted | Stage::Opened | Stage::Decided(_)) => Some(serial),
-        _ => None,
-    }
+    matches!(
+        stage,
+        Some(Stage::Admitted | Stage::Opened | Stage::Decided(_))
+    )
 }

@@ -8,9 +8,9 @@ use Rattle.tcp_connections.specs.declared.supply.Memory.{Memory}
 use Rattle.tcp_connections.specs.declared.supply.Supply.{Supply}
 
 -- what came of a connection, by how many were let in before and after it; nothing is said once no number is left
-abbrev pub LetsIn : {T : Type 0} → AdmitOutcome T → (old new : ℕ) → Type 0
+abbrev pub LetsIn : {T E : Type 0} → AdmitOutcome T E → (old new : ℕ) → Type 0
 LetsIn (In work) old new = new ≡ old + 1
-LetsIn Refused old new = new ≡ old
+LetsIn (Refused why) old new = new ≡ old
 LetsIn Spent old new = ⊤
 
 -- a server that ended by its count let in exactly that many

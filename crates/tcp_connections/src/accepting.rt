@@ -62,13 +62,13 @@ pub struct Accepted<R, W, X> {
 /// Where connections come from.
 pub trait Acceptor {
     /// What a client sends.
-    type Reader: Read + Send + Drop;
+    type Reader: Read + Drop;
 
     /// What is sent to a client.
-    type Writer: Write + Send + Drop;
+    type Writer: Write + Drop;
 
     /// What ends a connection both ways.
-    type Shut: Shut + Send + Drop;
+    type Shut: Shut + Drop;
 
     /// At least the last so many calls of `accept` failed.
     ghost failed_last: { Self → ℕ → Bool };
@@ -81,7 +81,8 @@ pub trait Acceptor {
         ensures once { OnErr result (IsTrue (failed_last self.new 1)) }
         ensures again { OnErr result
             ((n : ℕ) → IsTrue (failed_last self.old n) → IsTrue (failed_last self.new (n + 1))) }
-        ensures fewer { OnErr result ((n : ℕ) → IsTrue (failed_last self.old n) → IsTrue (failed_last self.new n)) };
+        ensures fewer { OnErr result
+            ((n : ℕ) → IsTrue (failed_last self.old n) → IsTrue (failed_last self.new n)) };
 
     /// The system's number of the last error (`errno`), if it had one.
     fn error(&self) -> Option<i32>;

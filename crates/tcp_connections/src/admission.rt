@@ -1,5 +1,5 @@
 //! Where connections are let in, and what serves them.
-ghost use Rattle.std.specs.Prelude.{◌≡◌, ◌+◌, ℕ, IfOk, IfErr, OnErr, Bool, IsTrue};
+ghost use Rattle.std.specs.Prelude.{◌≡◌, ◌+◌, ℕ, IfOk, IfErr, OnErr, Bool, false, IsTrue};
 ghost use Rattle.tcp_connections.specs.Admissions.{LetsIn};
 
 use crate::accepting::AcceptFault;
@@ -20,11 +20,11 @@ pub enum ServeEnd {
 }
 
 /// What came of a connection.
-pub enum AdmitOutcome<T> {
+pub enum AdmitOutcome<T, E> {
     /// It was let in.
     In(T),
-    /// It was refused.
-    Refused,
+    /// It was refused, for this reason.
+    Refused(E),
     /// It was refused, and so are all that follow: no serial number is left.
     Spent,
 }
@@ -34,32 +34,43 @@ pub trait Admission {
     /// A connection that was let in.
     type Work;
 
+    /// Why one is refused.
+    type Refusal: Send + Drop;
+
     /// How many were let in.
     ghost let_in: { Self → ℕ };
 
     /// At least the last so many calls of `next` failed.
     ghost failed_last: { Self → ℕ → Bool };
 
+    /// All places were seen retired.
+    ghost all_retired: { Self → Bool };
+
     /// Waits until fewer connections are alive than may be. `false` if all places are retired, so that this never
     /// comes.
-    fn wait_for_room(&self) -> bool;
+    fn wait_for_room(&mut self) -> bool
+        ensures retired { result ≡ false → IsTrue (all_retired self.new) }
+        ensures nobody { let_in self.new ≡ let_in self.old }
+        ensures failed { (n : ℕ) → IsTrue (failed_last self.old n) → IsTrue (failed_last self.new n) };
 
     /// Waits for the next connection, and lets it in. A refused connection is closed.
     ///
     /// # Errors
     /// No connection came; the call may be made again.
-    fn next(&mut self) -> Result<AdmitOutcome<Self::Work>, AcceptFault>
+    fn next(&mut self) -> Result<AdmitOutcome<Self::Work, Self::Refusal>, AcceptFault>
         ensures came { IfOk result (λ entry. LetsIn entry (let_in self.old) (let_in self.new)) }
         ensures none { OnErr result (let_in self.new ≡ let_in self.old) }
         ensures once { OnErr result (IsTrue (failed_last self.new 1)) }
         ensures again { OnErr result
             ((n : ℕ) → IsTrue (failed_last self.old n) → IsTrue (failed_last self.new (n + 1))) }
-        ensures fewer { OnErr result ((n : ℕ) → IsTrue (failed_last self.old n) → IsTrue (failed_last self.new n)) };
+        ensures fewer { OnErr result
+            ((n : ℕ) → IsTrue (failed_last self.old n) → IsTrue (failed_last self.new n)) };
 
     /// Lets nobody in any more, and turns away those who wait.
     fn close(&mut self)
         ensures nobody { let_in self.new ≡ let_in self.old }
-        ensures failed { (n : ℕ) → IsTrue (failed_last self.old n) → IsTrue (failed_last self.new n) };
+        ensures failed { (n : ℕ) → IsTrue (failed_last self.old n) → IsTrue (failed_last self.new n) }
+        ensures retired { IsTrue (all_retired self.old) → IsTrue (all_retired self.new) };
 }
 
 /// Serves the connections that were let in. A connection is a value that each call takes, and gives on to the next.

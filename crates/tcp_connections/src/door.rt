@@ -2,7 +2,7 @@
 ghost use Rattle.std.specs.Option.{ForSome};
 ghost use Rattle.std.specs.Prelude.{◌≡◌, ◌≢◌, ◌<◌, None, Some, true, false, IsTrue};
 ghost use Rattle.tcp_connections.specs.Admissions.{IsServed};
-ghost use Rattle.tcp_connections.specs.declared.admission.ServeEnd.TheVariants.{AcceptFaults, Count};
+ghost use Rattle.tcp_connections.specs.declared.admission.ServeEnd.TheVariants.{AcceptFaults, Count, NoPlaces};
 
 use crate::accepting::AcceptFault;
 use crate::admission::{Admission, AdmitOutcome, ServeEnd};
@@ -61,8 +61,15 @@ impl<Q: Admission> Entrance<Q> {
         }
     }
 
+    // Waits until fewer connections are alive than may be; `false` if that never comes.
+    fn wait_for_room(&mut self) -> bool
+        ensures retired { result ≡ false → IsTrue (Q.all_retired self.new.admission) }
+    {
+        self.admission.wait_for_room()
+    }
+
     // Waits for the next connection, and lets it in. A refused connection is closed.
-    fn next(&mut self) -> Result<AdmitOutcome<Q::Work>, AcceptFault> {
+    fn next(&mut self) -> Result<AdmitOutcome<Q::Work, Q::Refusal>, AcceptFault> {
         let outcome = self.admission.next();
         match &outcome {
             Ok(AdmitOutcome::In(_)) => {
@@ -73,7 +80,7 @@ impl<Q: Admission> Entrance<Q> {
                 self.let_in = None;
                 self.failed = 0;
             }
-            Ok(AdmitOutcome::Refused) => self.failed = 0,
+            Ok(AdmitOutcome::Refused(_)) => self.failed = 0,
             Err(_) if self.failed < FAULTS => self.failed += 1,
             Err(_) => {}
         }
@@ -83,6 +90,7 @@ impl<Q: Admission> Entrance<Q> {
     // Lets nobody in any more.
     fn close(&mut self)
         ensures failed { IsTrue (Q.failed_last self.old.admission 100) → IsTrue (Q.failed_last self.new.admission 100) }
+        ensures retired { IsTrue (Q.all_retired self.old.admission) → IsTrue (Q.all_retired self.new.admission) }
     {
         self.admission.close();
     }
@@ -101,6 +109,7 @@ pub(crate) struct Door<Q: Admission> {
     pause: Pause,
     ghost otherwise: { end ≢ Some Count },
     ghost by_faults: { end ≡ Some AcceptFaults → IsTrue (Q.failed_last entrance.admission 100) },
+    ghost by_places: { end ≡ Some NoPlaces → IsTrue (Q.all_retired entrance.admission) },
 }
 
 impl<Q: Admission> Door<Q> {
@@ -129,13 +138,15 @@ impl<Q: Admission> Door<Q> {
         self.count.is_some() && self.count == self.entrance.let_in
     }
 
-    /// Waits until fewer connections are alive than may be; `false` if that never comes.
+    /// Waits until fewer connections are alive than may be. `false` if that never comes; then the door is closed.
     pub fn wait_for_room(&mut self) -> bool
-        ensures open { result ≡ true → self.new.end ≡ self.old.end }
+        requires open { self.old.end ≡ None }
+        ensures open { result ≡ true → self.new.end ≡ None }
     {
-        let is_room = self.entrance.admission.wait_for_room();
+        let is_room = self.entrance.wait_for_room();
         if !is_room {
-            self.close(ServeEnd::NoPlaces);
+            self.entrance.close();
+            self.end = Some(ServeEnd::NoPlaces);
         }
         is_room
     }
@@ -155,7 +166,7 @@ impl<Q: Admission> Door<Q> {
                 }
                 Ok(Some(work))
             }
-            AdmitOutcome::Refused => {
+            AdmitOutcome::Refused(_) => {
                 self.forget_faults();
                 Ok(None)
             }
@@ -195,10 +206,11 @@ impl<Q: Admission> Door<Q> {
         self.end = Some(ServeEnd::AcceptFaults);
     }
 
-    /// Closes the door for another reason than the count or faults of accepting.
+    /// Closes the door for another reason than the count, faults of accepting, or retired places.
     pub fn close(&mut self, end: ServeEnd)
         requires other { end ≢ Count }
         requires no_faults { end ≢ AcceptFaults }
+        requires places { end ≢ NoPlaces }
     {
         self.end = Some(end);
         self.entrance.close();
@@ -208,6 +220,7 @@ impl<Q: Admission> Door<Q> {
     pub fn into_end(self, count: Option<u32>) -> (ServeEnd, Q)
         ensures served { IsServed result.0 count 0 (Q.let_in result.1) }
         ensures faults { result.0 ≡ AcceptFaults → IsTrue (Q.failed_last result.1 100) }
+        ensures places { result.0 ≡ NoPlaces → IsTrue (Q.all_retired result.1) }
     {
         let Door { entrance, end, .. } = self;
         let Entrance {

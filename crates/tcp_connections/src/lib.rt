@@ -1,17 +1,15 @@
-//! TCP connections, without rules and logs of events: where they come from, the names of their two ends, the workers
-//! that let them in and begin them, the keepers that go on with them, their streams, and the end of a child. A line
-//! that can't be written to the log is left out.
+//! TCP connections, without rules and logs: where they come from, the names of their two ends, the workers that let
+//! them in and begin them, the keepers that go on with them, the start of a child, and the wait for its end.
 //!
 //! The server uses `serve_through`: if it ends by its count, it let in exactly that many. It alone starts threads. A
 //! connection is a value that each call of `Serving` passes on, or answers as over. Dropping a `GoingOn` ends the
-//! connection too. `Streams` names the types of what is passed on. `wait_in_rounds` gives a place back only after a
-//! wait that succeeded. Only tests show that one more worker is made if none waits for the socket, that what a
-//! connection takes is there before it is taken, and that a hundred faults of accepting in succession end the server.
+//! connection too. `wait_in_rounds` gives a place back only after a wait that succeeded. Only tests show that one more
+//! worker is made if none waits for the socket, that what a connection takes is there before it is taken, and that a
+//! hundred faults of accepting in succession end the server.
 #![tactic(auto)]
 
 pub mod accepting;
 pub mod admission;
-pub mod attending;
 mod crew;
 mod door;
 mod going_on;
@@ -26,12 +24,8 @@ pub mod workers;
 
 pub use accepting::{AcceptFault, Accepted, Acceptor, Follow, Patience, Shut};
 pub use admission::{Admission, AdmitOutcome, ServeEnd, Serving};
-pub use attending::{
-    Attendant, Chains, ClientStreams, Endings, Piped, Streams, Talk, Upward, see_out,
-};
 pub use names::HostNames;
 pub use rounds::wait_in_rounds;
-pub use server_log::Log;
 pub use starting::{ConnectionLauncher, Notes, Process, SignalNote, Starter};
 pub use stream_tools::NotStarted;
 pub use supply::{Memory, Reserve, Supply};

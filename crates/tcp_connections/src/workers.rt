@@ -1,8 +1,8 @@
 //! Workers: each lets one connection after another in, and serves it up to the start of its program and on to its end.
-ghost use Rattle.std.specs.Prelude.{◌≡◌, ◌≢◌};
+ghost use Rattle.std.specs.Prelude.{◌≡◌, ◌≢◌, IsTrue};
 ghost use Rattle.std.specs.Thread.{IsSend, IsSync};
 ghost use Rattle.tcp_connections.specs.Admissions.{FailedToAccept, IsServed, suffices};
-ghost use Rattle.tcp_connections.specs.declared.admission.ServeEnd.TheVariants.{AcceptFaults, Count};
+ghost use Rattle.tcp_connections.specs.declared.admission.ServeEnd.TheVariants.{AcceptFaults, Count, NoPlaces};
 
 use crate::accepting::AcceptFault;
 use crate::admission::{Admission, ServeEnd, Serving};
@@ -39,7 +39,8 @@ const THREAD: usize = 192 * 1024;
 /// on what the client sends, if `server` does that. This thread makes one more worker whenever none waits at the door.
 ///
 /// The count begins at 0, since nobody was let in by `admission` before. By faults of accepting it ends only if the last
-/// hundred calls of `admission` failed, or if `supply` doesn't suffice for one connection.
+/// hundred calls of `admission` failed, or if `supply` doesn't suffice for one connection. For want of places it ends
+/// only if all were seen retired.
 pub fn serve_through<R, V, Q>(
     rt: &R,
     alloc: Global,
@@ -57,6 +58,7 @@ where
     requires nobody { Q.let_in admission ≡ 0 }
     ensures served { IsServed result.0 count 0 (Q.let_in result.1) }
     ensures faults { result.0 ≡ AcceptFaults → FailedToAccept (suffices supply) (Q.failed_last result.1) }
+    ensures places { result.0 ≡ NoPlaces → IsTrue (Q.all_retired result.1) }
 {
     if !supply.suffices() {
         let mut admission = admission;
@@ -126,6 +128,7 @@ where
     fn end(&self, end: ServeEnd)
         requires other { end ≢ Count }
         requires no_faults { end ≢ AcceptFaults }
+        requires places { end ≢ NoPlaces }
     {
         self.door.lock(self.rt).close(end);
     }

@@ -6,7 +6,7 @@ use Rattle.shared_site.specs.Receipts.{MakesOrNot}
 use Rattle.shared_site.specs.declared.receipt.Made.{Made}
 use Rattle.shared_site.specs.declared.receipt.OutOfTurn.{OutOfTurn}
 use Rattle.shared_site.specs.declared.receipt.Receipt.{Receipt}
-use Rattle.tcp_service.specs.SiteAgents.{IsAnswer, asked}
+use Rattle.tcp_service.specs.Agents.{IsAnswer, asked}
 
 by_cases : (r : Result Made OutOfTurn) (event : Event) (who before after : ℕ) → MakesOrNot event who before r after → asked (Some r) ≡ Some event
 by_cases (Ok made) event who before after its = ap (λ (r : Receipt). Some r.event) its.0

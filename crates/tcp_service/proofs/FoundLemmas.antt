@@ -2,7 +2,7 @@
 use Rattle.std.proofs.Common.{◌≡◌, ℕ, Bool, List, Option, subst, sym}
 use Rattle.std.specs.Option.{option_map}
 use Rattle.one_connection.specs.Openings.{Opening}
-use Rattle.tcp_service.specs.SiteAgents.{FindsWhole, IsFoundFor}
+use Rattle.tcp_service.specs.Agents.{FindsWhole, IsFoundFor}
 
 -- by the handle that was opened for it
 pub found_for : {F H : Type 0} (bytes : F → List ℕ) (met : Bool) (gives : H → Type 0) (opened : H → ℕ → Option (List ℕ) → H → Type 0) (serial : ℕ)

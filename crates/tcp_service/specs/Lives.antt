@@ -2,6 +2,7 @@
 use Rattle.std.specs.Prelude.{◌≡◌, ◌⊎◌, ℕ, Bool, Option, Some, ⊤, option_and_then}
 use Rattle.child_jobs.specs.Plans.{PlanText}
 use Rattle.child_jobs.specs.Programs.{ProgramText}
+use Rattle.child_jobs.specs.Runs.{IsSameChild}
 use Rattle.connection_facts.specs.Peers.{Client}
 use Rattle.connection_facts.specs.declared.outcome.Status.{Status}
 use Rattle.one_connection.specs.Openings.{Opening, WasFound}
@@ -18,7 +19,7 @@ use Rattle.ucspi_env.specs.Ends.{LocalEnd}
 use Rattle.ucspi_env.specs.Variables.{Variables}
 
 -- where a client is let in, the event that was made is the admission of it, by the serial that it has
-abbrev pub AdmitsOwn : {P : Type 0} → AdmitOutcome (ℕ × P × Made) → Client → Type 0
+abbrev pub AdmitsOwn : {P E : Type 0} → AdmitOutcome (ℕ × P × Made) E → Client → Type 0
 AdmitsOwn (In r) client = made_event r.2 ≡ Admitted r.0 client
 AdmitsOwn outcome client = ⊤
 
@@ -31,6 +32,13 @@ abbrev pub IsEndOfChild : {J : Type 0} → Kills J → FailsToWait J → EndsAs 
 IsEndOfChild kills fails ends by_force job event serial =
     ((status : Status) × OneEnds kills fails ends (rounds by_force) job status × (event ≡ Some (Ended serial status)))
     ⊎ (AllFail kills fails (rounds by_force) job × (event ≡ Some (Retired serial)))
+
+-- this is so of a job of the same program with the same variables
+pub record OfSameChild {J : Type 0} (program_of : J → ProgramText) (environment_of : J → Variables) (first : J)
+    (is_so : J → Type 0) : Type 0 where
+  pub job : J
+  pub same : IsSameChild program_of environment_of first job
+  pub so : is_so job
 
 -- a program that runs for a connection is the one of its decision, by what that connection found when it opened the rules: the plan's, with the
 -- variables that this decision gives

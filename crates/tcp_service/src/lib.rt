@@ -4,33 +4,32 @@
 //! The server uses `serve`. What it stands on is one type, a `Host`: its types are the runtime, the ledgers, the rules,
 //! the log, and the streams and programs of connections. At the end both callers are back and as many connections are
 //! alive as are retired; `serve` looks at the last, and answers `Unfinished` if it is not so. The life of a connection
-//! is one value after another: `Admitted`, `Started`, `Attended`, `Over`. Each tells its end itself if a thread lets it
-//! go, and an end can't be told twice. `LoggedAgent` is the agent over which `serve_one` runs. Tested only: bytes pass
-//! through the two pumps of their connection, and no event comes out of turn.
+//! is one value after another: `Admitted`, `Started`, `Alive`, `Over`. None of the first three can be let go, and an end
+//! can't be told twice. `LoggedAgent` is the agent over which `serve_one` runs. Tested only: bytes pass through the two
+//! pumps of their connection, and no event comes out of turn.
 #![tactic(auto)]
 
+mod agent;
 mod connection;
 mod entrance;
 pub mod host;
 mod life;
-mod observer;
 pub mod opening;
 mod over;
-mod permit;
-mod running;
+mod pumping;
+mod reasons;
+mod server;
 pub mod service;
 pub mod serving;
-pub mod site_agent;
+mod telling;
 
 pub use host::{CallerOf, Host, SiteOf, YardOf};
-pub use observer::Observer;
 pub use opening::{Rules, RulesHandle};
 pub use server_log::Log;
 pub use server_words::{ConnectionLimits, Level, Mode};
-pub use service::{ChainSource, Service};
+pub use service::{ChainSource, Chains, Service};
 pub use serving::{Closed, Unfinished, serve};
-pub use site_agent::{LoggedAgent, SiteAgent};
 pub use tcp_connections::{
-    AcceptFault, Accepted, Acceptor, Chains, Follow, HostNames, NotStarted, Patience, Reserve,
-    ServeEnd, Shut, Starter, Streams, Supply,
+    AcceptFault, Accepted, Acceptor, Follow, HostNames, NotStarted, Patience, Reserve, ServeEnd,
+    Shut, Starter, Supply,
 };

@@ -1,115 +1,76 @@
-//! The life of a connection at a site, from its admission to its end: each value of it is made of the one before, and none can be let go.
+//! The life of a connection at a site, from its admission to its end: each value of it is made of the one before, and
+//! none can be let go.
 ghost use Rattle.std.specs.Prelude.{◌≡◌, None, IfOk, IfErr, true, false};
 ghost use Rattle.child_jobs.specs.Runs.{IsSameRun, job_of, place_of};
 ghost use Rattle.one_connection.specs.Openings.{kept_opening};
-ghost use Rattle.tcp_connections.specs.Ends.{OfSameChild};
-ghost use Rattle.tcp_service.specs.Lives.{IsEndOfChild, IsOwnChild};
-ghost use Rattle.tcp_service.specs.SiteAgents.{IsFoundFor, asked};
+ghost use Rattle.server_events.specs.declared.event.Event.TheVariants.{Admitted as AdmittedEvent};
+ghost use Rattle.shared_site.specs.Receipts.{made_event};
+ghost use Rattle.tcp_service.specs.Agents.{IsFoundFor, asked};
+ghost use Rattle.tcp_service.specs.Lives.{IsEndOfChild, IsOwnChild, OfSameChild};
 
-use crate::host::{CallerOf, Host, SiteOf};
-use crate::opening::Rules;
+use crate::agent::FoundBy;
+use crate::host::Host;
 use crate::over::Over;
-use crate::permit::Permit;
-use crate::site_agent::{FoundBy, LoggedAgent, SiteAgent};
-use child_jobs::{Place, Plan, Running};
+use crate::pumping::{ClientStreams, Downward, Upward};
+use crate::server::Server;
+use crate::service::Chains;
+use child_jobs::{Place, Running};
 use connection_facts::{DropCause, Peer};
 use one_connection::{Agent, Served, serve_one};
-use std::alloc::Global;
+use shared_site::Made;
 use std::snapshot::Snapshot;
-use std::sync::Mutex;
-use tcp_connections::{
-    Attendant, Chains, ClientStreams, ConnectionLauncher, Endings, Notes, Piped, Process, Talk,
-    Upward, see_out,
-};
+use tcp_connections::{ConnectionLauncher, Follow, Notes, Process, Shut, wait_in_rounds};
 use ucspi_env::Local;
 
-/// Where the lives of connections are told: a site, by one caller of it, and who observes that.
-#[derive(Drop)]
-pub(crate) struct Context<'a, H: Host> {
-    pub rt: &'a H::Runtime,
-    pub alloc: Global,
-    pub site: &'a SiteOf<H>,
-    pub caller: &'a Mutex<CallerOf<H>>,
-    pub rules: &'a H::Rules,
-    pub plan: &'a Plan,
-    pub observer: &'a H::Observer,
-}
-
-/// A connection that was let in and whose child was not started yet: the right to what comes next. It is made of the place that its admission
-/// gave, and of the permit, which has its serial (`own`). It is served, or given up.
+/// A connection that was let in and whose program was not started yet: the right to what comes next. It is made of what
+/// its admission gave, whose event was of its serial number and its client (`own`). It is served, or given up.
 pub(crate) struct Admitted<'a, H: Host> {
-    pub(crate) context: &'a Context<'a, H>,
+    pub(crate) server: &'a Server<'a, H>,
     pub(crate) serial: u64,
     pub(crate) place: Place<H::Places>,
     pub(crate) peer: Peer,
     pub(crate) local: Local,
-    pub(crate) permit: Permit,
-    pub(crate) ghost own: { permit.serial ≡ serial },
+    pub(crate) streams: ClientStreams<H>,
+    pub(crate) made: Snapshot<Made>,
+    pub(crate) ghost own: { made_event made.value ≡ AdmittedEvent serial peer },
 }
 
-/// A connection whose child was started, with what it runs by (`child`): the program is the plan's, with the variables of the decision by what this very
-/// connection found, for its client and its end. It found that by a new handle of the rules, which was opened for it. It goes on as an `Attended`, which
-/// no other value gives.
+/// A connection whose program was started, with what it runs by (`child`): the program is the plan's, with the variables
+/// of the decision by what this very connection found, for its client and its end. It found that by a new handle of the
+/// rules, which was opened for it. It goes on as an `Alive`, which no other value gives.
 pub(crate) struct Started<'a, H: Host> {
-    attended: Attended<'a, H>,
+    alive: Alive<'a, H>,
     peer: Snapshot<Peer>,
     found: FoundBy<H>,
     ghost child: { IsOwnChild (kept_opening H.File.bytes found)
-        (IsFoundFor H.Places.met (H.Rules.gives attended.context.now.rules.now) H.Handle.opened attended.serial)
-        H.File.honest H.File.sound peer.value attended.local
-        attended.context.now.plan.now (H.Job.program (job_of attended.running)) (H.Job.environment (job_of attended.running)) },
+        (IsFoundFor H.Places.met (H.Rules.gives alive.server.now.rules.now) H.Handle.opened alive.serial)
+        H.File.honest H.File.sound peer.value alive.local alive.server.now.plan.now
+        (H.Job.program (job_of alive.running)) (H.Job.environment (job_of alive.running)) },
 }
 
-/// A connection whose child runs: the right to its end. One thread may give it to another.
-pub(crate) struct Attended<'a, H: Host> {
-    context: &'a Context<'a, H>,
-    serial: u64,
-    running: Running<H::Places, H::Job>,
-    local: Local,
-    process: Option<Process>,
+/// A connection whose program runs: the right to its end. One thread may give it to another.
+pub(crate) struct Alive<'a, H: Host> {
+    pub(crate) server: &'a Server<'a, H>,
+    pub(crate) serial: u64,
+    pub(crate) running: Running<H::Places, H::Job>,
+    pub(crate) local: Local,
+    pub(crate) process: Option<Process>,
+    // what its program says, if that is passed on; otherwise the program holds the connection itself
+    pub(crate) downward: Option<Downward<H>>,
 }
 
-/// A connection whose streams are passed on: what its client sends, and the connection with what its child says.
-pub(crate) type Passed<'a, H> = (Upward<H>, Attended<'a, H>, Talk<H>);
+/// What the client of a connection sends, if that is passed on; and the connection.
+pub(crate) type Beginning<'a, H> = (Option<Upward<H>>, Alive<'a, H>);
 
-// What starts the program of one connection.
-fn launcher_of<'b, R, S, X>(
-    rt: &'b R,
-    starter: &'b S,
-    connection: &'b X,
-    notes: &'b Notes,
-) -> ConnectionLauncher<'b, R, S, X> {
-    ConnectionLauncher {
-        rt,
-        starter,
-        connection,
-        notes,
-    }
-}
+/// A program that was started for a connection, with what the connection found, and its process.
+type Ran<H> = (
+    Running<<H as Host>::Places, <H as Host>::Job>,
+    FoundBy<H>,
+    Option<Process>,
+);
 
-impl<'a, H: Host> Context<'a, H> {
-    // The agent of the connection with this serial number. Nothing was asked for it yet.
-    fn agent<'b>(&'b self, serial: u64, local: &'b Local, notes: &'b Notes) -> LoggedAgent<'b, H>
-    where
-        'a: 'b,
-        ensures own { (result.serial ≡ serial) × (result.agent.serial ≡ serial) }
-        ensures rules { result.agent.rules.now ≡ self.now.rules.now }
-        ensures unasked { result.agent.last ≡ None }
-    {
-        LoggedAgent {
-            rt: self.rt,
-            alloc: self.alloc,
-            agent: SiteAgent::new(self.rt, self.site, self.caller, self.rules, serial),
-            observer: self.observer,
-            serial,
-            local,
-            plan: self.plan,
-            rules: self.rules.path(),
-            notes,
-        }
-    }
-
-    // A connection is given up before its child was started.
+impl<H: Host> Server<'_, H> {
+    // A connection is given up before its program was started.
     fn give_up(
         &self,
         serial: u64,
@@ -126,33 +87,37 @@ impl<'a, H: Host> Context<'a, H> {
         Over::of(&agent, serial)
     }
 
-    // Serves a connection up to the start of its child.
+    // Serves a connection up to the start of its program.
     fn serve(
         &self,
         serial: u64,
         place: Place<H::Places>,
         peer: &Peer,
         local: &Local,
-        starter: &H::Starter,
-        connection: &H::Shut,
-        writer: &mut H::Writer,
-    ) -> Result<(Running<H::Places, H::Job>, FoundBy<H>, Option<Process>), Over>
+        streams: &mut ClientStreams<H>,
+    ) -> Result<Ran<H>, Over>
         ensures own { IfOk result (λ ran. place_of ran.0 ≡ place) }
         ensures child { IfOk result (λ ran. IsOwnChild (kept_opening H.File.bytes ran.1)
             (IsFoundFor H.Places.met (H.Rules.gives self.now.rules.now) H.Handle.opened serial)
-            H.File.honest H.File.sound peer.now local.now self.now.plan.now (H.Job.program (job_of ran.0)) (H.Job.environment (job_of ran.0))) }
+            H.File.honest H.File.sound peer.now local.now self.now.plan.now
+            (H.Job.program (job_of ran.0)) (H.Job.environment (job_of ran.0))) }
         ensures over { IfErr result (λ over. over.serial ≡ serial) }
     {
         let notes = Notes::of(None);
         let mut agent = self.agent(serial, local, &notes);
-        let launcher = launcher_of(self.rt, starter, connection, &notes);
-        let (alloc, plan) = (self.alloc, self.plan);
+        let launcher = ConnectionLauncher {
+            rt: self.rt,
+            starter: self.starter,
+            connection: &streams.shut,
+            notes: &notes,
+        };
+        let (alloc, plan, writer) = (self.alloc, self.plan, &mut streams.writer);
         match serve_one(
             alloc, &mut agent, place, serial, peer, local, plan, launcher, writer,
         ) {
             Served::Running(running) => {
                 let process = notes.take(self.rt);
-                Ok((running, agent.agent.into_found(), process))
+                Ok((running, agent.into_found(), process))
             }
             Served::Denied | Served::StartFailed(_) | Served::Dropped(_) => {
                 Err(Over::of(&agent, serial))
@@ -160,174 +125,193 @@ impl<'a, H: Host> Context<'a, H> {
         }
     }
 
-    // Takes the pipe ends of the child of a connection.
-    fn begin(
+    // Waits for a program in rounds, ends its connection, and only then tells how the program ended. So a slow log keeps
+    // no client waiting.
+    #[tactic(auto, using(crate::proofs::Told::end_told))]
+    fn see_out(
         &self,
-        attendant: &Attendant<'_, H>,
         serial: u64,
         running: Running<H::Places, H::Job>,
         local: &Local,
-        streams: ClientStreams<H>,
-        chains: Chains<H::Wrapper>,
-        notes: &Notes,
-    ) -> Result<Piped<H, H::Places>, Over>
-        ensures same { IfOk result (λ begun. IsSameRun H.Job.program H.Job.environment running begun.0) }
-        ensures over { IfErr result (λ over. over.serial ≡ serial) }
-        ensures ended { IfErr result (λ over. OfSameChild H.Job.program H.Job.environment (job_of running) (λ job.
-            IsEndOfChild H.Job.killed H.Job.refused_wait H.Job.ended true job (asked over.last.value) serial)) }
+        process: Option<Process>,
+        by_force: bool,
+        shut: Option<H::Shut>,
+    ) -> Over
+        ensures own { result.serial ≡ serial }
+        ensures ended { IsEndOfChild H.Job.killed H.Job.refused_wait H.Job.ended by_force (job_of running)
+            (asked result.last.value) serial }
     {
-        let mut agent = self.agent(serial, local, notes);
-        match attendant.begin(&mut agent, running, serial, streams, chains) {
-            Some(begun) => Ok(begun),
-            None => Err(Over::of(&agent, serial)),
+        let ended = wait_in_rounds(running, by_force);
+        if let Some(shut) = shut {
+            shut.shut();
         }
+        let notes = Notes::of(process);
+        let mut agent = self.agent(serial, local, &notes);
+        agent.tell_end(ended);
+        Over::of(&agent, serial)
     }
 }
 
 impl<'a, H: Host> Admitted<'a, H> {
-    /// It is given up for this cause.
-    pub(crate) fn give_up(self, cause: DropCause) -> Over
+    /// It is served, and goes on if its program was started.
+    ///
+    /// # Errors
+    /// It is over: it was denied or given up, its program could not be started, or that gave no pipe ends.
+    pub(crate) fn begin(self) -> Result<Beginning<'a, H>, Over>
+        ensures own { IfOk result (λ begun. begun.1.serial ≡ self.entry.serial) }
+        ensures over { IfErr result (λ over. over.serial ≡ self.entry.serial) }
+    {
+        let Ok(chains) = self.server.chains() else {
+            return Err(self.give_up(DropCause::Memory));
+        };
+        match self.serve() {
+            Ok((started, streams)) => go_on(started.go_on(), streams, chains),
+            Err(over) => Err(over),
+        }
+    }
+
+    // It is given up for this cause.
+    fn give_up(self, cause: DropCause) -> Over
         ensures own { result.serial ≡ self.entry.serial }
     {
         let Admitted {
-            context,
+            server,
             serial,
             place,
             peer,
             local,
-            permit: _,
+            streams,
+            made: _,
         } = self;
-        context.give_up(serial, place, &peer, &local, cause)
+        let over = server.give_up(serial, place, &peer, &local, cause);
+        streams.shut.shut();
+        over
     }
 
-    /// It is served up to the start of its child, by `serve_one`.
-    ///
-    /// # Errors
-    /// It is over: it was denied or given up, or its child could not be started.
-    pub(crate) fn serve(
-        self,
-        starter: &H::Starter,
-        connection: &H::Shut,
-        writer: &mut H::Writer,
-    ) -> Result<Started<'a, H>, Over>
-        ensures own { IfOk result (λ started. (started.attended.serial ≡ self.entry.serial) × (place_of started.attended.running ≡ self.entry.place)) }
+    // It is served up to the start of its program, by `serve_one`.
+    fn serve(self) -> Result<(Started<'a, H>, ClientStreams<H>), Over>
+        ensures own { IfOk result (λ started. (started.0.alive.serial ≡ self.entry.serial)
+            × (place_of started.0.alive.running ≡ self.entry.place)) }
         ensures over { IfErr result (λ over. over.serial ≡ self.entry.serial) }
     {
         let Admitted {
-            context,
+            server,
             serial,
             place,
             peer,
             local,
-            permit: _,
+            mut streams,
+            made: _,
         } = self;
-        match context.serve(serial, place, &peer, &local, starter, connection, writer) {
-            Ok((running, found, process)) => Ok(Started {
-                attended: Attended {
-                    context,
+        match server.serve(serial, place, &peer, &local, &mut streams) {
+            Ok((running, found, process)) => {
+                let alive = Alive {
+                    server,
                     serial,
                     running,
                     local,
                     process,
-                },
-                peer: Snapshot::of(&peer),
-                found,
-            }),
-            Err(over) => Err(over),
+                    downward: None,
+                };
+                let peer = Snapshot::of(&peer);
+                Ok((Started { alive, peer, found }, streams))
+            }
+            Err(over) => {
+                streams.shut.shut();
+                Err(over)
+            }
         }
     }
 }
 
 impl<'a, H: Host> Started<'a, H> {
     /// It goes on, in this thread or another one.
-    pub(crate) fn go_on(self) -> Attended<'a, H>
-        ensures same { result ≡ self.entry.attended }
+    pub(crate) fn go_on(self) -> Alive<'a, H>
+        ensures same { result ≡ self.entry.alive }
     {
         let Started {
-            attended,
+            alive,
             peer: _,
             found: _,
         } = self;
-        attended
+        alive
     }
 }
 
-impl<'a, H: Host> Attended<'a, H> {
-    /// Its child's pipe ends are taken, and its streams are passed on from now on.
-    ///
-    /// # Errors
-    /// It is over: its child has no pipe ends, and was ended by force.
-    pub(crate) fn begin(
+// A connection goes on: its program holds it, or its streams are passed on from now on.
+fn go_on<H: Host>(
+    alive: Alive<'_, H>,
+    streams: ClientStreams<H>,
+    chains: Option<Chains<H::Wrapper>>,
+) -> Result<Beginning<'_, H>, Over>
+    ensures own { IfOk result (λ begun. begun.1.serial ≡ alive.serial) }
+    ensures over { IfErr result (λ over. over.serial ≡ alive.serial) }
+{
+    match chains {
+        None => Ok((None, alive)),
+        Some(chains) => alive.pass_on(streams, chains),
+    }
+}
+
+impl<'a, H: Host> Alive<'a, H> {
+    // Its program's pipe ends are taken, and its streams are passed on from now on.
+    fn pass_on(
         self,
-        attendant: &Attendant<'_, H>,
         streams: ClientStreams<H>,
         chains: Chains<H::Wrapper>,
-    ) -> Result<Passed<'a, H>, Over>
-        ensures own { IfOk result (λ passed. passed.1.serial ≡ self.entry.serial) }
-        ensures same { IfOk result (λ passed. IsSameRun H.Job.program H.Job.environment self.entry.running passed.1.running) }
+    ) -> Result<Beginning<'a, H>, Over>
+        ensures own { IfOk result (λ begun. begun.1.serial ≡ self.entry.serial) }
+        ensures same { IfOk result (λ begun.
+            IsSameRun H.Job.program H.Job.environment self.entry.running begun.1.running) }
         ensures over { IfErr result (λ over. over.serial ≡ self.entry.serial) }
-        ensures ended { IfErr result (λ over. OfSameChild H.Job.program H.Job.environment (job_of self.entry.running) (λ job.
-            IsEndOfChild H.Job.killed H.Job.refused_wait H.Job.ended true job (asked over.last.value) self.entry.serial)) }
+        ensures ended { IfErr result (λ over. OfSameChild H.Job.program H.Job.environment (job_of self.entry.running)
+            (λ job. IsEndOfChild H.Job.killed H.Job.refused_wait H.Job.ended true job
+            (asked over.last.value) self.entry.serial)) }
     {
-        let Attended {
-            context,
+        let Alive {
+            server,
+            serial,
+            mut running,
+            local,
+            process,
+            downward: _,
+        } = self;
+        let Ok((to, from)) = running.ends() else {
+            let _ = server.log.lock(server.rt).no_pipe_ends(serial);
+            let shut = Some(streams.shut);
+            return Err(server.see_out(serial, running, &local, process, true, shut));
+        };
+        let (upward, downward) = streams.passed_on(server.service.patience, to, from, chains);
+        let alive = Alive {
+            server,
             serial,
             running,
             local,
             process,
-        } = self;
-        let notes = Notes::of(process);
-        match context.begin(attendant, serial, running, &local, streams, chains, &notes) {
-            Ok((running, upward, talk)) => {
-                let process = notes.take(context.rt);
-                let attended = Attended {
-                    context,
-                    serial,
-                    running,
-                    local,
-                    process,
-                };
-                Ok((upward, attended, talk))
-            }
-            Err(over) => Err(over),
-        }
+            downward: Some(downward),
+        };
+        Ok((Some(upward), alive))
     }
 
-    /// Its child, which holds it itself, is waited for.
-    pub(crate) fn see_out(self) -> Over
+    /// What its program says is passed on to the end, if the program does not hold it itself. Then the program is waited
+    /// for, and it ends.
+    pub(crate) fn finish(self) -> Over
         ensures own { result.serial ≡ self.entry.serial }
         ensures ended { IsEndOfChild H.Job.killed H.Job.refused_wait H.Job.ended false (job_of self.entry.running)
             (asked result.last.value) self.entry.serial }
     {
-        let Attended {
-            context,
+        let Alive {
+            server,
             serial,
             running,
             local,
             process,
+            downward,
         } = self;
-        let notes = Notes::of(process);
-        let mut agent = context.agent(serial, &local, &notes);
-        see_out(&mut agent, running, serial);
-        Over::of(&agent, serial)
-    }
-
-    /// What its child says is passed on to the end; then its child is waited for, and it ends.
-    pub(crate) fn pass_down(self, attendant: &Attendant<'_, H>, talk: Talk<H>) -> Over
-        ensures own { result.serial ≡ self.entry.serial }
-        ensures ended { IsEndOfChild H.Job.killed H.Job.refused_wait H.Job.ended false (job_of self.entry.running)
-            (asked result.last.value) self.entry.serial }
-    {
-        let Attended {
-            context,
-            serial,
-            running,
-            local,
-            process,
-        } = self;
-        let notes = Notes::of(process);
-        let mut agent = context.agent(serial, &local, &notes);
-        attendant.pass_down(&mut agent, running, serial, talk);
-        Over::of(&agent, serial)
+        let shut = match downward {
+            Some(downward) => Some(server.pass_down(downward)),
+            None => None,
+        };
+        server.see_out(serial, running, &local, process, false, shut)
     }
 }

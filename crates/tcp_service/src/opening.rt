@@ -23,21 +23,22 @@ pub trait Rules<L: Assumptions, F: RulesFile + Drop> {
     fn handle(&self, alloc: Global) -> Result<Self::Handle, AllocError>
         ensures new { IfOk result (gives self.now) };
 
-    /// The system's number of the error (`errno`) by which the last call of a handle failed, a read of what was opened too, where it has one.
+    /// The system's number of the error (`errno`) by which the last call of a handle failed, or a read of what was
+    /// opened, if it has one.
     fn error(&self, handle: &Self::Handle) -> Option<i32>;
 
     /// The path of the rules file as it was given; empty where there is none.
     fn path(&self) -> &str;
 
-    /// The address of the rule that is met first for this client, where that rule is damaged: found by one more look at what stands there now,
-    /// and `None` where it is not found again.
+    /// The address of the rule that is met first for this client, if that rule is damaged. It is found by one more look
+    /// at what stands there now; `None` if it is not found again.
     fn damaged_rule(&self, alloc: Global, peer: &Peer) -> Option<String>;
 }
 
 /// What one connection opens the rules by. Nobody else waits meanwhile.
 pub trait RulesHandle<L: Assumptions, F: RulesFile + Drop> {
-    /// Between these two states it was opened for the connection with this serial number, and this stood under the rules name: a file of these bytes, or
-    /// nothing.
+    /// Between these two states it was opened for the connection with this serial number, and this stood under the rules
+    /// name: a file of these bytes, or nothing.
     ghost opened: { Self → (serial : ℕ) → Option (List ℕ) → Self → Type 0 };
 
     /// What stands under the rules name, for the connection with this serial number.
@@ -45,5 +46,6 @@ pub trait RulesHandle<L: Assumptions, F: RulesFile + Drop> {
     /// # Errors
     /// `OutOfMemory`; any other is a call of the system that failed.
     fn open(&mut self, alloc: Global, serial: u64) -> Result<Finding<L, F>, DirFault>
-        ensures found { IfOk result (λ finding. opened self.old serial (option_map F.bytes (finding_file finding)) self.new) };
+        ensures found { IfOk result (λ finding.
+            opened self.old serial (option_map F.bytes (finding_file finding)) self.new) };
 }

@@ -1,10 +1,10 @@
 //! That a connection is over.
 ghost use Rattle.std.specs.Prelude.{◌≡◌};
+ghost use Rattle.tcp_service.specs.Agents.{asked};
 ghost use Rattle.tcp_service.specs.Lives.{IsEndOf};
-ghost use Rattle.tcp_service.specs.SiteAgents.{asked};
 
+use crate::agent::LoggedAgent;
 use crate::host::Host;
-use crate::site_agent::LoggedAgent;
 use shared_site::{Made, OutOfTurn};
 use std::snapshot::Snapshot;
 
@@ -19,13 +19,13 @@ pub(crate) struct Over {
 impl Over {
     /// That the connection with this serial number is, by its agent.
     pub(crate) fn of<H: Host>(agent: &LoggedAgent<'_, H>, serial: u64) -> Over
-        requires told { IsEndOf (asked agent.now.agent.last) serial }
+        requires told { IsEndOf (asked agent.now.last) serial }
         ensures own { result.serial ≡ serial }
-        ensures last { result.last.value ≡ agent.now.agent.last }
+        ensures last { result.last.value ≡ agent.now.last }
     {
         Over {
             serial,
-            last: Snapshot::of(&agent.agent.last),
+            last: Snapshot::of(&agent.last),
         }
     }
 }

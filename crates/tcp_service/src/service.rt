@@ -2,15 +2,16 @@
 ghost use Rattle.std.specs.Prelude.{IfOk};
 ghost use Rattle.tcp_service.specs.Renewals.{IsNewChain};
 
-use byte_streams::LineWrapper;
+use byte_streams::{Chain, LineWrapper};
 use server_words::{ConnectionLimits, Mode};
 use std::alloc::{AllocError, Global};
-use tcp_connections::{Chains, HostNames, Patience, Reserve, Supply};
+use tcp_connections::{HostNames, Patience, Reserve, Supply};
 
 /// What a server does for all of its connections.
 #[derive(Drop)]
 pub struct Service {
-    /// How many connections there may be at once, and how many are let in before the server ends; without such a number it does not end by itself.
+    /// How many connections there may be at once, and how many are let in before the server ends. Without such a number
+    /// it does not end by itself.
     pub limits: ConnectionLimits,
     /// How the ends of a connection get their names.
     pub names: HostNames,
@@ -24,6 +25,15 @@ pub struct Service {
     pub supply: Supply,
     /// The process that is kept in reserve for their programs.
     pub reserve: Reserve,
+}
+
+/// The line wrappers of a connection, for what its client sends and for what it is sent.
+#[derive(Drop)]
+pub struct Chains<G> {
+    /// For what the client sends.
+    pub input: Chain<G>,
+    /// For what it is sent.
+    pub output: Chain<G>,
 }
 
 /// What makes the line wrappers of connections that are pumped.

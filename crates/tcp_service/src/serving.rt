@@ -2,31 +2,34 @@
 ghost use Rattle.std.specs.Prelude.{◌≡◌, ◌≢◌, ◌+◌, ◌≤◌, [], IfOk, IfErr, length, vec_capacity, vec_len};
 ghost use Rattle.server_yard.specs.Yards.{yard_books, yard_server};
 ghost use Rattle.shared_site.specs.Callers.{caller_share, total_share};
-ghost use Rattle.tcp_connections.specs.Admissions.{IsServed};
+ghost use Rattle.tcp_connections.specs.Admissions.{FailedToAccept, IsServed, suffices};
+ghost use Rattle.tcp_connections.specs.declared.admission.ServeEnd.TheVariants.{AcceptFaults};
 
+use crate::entrance::Entrance;
 use crate::host::{CallerOf, Host, SiteOf, YardOf};
-use crate::life::Context;
-use crate::observer::Observer;
-use crate::running::serve_by;
+use crate::server::Server;
 use crate::service::Service;
 use child_jobs::Plan;
 use event_journals::Journal;
+use server_log::Log;
 use shared_site::{Caller, Callers};
 use std::alloc::Global;
 use std::snapshot::Snapshot;
 use std::sync::Mutex;
 use std::thread::Threads;
 use std::time::Clock;
-use tcp_connections::{Acceptor, ServeEnd};
+use tcp_connections::{ServeEnd, serve_through};
 
-/// A server that has come to its end: nobody is let in any more and its threads have ended, both callers of its site are back and the site is closed.
-/// Each connection that is alive still is a retired one.
+/// A server that has come to its end: nobody is let in any more and its threads have ended, both callers of its site are
+/// back and the site is closed. Each connection that is alive still is a retired one.
 #[derive(Drop)]
 pub struct Closed<H: Host> {
     /// How it ended.
     pub end: ServeEnd,
     /// What its site was made of, with all that happened.
     pub yard: YardOf<H>,
+    /// Where its connections came from, closed.
+    pub acceptor: H::Acceptor,
     // the caller that let connections in, and the one that made all other events
     admitter: Snapshot<CallerOf<H>>,
     teller: Snapshot<CallerOf<H>>,
@@ -50,16 +53,18 @@ pub struct Unfinished<H: Host> {
 
 /// Serves connections until it comes to an end, waits until all that were let in are over, and closes the site.
 ///
-/// Of the two callers of the site the first lets connections in, and makes no other events; the second makes all others. `plan` is what each
-/// connection is served by. `wrapping` makes the line wrappers of those that are pumped. `starter` starts programs that have what the service's mode
-/// says as their standard input and output. Each connection opens `rules` for itself. `observer` has the log. Once no more connections are let in, the acceptor is closed.
+/// Of the two callers of the site the first lets connections in, and makes no other events; the second makes all others.
+/// `plan` is what each connection is served by. `wrapping` makes the line wrappers of those that are pumped. `starter`
+/// starts programs that have what the service's mode says as their standard input and output. Each connection opens
+/// `rules` for itself. Once no more connections are let in, the acceptor is closed. By faults of accepting the server
+/// ends only if the last hundred calls of the acceptor failed, or if there was too little for one connection.
 ///
 /// # Errors
 /// A place is lost: its connection is alive, and no thread has it. The site is closed all the same.
-pub fn serve<'a, A, H>(
+pub fn serve<'a, H>(
     rt: &'a H::Runtime,
     alloc: Global,
-    acceptor: &mut A,
+    acceptor: H::Acceptor,
     site: SiteOf<H>,
     callers: Vec<CallerOf<H>>,
     rules: &'a H::Rules,
@@ -67,7 +72,7 @@ pub fn serve<'a, A, H>(
     starter: &H::Starter,
     plan: &'a Plan,
     service: &Service,
-    observer: &'a H::Observer,
+    log: &'a Mutex<Log<H::Lines>>,
 ) -> Result<Closed<H>, Unfinished<H>>
 where
     H: Host + Send + Sync,
@@ -80,38 +85,66 @@ where
     H::Handle: Send,
     H::Rules: Sync,
     H::Lines: Send,
-    H::Observer: Sync,
+    H::Acceptor: Send,
     H::Reader: Send,
     H::Writer: Send,
     H::Shut: Send,
+    H::Starter: Sync,
+    H::Job: Send,
     H::Input: Send,
     H::Output: Send,
-    H::Job: Send,
-    H::Starter: Sync,
     H::Wrapper: Send,
     H::Chains: Sync,
-    A: Acceptor<Reader = H::Reader, Writer = H::Writer, Shut = H::Shut> + Send,
-    requires callers { (H.Callers.all ≡ 2) × (H.Callers.parts ≡ 2) × (vec_len callers ≡ 2) × (total_share callers.items ≡ 0) }
-    ensures count { IfOk result (λ closed. IsServed closed.end service.now.limits.count 0 (caller_share closed.admitter.value)) }
+    requires callers { (H.Callers.all ≡ 2) × (H.Callers.parts ≡ 2)
+        × (vec_len callers ≡ 2) × (total_share callers.items ≡ 0) }
+    ensures count { IfOk result (λ closed.
+        IsServed closed.end service.now.limits.count 0 (caller_share closed.admitter.value)) }
+    ensures faults { IfOk result (λ closed. closed.end ≡ AcceptFaults
+        → FailedToAccept (suffices service.now.supply) (H.Acceptor.failed_last closed.acceptor)) }
     ensures then_too { IfErr result (λ unfinished.
         IsServed unfinished.end service.now.limits.count 0 (caller_share unfinished.admitter.value)) }
 {
     let live = site.live(rt);
-    let _ = observer.log().lock(rt).status(live);
+    let _ = log.lock(rt).status(live);
     let mut callers = callers;
     let (teller, admitter) = both(&mut callers);
     let teller = Mutex::new(teller);
-    let context = Context::<H> {
+    let server = Server::<H> {
         rt,
         alloc,
         site: &site,
-        caller: &teller,
+        teller: &teller,
         rules,
         plan,
-        observer,
+        log,
+        wrapping,
+        starter,
+        service,
     };
-    let (end, admitter) = serve_by(acceptor, &context, admitter, wrapping, starter, service);
-    close(end, site, callers, admitter, teller.into_inner())
+    let (limits, supply) = (service.limits, service.supply);
+    let entrance = Entrance {
+        server: &server,
+        acceptor,
+        admitter,
+        retired: None,
+    };
+    let (end, entrance) = serve_through(
+        rt,
+        alloc,
+        entrance,
+        &server,
+        usize::try_from(limits.connections).unwrap_or(usize::MAX),
+        limits.count,
+        supply,
+        &service.reserve,
+    );
+    let Entrance {
+        server: _,
+        acceptor,
+        admitter,
+        retired: _,
+    } = entrance;
+    close(end, acceptor, site, callers, admitter, teller.into_inner())
 }
 
 // The two callers of a site, the second first.
@@ -132,6 +165,7 @@ fn both<N: Callers>(callers: &mut Vec<Caller<N>>) -> (Caller<N>, Caller<N>)
 #[tactic(auto, using(crate::proofs::Shares::of_both))]
 fn close<H: Host>(
     end: ServeEnd,
+    acceptor: H::Acceptor,
     site: SiteOf<H>,
     callers: Vec<CallerOf<H>>,
     admitter: CallerOf<H>,
@@ -140,6 +174,7 @@ fn close<H: Host>(
     requires all { (H.Callers.all ≡ 2) × (H.Callers.parts ≡ 2) }
     requires room { (callers.items ≡ []) × (2 ≤ vec_capacity callers) }
     ensures end { IfOk result (λ closed. (closed.end ≡ end) × (closed.admitter.value ≡ admitter)) }
+    ensures acceptor { IfOk result (λ closed. closed.acceptor ≡ acceptor) }
     ensures lost { IfErr result (λ unfinished. (unfinished.end ≡ end) × (unfinished.admitter.value ≡ admitter)) }
 {
     let mut callers = callers;
@@ -153,10 +188,12 @@ fn close<H: Host>(
         Ok(Closed {
             end,
             yard,
+            acceptor,
             admitter: admitter_then,
             teller: teller_then,
         })
     } else {
+        drop(acceptor);
         Err(Unfinished {
             end,
             yard,

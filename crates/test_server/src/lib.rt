@@ -11,7 +11,6 @@
 mod between;
 mod history;
 mod log_lines;
-mod receipts;
 mod scripts;
 mod served;
 

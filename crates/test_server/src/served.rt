@@ -3,7 +3,6 @@ ghost use Rattle.std.specs.Prelude.{◌≡◌, ◌<◌, false, IfOk, None, ⊤, 
 ghost use Rattle.shared_site.specs.Callers.{total_share};
 
 use crate::history::Lists;
-use crate::receipts::ReceiptsLog;
 use crate::scripts::{Clients, ScriptedJob, Scripts, ServedTally, Silent};
 use byte_streams::{Chain, FixCr};
 use child_jobs::{Plan, Program};
@@ -18,15 +17,15 @@ use std::alloc::{AllocError, Global};
 use std::io;
 use std::io::Empty;
 use std::marker::{Brand, PhantomData};
-use std::sync::Wait;
 use std::sync::atomic::Ordering;
 use std::sync::ledger::Blank;
+use std::sync::{Mutex, Wait};
 use std::thread::Threads;
 use std::time::{Clock, Duration};
 use stream_tools::SharedWriter;
 use tcp_service::{
     ChainSource, Chains, ConnectionLimits, Host, HostNames, Log, Mode, Patience, Reserve, Rules,
-    RulesHandle, ServeEnd, Service, Streams, Supply, serve,
+    RulesHandle, ServeEnd, Service, Supply, serve,
 };
 use test_parts::Answer;
 use ucspi_env::Environment;
@@ -83,40 +82,21 @@ impl<L: Assumptions> RulesHandle<L, MemFile> for NoRules {
 }
 
 /// What such a server stands on: a directory in memory, and clients and jobs by scripts.
-struct InMemory<'s, 'l, 'w, R, L, N> {
+struct InMemory<'s, 'w, R, L, N> {
     scripts: PhantomData<&'s R>,
-    log: PhantomData<&'l R>,
     lines: PhantomData<&'w u8>,
     places: PhantomData<L>,
     callers: PhantomData<N>,
 }
 
-impl<'s, 'l, 'w, R: Wait + Clock, L, N> Streams for InMemory<'s, 'l, 'w, R, L, N> {
-    type Runtime = R;
-
-    type Lines = &'w mut Vec<u8>;
-
-    type Reader = Empty;
-
-    type Writer = Silent;
-
-    type Shut = Silent;
-
-    type Input = SharedWriter<'s, R, Vec<u8>>;
-
-    type Output = &'static [u8];
-
-    type Job = ScriptedJob<'s, R>;
-
-    type Wrapper = FixCr;
-}
-
-impl<'s, 'l, 'w, R, L, N> Host for InMemory<'s, 'l, 'w, R, L, N>
+impl<'s, 'w, R, L, N> Host for InMemory<'s, 'w, R, L, N>
 where
     R: Threads + Wait + Clock + Sync,
     L: Assumptions + Send + Sync,
     N: Callers + Send + Sync,
 {
+    type Runtime = R;
+
     type Places = L;
 
     type Callers = N;
@@ -131,17 +111,33 @@ where
 
     type Rules = NoRules;
 
-    type Observer = ReceiptsLog<'l, R, &'w mut Vec<u8>>;
+    type Lines = &'w mut Vec<u8>;
+
+    type Acceptor = Clients;
+
+    type Reader = Empty;
+
+    type Writer = Silent;
+
+    type Shut = Silent;
 
     type Starter = Scripts<'s, R>;
+
+    type Job = ScriptedJob<'s, R>;
+
+    type Input = SharedWriter<'s, R, Vec<u8>>;
+
+    type Output = &'static [u8];
+
+    type Wrapper = FixCr;
 
     type Chains = Unwrapped;
 }
 
 /// Serves connections by jobs of these scripts, under a full log, until the server ends.
 ///
-/// It adds how it ended, how many connections were alive then and how often jobs were killed; its history, the receipts
-/// and the log, with an empty line in front of each of the last two.
+/// It adds how it ended, how many connections were alive then and how often jobs were killed; its history; and, behind
+/// an empty line, the log.
 pub fn add_served<R: Threads + Wait + Clock + Sync>(
     rt: &R,
     alloc: Global,
@@ -160,7 +156,6 @@ pub fn add_served<R: Threads + Wait + Clock + Sync>(
     let mut lines = Vec::new(alloc);
     let (places, parts) = (Blank::new(asked.limit), Blank::new(2));
     serve_by::<R, Brand, Brand>(rt, alloc, asked, &launcher, &mut lines, places, parts, out);
-    out.end_line();
     out.raw(&lines);
 }
 
@@ -186,20 +181,16 @@ where
     let Ok((site, callers)) = site_of::<L, N>(alloc, asked, places, parts) else {
         return out.fail();
     };
-    let log = ReceiptsLog::new(
-        rt,
-        alloc,
-        Log::new(alloc, lines, Level::All, Voice::Plain, asked.limit),
-    );
-    let mut acceptor = Clients {
+    let log = Mutex::new(Log::new(alloc, lines, Level::All, Voice::Plain, asked.limit));
+    let acceptor = Clients {
         lost: asked.lost,
         left: asked.clients,
         addresses: asked.addresses,
     };
-    let served = serve::<_, InMemory<'_, '_, '_, R, L, N>>(
+    let served = serve::<InMemory<'_, '_, R, L, N>>(
         rt,
         alloc,
-        &mut acceptor,
+        acceptor,
         site,
         callers,
         &NoRules,
@@ -216,7 +207,6 @@ where
             add_end(&unfinished.end, &unfinished.yard, rest, launcher.tally, out);
         }
     }
-    log.add_receipts(out);
 }
 
 /// Adds how a server ended that left this yard, with the rest of that line, and its history.

@@ -14,12 +14,12 @@ use rule_lookup::{DecideFault, Decision, decide};
 use rules_install::{FileNames, Install, Phase};
 use server_events::Event;
 use server_yard::{AdmitFault, Assumptions, Pass};
-use shared_site::install_turns::{InstallBegin, InstallStep};
-use shared_site::turns::{Admit, Decided, Dropped, Ended, Open, Started};
-use shared_site::{Caller, Callers, Made, OutOfTurn, Receipt, Room, Site, Turn};
+use shared_site::turns::{Admit, Decided, Dropped, Ended, Started};
+use shared_site::{Caller, Callers, Made, OutOfTurn, Receipt, Site, Turn};
 use std::alloc::Global;
 use std::process::Abort;
 use std::sync::Wait;
+use whole_yard::{InstallBegin, InstallStep, Open};
 
 /// More steps than an installation of a short text takes.
 const STEPS: u64 = 64;
@@ -86,15 +86,14 @@ pub(crate) fn let_in<L: Assumptions, N: Callers, R: Abort + Wait>(
     receipts: &mut Vec<Receipt>,
 ) -> (u64, Place<L>) {
     for _ in rt.forever() {
-        assert_eq!(rt; site.room(rt), Room::Free);
+        assert!(rt; site.room(rt).is_ok());
         match site.turn(rt, caller, Admit { peer }) {
             Ok((serial, place, made)) => {
                 let peer = peer.copy().expect(rt, "memory");
                 keep(rt, receipts, made.receipt(Event::Admitted { serial, peer }));
                 return (serial, place);
             }
-            Err(AdmitFault::Full) => {}
-            Err(_) => panic!(rt; "there is memory for a place"),
+            Err(refusal) => assert!(rt; matches!(refusal.fault(), AdmitFault::Full)),
         }
     }
     unreachable!()

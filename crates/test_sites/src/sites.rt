@@ -5,16 +5,17 @@ ghost use Rattle.event_journals.specs.Full.{full_notes};
 ghost use Rattle.server_yard.specs.Kept.{rules_of};
 ghost use Rattle.server_yard.specs.Standing.{Begins};
 ghost use Rattle.server_yard.specs.Yards.{yard_journal};
-ghost use Rattle.shared_site.specs.Audits.{note_of};
+ghost use Rattle.whole_yard.specs.Audits.{note_of};
 
 use dir_calls::{MemDir, Name};
 use event_journals::Full;
 use rule_lookup::WhenMissing;
 use server_yard::{Assumptions, Yard};
-use shared_site::{Caller, Callers, Receipt, Site, close_and_audit};
+use shared_site::{Caller, Callers, Receipt, Site};
 use std::alloc::Global;
 use std::process::Abort;
 use std::sync::ledger::Blank;
+use whole_yard::close_and_audit;
 
 /// A site over a directory, and its callers.
 pub(crate) fn new_site<L: Assumptions, N: Callers, R: Abort>(

@@ -8,7 +8,7 @@ use child_jobs::{Place, Plan, Program};
 use connection_facts::{Peer, StartFault, Status};
 use dir_calls::{Dir, FuseDir, MemDir};
 use event_journals::{Full, Journal};
-use one_connection::{Served, YardAgent, is_admitted, serve_by_yard};
+use one_connection::Served;
 use rule_lookup::WhenMissing;
 use server_yard::{Assumptions, Yard};
 use std::alloc::{AllocError, Global};
@@ -19,6 +19,7 @@ use std::sync::atomic::{AtomicU64, Ordering};
 use std::sync::ledger::Blank;
 use test_parts::{Answer, EndedJob, EndedJobs, finish_for, with_rules, yard_over};
 use ucspi_env::{Environment, Local};
+use whole_yard::{YardAgent, is_admitted, serve_by_yard};
 
 /// What is written to each connection first.
 const BANNER: &[u8] = b"220 here\n";

@@ -1,29 +1,39 @@
-use Rattle.std.proofs.Common.{subst, rules}
+use Rattle.std.proofs.Common.{refl, subst, rules}
 use Rattle.server_events.specs.declared.event.Event.TheVariants as event
 use Rattle.server_yard.specs.Standing.{LeadsOn, YardState}
 use Rattle.server_yard.specs.Yards.{yard_roll, yard_state}
-use Rattle.shared_site.proofs.Spoken.{spoken_state}
-use Rattle.shared_site.proofs.Counts.{next_counted, one_counted}
+use Rattle.shared_site.specs.Turns.{spoken_by}
+use Rattle.shared_site.proofs.Spoken.{notes_from, spoken_state}
+use Rattle.shared_site.proofs.Making.{answered, counted, last_of}
 use Rattle.shared_site.proofs.turns.AdmitTurn.run.Goals as goal
 
-pub returns-clause-step : goal.returns-clause-step
-returns-clause-step g c = λ honest.
+pub returns-in-Ok-clause-noted : goal.returns-in-Ok-clause-noted
+returns-in-Ok-clause-noted g c =
+    let e = event.Admitted c.in-Ok.serial c.args.self.peer.now in
+    notes_from e e (yard_roll c.speaker.new.self) (spoken_by c.args.caller (yard_roll c.args.yard.now)) (yard_roll c.admit.new.self)
+    refl c.speaker.ensures.speaks c.in-Ok.ensures.noted
+
+pub returns-in-Ok-clause-step : goal.returns-in-Ok-clause-step
+returns-in-Ok-clause-step g c = λ honest.
     let old = c.args.yard.now in
     let mid = c.speaker.new.self in
-    subst (λ (s : YardState). LeadsOn (event.Admitted c.in_ok-serial.serial c.args.self.peer.now) s (yard_state c.admit.new.self))
-    (spoken_state c.args.caller old mid c.speaker.ensures.speaks c.speaker.ensures.same) (c.in_ok-serial.ensures.step honest)
+    subst (λ (s : YardState). LeadsOn (event.Admitted c.in-Ok.serial c.args.self.peer.now) s (yard_state c.admit.new.self))
+    (spoken_state c.args.caller old mid c.speaker.ensures.speaks c.speaker.ensures.same) (c.in-Ok.ensures.step honest)
 
-pub returns-clause-counts : goal.returns-clause-counts
-returns-clause-counts g c =
-    one_counted c.args.caller _ (yard_roll c.args.yard.now) (yard_roll c.speaker.new.self) (yard_roll c.admit.new.self)
-    c.speaker.ensures.speaks c.in_ok-serial.ensures.noted
+pub made-requires : goal.made-requires
+made-requires g c = record {
+  last = last_of c.args.caller (event.Admitted c.in-Ok.serial c.args.self.peer.now) _
+      (yard_roll c.args.yard.now) (yard_roll c.speaker.new.self) (yard_roll c.admit.new.self) c.speaker.ensures.speaks c.in-Ok.ensures.noted (cc);
+}
 
-pub returns-clause-answers : goal.returns-clause-answers
-returns-clause-answers g c = (
-  (
-    search rules,
-    next_counted c.args.caller _ (yard_roll c.args.yard.now) (yard_roll c.speaker.new.self) (yard_roll c.admit.new.self)
-        c.speaker.ensures.speaks c.in_ok-serial.ensures.noted,
-  ),
+pub returns-in-Ok-clause-counts : goal.returns-in-Ok-clause-counts
+returns-in-Ok-clause-counts g c =
+    counted c.args.caller (event.Admitted c.in-Ok.serial c.args.self.peer.now)
+    (yard_roll c.args.yard.now) (yard_roll c.admit.new.self) (returns-in-Ok-clause-noted g c)
+
+pub returns-in-Ok-clause-answers : goal.returns-in-Ok-clause-answers
+returns-in-Ok-clause-answers g c = (
+  answered c.args.caller (event.Admitted c.in-Ok.serial c.args.self.peer.now) _ c.made.result
+      (yard_roll c.args.yard.now) (yard_roll c.admit.new.self) (returns-in-Ok-clause-noted g c) refl (search rules),
   tt,
 )

@@ -1,27 +1,33 @@
-use Rattle.std.proofs.Common.{subst, rules}
+use Rattle.std.proofs.Common.{refl, rules}
+use Rattle.server_events.specs.declared.event.Event.TheVariants as event
 use Rattle.server_yard.specs.Passes.{pass_bytes, pass_serial}
-use Rattle.server_yard.specs.Standing.{LeadsDecided, YardState}
-use Rattle.server_yard.specs.Yards.{yard_roll, yard_state}
-use Rattle.shared_site.proofs.Spoken.{spoken_state}
-use Rattle.shared_site.proofs.Counts.{next_counted, one_counted}
+use Rattle.server_yard.specs.Standing.{LeadsDecided}
+use Rattle.server_yard.specs.Yards.{yard_roll}
+use Rattle.shared_site.proofs.Making.{answered, counted, last_of, made_by}
 use Rattle.shared_site.proofs.turns.DecidedTurn.run.Goals as goal
 
-pub returns-clause-step : goal.returns-clause-step
-returns-clause-step g c = λ honest.
-    let old = c.args.yard.now in
-    let mid = c.speaker.new.self in
+pub returns-clause-makes : goal.returns-clause-makes
+returns-clause-makes g c =
     let pass = c.args.self.pass in
-    subst (λ (s : YardState). LeadsDecided (pass_serial pass) (pass_bytes g.D.File.RulesFile.bytes pass) c.args.self.decision s (yard_state c.decided.new.self))
-    (spoken_state c.args.caller old mid c.speaker.ensures.speaks c.speaker.ensures.same) (c.decided.ensures.step honest)
+    let call = c.decided in
+    let spoke = c.speaker.ensures in
+    made_by c.args.caller (event.Decided (pass_serial pass) c.args.self.decision)
+    (LeadsDecided (pass_serial pass) (pass_bytes g.D.File.RulesFile.bytes pass) c.args.self.decision)
+    c.args.yard.now c.speaker.new.self call.new.self
+    (record { roll = spoke.speaks; beside = spoke.same; seats = spoke.seats }) call.ensures.noted call.ensures.step call.ensures.same call.ensures.seats
+
+pub made-requires : goal.made-requires
+made-requires g c = record {
+  last = last_of c.args.caller (event.Decided (pass_serial c.args.self.pass) c.args.self.decision) _
+      (yard_roll c.args.yard.now) (yard_roll c.speaker.new.self) (yard_roll c.decided.new.self) c.speaker.ensures.speaks c.decided.ensures.noted (cc);
+}
 
 pub returns-clause-counts : goal.returns-clause-counts
 returns-clause-counts g c =
-    one_counted c.args.caller _ (yard_roll c.args.yard.now) (yard_roll c.speaker.new.self) (yard_roll c.decided.new.self)
-    c.speaker.ensures.speaks c.decided.ensures.noted
+    counted c.args.caller (event.Decided (pass_serial c.args.self.pass) c.args.self.decision)
+    (yard_roll c.args.yard.now) (yard_roll c.decided.new.self) (returns-clause-makes g c).noted
 
 pub returns-clause-answers : goal.returns-clause-answers
-returns-clause-answers g c = (
-  search rules,
-  next_counted c.args.caller _ (yard_roll c.args.yard.now) (yard_roll c.speaker.new.self) (yard_roll c.decided.new.self)
-      c.speaker.ensures.speaks c.decided.ensures.noted,
-)
+returns-clause-answers g c =
+    answered c.args.caller (event.Decided (pass_serial c.args.self.pass) c.args.self.decision) _ c.made.result
+    (yard_roll c.args.yard.now) (yard_roll c.decided.new.self) (returns-clause-makes g c).noted refl (search rules)

@@ -1,28 +1,48 @@
-use Rattle.std.proofs.Common.{ℕ, ap, rules}
+use Rattle.std.proofs.Common.{◌≡◌, ℕ, refl, rules, subst}
+use Rattle.std.specs.Prelude.{None}
+use Rattle.server_events.specs.ServerState.{is_unstarted, stage_of}
 use Rattle.server_events.specs.declared.event.Event.TheVariants as event
-use Rattle.server_yard.specs.Yards.{number_of, yard_roll, yard_state}
-use Rattle.shared_site.proofs.Spoken.{found_is, leads_from, spoken_state}
-use Rattle.shared_site.proofs.Counts.{next_counted, one_counted}
+use Rattle.server_yard.specs.Yards.{yard_roll, yard_server}
+use Rattle.shared_site.proofs.Making.{answered, counted, last_own, made_own}
 use Rattle.shared_site.proofs.turns.DroppedTurn.run.Goals as goal
 
-pub returns-clause-step : goal.returns-clause-step
-returns-clause-step g c = λ honest.
-    let old = c.args.yard.now in
-    let mid = c.speaker.new.self in
-    let own = found_is _ _ (number_of mid c.args.self.place) c.args.self.serial (search rules) c.unstarted.ensures in
-    let e = event.Dropped (number_of mid c.args.self.place) c.args.self.cause in
-    leads_from e (event.Dropped c.args.self.serial c.args.self.cause) (yard_state mid) (yard_state old) (yard_state c.dropped.new.self)
-    (ap (λ (n : ℕ). event.Dropped n c.args.self.cause) own)
-    (spoken_state c.args.caller old mid c.speaker.ensures.speaks c.speaker.ensures.same) (c.dropped.ensures.step honest)
+pub dropped-requires : goal.dropped-requires
+dropped-requires g c =
+    let at = c.speak_at.ensures.stays is_unstarted refl (search rules) in
+    record { unstarted = at.has_stage }
+
+pub made-requires : goal.made-requires
+made-requires g c =
+    let at = c.speak_at.ensures.stays is_unstarted refl (search rules) in
+    record {
+      last = last_own c.args.caller (λ (n : ℕ). event.Dropped n c.args.self.cause) _ c.args.self.serial _
+          (yard_roll c.args.yard.now) (yard_roll c.speak_at.new.yard) (yard_roll c.dropped.new.self)
+          at.has_serial c.speak_at.ensures.spoken.roll c.dropped.ensures.noted c.of.ensures;
+    }
+
+pub returns-clause-makes : goal.returns-clause-makes
+returns-clause-makes g c =
+    let at = c.speak_at.ensures.stays is_unstarted refl (search rules) in
+    let call = c.dropped in
+    made_own c.args.caller (λ (n : ℕ). event.Dropped n c.args.self.cause) _ c.args.self.serial c.args.yard.now c.speak_at.new.yard call.new.self
+    at.has_serial c.speak_at.ensures.spoken call.ensures.noted call.ensures.step call.ensures.same call.ensures.seats
 
 pub returns-clause-counts : goal.returns-clause-counts
 returns-clause-counts g c =
-    one_counted c.args.caller _ (yard_roll c.args.yard.now) (yard_roll c.speaker.new.self) (yard_roll c.dropped.new.self)
-    c.speaker.ensures.speaks c.dropped.ensures.noted
+    counted c.args.caller (event.Dropped c.args.self.serial c.args.self.cause) (yard_roll c.args.yard.now) (yard_roll c.dropped.new.self) (returns-clause-makes g c).noted
 
 pub returns-clause-answers : goal.returns-clause-answers
-returns-clause-answers g c = (
-  search rules,
-  next_counted c.args.caller _ (yard_roll c.args.yard.now) (yard_roll c.speaker.new.self) (yard_roll c.dropped.new.self)
-      c.speaker.ensures.speaks c.dropped.ensures.noted,
-)
+returns-clause-answers g c =
+    answered c.args.caller (event.Dropped c.args.self.serial c.args.self.cause) _ c.made.result
+    (yard_roll c.args.yard.now) (yard_roll c.dropped.new.self) (returns-clause-makes g c).noted c.of.ensures c.made.ensures.its
+
+pub returns-clause-in_turn : goal.returns-clause-in_turn
+returns-clause-in_turn g c = (λ ok. (c.speak_at.ensures.passes is_unstarted refl).0 (search rules), λ at. refl)
+
+pub returns-clause-gone : goal.returns-clause-gone
+returns-clause-gone g c =
+    let at = c.speak_at.ensures.stays is_unstarted refl (search rules) in
+    subst (λ (n : ℕ). stage_of n (yard_server c.dropped.new.self).connections ≡ None) at.has_serial c.dropped.ensures.gone
+
+pub returns-then-not-is_unstarted-clause-in_turn : goal.returns-then-not-is_unstarted-clause-in_turn
+returns-then-not-is_unstarted-clause-in_turn g c = (λ ok. absurd (cc), λ at. let is = (c.speak_at.ensures.passes is_unstarted refl).1 at in cc)

@@ -1,33 +1,35 @@
-use Rattle.std.proofs.Common.{ap, subst, sym, ◌∙◌, rules}
-use Rattle.server_yard.specs.Passes.{pass_bytes}
-use Rattle.server_yard.specs.Standing.{LeadsOpened, YardState, standing_of}
+use Rattle.std.proofs.Common.{◌≡◌, subst, rules}
+use Rattle.std.specs.Prelude.{Option, is_some, option_map}
+use Rattle.server_events.specs.declared.event.Event.TheVariants as event
+use Rattle.server_yard.specs.Passes.{finding_file}
+use Rattle.server_yard.specs.Rolls.{Notes}
+use Rattle.server_yard.specs.Standing.{LeadsOpened, standing_of}
 use Rattle.server_yard.specs.Yards.{yard_roll, yard_state}
-use Rattle.shared_site.proofs.Spoken.{spoken_state}
-use Rattle.shared_site.proofs.Counts.{next_counted, one_counted}
+use Rattle.shared_site.specs.Turns.{LeadsFound}
+use Rattle.shared_site.proofs.Making.{counted, last_of, made_by}
 use Rattle.shared_site.proofs.turns.OpenedTurn.run.Goals as goal
 
-pub returns-clause-step : goal.returns-clause-step
-returns-clause-step g c = λ honest. λ stands.
-    let old = c.args.yard.now in
-    let mid = c.speaker.new.self in
-    let same = spoken_state c.args.caller old mid c.speaker.ensures.speaks c.speaker.ensures.same in
-    let pass = c.opened-pass in
-    subst (λ (s : YardState). LeadsOpened c.args.self.serial (pass_bytes g.D.File.RulesFile.bytes pass.result) s (yard_state pass.new.self))
-    same (pass.ensures.step honest (stands ∙ ap standing_of (sym same)))
+pub returns-clause-makes : goal.returns-clause-makes
+returns-clause-makes g c =
+    let file = finding_file c.args.self.finding in
+    let bytes = g.D.File.RulesFile.bytes in
+    let call = c.opened-pass in
+    let spoke = c.speaker.ensures in
+    made_by c.args.caller (event.Opened c.args.self.serial (is_some file)) (LeadsFound c.args.self.serial (option_map bytes file))
+    c.args.yard.now c.speaker.new.self call.new.self
+    (record { roll = spoke.speaks; beside = spoke.same; seats = spoke.seats })
+    (subst (λ (found : Option _). Notes (event.Opened c.args.self.serial (is_some found)) (yard_roll c.speaker.new.self) (yard_roll call.new.self)) call.ensures.found call.ensures.noted)
+    (λ honest. subst (λ (found : Option _). option_map bytes found ≡ standing_of (yard_state c.speaker.new.self)
+    → LeadsOpened c.args.self.serial (option_map bytes found) (yard_state c.speaker.new.self) (yard_state call.new.self)) call.ensures.found (call.ensures.step honest))
+    call.ensures.same call.ensures.seats
+
+pub made-requires : goal.made-requires
+made-requires g c = record {
+  last = last_of c.args.caller _ _ (yard_roll c.args.yard.now) (yard_roll c.speaker.new.self) (yard_roll c.opened-pass.new.self)
+      c.speaker.ensures.speaks c.opened-pass.ensures.noted (search rules);
+}
 
 pub returns-clause-counts : goal.returns-clause-counts
 returns-clause-counts g c =
-    one_counted c.args.caller _ (yard_roll c.args.yard.now) (yard_roll c.speaker.new.self) (yard_roll c.opened-pass.new.self)
-    c.speaker.ensures.speaks c.opened-pass.ensures.noted
-
-pub returns-clause-answers : goal.returns-clause-answers
-returns-clause-answers g c = (
-  (
-    c.opened-pass.ensures.its,
-    c.opened-pass.ensures.found,
-    search rules,
-    next_counted c.args.caller _ (yard_roll c.args.yard.now) (yard_roll c.speaker.new.self) (yard_roll c.opened-pass.new.self)
-        c.speaker.ensures.speaks c.opened-pass.ensures.noted,
-  ),
-  tt,
-)
+    counted c.args.caller (event.Opened c.args.self.serial (is_some (finding_file c.args.self.finding)))
+    (yard_roll c.args.yard.now) (yard_roll c.opened-pass.new.self) (returns-clause-makes g c).noted

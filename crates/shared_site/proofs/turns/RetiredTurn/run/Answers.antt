@@ -1,39 +1,43 @@
-use Rattle.std.proofs.Common.{ℕ, ap, rules, ◌∙◌}
-use Rattle.child_jobs.specs.Runs.{place_of}
+use Rattle.std.proofs.Common.{ℕ, refl, rules, subst, sym}
+use Rattle.server_events.specs.ServerState.{is_started}
 use Rattle.server_events.specs.declared.event.Event.TheVariants as event
-use Rattle.server_yard.specs.Yards.{number_of, yard_roll, yard_state}
-use Rattle.shared_site.specs.Turns.{spoken_by}
-use Rattle.shared_site.proofs.Spoken.{found_is, leads_from, notes_from, spoken_state}
-use Rattle.shared_site.proofs.Counts.{next_counted, one_counted}
+use Rattle.server_yard.specs.Yards.{yard_roll}
+use Rattle.shared_site.specs.Turns.{IsAt}
+use Rattle.shared_site.proofs.Making.{answered, counted, last_own, made_own, started_is}
 use Rattle.shared_site.proofs.turns.RetiredTurn.run.Goals as goal
 
-pub returns-clause-noted : goal.returns-clause-noted
-returns-clause-noted g c =
-    let old = c.args.yard.now in
-    let mid = c.speaker.new.self in
-    let own = found_is _ _ (number_of mid c.place.result.now) c.args.self.serial (search rules) c.served.ensures ∙ ap (λ (i : ℕ). number_of mid i) c.place.ensures in
-    notes_from (event.Retired (number_of mid (place_of c.args.self.running))) (event.Retired c.args.self.serial)
-    (yard_roll mid) (spoken_by c.args.caller (yard_roll old)) (yard_roll c.retired.new.self)
-    (ap (λ (n : ℕ). event.Retired n) own) c.speaker.ensures.speaks c.retired.ensures.noted
+pub retired-requires : goal.retired-requires
+retired-requires g c =
+    let at = subst (λ (i : ℕ). IsAt is_started c.args.self.serial c.speak_at.new.yard i) c.place.ensures (c.speak_at.ensures.stays is_started refl (search rules)) in
+    record { started = started_is _ at.has_stage }
 
-pub returns-clause-step : goal.returns-clause-step
-returns-clause-step g c = λ honest.
-    let old = c.args.yard.now in
-    let mid = c.speaker.new.self in
-    let own = found_is _ _ (number_of mid c.place.result.now) c.args.self.serial (search rules) c.served.ensures ∙ ap (λ (i : ℕ). number_of mid i) c.place.ensures in
-    leads_from (event.Retired (number_of mid (place_of c.args.self.running))) (event.Retired c.args.self.serial)
-    (yard_state mid) (yard_state old) (yard_state c.retired.new.self)
-    (ap (λ (n : ℕ). event.Retired n) own)
-    (spoken_state c.args.caller old mid c.speaker.ensures.speaks c.speaker.ensures.same) (c.retired.ensures.step honest)
+pub made-requires : goal.made-requires
+made-requires g c =
+    let at = subst (λ (i : ℕ). IsAt is_started c.args.self.serial c.speak_at.new.yard i) c.place.ensures (c.speak_at.ensures.stays is_started refl (search rules)) in
+    record {
+      last = last_own c.args.caller (λ (n : ℕ). event.Retired n) _ c.args.self.serial _
+          (yard_roll c.args.yard.now) (yard_roll c.speak_at.new.yard) (yard_roll c.retired.new.self)
+          at.has_serial c.speak_at.ensures.spoken.roll c.retired.ensures.noted c.of.ensures;
+    }
+
+pub returns-clause-makes : goal.returns-clause-makes
+returns-clause-makes g c =
+    let at = subst (λ (i : ℕ). IsAt is_started c.args.self.serial c.speak_at.new.yard i) c.place.ensures (c.speak_at.ensures.stays is_started refl (search rules)) in
+    let call = c.retired in
+    made_own c.args.caller (λ (n : ℕ). event.Retired n) _ c.args.self.serial c.args.yard.now c.speak_at.new.yard call.new.self
+    at.has_serial c.speak_at.ensures.spoken call.ensures.noted call.ensures.step call.ensures.same call.ensures.seats
 
 pub returns-clause-counts : goal.returns-clause-counts
 returns-clause-counts g c =
-    one_counted c.args.caller _ (yard_roll c.args.yard.now) (yard_roll c.speaker.new.self) (yard_roll c.retired.new.self)
-    c.speaker.ensures.speaks c.retired.ensures.noted
+    counted c.args.caller (event.Retired c.args.self.serial) (yard_roll c.args.yard.now) (yard_roll c.retired.new.self) (returns-clause-makes g c).noted
 
 pub returns-clause-answers : goal.returns-clause-answers
-returns-clause-answers g c = (
-  search rules,
-  next_counted c.args.caller _ (yard_roll c.args.yard.now) (yard_roll c.speaker.new.self) (yard_roll c.retired.new.self)
-      c.speaker.ensures.speaks c.retired.ensures.noted,
-)
+returns-clause-answers g c =
+    answered c.args.caller (event.Retired c.args.self.serial) _ c.made.result
+    (yard_roll c.args.yard.now) (yard_roll c.retired.new.self) (returns-clause-makes g c).noted c.of.ensures c.made.ensures.its
+
+pub returns-clause-in_turn : goal.returns-clause-in_turn
+returns-clause-in_turn g c = (λ ok. subst (λ (i : ℕ). IsAt is_started c.args.self.serial c.args.yard.now i) c.place.ensures ((c.speak_at.ensures.passes is_started refl).0 (search rules)), λ at. refl)
+
+pub returns-then-ne-clause-in_turn : goal.returns-then-ne-clause-in_turn
+returns-then-ne-clause-in_turn g c = (λ ok. absurd (cc), λ at. let is = started_is _ ((c.speak_at.ensures.passes is_started refl).1 (subst (λ (i : ℕ). IsAt is_started c.args.self.serial c.args.yard.now i) (sym c.place.ensures) at)) in absurd (search (rules, is)))

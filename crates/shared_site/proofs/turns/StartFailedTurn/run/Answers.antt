@@ -1,28 +1,48 @@
-use Rattle.std.proofs.Common.{ℕ, ap, rules}
+use Rattle.std.proofs.Common.{◌≡◌, ℕ, refl, rules, subst}
+use Rattle.std.specs.Prelude.{None}
+use Rattle.server_events.specs.ServerState.{is_allowed, stage_of}
 use Rattle.server_events.specs.declared.event.Event.TheVariants as event
-use Rattle.server_yard.specs.Yards.{number_of, yard_roll, yard_state}
-use Rattle.shared_site.proofs.Spoken.{found_is, leads_from, spoken_state}
-use Rattle.shared_site.proofs.Counts.{next_counted, one_counted}
+use Rattle.server_yard.specs.Yards.{yard_roll, yard_server}
+use Rattle.shared_site.proofs.Making.{allowed_is, answered, counted, last_own, made_own}
 use Rattle.shared_site.proofs.turns.StartFailedTurn.run.Goals as goal
 
-pub returns-clause-step : goal.returns-clause-step
-returns-clause-step g c = λ honest.
-    let old = c.args.yard.now in
-    let mid = c.speaker.new.self in
-    let own = found_is _ _ (number_of mid c.args.self.place) c.args.self.serial (search rules) c.allowed.ensures in
-    let e = event.StartFailed (number_of mid c.args.self.place) c.args.self.fault in
-    leads_from e (event.StartFailed c.args.self.serial c.args.self.fault) (yard_state mid) (yard_state old) (yard_state c.start_failed.new.self)
-    (ap (λ (n : ℕ). event.StartFailed n c.args.self.fault) own)
-    (spoken_state c.args.caller old mid c.speaker.ensures.speaks c.speaker.ensures.same) (c.start_failed.ensures.step honest)
+pub start_failed-requires : goal.start_failed-requires
+start_failed-requires g c =
+    let at = c.speak_at.ensures.stays is_allowed refl (search rules) in
+    record { allowed = at.has_stage }
+
+pub made-requires : goal.made-requires
+made-requires g c =
+    let at = c.speak_at.ensures.stays is_allowed refl (search rules) in
+    record {
+      last = last_own c.args.caller (λ (n : ℕ). event.StartFailed n c.args.self.fault) _ c.args.self.serial _
+          (yard_roll c.args.yard.now) (yard_roll c.speak_at.new.yard) (yard_roll c.start_failed.new.self)
+          at.has_serial c.speak_at.ensures.spoken.roll c.start_failed.ensures.noted c.of.ensures;
+    }
+
+pub returns-clause-makes : goal.returns-clause-makes
+returns-clause-makes g c =
+    let at = c.speak_at.ensures.stays is_allowed refl (search rules) in
+    let call = c.start_failed in
+    made_own c.args.caller (λ (n : ℕ). event.StartFailed n c.args.self.fault) _ c.args.self.serial c.args.yard.now c.speak_at.new.yard call.new.self
+    at.has_serial c.speak_at.ensures.spoken call.ensures.noted call.ensures.step call.ensures.same call.ensures.seats
 
 pub returns-clause-counts : goal.returns-clause-counts
 returns-clause-counts g c =
-    one_counted c.args.caller _ (yard_roll c.args.yard.now) (yard_roll c.speaker.new.self) (yard_roll c.start_failed.new.self)
-    c.speaker.ensures.speaks c.start_failed.ensures.noted
+    counted c.args.caller (event.StartFailed c.args.self.serial c.args.self.fault) (yard_roll c.args.yard.now) (yard_roll c.start_failed.new.self) (returns-clause-makes g c).noted
 
 pub returns-clause-answers : goal.returns-clause-answers
-returns-clause-answers g c = (
-  search rules,
-  next_counted c.args.caller _ (yard_roll c.args.yard.now) (yard_roll c.speaker.new.self) (yard_roll c.start_failed.new.self)
-      c.speaker.ensures.speaks c.start_failed.ensures.noted,
-)
+returns-clause-answers g c =
+    answered c.args.caller (event.StartFailed c.args.self.serial c.args.self.fault) _ c.made.result
+    (yard_roll c.args.yard.now) (yard_roll c.start_failed.new.self) (returns-clause-makes g c).noted c.of.ensures c.made.ensures.its
+
+pub returns-clause-in_turn : goal.returns-clause-in_turn
+returns-clause-in_turn g c = (λ ok. (c.speak_at.ensures.passes is_allowed refl).0 (search rules), λ at. refl)
+
+pub returns-clause-gone : goal.returns-clause-gone
+returns-clause-gone g c =
+    let at = c.speak_at.ensures.stays is_allowed refl (search rules) in
+    subst (λ (n : ℕ). stage_of n (yard_server c.start_failed.new.self).connections ≡ None) at.has_serial c.start_failed.ensures.gone
+
+pub returns-then-ne-clause-in_turn : goal.returns-then-ne-clause-in_turn
+returns-then-ne-clause-in_turn g c = (λ ok. absurd (cc), λ at. let is = allowed_is _ ((c.speak_at.ensures.passes is_allowed refl).1 (at)) in absurd (search (rules, is)))

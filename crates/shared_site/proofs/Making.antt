@@ -1,0 +1,118 @@
+-- What a turn makes of a yard, and what it leaves as it was.
+use Rattle.std.proofs.Common.{◌≡◌, ℕ, Bool, true, false, ap, inr, refl, subst, ◌∙◌}
+use Rattle.std.specs.Prelude.{IsTrue, None, Option, Some}
+use Rattle.dir_calls.specs.declared.dir.Dir as dir
+use Rattle.dir_calls.specs.declared.rules_file.RulesFile as file
+use Rattle.event_journals.specs.Journals.{one_more}
+use Rattle.event_journals.specs.declared.journal.Journal as journal
+use Rattle.rule_lines.specs.declared.instr.Verdict.TheVariants as verdict
+use Rattle.server_events.specs.ServerState.{is_allowed, is_started}
+use Rattle.server_events.specs.declared.event.Event.{Event}
+use Rattle.server_events.specs.declared.event.Stage.{Stage}
+use Rattle.server_events.specs.declared.event.Stage.TheVariants as stage
+use Rattle.server_yard.specs.Rolls.{Notes, Roll, number_at, stage_at}
+use Rattle.server_yard.specs.Seating.{KeepsSeats}
+use Rattle.server_yard.specs.Standing.{LeadsOn, YardState}
+use Rattle.server_yard.specs.Yards.{IsSameBeside, stage_of_place, yard_roll, yard_seat, yard_state}
+use Rattle.server_yard.specs.declared.assumptions.Assumptions as assumptions
+use Rattle.server_yard.specs.declared.yard.Yard.{Yard}
+use Rattle.shared_site.specs.Receipts.{CountsAtMostOne, receipt_after, receipt_at, receipt_of}
+use Rattle.shared_site.specs.Turns.{IsAt, IsLastOf, IsPassedOver, Makes, MakesBy, NotesBy, spoken_by}
+use Rattle.shared_site.specs.declared.receipt.Made.{Made}
+use Rattle.shared_site.proofs.Spoken.{notes_from, spoken_state}
+
+-- what its event changes of the number of events, and what its evidence says
+pub counted : (who : ℕ) (event : Event) (old new : Roll) → NotesBy who event old new → CountsAtMostOne old.books.count new.books.count
+counted who event old new noted = inr noted.counts
+
+pub answered : (who : ℕ) (event shown : Event) (made : Made) (old new : Roll) → NotesBy who event old new → shown ≡ event
+    → receipt_of made ≡ receipt_at new.books.count who shown
+    → (receipt_of made ≡ receipt_after old.books.count who event) × (new.books.count ≡ one_more old.books.count)
+answered who event shown made old new noted same is = (is ∙ (λ i. receipt_at (noted.counts i) who (same i)), noted.counts)
+
+-- the event of a yard's call is its caller's, who spoke before
+pub last_of : (who : ℕ) (event shown : Event) (old mid new : Roll) → mid ≡ spoken_by who old → Notes event mid new → shown ≡ event
+    → IsLastOf who shown new
+last_of who event shown old mid new speaks noted same = record { before = old; noted = notes_from event shown mid (spoken_by who old) new same speaks noted }
+
+pub last_own : (who : ℕ) (event : ℕ → Event) (n serial : ℕ) (shown : Event) (old mid new : Roll) → n ≡ serial → mid ≡ spoken_by who old
+    → Notes (event n) mid new → shown ≡ event serial → IsLastOf who shown new
+last_own who event n serial shown old mid new own speaks noted same =
+    last_of who (event serial) shown old mid new speaks (subst (λ (m : ℕ). Notes (event m) mid new) own noted) same
+
+-- the same beside the events of both
+beside_then : {L D J F : Type 0} {p : _} {l : _} {d : _} {j : _} (old mid new : Yard L D J F p l d j)
+    → IsSameBeside old mid → IsSameBeside mid new → IsSameBeside old new
+beside_then old mid new spoken same = record {
+  directory = same.directory ∙ spoken.directory;
+  rules = same.rules ∙ spoken.rules;
+  installing = same.installing ∙ spoken.installing;
+  kept = same.kept ∙ spoken.kept;
+  begun = same.begun ∙ spoken.begun;
+  lists_same = same.lists_same ∙ spoken.lists_same;
+}
+
+-- in turn: the caller spoke, and the yard made its call
+pub made_by : {L D J F : Type 0} {p : assumptions.Ghosts L} {d : dir.Ghosts D F} {f : file.Ghosts F} {j : journal.Ghosts J}
+    (who : ℕ) (event : Event) (leads : YardState → YardState → Type 0) (old mid new : Yard L D J F p d f j)
+    → IsPassedOver who old mid → Notes event (yard_roll mid) (yard_roll new)
+    → (IsTrue d.honest → leads (yard_state mid) (yard_state new)) → IsSameBeside mid new → KeepsSeats (yard_seat mid) (yard_seat new)
+    → MakesBy who event leads true old new
+made_by who event leads old mid new spoken noted step same seats = record {
+  noted = notes_from event event (yard_roll mid) (spoken_by who (yard_roll old)) (yard_roll new) refl spoken.roll noted;
+  step = λ honest. subst (λ (s : YardState). leads s (yard_state new)) (spoken_state who old mid spoken.roll spoken.beside) (step honest);
+  out = tt;
+  same = beside_then old mid new spoken.beside same;
+  seats = λ i. seats i ∙ spoken.seats i;
+}
+
+-- the same of a call for the connection that a place was last given to
+pub made_own : {L D J F : Type 0} {p : assumptions.Ghosts L} {d : dir.Ghosts D F} {f : file.Ghosts F} {j : journal.Ghosts J}
+    (who : ℕ) (event : ℕ → Event) (n serial : ℕ) (old mid new : Yard L D J F p d f j)
+    → n ≡ serial → IsPassedOver who old mid → Notes (event n) (yard_roll mid) (yard_roll new)
+    → (IsTrue d.honest → LeadsOn (event n) (yard_state mid) (yard_state new)) → IsSameBeside mid new → KeepsSeats (yard_seat mid) (yard_seat new)
+    → Makes who (event serial) true old new
+made_own who event n serial old mid new own spoken noted step same seats =
+    made_by who (event serial) (LeadsOn (event serial)) old mid new spoken
+    (subst (λ (m : ℕ). Notes (event m) (yard_roll mid) (yard_roll new)) own noted)
+    (λ honest. subst (λ (m : ℕ). LeadsOn (event m) (yard_state mid) (yard_state new)) own (step honest)) same seats
+
+-- out of turn
+pub passed : {L D J F : Type 0} {p : assumptions.Ghosts L} {d : dir.Ghosts D F} {f : file.Ghosts F} {j : journal.Ghosts J}
+    (who : ℕ) (event : Event) (leads : YardState → YardState → Type 0) (old new : Yard L D J F p d f j)
+    → IsPassedOver who old new → MakesBy who event leads false old new
+passed who event leads old new spoken = record {
+  noted = tt;
+  step = λ honest. tt;
+  out = spoken;
+  same = spoken.beside;
+  seats = spoken.seats;
+}
+
+-- a connection stands at its place as before its caller spoke
+pub at_after : {L D J F : Type 0} {p : assumptions.Ghosts L} {d : dir.Ghosts D F} {f : file.Ghosts F} {j : journal.Ghosts J}
+    (who : ℕ) (passes : Option Stage → Bool) (serial place : ℕ) (old mid : Yard L D J F p d f j)
+    → IsPassedOver who old mid → IsAt passes serial old place → IsAt passes serial mid place
+at_after who passes serial place old mid spoken at =
+    let stays : stage_of_place mid place ≡ stage_of_place old place = λ i. stage_at (spoken.seats place i) ((spoken.roll i).server) in record {
+      has_serial = ap number_at (spoken.seats place) ∙ at.has_serial;
+      has_stage = ap passes stays ∙ at.has_stage;
+    }
+
+-- the one stage in which a child may be started, and the one in which it runs
+pub allowed_is : (s : Option Stage) → is_allowed s ≡ true → s ≡ Some (stage.Decided verdict.Allow)
+allowed_is None is = absurd (cc)
+allowed_is (Some stage.Admitted) is = absurd (cc)
+allowed_is (Some stage.Opened) is = absurd (cc)
+allowed_is (Some (stage.Decided verdict.Allow)) is = refl
+allowed_is (Some (stage.Decided verdict.Deny)) is = absurd (cc)
+allowed_is (Some stage.Started) is = absurd (cc)
+allowed_is (Some stage.Retired) is = absurd (cc)
+
+pub started_is : (s : Option Stage) → is_started s ≡ true → s ≡ Some stage.Started
+started_is None is = absurd (cc)
+started_is (Some stage.Admitted) is = absurd (cc)
+started_is (Some stage.Opened) is = absurd (cc)
+started_is (Some (stage.Decided v)) is = absurd (cc)
+started_is (Some stage.Started) is = refl
+started_is (Some stage.Retired) is = absurd (cc)

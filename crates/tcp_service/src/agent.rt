@@ -1,0 +1,356 @@
+//! The agent of one connection. Each of its events is a turn of one caller of a site, and the log is told of it before
+//! the turn is over.
+ghost use Rattle.std.specs.Prelude.{◌≡◌, None};
+
+use crate::host::{Host, YardOf};
+use crate::opening::{Rules, RulesHandle};
+use crate::reasons::{Reason, cause_of_absence, cause_of_damage};
+use crate::server::Server;
+use crate::telling::Telling;
+use byte_text::words_of_error;
+use child_jobs::{Job, Place, Running};
+use connection_facts::{DropCause, Peer, StartFault, Status};
+use one_connection::{Agent, cause_of_open, decide_by_pass};
+use rule_lookup::{DecideFault, Decision};
+use server_log::{Cause, Told};
+use server_yard::{Finding, Pass};
+use shared_site::turns::{Decided, Dropped, Ended, Opened, Retired, StartFailed, Started};
+use shared_site::{Made, OutOfTurn, Turn};
+use std::alloc::Global;
+use std::snapshot::Snapshot;
+use tcp_connections::Notes;
+use ucspi_env::Local;
+
+/// What a connection found when it opened the rules, if it came to that.
+pub(crate) type FoundBy<H> = Option<Snapshot<Pass<<H as Host>::Places, <H as Host>::File>>>;
+
+/// The agent of one connection.
+///
+/// The rules are opened by a handle of the connection's own, before the site is asked: no other connection waits
+/// meanwhile. If the assumptions are met, the file that was found is compiled of rules.
+#[derive(Drop)]
+pub(crate) struct LoggedAgent<'a, H: Host> {
+    server: &'a Server<'a, H>,
+    serial: u64,
+    // the server's end of the connection
+    local: &'a Local,
+    // what the system told of its program
+    notes: &'a Notes,
+    // what the connection opened the rules by
+    handle: Option<H::Handle>,
+    // and what it found
+    found: FoundBy<H>,
+    // what the site answered last, which says how far the connection has come
+    pub(crate) last: Option<Result<Made, OutOfTurn>>,
+}
+
+impl<'a, H: Host> Server<'a, H> {
+    /// The agent of the connection with this serial number. Nothing was asked for it yet.
+    pub(crate) fn agent<'b>(
+        &'b self,
+        serial: u64,
+        local: &'b Local,
+        notes: &'b Notes,
+    ) -> LoggedAgent<'b, H>
+    where
+        'a: 'b,
+        ensures own { result.serial ≡ serial }
+        ensures rules { result.server.now.rules.now ≡ self.now.rules.now }
+        ensures unasked { result.last ≡ None }
+    {
+        LoggedAgent {
+            server: self,
+            serial,
+            local,
+            notes,
+            handle: None,
+            found: None,
+            last: None,
+        }
+    }
+}
+
+impl<H: Host> LoggedAgent<'_, H> {
+    ghost use Rattle.std.specs.Prelude.{◌≡◌, ◌-◌, ◌^◌, Some, true, IfErr, IfOk, OnErr, is_some};
+    ghost use Rattle.one_connection.specs.Openings.{FailsToOpen, kept_opening, opening_of};
+    ghost use Rattle.server_events.specs.declared.event.Event.TheVariants as event;
+    ghost use Rattle.server_yard.specs.Passes.{finding_file, pass_file, pass_serial};
+    ghost use Rattle.tcp_service.specs.Agents.{IsAnswer, asked, made};
+
+    /// What the connection found when it opened the rules, if it came to that.
+    pub(crate) fn into_found(self) -> FoundBy<H>
+        ensures its { result ≡ self.entry.found }
+    {
+        let LoggedAgent { found, .. } = self;
+        found
+    }
+
+    // A turn of the caller that makes the events of connections.
+    fn turn<T: Turn<H::Places, H::Folder, H::Journal>>(&self, turn: T) -> T::Answer
+        requires may { T.may turn }
+        ensures answered { IsAnswer (T.answers turn) result }
+    {
+        let server = self.server;
+        let mut teller = server.teller.lock(server.rt);
+        server.site.turn(server.rt, &mut teller, turn)
+    }
+
+    // The same of an event of which the log is told.
+    fn tell<T>(&self, turn: T, told: Told<'_>) -> Result<Made, OutOfTurn>
+    where
+        T: Turn<H::Places, H::Folder, H::Journal, Answer = Result<Made, OutOfTurn>>,
+        requires may { T.may turn }
+        ensures answered { IsAnswer (T.answers turn) result }
+    {
+        let (rt, log) = (self.server.rt, self.server.log);
+        self.turn(Telling::<H, T> {
+            turn,
+            told,
+            rt,
+            log,
+        })
+    }
+
+    // The connection has found this. Out of turn counts as a fault of the directory.
+    fn opened(
+        &mut self,
+        serial: u64,
+        finding: Finding<H::Places, H::File>,
+    ) -> Result<Pass<H::Places, H::File>, DropCause>
+        ensures its { IfOk result (λ pass. pass_serial pass ≡ serial) }
+        ensures file { IfOk result (λ pass. pass_file pass ≡ finding_file finding) }
+        ensures keeps { IfOk result (λ pass.
+            kept_opening H.File.bytes self.new.found ≡ Some (opening_of H.File.bytes pass)) }
+        ensures told { IfOk result (λ pass.
+            made self.new.last ≡ Some (event.Opened serial (is_some (pass_file pass)))) }
+        ensures refused { OnErr result (self.new.last ≡ self.old.last) }
+        ensures own { self.new.serial ≡ self.old.serial }
+        ensures cause { IfErr result (FailsToOpen true (2 ^ 64 - 1) (2 ^ 64 - 1)) }
+    {
+        let turn: Opened<H::Places, H::Folder> = Opened { serial, finding };
+        match self.turn(turn) {
+            Some((pass, made)) => {
+                self.found = Some(Snapshot::of(&pass));
+                self.last = Some(Ok(made));
+                Ok(pass)
+            }
+            None => Err(DropCause::Directory),
+        }
+    }
+
+    // Why the rules could not be opened or read, or which rule is damaged.
+    fn reason_of(&self, cause: DropCause, peer: &Peer) -> Option<Reason> {
+        let (alloc, rules) = (self.server.alloc, self.server.rules);
+        match cause {
+            DropCause::Directory | DropCause::ReadFault => {
+                let error = rules.error(self.handle.as_ref()?)?;
+                Some(Reason::Rules(words_of_error(alloc, error).ok()?))
+            }
+            DropCause::Damaged => Some(Reason::Rule(rules.damaged_rule(alloc, peer)?)),
+            _ => None,
+        }
+    }
+
+    /// Tells how the program of this connection ended, and gives its place back; or that it could not be waited for.
+    #[tactic(auto, using(crate::proofs::Asked::asked_for))]
+    pub(crate) fn tell_end(
+        &mut self,
+        ended: Result<(Place<H::Places>, Status), Running<H::Places, H::Job>>,
+    )
+        ensures ended { IfOk ended (λ end. asked self.new.last ≡ Some (event.Ended self.old.serial end.1)) }
+        ensures retired { OnErr ended (asked self.new.last ≡ Some (event.Retired self.old.serial)) }
+        ensures own { self.new.serial ≡ self.old.serial }
+    {
+        let serial = self.serial;
+        let answer = match ended {
+            Ok((place, status)) => {
+                let signal = match status {
+                    Status::Signal => self.notes.signal(self.server.rt),
+                    Status::Code(_) => None,
+                };
+                let turn = Ended {
+                    serial,
+                    place,
+                    status,
+                };
+                let told = Told::Ended {
+                    serial,
+                    status,
+                    signal,
+                };
+                self.tell(turn, told)
+            }
+            Err(running) => self.tell(Retired { serial, running }, Told::Retired { serial }),
+        };
+        self.last = Some(answer);
+    }
+}
+
+impl<H: Host> Agent<H::Places> for LoggedAgent<'_, H> {
+    ghost use Rattle.std.specs.Prelude.{◌≡◌, ◌-◌, ◌^◌, true, false, Some, IfOk, IfErr, OnOk, OnErr};
+    ghost use Rattle.one_connection.specs.Openings.{Decides, FailsToDecide, RefusesDecision, kept_opening, opening_of};
+    ghost use Rattle.server_events.specs.declared.event.Event.TheVariants as event;
+    ghost use Rattle.server_events.specs.declared.event.Stage.TheVariants as stage;
+    ghost use Rattle.server_yard.specs.Passes.{IsDecidedBy, pass_missing, pass_serial};
+    ghost use Rattle.tcp_service.specs.Agents.{IsFoundFor, IsGoneBy, IsMissingBy, StandsBy, asked};
+
+    type Place = Place<H::Places>;
+
+    type Pass = Pass<H::Places, H::File>;
+
+    ghost index = { λ place. place };
+
+    ghost opening = { λ pass. opening_of H.File.bytes pass };
+
+    ghost serial = { λ pass. pass_serial pass };
+
+    ghost honest = { H.File.honest };
+
+    ghost sound = { H.File.sound };
+
+    ghost stands = { λ agent _ serial _ at. StandsBy agent.last agent.serial serial at };
+
+    ghost is_gone = { λ agent serial. IsGoneBy agent.last serial };
+
+    ghost finds = { λ agent.
+        IsFoundFor H.Places.met (H.Rules.gives agent.server.now.rules.now) H.Handle.opened agent.serial };
+
+    ghost found = { λ agent. kept_opening H.File.bytes agent.found };
+
+    ghost tells = { λ _ event after. asked after.last ≡ Some event };
+
+    ghost tells_by = { λ _ _ event after. asked after.last ≡ Some event };
+
+    ghost still = { λ agent after. after.last ≡ agent.last };
+
+    ghost is_missing = { λ agent missing. IsMissingBy (kept_opening H.File.bytes agent.found) missing };
+
+    ghost failures = { λ _. 2 ^ 64 - 1 };
+
+    ghost is_shared = { true };
+
+    #[tactic(auto, using(crate::proofs::FoundLemmas::found_for))]
+    fn open(
+        &mut self,
+        alloc: Global,
+        _place: &Place<H::Places>,
+        serial: u64,
+        _peer: &Peer,
+    ) -> Result<Pass<H::Places, H::File>, DropCause> {
+        let Ok(mut handle) = self.server.rules.handle(alloc) else {
+            return Err(DropCause::Memory);
+        };
+        let found = handle.open(alloc, self.serial);
+        self.handle = Some(handle);
+        match found {
+            Ok(finding) => self.opened(serial, finding),
+            Err(fault) => Err(cause_of_open(fault)),
+        }
+    }
+
+    fn decide(
+        alloc: Global,
+        pass: &Pass<H::Places, H::File>,
+        peer: &Peer,
+    ) -> Result<Decision, DecideFault>
+        ensures decided { IfOk result
+            (Decides H.File.honest H.File.sound (opening_of H.File.bytes pass.now) peer.now) }
+        ensures refused { IfErr result
+            (FailsToDecide H.File.honest H.File.sound (opening_of H.File.bytes pass.now) peer.now) }
+    {
+        decide_by_pass(alloc, pass, peer)
+    }
+
+    fn decided(
+        &mut self,
+        _alloc: Global,
+        _place: &Place<H::Places>,
+        pass: Pass<H::Places, H::File>,
+        peer: &Peer,
+        decision: Decision,
+    ) -> Result<(), DropCause>
+        requires stands { StandsBy self.old.last self.old.serial (pass_serial pass) stage.Opened }
+        requires missing { IsMissingBy (kept_opening H.File.bytes self.old.found) (pass_missing pass) }
+        requires decides { IsDecidedBy H.File.honest H.File.sound H.File.bytes pass peer.now decision }
+        ensures decided { OnOk result
+            (StandsBy self.new.last self.new.serial (pass_serial pass) (stage.Decided decision.verdict)) }
+        ensures told { OnOk result (asked self.new.last ≡ Some (event.Decided (pass_serial pass) decision)) }
+        ensures refused { OnErr result (StandsBy self.new.last self.new.serial (pass_serial pass) stage.Opened) }
+        ensures quiet { OnErr result (self.new.last ≡ self.old.last) }
+        ensures cause { IfErr result (RefusesDecision true) }
+        ensures keeps { kept_opening H.File.bytes self.new.found ≡ kept_opening H.File.bytes self.old.found }
+        ensures failures { 2 ^ 64 - 1 ≡ 2 ^ 64 - 1 }
+    {
+        let told = Told::Decided {
+            serial: self.serial,
+            verdict: decision.verdict,
+            local: self.local,
+            peer,
+            file: cause_of_absence(self.server.rules.path(), &decision),
+        };
+        let turn: Decided<'_, H::Places, H::Folder> = Decided {
+            pass,
+            peer,
+            decision,
+        };
+        match self.tell(turn, told) {
+            Ok(made) => {
+                self.last = Some(Ok(made));
+                Ok(())
+            }
+            Err(_) => Err(DropCause::Directory),
+        }
+    }
+
+    #[tactic(auto, using(crate::proofs::Asked::asked_for))]
+    fn started<C: Job>(&mut self, running: &Running<H::Places, C>, serial: u64, _peer: &Peer) {
+        let process = self.notes.number(self.server.rt);
+        let turn = Started { serial, running };
+        self.last = Some(self.tell(turn, Told::Started { serial, process }));
+    }
+
+    #[tactic(auto, using(crate::proofs::Asked::asked_for))]
+    fn start_failed(
+        &mut self,
+        place: Place<H::Places>,
+        serial: u64,
+        _peer: &Peer,
+        fault: StartFault,
+    ) {
+        let error = self.notes.refusal.lock(self.server.rt).take();
+        let why = error.and_then(|error| words_of_error(self.server.alloc, error).ok());
+        let program = self.server.plan.program().path().as_bytes();
+        let cause = why.as_ref().map(|why| Cause::new(program, why.as_str()));
+        let told = Told::StartFailed {
+            serial,
+            fault,
+            cause,
+        };
+        let turn = StartFailed {
+            serial,
+            place,
+            fault,
+        };
+        self.last = Some(self.tell(turn, told));
+    }
+
+    #[tactic(auto, using(crate::proofs::Asked::asked_for))]
+    fn dropped(&mut self, place: Place<H::Places>, serial: u64, peer: &Peer, cause: DropCause) {
+        let path = self.server.rules.path();
+        let reason = self.reason_of(cause, peer);
+        let why = reason.as_ref().map(|reason| reason.cause(path));
+        let file = cause_of_damage(path, cause);
+        let told = Told::Dropped {
+            serial,
+            cause,
+            file,
+            why,
+        };
+        let turn = Dropped {
+            serial,
+            place,
+            cause,
+        };
+        self.last = Some(self.tell(turn, told));
+    }
+}

@@ -1,0 +1,47 @@
+//! What the log tells of why a connection was denied or given up.
+use connection_facts::DropCause;
+use rule_lines::Verdict;
+use rule_lookup::{Decision, Found};
+use server_log::Cause;
+
+/// Why a rules file that is not there can't be followed, in the words of the system.
+const ABSENT: &str = "No such file or directory";
+
+/// Why one that is there can't be followed.
+const DAMAGED: &str = "damaged, or not compiled by tcprules";
+
+/// What the log tells of why a connection was given up: what the system was asked for, or what is damaged, and how that
+/// failed.
+#[derive(Drop)]
+pub(crate) enum Reason {
+    /// The rules could not be opened or read; the system's words.
+    Rules(String),
+    /// The rule with this address is damaged.
+    Rule(String),
+}
+
+impl Reason {
+    /// The line of it, for rules at this path.
+    pub(crate) fn cause<'a>(&'a self, rules: &'a str) -> Cause<'a> {
+        match self {
+            Reason::Rules(why) => Cause::new(rules.as_bytes(), why.as_str()),
+            Reason::Rule(address) => Cause::new(address.as_bytes(), "damaged rule"),
+        }
+    }
+}
+
+/// What a person is told of a connection that was denied since there is no rules file.
+pub(crate) fn cause_of_absence<'a>(rules: &'a str, decision: &Decision) -> Option<Cause<'a>> {
+    match (decision.verdict, &decision.found) {
+        (Verdict::Deny, Found::NoFile) => Some(Cause::new(rules.as_bytes(), ABSENT)),
+        _ => None,
+    }
+}
+
+/// What a person is told of a connection that was given up since the rules file is damaged.
+pub(crate) fn cause_of_damage(rules: &str, cause: DropCause) -> Option<Cause<'_>> {
+    match cause {
+        DropCause::Damaged => Some(Cause::new(rules.as_bytes(), DAMAGED)),
+        _ => None,
+    }
+}

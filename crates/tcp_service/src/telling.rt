@@ -1,0 +1,93 @@
+//! Turns of which the log is told before they are over. So its lines stand in the order of events.
+ghost use Rattle.std.specs.Prelude.{⊤};
+ghost use Rattle.shared_site.specs.Receipts.{AdmitsOrNot};
+
+use crate::host::{Host, YardOf};
+use child_jobs::Place;
+use connection_facts::Peer;
+use server_log::{Log, Told};
+use server_yard::AdmitFault;
+use shared_site::turns::Admit;
+use shared_site::{Made, OutOfTurn, Refusal, Turn};
+use std::sync::Mutex;
+
+/// A turn of a connection that was let in, and what the log is told of its event.
+pub(crate) struct Telling<'a, H: Host, T> {
+    pub turn: T,
+    pub told: Told<'a>,
+    pub rt: &'a H::Runtime,
+    pub log: &'a Mutex<Log<H::Lines>>,
+}
+
+impl<H, T> Turn<H::Places, H::Folder, H::Journal> for Telling<'_, H, T>
+where
+    H: Host,
+    T: Turn<H::Places, H::Folder, H::Journal, Answer = Result<Made, OutOfTurn>>,
+{
+    type Answer = Result<Made, OutOfTurn>;
+
+    ghost may = { λ telling. T.may telling.turn };
+
+    ghost answers = { λ telling. T.answers telling.turn };
+
+    fn run(self, yard: &mut YardOf<H>, caller: u64) -> Result<Made, OutOfTurn> {
+        let Telling {
+            turn,
+            told,
+            rt,
+            log,
+        } = self;
+        let answer = turn.run(yard, caller);
+        if let Ok(made) = &answer {
+            let _ = log.lock(rt).tell(made.at(), yard.live(), told);
+        }
+        answer
+    }
+}
+
+/// Of a connection that was let in: its serial, its place, and the event that its admission made.
+pub(crate) type AdmittedBy<H> = (u64, Place<<H as Host>::Places>, Made);
+
+/// Lets a connection in, or tells why it is refused.
+pub(crate) struct TellingAdmission<'a, H: Host> {
+    pub peer: &'a Peer,
+    pub rt: &'a H::Runtime,
+    pub log: &'a Mutex<Log<H::Lines>>,
+}
+
+impl<H: Host> Turn<H::Places, H::Folder, H::Journal> for TellingAdmission<'_, H> {
+    type Answer = Result<AdmittedBy<H>, Refusal>;
+
+    ghost may = { λ _. ⊤ };
+
+    ghost answers = { λ turn. AdmitsOrNot turn.peer.now };
+
+    fn run(self, yard: &mut YardOf<H>, caller: u64) -> Result<AdmittedBy<H>, Refusal> {
+        let TellingAdmission { peer, rt, log } = self;
+        let admitted = Admit { peer }.run(yard, caller);
+        tell_admission::<H>(rt, log, peer, yard.live(), &admitted);
+        admitted
+    }
+}
+
+// Tells of a connection that was let in, or why it was refused, if that has a line. So many are alive.
+fn tell_admission<H: Host>(
+    rt: &H::Runtime,
+    log: &Mutex<Log<H::Lines>>,
+    peer: &Peer,
+    live: u64,
+    admitted: &Result<AdmittedBy<H>, Refusal>,
+) {
+    let (ip, mut log) = (peer.ip(), log.lock(rt));
+    let _ = match admitted {
+        Ok((serial, _, made)) => {
+            let serial = *serial;
+            log.tell(made.at(), live, Told::Admitted { serial, ip })
+        }
+        Err(refusal) => match refusal.fault() {
+            AdmitFault::FullForAddress => log.address_full(ip),
+            AdmitFault::OutOfMemory => log.out_of_memory(),
+            AdmitFault::Full | AdmitFault::Spent => Ok(()),
+        },
+    };
+}

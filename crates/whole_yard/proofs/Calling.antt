@@ -1,0 +1,67 @@
+-- What a call of a yard keeps and makes, after its caller spoke.
+use Rattle.std.proofs.Common.{◌≡◌, ◌<◌, ◌-◌, ◌^◌, ◌==◌, ℕ, refl, ap, subst, sym, ◌∙◌}
+use Rattle.std.specs.Prelude.{IfSome, None, Option, Result, Some, if◌then◌else◌, is_some, option_map}
+use Rattle.event_journals.specs.Journals.{one_more}
+use Rattle.rules_install.specs.Installing.{Installing}
+use Rattle.rules_install.specs.declared.Phase.{Phase}
+use Rattle.rules_install.specs.declared.fault.InstallFault.{InstallFault}
+use Rattle.server_events.specs.declared.event.Event.{Event}
+use Rattle.server_yard.specs.Rolls.{NotesSome, Roll}
+use Rattle.server_yard.specs.Stepping.{event_of_step, step_event}
+use Rattle.server_yard.specs.Yards.{IsSameBeside, IsSameButDirectory, MayBegin, kept_under, last_begun, name_of, yard_rules}
+use Rattle.server_yard.specs.declared.yard.Yard.{Yard}
+use Rattle.shared_site.specs.Receipts.{CountsAtMostOne, receipt_after, receipt_at}
+use Rattle.shared_site.specs.Turns.{IsLastOf, spoken_by}
+use Rattle.shared_site.proofs.Counts.{one_counted, quiet_counted}
+use Rattle.shared_site.proofs.Making.{last_of}
+
+-- what a call keeps is as it was before its caller spoke
+pub same_from : {L D J F : Type 0} {p : _} {l : _} {d : _} {j : _} (old mid new : Yard L D J F p l d j)
+    → IsSameBeside old mid → IsSameButDirectory mid new → IsSameButDirectory old new
+same_from old mid new spoken same = record {
+  rules = same.rules ∙ spoken.rules;
+  installing = same.installing ∙ spoken.installing;
+  kept = same.kept ∙ spoken.kept;
+  begun = same.begun ∙ spoken.begun;
+  lists_same = same.lists_same ∙ spoken.lists_same;
+}
+
+-- an installation that may begin may still
+pub may_begin_from : {L D J F : Type 0} {p : _} {l : _} {d : _} {j : _} (y x : Yard L D J F p l d j) (s : Installing)
+    → yard_rules x ≡ yard_rules y → last_begun x ≡ last_begun y → MayBegin y s → MayBegin x s
+may_begin_from y x s rules begun may = record {
+  unbegun = may.unbegun;
+  is_open = may.is_open;
+  for_rules = ap name_of rules ∙ may.for_rules;
+  numbers_left = subst (λ (n : ℕ). n < 2 ^ 64 - 1) (sym begun) may.numbers_left;
+}
+
+-- and the one that is kept is as far as it was
+pub spoken_kept : {L D J F : Type 0} {p : _} {l : _} {d : _} {j : _} (old mid : Yard L D J F p l d j) (number : ℕ)
+    → IsSameBeside old mid → kept_under mid number ≡ kept_under old number
+spoken_kept old mid number same = λ i. if same.begun i == number then same.installing i else None
+
+-- the receipt of an event is that of the one after those before
+pub noted_receipt : (event : Option Event) (who : ℕ) (x y z : Roll)
+    → y ≡ spoken_by who x → NotesSome event y z
+    → option_map (receipt_at z.books.count who) event ≡ option_map (receipt_after x.books.count who) event
+noted_receipt None who x y z speaks noted = refl
+noted_receipt (Some e) who x y z speaks noted =
+    ap (λ (n : ℕ). Some (receipt_at n who e)) (noted.counts ∙ ap (λ (r : Roll). one_more r.books.count) speaks)
+
+-- a step is an event where the installation is under way
+pub event_if : (kept : Option Installing) (answer : Result Phase InstallFault) → (if is_some kept then step_event answer else None) ≡ event_of_step kept answer
+event_if None answer = refl
+event_if (Some s) answer = refl
+
+-- one event or none
+pub some_counted : (who : ℕ) (event : Option Event) (old mid new : Roll)
+    → mid ≡ spoken_by who old → NotesSome event mid new → CountsAtMostOne old.books.count new.books.count
+some_counted who None old mid new speaks noted = quiet_counted who old mid new speaks noted
+some_counted who (Some event) old mid new speaks noted = one_counted who event old mid new speaks noted
+
+-- and that event is the last one
+pub last_of_some : (who : ℕ) (event : Option Event) (old mid new : Roll)
+    → mid ≡ spoken_by who old → NotesSome event mid new → IfSome event (λ (e : Event). IsLastOf who e new)
+last_of_some who None old mid new speaks noted = tt
+last_of_some who (Some event) old mid new speaks noted = last_of who event event old mid new speaks noted refl

@@ -1,0 +1,7 @@
+-- Lemmas.
+pub mod Auditing
+pub mod Calling
+pub mod Installing
+pub mod Placed
+pub mod ServedByYards
+pub mod Standings

@@ -1,0 +1,15 @@
+-- Giving up.
+use Rattle.std.proofs.Common.{ap, subst}
+use Rattle.std.specs.Prelude.{ℕ}
+use Rattle.server_events.specs.declared.event.Event.TheVariants.{Dropped}
+use Rattle.server_yard.specs.Rolls.{number_at}
+use Rattle.server_yard.specs.Standing.{LeadsOn}
+use Rattle.whole_yard.specs.YardAgents.{MakesEvent}
+use Rattle.whole_yard.proofs.yard_agent.YardAgentAgent.dropped.Goals as goal
+
+pub returns-clause-told : goal.returns-clause-told
+returns-clause-told g c =
+    let old = c.args.self.now.yard in
+    let new = c.dropped.new.self in
+    subst (λ (n : ℕ). MakesEvent (LeadsOn (Dropped n c.args.cause)) (Dropped n c.args.cause) old new)
+    (ap number_at c.requires.stands.there.seat) (record { noted = c.dropped.ensures.noted; step = c.dropped.ensures.step })

@@ -1,0 +1,15 @@
+-- A start that failed.
+use Rattle.std.proofs.Common.{ap, subst}
+use Rattle.std.specs.Prelude.{ℕ}
+use Rattle.server_events.specs.declared.event.Event.TheVariants.{StartFailed}
+use Rattle.server_yard.specs.Rolls.{number_at}
+use Rattle.server_yard.specs.Standing.{LeadsOn}
+use Rattle.whole_yard.specs.YardAgents.{MakesEvent}
+use Rattle.whole_yard.proofs.yard_agent.YardAgentAgent.start_failed.Goals as goal
+
+pub returns-clause-told : goal.returns-clause-told
+returns-clause-told g c =
+    let old = c.args.self.now.yard in
+    let new = c.start_failed.new.self in
+    subst (λ (n : ℕ). MakesEvent (LeadsOn (StartFailed n c.args.fault)) (StartFailed n c.args.fault) old new)
+    (ap number_at c.requires.stands.seat) (record { noted = c.start_failed.ensures.noted; step = c.start_failed.ensures.step })

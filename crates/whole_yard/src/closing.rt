@@ -1,0 +1,78 @@
+//! The end of a site: its receipts are its whole history.
+ghost use Rattle.std.specs.Prelude.{◌≡◌, ◌≢◌, ◌+◌, ◌↔◌, Err, IsOk, IfOk, IfErr, IsPermutation, OnOk, length, map, vec_len};
+ghost use Rattle.event_journals.specs.Full.{full_notes};
+ghost use Rattle.server_yard.specs.Yards.{yard_journal};
+ghost use Rattle.shared_site.specs.Callers.{total_share};
+ghost use Rattle.whole_yard.specs.Closings.{IsNotWhole};
+ghost use Rattle.whole_yard.specs.declared.closing.NotWhole.TheVariants.{Missing};
+ghost use Rattle.whole_yard.specs.Audits.{note_of};
+
+use crate::audit::{Mismatch, audit};
+use crate::laws::whole;
+use dir_calls::Dir;
+use event_journals::{Full, Journal};
+use server_yard::{Assumptions, Yard};
+use shared_site::{Caller, Callers, Receipt, Site};
+use thiserror::Error;
+
+/// Why receipts are not the whole history.
+#[derive(Clone, Copy, PartialEq, Eq, Debug, Error)]
+pub enum NotWhole {
+    /// A receipt is wrong: the first one that `audit` finds.
+    #[error("a receipt is wrong")]
+    Wrong(Mismatch),
+    /// Each receipt is right, but some event has none.
+    #[error("receipts are missing")]
+    Missing,
+}
+
+/// Checks that receipts are the whole history of a yard: each event with its caller, once. It takes no memory.
+///
+/// # Errors
+/// `Wrong` with the first receipt that is wrong, otherwise `Missing`.
+pub fn audit_whole<L: Assumptions, D: Dir + Drop>(
+    yard: &Yard<L, D, Full>,
+    receipts: &[Receipt],
+) -> Result<(), NotWhole>
+    ensures whole { OnOk result (IsPermutation (map note_of receipts.now) (full_notes (yard_journal yard.now))) }
+    ensures refused { IfErr result (IsNotWhole (full_notes (yard_journal yard.now)) receipts.now) }
+{
+    whole();
+    if let Err(mismatch) = audit(yard, receipts) {
+        return Err(NotWhole::Wrong(mismatch));
+    }
+    if receipts.len() as u64 == yard.journal().events() {
+        Ok(())
+    } else {
+        Err(NotWhole::Missing)
+    }
+}
+
+/// Closes a site whose callers are all back, and audits their receipts. If the audit is Ok, they are the whole history
+/// of its yard: each event with its caller, once. None is missing if there are as many receipts as the callers made
+/// events, and the yard had no events before.
+///
+/// # Errors
+/// Some caller is lacking. The site and the callers are handed back.
+pub fn close_and_audit<L: Assumptions, N: Callers, D: Dir + Drop>(
+    site: Site<L, N, D, Full>,
+    callers: Vec<Caller<N>>,
+    receipts: &[Receipt],
+) -> Result<(Yard<L, D, Full>, Result<(), NotWhole>), (Site<L, N, D, Full>, Vec<Caller<N>>)>
+    requires parts { N.all ≡ N.parts }
+    ensures all { IsOk result ↔ (vec_len callers ≡ N.all) }
+    ensures whole { IfOk result (λ r. OnOk r.1
+        (IsPermutation (map note_of receipts.now) (full_notes (yard_journal r.0)))) }
+    ensures refused { IfOk result (λ r. IfErr r.1 (IsNotWhole (full_notes (yard_journal r.0)) receipts.now)) }
+    ensures complete { N.before + total_share callers.items ≡ length receipts.now
+        → IfOk result (λ r. r.1 ≢ Err Missing) }
+    ensures back { IfErr result (λ r. (r.0 ≡ site) × (r.1 ≡ callers)) }
+{
+    match site.close(callers) {
+        Ok(yard) => {
+            let audited = audit_whole(&yard, receipts);
+            Ok((yard, audited))
+        }
+        Err(back) => Err(back),
+    }
+}

@@ -1,0 +1,182 @@
+//! Turns of installations: to begin one, and to make its next step. Each notes its caller as the speaker, makes the
+//! yard's call of its name, and answers which event that was, if it was one.
+ghost use Rattle.std.specs.Prelude.{⊤, ◌≡◌, ◌≢◌, ◌+◌, ◌↔◌, Err, None, Some, IsTrue, IfOk, IfErr, IfSome, Ok, option_map, if◌then◌else◌};
+ghost use Rattle.rules_install.specs.Installs.{installing};
+ghost use Rattle.rules_install.specs.Steps.{BlamesDevice, BlamesFault, IsOfDevice};
+ghost use Rattle.rules_install.specs.declared.Phase.TheVariants.{Done};
+ghost use Rattle.rules_install.specs.declared.fault.InstallFault.TheVariants.{Over};
+ghost use Rattle.server_yard.specs.Rolls.{NotesSome};
+ghost use Rattle.server_yard.specs.Seating.{KeepsSeats};
+ghost use Rattle.server_yard.specs.Standing.{LeadsSome};
+ghost use Rattle.server_yard.specs.Stepping.{GoesAsStep, IsRefusedAs, begin_event, event_of_step, fault_event, kept_after_begin, kept_after_step, last_begun_after, lists_after_begin, step_event};
+ghost use Rattle.server_yard.specs.Yards.{LeavesNothingElse, MayBegin, kept_number, kept_under, last_begun, yard_books, yard_directory, yard_installing, yard_roll, yard_rules, yard_seat, yard_state};
+ghost use Rattle.shared_site.specs.Receipts.{CountsAtMostOne, receipt_after, receipt_at, receipt_of};
+ghost use Rattle.shared_site.specs.Turns.{IsLastOf, spoken_by};
+ghost use Rattle.whole_yard.specs.YardTurns.{BeginsOrNot, StepsOrNot};
+
+use dir_calls::Dir;
+use event_journals::Journal;
+use rules_install::{Install, InstallFault, Phase};
+use server_events::Event;
+use server_yard::{Assumptions, Yard};
+use shared_site::receipt::EventSnapshot;
+use shared_site::turn::made;
+use shared_site::{Made, Turn};
+use std::alloc::Global;
+use std::snapshot::Snapshot;
+
+/// Begins an installation, as `Yard::install_begin` does. The answer also has the event, if it was one: a first step,
+/// or a fault of the directory.
+#[derive(Drop)]
+pub struct InstallBegin {
+    /// What gives memory.
+    pub alloc: Global,
+    /// The installation.
+    pub install: Install,
+}
+
+impl<L: Assumptions, D: Dir + Drop, J: Journal> Turn<L, D, J> for InstallBegin {
+    type Answer = (Result<u64, (Install, InstallFault)>, Option<Made>);
+
+    ghost may = { λ _. ⊤ };
+
+    ghost answers = { λ turn. BeginsOrNot (installing turn.install) };
+
+    fn run(
+        self,
+        yard: &mut Yard<L, D, J>,
+        caller: u64,
+    ) -> (Result<u64, (Install, InstallFault)>, Option<Made>)
+        ensures answers { BeginsOrNot (installing self.install)
+            caller (yard_books yard.old).count result (yard_books yard.new).count }
+        ensures counts { CountsAtMostOne (yard_books yard.old).count (yard_books yard.new).count }
+        ensures over { IsRefusedAs Over result.0 ↔ ¬ MayBegin yard.old (installing self.install) }
+        ensures number { IfOk result.0 (λ number. number ≡ last_begun yard.old + 1) }
+        ensures begun { last_begun yard.new ≡ last_begun_after result.0 (last_begun yard.old) }
+        ensures kept { kept_number yard.new ≡ kept_after_begin result.0 (kept_number yard.old) }
+        ensures rules { yard_rules yard.new ≡ yard_rules yard.old }
+        ensures noted { NotesSome (begin_event result.0) (spoken_by caller (yard_roll yard.old)) (yard_roll yard.new) }
+        ensures step { IsTrue D.honest → LeadsSome
+            (begin_event result.0) (yard_state yard.old) (yard_state yard.new) }
+        ensures stops { IsTrue D.honest → LeavesNothingElse yard.old yard.new }
+        ensures lists { (yard_books yard.new).lists
+            ≡ lists_after_begin result.0 (installing self.install).rules (yard_books yard.old).lists }
+        ensures device { IsTrue D.honest → IfErr result.0 (λ r. IsOfDevice (Err r.1)) }
+        ensures blames { IfErr result.0 (λ r.
+            BlamesFault (D.failed (yard_directory yard.old)) (D.failed (yard_directory yard.new)) r.1) }
+        ensures untouched { IsRefusedAs Over result.0 → yard_directory yard.new ≡ yard_directory yard.old }
+        ensures seats { KeepsSeats (yard_seat yard.old) (yard_seat yard.new) }
+    {
+        let InstallBegin { alloc, install } = self;
+        yard.speaker(caller);
+        let answer = yard.install_begin(alloc, install);
+        let made = evidence(yard, caller, begin_event(&answer));
+        (answer, made)
+    }
+}
+
+/// Makes the next step of an installation, as `Yard::install_step` does. The answer also has the event, if it was one:
+/// a step of an installation under way, or a fault of the directory.
+#[derive(Drop)]
+pub struct InstallStep {
+    /// What gives memory.
+    pub alloc: Global,
+    /// The installation's number.
+    pub number: u64,
+}
+
+impl<L: Assumptions, D: Dir + Drop, J: Journal> Turn<L, D, J> for InstallStep {
+    type Answer = (Result<Phase, InstallFault>, Option<Made>);
+
+    ghost may = { λ _. ⊤ };
+
+    ghost answers = { λ _. StepsOrNot };
+
+    fn run(
+        self,
+        yard: &mut Yard<L, D, J>,
+        caller: u64,
+    ) -> (Result<Phase, InstallFault>, Option<Made>)
+        ensures answers { StepsOrNot caller (yard_books yard.old).count result (yard_books yard.new).count }
+        ensures counts { CountsAtMostOne (yard_books yard.old).count (yard_books yard.new).count }
+        ensures receipt { option_map receipt_of result.1
+            ≡ option_map (receipt_after (yard_books yard.old).count caller)
+            (event_of_step (kept_under yard.old self.number) result.0) }
+        ensures over { (result.0 ≡ Err Over) ↔ (kept_number yard.old ≢ Some self.number) }
+        ensures after_done { kept_number yard.old ≡ Some self.number
+            → yard_installing yard.old ≡ None → result.0 ≡ Ok Done }
+        ensures noted { NotesSome (event_of_step (kept_under yard.old self.number) result.0)
+            (spoken_by caller (yard_roll yard.old)) (yard_roll yard.new) }
+        ensures step { IsTrue D.honest → LeadsSome (event_of_step (kept_under yard.old self.number) result.0)
+            (yard_state yard.old) (yard_state yard.new) }
+        ensures stops { IsTrue D.honest → LeavesNothingElse yard.old yard.new }
+        ensures goes { IfSome (kept_under yard.old self.number)
+            (λ s. GoesAsStep s (yard_installing yard.new) result.0) }
+        ensures kept { kept_number yard.new ≡ kept_after_step result.0 (kept_number yard.old) }
+        ensures begun { last_begun yard.new ≡ last_begun yard.old }
+        ensures rules { yard_rules yard.new ≡ yard_rules yard.old }
+        ensures lists { (yard_books yard.new).lists ≡ (yard_books yard.old).lists }
+        ensures device { IsTrue D.honest → IsOfDevice result.0 }
+        ensures blames { BlamesDevice
+            (D.failed (yard_directory yard.old)) (D.failed (yard_directory yard.new)) result.0 }
+        ensures untouched { kept_under yard.old self.number ≡ None
+            → yard_directory yard.new ≡ yard_directory yard.old }
+        ensures seats { KeepsSeats (yard_seat yard.old) (yard_seat yard.new) }
+    {
+        let InstallStep { alloc, number } = self;
+        yard.speaker(caller);
+        let under_way = yard.is_under_way(number);
+        let answer = yard.install_step(alloc, number);
+        let made = evidence(yard, caller, step_event(under_way, answer));
+        (answer, made)
+    }
+}
+
+// Evidence of the event that a caller made last, if it made one.
+fn evidence<L: Assumptions, D: Dir + Drop, J: Journal>(
+    yard: &Yard<L, D, J>,
+    caller: u64,
+    event: Option<Event>,
+) -> Option<Made>
+    requires { IfSome event (λ event. IsLastOf caller event (yard_roll yard.now)) }
+    ensures { option_map receipt_of result ≡ option_map (receipt_at (yard_books yard.now).count caller) event }
+{
+    let event = event?;
+    let shown = EventSnapshot::Other(Snapshot::of(&event));
+    Some(made(yard, caller, shown))
+}
+
+// Which event a first step was, if it was one.
+fn begin_event(answer: &Result<u64, (Install, InstallFault)>) -> Option<Event>
+    ensures { result ≡ begin_event answer.now }
+{
+    match answer {
+        Ok(_) => Some(Event::Stepped {
+            phase: Phase::Fresh,
+        }),
+        Err((_, fault)) => fault_event(*fault),
+    }
+}
+
+// Which event a step was, if the installation was under way and it was one.
+fn step_event(under_way: bool, answer: Result<Phase, InstallFault>) -> Option<Event>
+    ensures { result ≡ (if under_way then step_event answer else None) }
+{
+    if !under_way {
+        return None;
+    }
+    match answer {
+        Ok(phase) => Some(Event::Stepped { phase }),
+        Err(fault) => fault_event(fault),
+    }
+}
+
+// That a step failed, if the fault was the directory's.
+fn fault_event(fault: InstallFault) -> Option<Event>
+    ensures { result ≡ fault_event fault }
+{
+    match fault {
+        InstallFault::Disk(_, phase) => Some(Event::StepFailed { phase }),
+        _ => None,
+    }
+}
