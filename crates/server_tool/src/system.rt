@@ -18,7 +18,7 @@ use std::fs::{File, Files};
 use std::io::{Read, Write};
 use std::marker::PhantomData;
 use std::net::{Net, OpenListener, TcpStream};
-use std::process::{ChildStdout, Processes};
+use std::process::{ChildStdin, ChildStdout, OpenProcess, Processes};
 use std::rt::Env;
 use std::sync::{Mutex, Wait};
 use std::thread::Threads;
@@ -32,7 +32,7 @@ pub(crate) trait System {
         + Print
         + AllocGlobal
         + Files<File = File, Dir = Self::Folder>
-        + Processes
+        + Processes<Started = Self::Process>
         + Threads
         + Wait
         + Clock
@@ -43,6 +43,21 @@ pub(crate) trait System {
 
     /// A socket that listens.
     type Listener: OpenListener<Stream = TcpStream> + Send + Sync + Drop;
+
+    /// A program that was started, with the ends of its pipes.
+    type Process: OpenProcess<
+        Stdin = ChildStdin,
+        Stdout = Self::ProcessOutput,
+        Stderr = Self::ProcessErrors,
+    >
+        + Send
+        + Drop;
+
+    /// The end of a pipe that a program writes.
+    type ProcessOutput: Read + Send + Drop;
+
+    /// The end of the pipe to which it writes its errors.
+    type ProcessErrors: Read + Send + Drop;
 
     /// What takes the lines of the log.
     type Errors: Write + Send + Drop;
@@ -60,10 +75,7 @@ pub(crate) trait System {
 }
 
 /// The system of a runtime, with the stream that takes the lines of the log.
-pub(crate) struct SystemOf<'a, R, E> {
-    runtime: PhantomData<&'a R>,
-    errors: PhantomData<Mutex<E>>,
-}
+pub(crate) struct SystemOf<'a, R, E>(PhantomData<(&'a R, Mutex<E>)>);
 
 impl<R, E> System for SystemOf<'_, R, E>
 where
@@ -71,6 +83,9 @@ where
     R: Net<Stream = TcpStream>,
     R::Dir: Send + Sync,
     R::Listener: Send + Sync,
+    R::Started: OpenProcess<Stdin = ChildStdin> + Send,
+    <R::Started as OpenProcess>::Stdout: Send,
+    <R::Started as OpenProcess>::Stderr: Send,
     E: Write + Send + Drop,
 {
     type Runtime = R;
@@ -78,6 +93,12 @@ where
     type Folder = R::Dir;
 
     type Listener = R::Listener;
+
+    type Process = R::Started;
+
+    type ProcessOutput = <R::Started as OpenProcess>::Stdout;
+
+    type ProcessErrors = <R::Started as OpenProcess>::Stderr;
 
     type Errors = E;
 
@@ -89,11 +110,7 @@ where
 }
 
 /// What a server stands on, over these ledgers of places and of callers.
-pub(crate) struct OnSystem<'a, P: System, L, N> {
-    system: PhantomData<&'a P::Runtime>,
-    places: PhantomData<L>,
-    callers: PhantomData<N>,
-}
+pub(crate) struct OnSystem<'a, P: System, L, N>(PhantomData<(&'a P::Runtime, L, N)>);
 
 impl<'a, P: System, L: Assumptions + Send + Sync, N: Callers + Send + Sync> Host
     for OnSystem<'a, P, L, N> {

@@ -31,7 +31,7 @@ use std::fs::{File, Files};
 use std::io::Write;
 use std::marker::Brand;
 use std::net::{Net, TcpStream};
-use std::process::Processes;
+use std::process::{ChildStdin, OpenProcess, Processes};
 use std::rt::Env;
 use std::sync::ledger::Blank;
 use std::sync::{Mutex, Wait};
@@ -70,6 +70,9 @@ where
     R: Net<Stream = TcpStream>,
     R::Dir: Send + Sync,
     R::Listener: Send + Sync,
+    R::Started: OpenProcess<Stdin = ChildStdin> + Send,
+    <R::Started as OpenProcess>::Stdout: Send,
+    <R::Started as OpenProcess>::Stderr: Send,
     E: Write + Send + Drop,
 {
     let alloc = rt.alloc();
@@ -102,13 +105,11 @@ fn run_words<P: System + Send + Sync>(
             return Err(ServerFault::Words(fault));
         }
     };
-    match run_server::<P>(rt, errors, &words, voice) {
-        Ok(()) => Ok(()),
-        Err(failure) => {
-            tell_failure(rt.alloc(), voice, &words, failure, causes);
-            Err(failure.fault)
-        }
-    }
+    let Err(failure) = run_server::<P>(rt, errors, &words, voice) else {
+        return Ok(());
+    };
+    tell_failure(rt.alloc(), voice, &words, failure, causes);
+    Err(failure.fault)
 }
 
 // Runs the tool as its words ask for.
@@ -275,20 +276,16 @@ fn yard_of<L: Assumptions, D: Dir + Drop>(
     ensures refused { IfErr result (λ fault. fault ≡ OutOfMemory) }
 {
     let limits = words.limits();
-    let (connections, per_address) = (limits.connections, limits.per_address);
     let yard = Yard::<L, D, Counts>::with_address_limit(
         alloc,
         places,
         dir,
         rules,
-        connections,
-        per_address,
+        limits.connections,
+        limits.per_address,
         Counts::new(),
     );
-    match yard {
-        Ok(yard) => Ok(yard),
-        Err(_) => Err(ServerFault::OutOfMemory),
-    }
+    yard.map_err(|_| ServerFault::OutOfMemory)
 }
 
 // A site over this yard, with both of its callers.
@@ -303,10 +300,8 @@ fn site_of<L: Assumptions, N: Callers, D: Dir + Drop>(
     ensures new { IfOk result (λ made. (vec_len made.1 ≡ 2) × (total_share made.1.items ≡ 0)) }
     ensures refused { IfErr result (λ fault. fault ≡ OutOfMemory) }
 {
-    match Site::<L, N, D, Counts>::new(alloc, parts, yard, CALLERS) {
-        Ok(made) => Ok(made),
-        Err(_) => Err(ServerFault::OutOfMemory),
-    }
+    let made = Site::<L, N, D, Counts>::new(alloc, parts, yard, CALLERS);
+    made.map_err(|_| ServerFault::OutOfMemory)
 }
 
 // Serves the connections of a socket at a site, in the mode of the words.
