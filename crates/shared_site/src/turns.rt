@@ -3,9 +3,11 @@
 //! yard's call of its name, and answers which event that was. Otherwise nothing changed but the speaker. No turn waits
 //! or takes memory of its own.
 //!
-//! `in_turn` says when a turn's event is made, and `makes` all that the turn then does, or leaves as it was.
+//! `in_turn` says when a turn's event is made, and `makes` all that the turn then does, or leaves as it was. Such an
+//! event is a step over whatever directory other processes left (`beside`).
 ghost use Rattle.std.specs.Prelude.{⊤, ◌≡◌, ◌↔◌, false, true, Bool, Err, None, Option, Some, IsTrue, IsOk, IfOk, IfNone, IfSome, OnErr, OnOk, is_ok, is_some, length, option_map};
 ghost use Rattle.child_jobs.specs.Runs.{place_of};
+ghost use Rattle.dir_calls.specs.Directory.{Directory};
 ghost use Rattle.server_events.specs.ServerState.{is_admitted, is_allowed, is_started, is_unstarted, stage_of};
 ghost use Rattle.server_events.specs.Worlds.{missing_by};
 ghost use Rattle.server_events.specs.declared.event.Event.TheVariants as event;
@@ -14,7 +16,7 @@ ghost use Rattle.server_yard.specs.Passes.{IsDecidedBy, finding_file, pass_bytes
 ghost use Rattle.server_yard.specs.Rolls.{IsQuiet};
 ghost use Rattle.server_yard.specs.Seating.{GivesSeat, IsAddressFull, IsSpent, KeepsSerials};
 ghost use Rattle.server_yard.specs.Standing.{LeadsDecided, LeadsOn};
-ghost use Rattle.server_yard.specs.Yards.{IsSameBeside, number_of, stage_of_place, yard_books, yard_roll, yard_rules, yard_seat, yard_server, yard_state};
+ghost use Rattle.server_yard.specs.Yards.{IsSameBeside, number_of, stage_of_place, yard_books, yard_over, yard_roll, yard_rules, yard_seat, yard_server, yard_state};
 ghost use Rattle.server_yard.specs.declared.register.AdmitFault.TheVariants.{Full, FullForAddress, Spent};
 ghost use Rattle.shared_site.specs.Receipts.{AdmitsOrNot, CountsAtMostOne, MakesOrNot, refused_as};
 ghost use Rattle.shared_site.specs.Turns.{Answers, IsAt, IsPassedOver, LeadsFound, Makes, MakesBy, MayBeDecided, NotesBy, OpensBy, spoken_by};
@@ -60,6 +62,9 @@ impl<L: Assumptions, D: Dir + Drop, J: Journal> Turn<L, D, J> for Admit<'_> {
             caller (event.Admitted r.0 self.entry.peer.now) (yard_roll yard.old) (yard_roll yard.new)) }
         ensures step { IsTrue D.honest → IfOk result (λ r. LeadsOn
             (event.Admitted r.0 self.entry.peer.now) (yard_state yard.old) (yard_state yard.new)) }
+        // and so over whatever directory others left
+        ensures beside { (d : Directory) → IfOk result (λ r. LeadsOn
+            (event.Admitted r.0 self.entry.peer.now) (yard_over d yard.old) (yard_over d yard.new)) }
         ensures seat { IfOk result (λ r. GivesSeat r.1 r.0 (yard_seat yard.old) (yard_seat yard.new)) }
         ensures same { IsSameBeside yard.old yard.new }
         ensures refused { OnErr result (IsQuiet (spoken_by caller (yard_roll yard.old)) (yard_roll yard.new)) }
@@ -101,7 +106,7 @@ impl<L: Assumptions, D: Dir + Drop, J: Journal> Turn<L, D, J> for Opened<L, D> {
         ensures in_turn { is_some result ≡ is_admitted (stage_of self.serial (yard_server yard.old).connections) }
         ensures missing { IfSome result (λ r. pass_missing r.0 ≡ missing_by (yard_rules yard.old)) }
         ensures makes { MakesBy caller (event.Opened self.serial (is_some (finding_file self.finding)))
-            (LeadsFound self.serial (option_map D.File.bytes (finding_file self.finding)))
+            (LeadsFound self.serial (option_map D.File.bytes (finding_file self.finding))) ⊤
             (is_some result) yard.old yard.new }
     {
         let Opened { serial, finding } = self;
@@ -144,9 +149,10 @@ impl<L: Assumptions, D: Dir + Drop, J: Journal> Turn<L, D, J> for Decided<'_, L,
             caller result yard.old yard.new }
         ensures counts { CountsAtMostOne (yard_books yard.old).count (yard_books yard.new).count }
         ensures in_turn { IsOk result ↔ MayBeDecided yard.old self.entry.pass self.entry.peer.now }
+        // over whatever directory others left, too, if files are honest
         ensures makes { MakesBy caller (event.Decided (pass_serial self.entry.pass) self.entry.decision)
             (LeadsDecided (pass_serial self.entry.pass) (pass_bytes D.File.bytes self.entry.pass) self.entry.decision)
-            (is_ok result) yard.old yard.new }
+            (IsTrue D.File.honest) (is_ok result) yard.old yard.new }
     {
         let (pass, peer, decision) = (self.pass, self.peer, self.decision);
         yard.speaker(caller);

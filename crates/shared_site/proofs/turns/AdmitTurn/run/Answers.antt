@@ -1,9 +1,9 @@
 use Rattle.std.proofs.Common.{refl, subst, rules}
 use Rattle.server_events.specs.declared.event.Event.TheVariants as event
 use Rattle.server_yard.specs.Standing.{LeadsOn, YardState}
-use Rattle.server_yard.specs.Yards.{yard_roll, yard_state}
+use Rattle.server_yard.specs.Yards.{yard_over, yard_roll, yard_state}
 use Rattle.shared_site.specs.Turns.{spoken_by}
-use Rattle.shared_site.proofs.Spoken.{notes_from, spoken_state}
+use Rattle.shared_site.proofs.Spoken.{notes_from, spoken_over, spoken_state}
 use Rattle.shared_site.proofs.Making.{answered, counted, last_of}
 use Rattle.shared_site.proofs.turns.AdmitTurn.run.Goals as goal
 
@@ -19,6 +19,13 @@ returns-in-Ok-clause-step g c = λ honest.
     let mid = c.speaker.new.self in
     subst (λ (s : YardState). LeadsOn (event.Admitted c.in-Ok.serial c.args.self.peer.now) s (yard_state c.admit.new.self))
     (spoken_state c.args.caller old mid c.speaker.ensures.speaks c.speaker.ensures.same) (c.in-Ok.ensures.step honest)
+
+pub returns-in-Ok-clause-beside : goal.returns-in-Ok-clause-beside
+returns-in-Ok-clause-beside g c = λ d.
+    let old = c.args.yard.now in
+    let mid = c.speaker.new.self in
+    subst (λ (s : YardState). LeadsOn (event.Admitted c.in-Ok.serial c.args.self.peer.now) s (yard_over d c.admit.new.self))
+    (spoken_over c.args.caller d old mid c.speaker.ensures.speaks c.speaker.ensures.same) (c.in-Ok.ensures.beside d)
 
 pub made-requires : goal.made-requires
 made-requires g c = record {

@@ -1,4 +1,5 @@
 use Rattle.std.proofs.Common.{refl, rules}
+use Rattle.std.specs.Prelude.{IsTrue}
 use Rattle.server_events.specs.declared.event.Event.TheVariants as event
 use Rattle.server_yard.specs.Passes.{pass_bytes, pass_serial}
 use Rattle.server_yard.specs.Standing.{LeadsDecided}
@@ -13,8 +14,9 @@ returns-clause-makes g c =
     let spoke = c.speaker.ensures in
     made_by c.args.caller (event.Decided (pass_serial pass) c.args.self.decision)
     (LeadsDecided (pass_serial pass) (pass_bytes g.D.File.RulesFile.bytes pass) c.args.self.decision)
-    c.args.yard.now c.speaker.new.self call.new.self
-    (record { roll = spoke.speaks; beside = spoke.same; seats = spoke.seats }) call.ensures.noted call.ensures.step call.ensures.same call.ensures.seats
+    (IsTrue g.D.File.RulesFile.honest) c.args.yard.now c.speaker.new.self call.new.self
+    (record { roll = spoke.speaks; beside = spoke.same; seats = spoke.seats }) call.ensures.noted call.ensures.step call.ensures.beside
+    call.ensures.same call.ensures.seats
 
 pub made-requires : goal.made-requires
 made-requires g c = record {
