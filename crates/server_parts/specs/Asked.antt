@@ -27,7 +27,8 @@ FailsRules Device = ⊤
 FailsRules OutOfMemory = ⊤
 FailsRules fault = ⊥
 
--- whether an acceptor's connections are handed over or pumped, the socket that they come from, and whether what is written to them is sent at once
+-- whether an acceptor's connections are handed over or pumped, the socket that they come from, and whether what is
+-- written to them is sent at once
 abbrev pub accepts_in : {R T : Type 0} → SocketAcceptor R T → Mode
 accepts_in acceptor = acceptor.mode
 

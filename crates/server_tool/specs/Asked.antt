@@ -30,8 +30,10 @@ pub record IsAskedLog {W : Type 0} (words : ServerPlan) (speaker : Voice) (log :
   pub voice : voice_of log ≡ speaker
   pub limit : limit_of log ≡ words.limits.connections
 
--- connections come from a socket that listens at the address and the port of the words, are handed over or pumped as they say, and send at once by `-D`
-pub record AcceptsAsAsked {R T : Type 0} (listens : T → List ℕ → ℕ → Type 0) (words : ServerPlan) (acceptor : SocketAcceptor R T) : Type 0 where
+-- connections come from a socket that listens at the address and the port of the words, are handed over or pumped as
+-- they say, and what is written to them is sent at once by `-D`
+pub record AcceptsAsAsked {R T : Type 0} (listens : T → List ℕ → ℕ → Type 0) (words : ServerPlan)
+    (acceptor : SocketAcceptor R T) : Type 0 where
   pub from : IfSome (accepts_from acceptor) (λ listener. listens listener words.service.address words.service.port)
   pub mode : accepts_in acceptor ≡ words.mode
   pub at_once : accepts_at_once acceptor ≡ words.no_delay

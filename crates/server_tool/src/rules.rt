@@ -37,10 +37,8 @@ impl<'a, R> RulesPath<'a, R> {
 impl<'a, R: Files<File = File>> RulesPath<'a, R> {
     /// Whether the file that stands there has a rule by name, as far as that can be seen.
     pub(crate) fn name_someone(&self, alloc: Global) -> bool {
-        match self.look(alloc) {
-            Some(file) => has_named_rule(alloc, &file),
-            None => false,
-        }
+        self.look(alloc)
+            .is_some_and(|file| has_named_rule(alloc, &file))
     }
 
     // The folder; the system is not called.

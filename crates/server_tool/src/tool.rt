@@ -15,7 +15,7 @@ use crate::rules::{FolderRules, RulesPath};
 use crate::system::{OnSystem, System, SystemOf};
 use crate::wrappers::Wrappers;
 use child_jobs::Plan;
-use dir_calls::{Dir, Name};
+use dir_calls::Name;
 use event_journals::Counts;
 use fault_hints::Voice;
 use rule_lookup::WhenMissing;
@@ -43,7 +43,8 @@ use tcp_service::{
     Acceptor, Closed, Host, Log, Patience, Reserve, ServeEnd, Service, Unfinished, serve,
 };
 
-/// For so many seconds in succession a client whose connection is pumped may take nothing of what its program left for it.
+/// For so many seconds in succession a client whose connection is pumped may take nothing of what its program left for
+/// it.
 const IDLE: u64 = 60;
 
 /// And for so many in all.
@@ -52,9 +53,9 @@ const ALL: u64 = 600;
 /// So many callers of the site make the events of all connections: one lets them in, and the other makes the rest.
 const CALLERS: u64 = 2;
 
-/// Runs `tcpserver` with these words, over the system's sockets, files and programs; `errors` takes the lines of its log. Without `-s` and
-/// `-S` connections are handed over or pumped as `voice` says. It returns once as many connections were served as it was to serve, and
-/// all of them are over.
+/// Runs `tcpserver` with these words, over the system's sockets, files and programs; `errors` takes the lines of its
+/// log. Without `-s` and `-S` connections are handed over or pumped as `voice` says. It returns once as many connections
+/// were served as it was to serve, and all of them are over.
 ///
 /// # Errors
 /// In the order of `ServerFault`. What the voice tells behind its line is left in `causes`, where there is memory for it.
@@ -90,7 +91,8 @@ struct ServerParts<P: System> {
     log: Mutex<Log<P::Errors>>,
 }
 
-// Runs the tool with these words. Here and below, what a function owns it lends to the calls that follow: they have the many ways out.
+// Runs the tool with these words. Here and below, what a function owns it lends to the calls that follow: they have the
+// many ways out.
 fn run_words<P: System + Send + Sync>(
     rt: &P::Runtime,
     errors: P::Errors,
@@ -153,13 +155,8 @@ fn parts_of<P: System>(
 fn log_of<W: Write>(alloc: Global, errors: W, words: &ServerWords<'_>, voice: Voice) -> Log<W>
     ensures asked { IsAskedLog words.now voice result }
 {
-    Log::new(
-        alloc,
-        errors,
-        words.level(),
-        voice,
-        words.limits().connections,
-    )
+    let (level, limit) = (words.level(), words.limits().connections);
+    Log::new(alloc, errors, level, voice, limit)
 }
 
 // What a server does for all connections.
@@ -244,7 +241,8 @@ fn run_site<'a, L: Assumptions + Send + Sync, N: Callers + Send + Sync, P: Syste
     places: Blank,
     parts: Blank,
 ) -> Result<(), ServerFailure>
-    requires places { (places.name ≡ L.name) × (places.parts ≡ L.parts) × (places.parts ≡ words.now.limits.connections) }
+    requires places { (places.name ≡ L.name) × (places.parts ≡ L.parts)
+        × (places.parts ≡ words.now.limits.connections) }
     requires met { L.met ≡ false }
     requires parts { (parts.name ≡ N.name) × (parts.parts ≡ N.parts) × (parts.parts ≡ 2) }
     requires callers { (N.all ≡ 2) × (N.before ≡ 0) }
@@ -252,21 +250,22 @@ fn run_site<'a, L: Assumptions + Send + Sync, N: Callers + Send + Sync, P: Syste
     requires rules { AreRulesOf words.now rules }
     requires accepts { AcceptsAsAsked P.listens words.now acceptor }
 {
-    let yard = yard_of::<L, _>(rt.alloc(), NoFolder, rules, words, places)?;
-    let (site, callers) = site_of::<L, N, _>(rt.alloc(), yard, parts)?;
+    let yard = yard_of::<L>(rt.alloc(), rules, words, places)?;
+    let made = Site::<L, N, NoFolder, Counts>::new(rt.alloc(), parts, yard, CALLERS);
+    let (site, callers) = made.map_err(|_| ServerFault::OutOfMemory)?;
     let starter = ProgramStarter::new(rt, words.mode(), &server.search, &server.service.reserve);
     serve_on(rt, server, acceptor, site, callers, at, &starter, words)
 }
 
-// A yard of this folder and this rules file, with the limits of the words.
-fn yard_of<L: Assumptions, D: Dir + Drop>(
+// A yard of this rules file, with the limits of the words.
+fn yard_of<L: Assumptions>(
     alloc: Global,
-    dir: D,
     rules: Option<(Name, WhenMissing)>,
     words: &ServerWords<'_>,
     places: Blank,
-) -> Result<Yard<L, D, Counts>, ServerFault>
-    requires places { (places.name ≡ L.name) × (places.parts ≡ L.parts) × (places.parts ≡ words.now.limits.connections) }
+) -> Result<Yard<L, NoFolder, Counts>, ServerFault>
+    requires places { (places.name ≡ L.name) × (places.parts ≡ L.parts)
+        × (places.parts ≡ words.now.limits.connections) }
     requires met { L.met ≡ false }
     requires rules { AreRulesOf words.now rules }
     ensures limits { IfOk result (λ yard.
@@ -276,32 +275,16 @@ fn yard_of<L: Assumptions, D: Dir + Drop>(
     ensures refused { IfErr result (λ fault. fault ≡ OutOfMemory) }
 {
     let limits = words.limits();
-    let yard = Yard::<L, D, Counts>::with_address_limit(
+    let yard = Yard::<L, NoFolder, Counts>::with_address_limit(
         alloc,
         places,
-        dir,
+        NoFolder,
         rules,
         limits.connections,
         limits.per_address,
         Counts::new(),
     );
     yard.map_err(|_| ServerFault::OutOfMemory)
-}
-
-// A site over this yard, with both of its callers.
-fn site_of<L: Assumptions, N: Callers, D: Dir + Drop>(
-    alloc: Global,
-    yard: Yard<L, D, Counts>,
-    parts: Blank,
-) -> Result<(Site<L, N, D, Counts>, Vec<Caller<N>>), ServerFault>
-    requires yard { (yard_books yard).count ≡ 0 }
-    requires parts { (parts.name ≡ N.name) × (parts.parts ≡ N.parts) × (parts.parts ≡ 2) }
-    requires callers { (N.all ≡ 2) × (N.before ≡ 0) }
-    ensures new { IfOk result (λ made. (vec_len made.1 ≡ 2) × (total_share made.1.items ≡ 0)) }
-    ensures refused { IfErr result (λ fault. fault ≡ OutOfMemory) }
-{
-    let made = Site::<L, N, D, Counts>::new(alloc, parts, yard, CALLERS);
-    made.map_err(|_| ServerFault::OutOfMemory)
 }
 
 // Serves the connections of a socket at a site, in the mode of the words.
@@ -343,17 +326,12 @@ fn end_of<H: Host>(served: Result<Closed<H>, Unfinished<H>>) -> Result<(), Serve
     ensures closed { IfOk served (λ closed. IsToldOf closed.end result) }
     ensures lost { OnErr served (result ≡ Err (record { fault = LostConnection; error = None })) }
 {
-    match served {
-        Ok(closed) => {
-            let (end, error) = (closed.end, closed.acceptor.error());
-            drop(closed);
-            failure_of(end, error)
-        }
-        Err(unfinished) => {
-            drop(unfinished);
-            Err(ServerFailure::from(ServerFault::LostConnection))
-        }
-    }
+    let Ok(closed) = served else {
+        return Err(ServerFailure::from(ServerFault::LostConnection));
+    };
+    let (end, error) = (closed.end, closed.acceptor.error());
+    drop(closed);
+    failure_of(end, error)
 }
 
 // How the tool ends, by how its server did and this error.
