@@ -54,8 +54,8 @@ const ALL: u64 = 600;
 const CALLERS: u64 = 2;
 
 /// Runs `tcpserver` with these words, over the system's sockets, files and programs; `errors` takes the lines of its
-/// log. Without `-s` and `-S` connections are handed over or pumped as `voice` says. It returns once as many connections
-/// were served as it was to serve, and all of them are over.
+/// log. Without `-s` and `-S` connections are handed over or pumped as `voice` says. It returns once as many
+/// connections were served as it was to serve, and all of them are over.
 ///
 /// # Errors
 /// In the order of `ServerFault`. What the voice tells behind its line is left in `causes`, where there is memory for it.
