@@ -1,5 +1,5 @@
 //! The tools over the system, and over the streams of the process.
-ghost use Rattle.ucspi_tools.specs.Runs.{anything};
+ghost use Rattle.ucspi_tools.specs.Runs.{IsWritten, telling};
 
 use byte_streams::Patient;
 use byte_text::NotingStream;
@@ -40,6 +40,7 @@ where
         calls: StandardCalls {
             rt,
             errors,
+            told: Patient::new(rt, errors),
             serve,
             pass,
         },
@@ -51,25 +52,29 @@ where
 
 /// The tools over the system, and over its standard streams.
 #[derive(Drop)]
-struct StandardCalls<'a, R, E, S, P> {
+struct StandardCalls<'a, R, E, W, S, P> {
     /// The system.
     rt: &'a R,
     /// Standard error.
     errors: E,
+    /// The same, for the lines of faults.
+    told: W,
     /// `tcpserver`.
     serve: S,
     /// `recordio` and `fixcrio`.
     pass: P,
 }
 
-impl<R, E, S, P> Calls for StandardCalls<'_, R, E, S, P>
+impl<R, E, W, S, P> Calls for StandardCalls<'_, R, E, W, S, P>
 where
     R: Env + Input + Print + AllocGlobal + Files<File = File> + Clock,
     E: Write + Copy + Drop,
+    W: Write,
     S: Fn(Voice, &[Vec<u8>], &mut Vec<u8>) -> Result<(), ServerFault>,
     P: Fn(bool, &[Vec<u8>], &mut Option<i32>) -> Result<Status, BetweenFault>,
 {
-    ghost lent = { anything };
+    ghost lent = { telling (λ _ fault causes old new.
+        IsWritten fault causes (W.contents old.told) (W.contents new.told)) };
 
     ghost ready = { λ calls. S.IsAlwaysCallable calls.serve × P.IsAlwaysCallable calls.pass };
 
@@ -114,7 +119,7 @@ where
     }
 
     fn tell(&mut self, name: &str, fault: ToolFault, causes: &[u8]) {
-        let _ = write_fault(&mut Patient::new(self.rt, self.errors), name, fault, causes);
+        let _ = write_fault(&mut self.told, name, fault, causes);
     }
 }
 

@@ -15,7 +15,7 @@ use Rattle.stream_tools.specs.Entries.{path_among}
 use Rattle.stream_tools.specs.Filters.{Came}
 use Rattle.stream_tools.specs.declared.between.BetweenFault.{BetweenFault}
 use Rattle.stream_tools.specs.declared.filter.FilterFault.{FilterFault}
-use Rattle.ucspi_tools.specs.Causes.{TellsCause, TellsReview, TellsRules, TellsStart, help_text}
+use Rattle.ucspi_tools.specs.Causes.{TellsCause, TellsLines, TellsReview, TellsRules, TellsStart, help_text}
 use Rattle.ucspi_tools.specs.Choices as asked
 use Rattle.ucspi_tools.specs.Choices.{CallsFor, Wanted, name_of, passing, tool_in, usage_text, words_text}
 use Rattle.ucspi_tools.specs.Exits.{end_code, status_exit, warned_exit}
@@ -51,6 +51,14 @@ anything =
       passes = λ recorded words old new error own. Unit {0};
       tells = λ name fault causes old new. Unit {0};
     }
+
+-- nothing is known of the tools, and telling a fault does this
+abbrev pub telling : {C : Type 0} → (List ℕ → ToolFault → List ℕ → C → C → Type 0) → Lent C
+telling tells = record anything { tells = tells }
+
+-- the line of a fault was written, with its causes and its hint behind it, or a fault of writing came between
+abbrev pub IsWritten : ToolFault → List ℕ → (old new : Option (List ℕ)) → Type 0
+IsWritten fault causes old new = (outcome : Result (Unit {0}) Error) × TellsLines fault causes old new outcome
 
 -- the tools, and what the two streams have left and hold
 pub record Parts (I O C : Type 0) : Type 1 where
