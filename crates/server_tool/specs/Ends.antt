@@ -1,5 +1,5 @@
 -- How the tool ends, by how its server did.
-use Rattle.std.specs.Prelude.{ℤ, Option, None, Result, Ok, Err}
+use Rattle.std.specs.Prelude.{◌≡◌, ℤ, Option, None, Result, Ok, Err}
 use Rattle.server_parts.specs.declared.fault.ServerFailure.{ServerFailure}
 use Rattle.server_parts.specs.declared.fault.ServerFault.TheVariants as fault
 use Rattle.tcp_connections.specs.declared.admission.ServeEnd.{ServeEnd}
@@ -12,3 +12,7 @@ told_of Spent accepting = Ok tt
 told_of NoPlaces accepting = Err (record { fault = fault.NoPlaces; error = None })
 told_of AcceptFaults accepting = Err (record { fault = fault.AcceptFault; error = accepting })
 told_of OutOfMemory accepting = Err (record { fault = fault.OutOfMemory; error = None })
+
+-- with some number
+abbrev pub IsToldOf : ServeEnd → Result (Unit {0}) ServerFailure → Type 0
+IsToldOf end told = (accepting : Option ℤ) × (told ≡ told_of end accepting)

@@ -1,10 +1,10 @@
 //! The tool: its words, what it opens, and the server.
-ghost use Rattle.std.specs.Prelude.{◌≡◌, ◌⊎◌, false, Err, None, IfOk, IfErr, OnErr, vec_len};
+ghost use Rattle.std.specs.Prelude.{◌≡◌, ◌⊎◌, false, Err, None, IfOk, IfErr, IfSome, OnErr, vec_len};
 ghost use Rattle.server_parts.specs.Asked.{FailsNames, starts_in};
 ghost use Rattle.server_parts.specs.Services.{AreRulesOf};
 ghost use Rattle.server_parts.specs.declared.fault.ServerFault.TheVariants.{CannotListen, LostConnection, OutOfMemory, WriteFault};
 ghost use Rattle.server_tool.specs.Asked.{AcceptsAsAsked, AreAsked, AreAskedLimits, IsAskedLog, IsAskedService};
-ghost use Rattle.server_tool.specs.Ends.{told_of};
+ghost use Rattle.server_tool.specs.Ends.{IsToldOf, told_of};
 ghost use Rattle.server_yard.specs.Kept.{rules_of};
 ghost use Rattle.server_yard.specs.Yards.{yard_books, yard_rules, yard_server};
 ghost use Rattle.shared_site.specs.Callers.{total_share};
@@ -318,31 +318,26 @@ fn serve_on<'a, L: Assumptions + Send + Sync, N: Callers + Send + Sync, P: Syste
         &server.service,
         &server.log,
     );
-    let error = last_error(&served);
-    end_of(served, error)
-}
-
-// The number of the system's last error of accepting, if it had one.
-fn last_error<H: Host>(served: &Result<Closed<H>, Unfinished<H>>) -> Option<i32> {
-    match served {
-        Ok(closed) => closed.acceptor.error(),
-        Err(_) => None,
-    }
+    end_of(served)
 }
 
 // How the tool ends, by how its server did and the system's last error of accepting.
-fn end_of<H: Host>(
-    served: Result<Closed<H>, Unfinished<H>>,
-    error: Option<i32>,
-) -> Result<(), ServerFailure>
-    ensures closed { IfOk served (λ closed. result ≡ told_of closed.end error) }
+fn end_of<H: Host>(served: Result<Closed<H>, Unfinished<H>>) -> Result<(), ServerFailure>
+    ensures closed { IfOk served (λ closed. IsToldOf closed.end result) }
     ensures lost { OnErr served (result ≡ Err (record { fault = LostConnection; error = None })) }
 {
     let Ok(closed) = served else {
         return Err(ServerFailure::from(ServerFault::LostConnection));
     };
-    let end = closed.end;
+    let (end, error) = (closed.end, closed.acceptor.error());
     drop(closed);
+    failure_of(end, error)
+}
+
+// How the tool ends, by how its server did and this error.
+fn failure_of(end: ServeEnd, error: Option<i32>) -> Result<(), ServerFailure>
+    ensures { result ≡ told_of end error }
+{
     match end {
         ServeEnd::Count | ServeEnd::Spent => Ok(()),
         ServeEnd::NoPlaces => Err(ServerFailure::from(ServerFault::NoPlaces)),
