@@ -6,6 +6,7 @@ pub mod Registers
 pub mod Standing
 pub mod Serving
 pub mod Telling
+pub mod Runs
 pub mod Stepping
 pub mod Installed
 pub mod Readers

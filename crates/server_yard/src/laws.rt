@@ -8,6 +8,7 @@ ghost use Rattle.server_events.specs.Worlds.{KeptFile, World};
 ghost use Rattle.server_events.specs.declared.event.Event.{Event};
 ghost use Rattle.server_events.specs.declared.event.Stage.TheVariants as Stage;
 ghost use Rattle.server_yard.specs.Readers.{IsAbsentOrCompiled, KeptYard, NamesStoredSinceDone, begun_in};
+ghost use Rattle.server_yard.specs.Runs.{BeginsRun, HasRun, IsPlayedOut};
 ghost use Rattle.server_yard.specs.Serving.{IsReachedOn, IsServers, Serves, StepsByItself, over};
 ghost use Rattle.server_yard.specs.Standing.{IsNew, IsReachedBy, Leads, LeadsOpened, Series, YardState, standing_of};
 ghost use Rattle.server_yard.specs.Telling.{AreApart, ToldLater};
@@ -64,4 +65,15 @@ pub fn readers()
         → NamesStoredSinceDone k.kept.history lists k.state.directory k.rules.name }
     ensures one_each { (k : KeptYard) (lists : List (List Rule)) → k.books.lists ≡ Some lists
         → length lists ≡ begun_in k.kept.history }
+{}
+
+/// Whatever a yard did since no connection had come, beside installers in other processes, and others, is a history of
+/// the headline.
+///
+/// The yard keeps a run (`HasRun`) if it makes the calls of connections alone: each is one move of it. Others go on as
+/// they like between two moves. Each opening stands in the history at the time at which it found what it did, at any time
+/// between its admission and its telling. So at each time a whole accepted text stands under the rules name, each
+/// decision is by the text that stood there when its connection opened the rules, and the limit is kept.
+pub fn whole_run()
+    ensures { (y : YardState) (run : HasRun true y) (w : World) → BeginsRun run.begin w → IsPlayedOut run.moves [] w }
 {}
