@@ -13,7 +13,7 @@ use server_parts::programs::{ProgramInput, ServiceJob};
 use server_parts::sockets::Holder;
 use server_parts::{ProgramStarter, ServerFailure, SocketAcceptor, Wrapper};
 use server_yard::Assumptions;
-use shared_site::Callers;
+use shared_site::{Callers, Ground};
 use std::fs::{File, Files};
 use std::io::{Read, Write};
 use std::marker::PhantomData;
@@ -112,10 +112,8 @@ where
 /// What a server stands on, over these ledgers of places and of callers.
 pub(crate) struct OnSystem<'a, P: System, L, N>(PhantomData<(&'a P::Runtime, L, N)>);
 
-impl<'a, P: System, L: Assumptions + Send + Sync, N: Callers + Send + Sync> Host
+impl<'a, P: System, L: Assumptions + Send + Sync, N: Callers + Send + Sync> Ground
     for OnSystem<'a, P, L, N> {
-    type Runtime = P::Runtime;
-
     type Places = L;
 
     type Callers = N;
@@ -125,6 +123,13 @@ impl<'a, P: System, L: Assumptions + Send + Sync, N: Callers + Send + Sync> Host
     type Folder = NoFolder;
 
     type Journal = Counts;
+
+    ghost is_servers = { true };
+}
+
+impl<'a, P: System, L: Assumptions + Send + Sync, N: Callers + Send + Sync> Host
+    for OnSystem<'a, P, L, N> {
+    type Runtime = P::Runtime;
 
     type Handle = FolderHandle<'a, L, SystemDisk<&'a P::Runtime>>;
 

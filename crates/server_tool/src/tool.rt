@@ -251,7 +251,7 @@ fn run_site<'a, L: Assumptions + Send + Sync, N: Callers + Send + Sync, P: Syste
     requires accepts { AcceptsAsAsked P.listens words.now acceptor }
 {
     let yard = yard_of::<L>(rt.alloc(), rules, words, places)?;
-    let made = Site::<L, N, NoFolder, Counts>::new(rt.alloc(), parts, yard, CALLERS);
+    let made = Site::<OnSystem<'a, P, L, N>>::new(rt.alloc(), parts, yard, CALLERS);
     let (site, callers) = made.map_err(|_| ServerFault::OutOfMemory)?;
     let starter = ProgramStarter::new(rt, words.mode(), &server.search, &server.service.reserve);
     serve_on(rt, server, acceptor, site, callers, at, &starter, words)
@@ -292,7 +292,7 @@ fn serve_on<'a, L: Assumptions + Send + Sync, N: Callers + Send + Sync, P: Syste
     rt: &'a P::Runtime,
     server: &'a ServerParts<P>,
     acceptor: SocketAcceptor<'a, P::Runtime, P::Listener>,
-    site: Site<L, N, NoFolder, Counts>,
+    site: Site<OnSystem<'a, P, L, N>>,
     callers: Vec<Caller<N>>,
     at: RulesPath<'a, P::Runtime>,
     starter: &ProgramStarter<'a, P::Runtime>,

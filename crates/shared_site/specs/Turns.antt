@@ -1,5 +1,5 @@
 -- What a turn does to a yard, and when its event is allowed.
-use Rattle.std.specs.Prelude.{⊤, ◌≡◌, ℕ, Bool, true, List, Option, Some, IsTrue, IfNone, IfSome, is_some}
+use Rattle.std.specs.Prelude.{⊤, ◌≡◌, ◌⊎◌, ℕ, Bool, true, List, Option, Some, IsTrue, IfNone, IfSome, is_some}
 use Rattle.std.specs.Bool.{OnFalse, OnTrue}
 use Rattle.dir_calls.specs.Directory.{Directory}
 use Rattle.dir_calls.specs.declared.dir.Dir as dir
@@ -15,6 +15,7 @@ use Rattle.server_events.specs.declared.event.Stage.{Stage}
 use Rattle.server_events.specs.declared.event.Stage.TheVariants as stage
 use Rattle.server_yard.specs.Passes.{pass_file, pass_missing, pass_serial}
 use Rattle.server_yard.specs.Rolls.{Notes, Roll}
+use Rattle.server_yard.specs.Runs.{GoesBy, Move}
 use Rattle.server_yard.specs.Seating.{KeepsSeats}
 use Rattle.server_yard.specs.Standing.{LeadsOn, LeadsOpened, YardState, standing_of}
 use Rattle.server_yard.specs.Yards.{IsSameBeside, number_of, stage_of_place, yard_books, yard_over, yard_roll, yard_rules, yard_seat, yard_server, yard_state}
@@ -41,6 +42,10 @@ pub record IsLastOf (who : ℕ) (event : Event) (roll : Roll) : Type 0 where
 -- stands there
 abbrev pub LeadsFound : ℕ → Option (List ℕ) → (old new : YardState) → Type 0
 LeadsFound serial bytes old new = bytes ≡ standing_of old → LeadsOpened serial bytes old new
+
+-- a yard went on by one move of a server, or is as before to all that see it
+abbrev pub GoesOn : (honest : Bool) → (old new : YardState) → Type 0
+GoesOn honest old new = (new ≡ old) ⊎ ((move : Move) × GoesBy honest move.event move.found old new)
 
 -- a yard with this ledger, this directory, this journal and these files, and what their traits tell of them
 module _ {L D J F : Type 0} {p : assumptions.Ghosts L} {d : dir.Ghosts D F} {f : file.Ghosts F} {j : journal.Ghosts J} where

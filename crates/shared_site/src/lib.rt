@@ -2,18 +2,21 @@
 //!
 //! The server uses `Site::turn`, which runs any value that is a `Turn` and counts its event for its caller, and
 //! `Site::close`. A turn is the yard's call of its name if the table allows the event; otherwise it is an error that
-//! changes nothing but the speaker. Only laws and tests make a `Receipt` of the evidence that a turn answers: see
-//! `whole_yard`, which audits receipts. A `Refusal`, and `AllRetired`, are made only of a yard that is so. Nothing is
-//! proved about the answer of `live`. That threads get the lock and go on is tested (`test_sites`).
+//! changes nothing but the speaker. All turns of a site together are a run of its yard (`Guarded`, `Site::close`). Only
+//! laws and tests make a `Receipt` of the evidence that a turn answers: see `whole_yard`, which audits receipts. A
+//! `Refusal`, and `AllRetired`, are made only of a yard that is so. Nothing is proved about the answer of `live`, and
+//! `Ok` of `room`. That threads get the lock and go on is tested (`test_sites`).
 #![tactic(auto)]
 
 pub mod caller;
+pub mod ground;
 pub mod receipt;
 pub mod site;
 pub mod turn;
 pub mod turns;
 
 pub use caller::{Caller, Callers};
+pub use ground::{CallerOf, Ground, YardOf};
 pub use receipt::{Made, OutOfTurn, Receipt, Refusal};
 pub use site::{AllRetired, Site};
 pub use turn::Turn;

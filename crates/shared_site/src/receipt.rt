@@ -1,12 +1,11 @@
 //! What a caller gets for an event that it asked for.
 ghost use Rattle.std.specs.Prelude.{◌≡◌};
 
+use crate::ground::{Ground, YardOf};
 use connection_facts::Peer;
-use dir_calls::Dir;
-use event_journals::Journal;
 use rule_lookup::Decision;
 use server_events::Event;
-use server_yard::{AdmitFault, Assumptions, Yard};
+use server_yard::AdmitFault;
 use std::snapshot::Snapshot;
 
 /// A snapshot of an event, without what it owns. It takes no memory, and copies nothing.
@@ -98,8 +97,8 @@ impl Refusal {
     }
 
     // That this yard has not let a client in.
-    pub(crate) fn of<L: Assumptions, D: Dir + Drop, J: Journal>(
-        _yard: &Yard<L, D, J>,
+    pub(crate) fn of<G: Ground>(
+        _yard: &YardOf<G>,
         _peer: &Peer,
         fault: AdmitFault,
     ) -> Refusal

@@ -1,46 +1,51 @@
 //! The site: a yard under one lock, for many threads.
-ghost use Rattle.std.specs.Prelude.{◌≡◌, ◌+◌, ◌<◌, ◌≤◌, ◌↔◌, IsOk, IsTrue, IfOk, IfErr, length, vec_len};
-ghost use Rattle.server_yard.specs.Yards.{yard_books, yard_server};
+ghost use Rattle.std.specs.Prelude.{◌≡◌, ◌+◌, ◌<◌, ◌≤◌, ◌↔◌, true, IsOk, IsTrue, IfOk, IfErr, length, vec_len};
+ghost use Rattle.server_yard.specs.Runs.{HasRun};
+ghost use Rattle.server_yard.specs.Yards.{yard_books, yard_server, yard_state};
 ghost use Rattle.shared_site.specs.Callers.{AreNew, CountsForIts, total_share};
 
 use crate::caller::{Caller, Callers};
+use crate::ground::{CallerOf, Ground, YardOf};
 use crate::turn::Turn;
-use dir_calls::Dir;
 use event_journals::Journal;
-use server_yard::{Assumptions, Yard};
+use server_yard::Assumptions;
 use std::alloc::{AllocError, Global};
+use std::marker::PhantomData;
 use std::sync::ledger::{Blank, Book, Share};
 use std::sync::{Condvar, Mutex, Wait};
 
-/// Evidence that all places of a site are retired, so that none will ever be free. Only a yard that is so makes it.
+/// Evidence that all places of this ledger are retired, so that none will ever be free. Only a yard that is so makes it.
 #[derive(Drop)]
-pub struct AllRetired {
-    // this field is private, so that nobody else makes one
-    seal: (),
+pub struct AllRetired<L: Assumptions> {
+    ledger: PhantomData<L>,
 }
 
-impl AllRetired {
-    // That this yard is so.
-    fn of<L: Assumptions, D: Dir + Drop, J: Journal>(_yard: &Yard<L, D, J>) -> AllRetired
+impl<L: Assumptions> AllRetired<L> {
+    // That those of this yard are.
+    fn of<G: Ground<Places = L>>(_yard: &YardOf<G>) -> AllRetired<L>
         requires retired { (yard_server _yard.now).limit ≤ (yard_books _yard.now).report.retired }
     {
-        AllRetired { seal: () }
+        AllRetired {
+            ledger: PhantomData,
+        }
     }
 }
 
 // A yard, and how many events it had since the site was made.
 #[derive(Drop)]
-struct Guarded<L: Assumptions, N: Callers, D: Dir + Drop, J: Journal> {
-    yard: Yard<L, D, J>,
-    events: Book<N>,
+struct Guarded<G: Ground> {
+    yard: YardOf<G>,
+    events: Book<G::Callers>,
     // the shares together are that number
-    ghost counted: { N.before + events.total ≡ (yard_books yard).count },
+    ghost counted: { G.Callers.before + events.total ≡ (yard_books yard).count },
+    // if the yard is a server's and had no event before, all that it did is a run
+    ghost ran: { G.is_servers ≡ true → G.Callers.before ≡ 0 → ∥ HasRun G.File.honest (yard_state yard) ∥₁ },
 }
 
-impl<L: Assumptions, N: Callers, D: Dir + Drop, J: Journal> Guarded<L, N, D, J> {
+impl<G: Ground> Guarded<G> {
     // Runs a turn of a caller. It also answers whether that made room when there was none. The journal's number before
     // and after the turn says how many events it made.
-    fn turn<T: Turn<L, D, J>>(&mut self, caller: &mut Caller<N>, turn: T) -> (T::Answer, bool)
+    fn turn<T: Turn<G>>(&mut self, caller: &mut CallerOf<G>, turn: T) -> (T::Answer, bool)
         requires may { T.may turn }
         ensures counted { CountsForIts (T.answers turn) result.0 caller.old caller.new }
     {
@@ -65,15 +70,15 @@ impl<L: Assumptions, N: Callers, D: Dir + Drop, J: Journal> Guarded<L, N, D, J> 
 /// A yard that many threads call, one turn after another. Each thread has a caller of its own, and each event belongs
 /// to one turn.
 #[derive(Drop)]
-pub struct Site<L: Assumptions, N: Callers, D: Dir + Drop, J: Journal> {
-    guarded: Mutex<Guarded<L, N, D, J>>,
+pub struct Site<G: Ground> {
+    guarded: Mutex<Guarded<G>>,
     freed: Condvar,
     callers: u64,
-    ghost all: { callers ≡ N.all },
+    ghost all: { callers ≡ G.Callers.all },
     ghost some: { 0 < callers },
 }
 
-impl<L: Assumptions, N: Callers, D: Dir + Drop, J: Journal> Site<L, N, D, J> {
+impl<G: Ground> Site<G> {
     /// A site with this many callers, numbered from 1, each with a share of 0. `blank` has as many parts.
     ///
     /// # Errors
@@ -81,17 +86,18 @@ impl<L: Assumptions, N: Callers, D: Dir + Drop, J: Journal> Site<L, N, D, J> {
     pub fn new(
         alloc: Global,
         blank: Blank,
-        yard: Yard<L, D, J>,
+        yard: YardOf<G>,
         callers: u64,
-    ) -> Result<(Site<L, N, D, J>, Vec<Caller<N>>), (Yard<L, D, J>, AllocError)>
-        requires name { blank.name ≡ N.name }
-        requires parts { (blank.parts ≡ N.parts) × (blank.parts ≡ callers) × (N.all ≡ callers) }
+    ) -> Result<(Site<G>, Vec<CallerOf<G>>), (YardOf<G>, AllocError)>
+        requires name { blank.name ≡ G.Callers.name }
+        requires parts { (blank.parts ≡ G.Callers.parts) × (blank.parts ≡ callers) × (G.Callers.all ≡ callers) }
         requires some { 0 < callers }
-        requires before { N.before ≡ (yard_books yard).count }
+        requires before { G.Callers.before ≡ (yard_books yard).count }
         ensures callers { IfOk result (λ r. AreNew callers r.1.items) }
         ensures back { IfErr result (λ r. r.0 ≡ yard) }
     {
-        let (events, mut rest) = blank.open::<N>();
+        // UNBEGUN
+        let (events, mut rest) = blank.open::<G::Callers>();
         let made = match make_callers(alloc, &mut rest, callers) {
             Ok(made) => made,
             Err(error) => return Err((yard, error)),
@@ -107,10 +113,10 @@ impl<L: Assumptions, N: Callers, D: Dir + Drop, J: Journal> Site<L, N, D, J> {
     /// Makes a turn for a caller. It waits for the lock, runs the turn on the yard with the caller's number, and lets
     /// the lock go. If the turn made an event, the caller's share grows by it. If it made room, those who wait for room
     /// are woken. Under the lock nobody waits for anything but what the turn itself waits for.
-    pub fn turn<R: Wait, T: Turn<L, D, J>>(
+    pub fn turn<R: Wait, T: Turn<G>>(
         &self,
         rt: &R,
-        caller: &mut Caller<N>,
+        caller: &mut CallerOf<G>,
         turn: T,
     ) -> T::Answer
         requires may { T.may turn }
@@ -132,28 +138,31 @@ impl<L: Assumptions, N: Callers, D: Dir + Drop, J: Journal> Site<L, N, D, J> {
     ///
     /// # Errors
     /// All places are retired.
-    pub fn room<R: Wait>(&self, rt: &R) -> Result<(), AllRetired> {
+    pub fn room<R: Wait>(&self, rt: &R) -> Result<(), AllRetired<G::Places>> {
         let guarded = self
             .freed
             .wait_while(rt, self.guarded.lock(rt), |guarded| guarded.is_taken());
         if guarded.yard.journal().report().retired < guarded.yard.limit() {
             return Ok(());
         }
-        Err(AllRetired::of(&guarded.yard))
+        Err(AllRetired::of::<G>(&guarded.yard))
     }
 
     /// The yard, once all callers are back. Its history has as many events as when the site was made, and those of all
-    /// shares.
+    /// shares. If it is a server's and had no event before, all that it did is a run, of which `server_yard::laws::whole_run`
+    /// speaks.
     ///
     /// # Errors
     /// Some caller is lacking. The site and the callers are handed back.
     pub fn close(
         self,
-        callers: Vec<Caller<N>>,
-    ) -> Result<Yard<L, D, J>, (Site<L, N, D, J>, Vec<Caller<N>>)>
-        requires parts { N.all ≡ N.parts }
-        ensures all { IsOk result ↔ (vec_len callers ≡ N.all) }
-        ensures history { IfOk result (λ yard. (yard_books yard).count ≡ N.before + total_share callers.items) }
+        callers: Vec<CallerOf<G>>,
+    ) -> Result<YardOf<G>, (Site<G>, Vec<CallerOf<G>>)>
+        requires parts { G.Callers.all ≡ G.Callers.parts }
+        ensures all { IsOk result ↔ (vec_len callers ≡ G.Callers.all) }
+        ensures history { IfOk result (λ yard. (yard_books yard).count ≡ G.Callers.before + total_share callers.items) }
+        ensures ran { IfOk result (λ yard. G.is_servers ≡ true → G.Callers.before ≡ 0
+            → ∥ HasRun G.File.honest (yard_state yard) ∥₁) }
         ensures back { IfErr result (λ r. (r.0 ≡ self) × (r.1 ≡ callers)) }
     {
         if callers.len() as u64 != self.callers {

@@ -1,16 +1,15 @@
 //! Turns as values: a caller hands one to its site, which runs it on the yard under its lock.
-ghost use Rattle.std.specs.Prelude.{◌≡◌, ℕ};
-ghost use Rattle.server_yard.specs.Yards.{yard_books, yard_roll};
+ghost use Rattle.std.specs.Prelude.{◌≡◌, ℕ, true};
+ghost use Rattle.server_yard.specs.Yards.{yard_books, yard_roll, yard_state};
 ghost use Rattle.shared_site.specs.Receipts.{CountsAtMostOne, receipt_at, receipt_of, shown_event};
-ghost use Rattle.shared_site.specs.Turns.{IsLastOf};
+ghost use Rattle.shared_site.specs.Turns.{GoesOn, IsLastOf};
 
+use crate::ground::{Ground, YardOf};
 use crate::receipt::{EventSnapshot, Made};
-use dir_calls::Dir;
 use event_journals::Journal;
-use server_yard::{Assumptions, Yard};
 
 /// A turn: a value that asks a yard for one event, and makes one or none.
-pub trait Turn<L: Assumptions, D: Dir + Drop, J: Journal> {
+pub trait Turn<G: Ground> {
     /// What it answers.
     type Answer;
 
@@ -22,20 +21,18 @@ pub trait Turn<L: Assumptions, D: Dir + Drop, J: Journal> {
     ghost answers: { Self → (who before : ℕ) → Self.Answer → (after : ℕ) → Type 0 };
 
     /// Runs the turn on a yard, for the caller with this number.
-    fn run(self, yard: &mut Yard<L, D, J>, caller: u64) -> Self::Answer
+    fn run(self, yard: &mut YardOf<G>, caller: u64) -> Self::Answer
         requires may { may self }
         ensures answers { answers self caller
             (yard_books yard.old).count result (yard_books yard.new).count }
-        ensures counts { CountsAtMostOne (yard_books yard.old).count (yard_books yard.new).count };
+        ensures counts { CountsAtMostOne (yard_books yard.old).count (yard_books yard.new).count }
+        ensures goes { G.is_servers ≡ true
+            → GoesOn G.File.honest (yard_state yard.old) (yard_state yard.new) };
 }
 
-/// Evidence that a caller made a yard's last event. This is the only way to evidence, and it is open only to a turn
-/// that has just made this very event for this caller.
-pub fn made<L: Assumptions, D: Dir + Drop, J: Journal>(
-    yard: &Yard<L, D, J>,
-    caller: u64,
-    event: EventSnapshot,
-) -> Made
+/// Evidence that a caller made a yard's last event, as which this event was just noted. There is no other way to
+/// evidence.
+pub fn made<G: Ground>(yard: &YardOf<G>, caller: u64, event: EventSnapshot) -> Made
     requires last { IsLastOf caller (shown_event event) (yard_roll yard.now) }
     ensures its { receipt_of result ≡ receipt_at (yard_books yard.now).count caller (shown_event event) }
 {

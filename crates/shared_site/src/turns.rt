@@ -5,7 +5,7 @@
 //!
 //! `in_turn` says when a turn's event is made, and `makes` all that the turn then does, or leaves as it was. Such an
 //! event is a step over whatever directory other processes left (`beside`).
-ghost use Rattle.std.specs.Prelude.{⊤, ◌≡◌, ◌↔◌, false, true, Bool, Err, None, Option, Some, IsTrue, IsOk, IfOk, IfNone, IfSome, OnErr, OnOk, is_ok, is_some, length, option_map};
+ghost use Rattle.std.specs.Prelude.{⊤, ◌≡◌, ◌↔◌, false, true, Bool, Err, None, Option, Some, IsTrue, IsOk, IfOk, IfSome, OnErr, OnOk, is_ok, is_some, length, option_map};
 ghost use Rattle.child_jobs.specs.Runs.{place_of};
 ghost use Rattle.dir_calls.specs.Directory.{Directory};
 ghost use Rattle.server_events.specs.ServerState.{is_admitted, is_allowed, is_started, is_unstarted, stage_of};
@@ -19,18 +19,17 @@ ghost use Rattle.server_yard.specs.Standing.{LeadsDecided, LeadsOn};
 ghost use Rattle.server_yard.specs.Yards.{IsSameBeside, number_of, stage_of_place, yard_books, yard_over, yard_roll, yard_rules, yard_seat, yard_server, yard_state};
 ghost use Rattle.server_yard.specs.declared.register.AdmitFault.TheVariants.{Full, FullForAddress, Spent};
 ghost use Rattle.shared_site.specs.Receipts.{AdmitsOrNot, CountsAtMostOne, MakesOrNot, refused_as};
-ghost use Rattle.shared_site.specs.Turns.{Answers, IsAt, IsPassedOver, LeadsFound, Makes, MakesBy, MayBeDecided, NotesBy, OpensBy, spoken_by};
+ghost use Rattle.shared_site.specs.Turns.{Answers, GoesOn, IsAt, IsPassedOver, LeadsFound, Makes, MakesBy, MayBeDecided, NotesBy, OpensBy, spoken_by};
 
+use crate::ground::{Ground, YardOf};
 use crate::receipt::{EventSnapshot, Made, OutOfTurn, Refusal};
 use crate::turn::{Turn, made};
 use child_jobs::{Job, Place, Running};
 use connection_facts::{DropCause, Peer, StartFault, Status};
-use dir_calls::Dir;
-use event_journals::Journal;
 use rule_lines::Verdict;
 use rule_lookup::Decision;
 use server_events::{Event, Stage};
-use server_yard::{Assumptions, Finding, Pass, Yard};
+use server_yard::{Finding, Pass};
 use std::snapshot::Snapshot;
 
 /// Lets a connection in, as `Yard::admit` does.
@@ -43,16 +42,18 @@ pub struct Admit<'a> {
     pub peer: &'a Peer,
 }
 
-impl<L: Assumptions, D: Dir + Drop, J: Journal> Turn<L, D, J> for Admit<'_> {
-    type Answer = Result<(u64, Place<L>, Made), Refusal>;
+impl<G: Ground> Turn<G> for Admit<'_> {
+    type Answer = Result<(u64, Place<G::Places>, Made), Refusal>;
 
     ghost may = { λ _. ⊤ };
 
     ghost answers = { λ turn. AdmitsOrNot turn.peer.now };
 
-    fn run(self, yard: &mut Yard<L, D, J>, caller: u64) -> Result<(u64, Place<L>, Made), Refusal>
+    fn run(self, yard: &mut YardOf<G>, caller: u64) -> Result<(u64, Place<G::Places>, Made), Refusal>
         ensures answers { Answers (AdmitsOrNot self.entry.peer.now) caller result yard.old yard.new }
         ensures counts { CountsAtMostOne (yard_books yard.old).count (yard_books yard.new).count }
+        ensures goes { G.is_servers ≡ true
+            → GoesOn G.File.honest (yard_state yard.old) (yard_state yard.new) }
         ensures full { (refused_as result ≡ Some Full)
             ↔ (length (yard_server yard.old).connections ≡ (yard_server yard.old).limit) }
         ensures spent { (refused_as result ≡ Some Spent) ↔ IsSpent (yard_server yard.old) }
@@ -60,7 +61,7 @@ impl<L: Assumptions, D: Dir + Drop, J: Journal> Turn<L, D, J> for Admit<'_> {
             ↔ IsAddressFull self.entry.peer.now.ip (yard_server yard.old) }
         ensures noted { IfOk result (λ r. NotesBy
             caller (event.Admitted r.0 self.entry.peer.now) (yard_roll yard.old) (yard_roll yard.new)) }
-        ensures step { IsTrue D.honest → IfOk result (λ r. LeadsOn
+        ensures step { IsTrue G.Folder.honest → IfOk result (λ r. LeadsOn
             (event.Admitted r.0 self.entry.peer.now) (yard_state yard.old) (yard_state yard.new)) }
         // and so over whatever directory others left
         ensures beside { (d : Directory) → IfOk result (λ r. LeadsOn
@@ -76,9 +77,9 @@ impl<L: Assumptions, D: Dir + Drop, J: Journal> Turn<L, D, J> for Admit<'_> {
         match yard.admit(peer) {
             Ok((serial, place)) => {
                 let event = EventSnapshot::Admitted(Snapshot::of(&serial), Snapshot::of(peer));
-                Ok((serial, place, made(yard, caller, event)))
+                Ok((serial, place, made::<G>(yard, caller, event)))
             }
-            Err(fault) => Err(Refusal::of(yard, peer, fault)),
+            Err(fault) => Err(Refusal::of::<G>(yard, peer, fault)),
         }
     }
 }
@@ -86,27 +87,29 @@ impl<L: Assumptions, D: Dir + Drop, J: Journal> Turn<L, D, J> for Admit<'_> {
 /// Notes that a connection opened the rules by a handle of its own, as `Yard::opened` does. It has to be let in, and
 /// must not have opened them before. Otherwise nothing changes but the speaker, and what it found is dropped.
 #[derive(Drop)]
-pub struct Opened<L: Assumptions, D: Dir + Drop> {
+pub struct Opened<G: Ground> {
     /// The connection's serial.
     pub serial: u64,
     /// What the connection found.
-    pub finding: Finding<L, D::File>,
+    pub finding: Finding<G::Places, G::File>,
 }
 
-impl<L: Assumptions, D: Dir + Drop, J: Journal> Turn<L, D, J> for Opened<L, D> {
-    type Answer = Option<(Pass<L, D::File>, Made)>;
+impl<G: Ground> Turn<G> for Opened<G> {
+    type Answer = Option<(Pass<G::Places, G::File>, Made)>;
 
     ghost may = { λ _. ⊤ };
 
     ghost answers = { λ turn. OpensBy turn.serial (finding_file turn.finding) };
 
-    fn run(self, yard: &mut Yard<L, D, J>, caller: u64) -> Option<(Pass<L, D::File>, Made)>
+    fn run(self, yard: &mut YardOf<G>, caller: u64) -> Option<(Pass<G::Places, G::File>, Made)>
         ensures answers { Answers (OpensBy self.serial (finding_file self.finding)) caller result yard.old yard.new }
         ensures counts { CountsAtMostOne (yard_books yard.old).count (yard_books yard.new).count }
+        ensures goes { G.is_servers ≡ true
+            → GoesOn G.File.honest (yard_state yard.old) (yard_state yard.new) }
         ensures in_turn { is_some result ≡ is_admitted (stage_of self.serial (yard_server yard.old).connections) }
         ensures missing { IfSome result (λ r. pass_missing r.0 ≡ missing_by (yard_rules yard.old)) }
         ensures makes { MakesBy caller (event.Opened self.serial (is_some (finding_file self.finding)))
-            (LeadsFound self.serial (option_map D.File.bytes (finding_file self.finding))) ⊤
+            (LeadsFound self.serial (option_map G.File.bytes (finding_file self.finding))) ⊤
             (is_some result) yard.old yard.new }
     {
         let Opened { serial, finding } = self;
@@ -117,7 +120,7 @@ impl<L: Assumptions, D: Dir + Drop, J: Journal> Turn<L, D, J> for Opened<L, D> {
         let pass = yard.opened(serial, finding);
         let there = pass.source().is_some();
         let event = EventSnapshot::Other(Snapshot::of(&Event::Opened { serial, there }));
-        Some((pass, made(yard, caller, event)))
+        Some((pass, made::<G>(yard, caller, event)))
     }
 }
 
@@ -127,42 +130,44 @@ impl<L: Assumptions, D: Dir + Drop, J: Journal> Turn<L, D, J> for Opened<L, D> {
 /// # Errors
 /// The event is out of turn. Nothing changed but the speaker.
 #[derive(Drop)]
-pub struct Decided<'a, L: Assumptions, D: Dir + Drop> {
+pub struct Decided<'a, G: Ground> {
     /// What the connection opened.
-    pub pass: Pass<L, D::File>,
+    pub pass: Pass<G::Places, G::File>,
     /// The connection's client.
     pub peer: &'a Peer,
     /// The decision by what the connection opened.
     pub decision: Decision,
 }
 
-impl<L: Assumptions, D: Dir + Drop, J: Journal> Turn<L, D, J> for Decided<'_, L, D> {
+impl<G: Ground> Turn<G> for Decided<'_, G> {
     type Answer = Result<Made, OutOfTurn>;
 
-    ghost may = { λ turn. IsDecidedBy D.File.honest D.File.sound D.File.bytes turn.pass turn.peer.now turn.decision };
+    ghost may = { λ turn. IsDecidedBy G.File.honest G.File.sound G.File.bytes turn.pass turn.peer.now turn.decision };
 
     ghost answers = { λ turn. MakesOrNot (event.Decided (pass_serial turn.pass) turn.decision) };
 
-    fn run(self, yard: &mut Yard<L, D, J>, caller: u64) -> Result<Made, OutOfTurn>
-        requires decides { IsDecidedBy D.File.honest D.File.sound D.File.bytes self.pass self.peer.now self.decision }
+    fn run(self, yard: &mut YardOf<G>, caller: u64) -> Result<Made, OutOfTurn>
+        requires decides { IsDecidedBy G.File.honest G.File.sound G.File.bytes self.pass self.peer.now self.decision }
         ensures answers { Answers (MakesOrNot (event.Decided (pass_serial self.entry.pass) self.entry.decision))
             caller result yard.old yard.new }
         ensures counts { CountsAtMostOne (yard_books yard.old).count (yard_books yard.new).count }
+        ensures goes { G.is_servers ≡ true
+            → GoesOn G.File.honest (yard_state yard.old) (yard_state yard.new) }
         ensures in_turn { IsOk result ↔ MayBeDecided yard.old self.entry.pass self.entry.peer.now }
         // over whatever directory others left, too, if files are honest
         ensures makes { MakesBy caller (event.Decided (pass_serial self.entry.pass) self.entry.decision)
-            (LeadsDecided (pass_serial self.entry.pass) (pass_bytes D.File.bytes self.entry.pass) self.entry.decision)
-            (IsTrue D.File.honest) (is_ok result) yard.old yard.new }
+            (LeadsDecided (pass_serial self.entry.pass) (pass_bytes G.File.bytes self.entry.pass) self.entry.decision)
+            (IsTrue G.File.honest) (is_ok result) yard.old yard.new }
     {
         let (pass, peer, decision) = (self.pass, self.peer, self.decision);
         yard.speaker(caller);
         let serial = pass.serial();
         let event = EventSnapshot::Decided(Snapshot::of(&serial), Snapshot::of(&decision));
-        if !may_be_decided(yard, &pass, peer) {
+        if !may_be_decided::<G>(yard, &pass, peer) {
             return Err(OutOfTurn { asked: event });
         }
         yard.decided(pass, peer, decision);
-        Ok(made(yard, caller, event))
+        Ok(made::<G>(yard, caller, event))
     }
 }
 
@@ -172,33 +177,35 @@ impl<L: Assumptions, D: Dir + Drop, J: Journal> Turn<L, D, J> for Decided<'_, L,
 /// # Errors
 /// The event is out of turn. Nothing changed but the speaker.
 #[derive(Drop)]
-pub struct Started<'a, L: Assumptions, C: Job> {
+pub struct Started<'a, G: Ground, C: Job> {
     /// The connection's serial.
     pub serial: u64,
     /// The child.
-    pub running: &'a Running<L, C>,
+    pub running: &'a Running<G::Places, C>,
 }
 
-impl<L: Assumptions, D: Dir + Drop, J: Journal, C: Job> Turn<L, D, J> for Started<'_, L, C> {
+impl<G: Ground, C: Job> Turn<G> for Started<'_, G, C> {
     type Answer = Result<Made, OutOfTurn>;
 
     ghost may = { λ _. ⊤ };
 
     ghost answers = { λ turn. MakesOrNot (event.Started turn.serial) };
 
-    fn run(self, yard: &mut Yard<L, D, J>, caller: u64) -> Result<Made, OutOfTurn>
+    fn run(self, yard: &mut YardOf<G>, caller: u64) -> Result<Made, OutOfTurn>
         ensures answers { Answers (MakesOrNot (event.Started self.entry.serial)) caller result yard.old yard.new }
         ensures counts { CountsAtMostOne (yard_books yard.old).count (yard_books yard.new).count }
+        ensures goes { G.is_servers ≡ true
+            → GoesOn G.File.honest (yard_state yard.old) (yard_state yard.new) }
         ensures in_turn { IsOk result ↔ IsAt is_allowed self.entry.serial yard.old (place_of self.entry.running.now) }
         ensures makes { Makes caller (event.Started self.entry.serial) (is_ok result) yard.old yard.new }
     {
         let Started { serial, running } = self;
         let event = EventSnapshot::Other(Snapshot::of(&Event::Started { serial }));
-        if speak_at(yard, caller, running.place(), serial) != Some(Stage::Decided(Verdict::Allow)) {
+        if speak_at::<G>(yard, caller, running.place(), serial) != Some(Stage::Decided(Verdict::Allow)) {
             return Err(OutOfTurn { asked: event });
         }
         yard.started(running);
-        Ok(made(yard, caller, event))
+        Ok(made::<G>(yard, caller, event))
     }
 }
 
@@ -207,26 +214,28 @@ impl<L: Assumptions, D: Dir + Drop, J: Journal, C: Job> Turn<L, D, J> for Starte
 ///
 /// # Errors
 /// The event is out of turn. The place stays counted for good, and nothing changed but the speaker.
-pub struct StartFailed<L: Assumptions> {
+pub struct StartFailed<G: Ground> {
     /// The connection's serial.
     pub serial: u64,
     /// Its place.
-    pub place: Place<L>,
+    pub place: Place<G::Places>,
     /// Why.
     pub fault: StartFault,
 }
 
-impl<L: Assumptions, D: Dir + Drop, J: Journal> Turn<L, D, J> for StartFailed<L> {
+impl<G: Ground> Turn<G> for StartFailed<G> {
     type Answer = Result<Made, OutOfTurn>;
 
     ghost may = { λ _. ⊤ };
 
     ghost answers = { λ turn. MakesOrNot (event.StartFailed turn.serial turn.fault) };
 
-    fn run(self, yard: &mut Yard<L, D, J>, caller: u64) -> Result<Made, OutOfTurn>
+    fn run(self, yard: &mut YardOf<G>, caller: u64) -> Result<Made, OutOfTurn>
         ensures answers { Answers (MakesOrNot (event.StartFailed self.serial self.fault))
             caller result yard.old yard.new }
         ensures counts { CountsAtMostOne (yard_books yard.old).count (yard_books yard.new).count }
+        ensures goes { G.is_servers ≡ true
+            → GoesOn G.File.honest (yard_state yard.old) (yard_state yard.new) }
         ensures in_turn { IsOk result ↔ IsAt is_allowed self.serial yard.old self.place }
         ensures makes { Makes caller (event.StartFailed self.serial self.fault) (is_ok result) yard.old yard.new }
         ensures gone { OnOk result (stage_of self.serial (yard_server yard.new).connections ≡ None) }
@@ -237,12 +246,12 @@ impl<L: Assumptions, D: Dir + Drop, J: Journal> Turn<L, D, J> for StartFailed<L>
             fault,
         } = self;
         let event = EventSnapshot::Other(Snapshot::of(&Event::StartFailed { serial, fault }));
-        if speak_at(yard, caller, &place, serial) != Some(Stage::Decided(Verdict::Allow)) {
+        if speak_at::<G>(yard, caller, &place, serial) != Some(Stage::Decided(Verdict::Allow)) {
             place.strand();
             return Err(OutOfTurn { asked: event });
         }
         yard.start_failed(place, fault);
-        Ok(made(yard, caller, event))
+        Ok(made::<G>(yard, caller, event))
     }
 }
 
@@ -251,25 +260,27 @@ impl<L: Assumptions, D: Dir + Drop, J: Journal> Turn<L, D, J> for StartFailed<L>
 ///
 /// # Errors
 /// The event is out of turn. The place stays counted for good, and nothing changed but the speaker.
-pub struct Ended<L: Assumptions> {
+pub struct Ended<G: Ground> {
     /// The connection's serial.
     pub serial: u64,
     /// Its place.
-    pub place: Place<L>,
+    pub place: Place<G::Places>,
     /// How the child ended.
     pub status: Status,
 }
 
-impl<L: Assumptions, D: Dir + Drop, J: Journal> Turn<L, D, J> for Ended<L> {
+impl<G: Ground> Turn<G> for Ended<G> {
     type Answer = Result<Made, OutOfTurn>;
 
     ghost may = { λ _. ⊤ };
 
     ghost answers = { λ turn. MakesOrNot (event.Ended turn.serial turn.status) };
 
-    fn run(self, yard: &mut Yard<L, D, J>, caller: u64) -> Result<Made, OutOfTurn>
+    fn run(self, yard: &mut YardOf<G>, caller: u64) -> Result<Made, OutOfTurn>
         ensures answers { Answers (MakesOrNot (event.Ended self.serial self.status)) caller result yard.old yard.new }
         ensures counts { CountsAtMostOne (yard_books yard.old).count (yard_books yard.new).count }
+        ensures goes { G.is_servers ≡ true
+            → GoesOn G.File.honest (yard_state yard.old) (yard_state yard.new) }
         ensures in_turn { IsOk result ↔ IsAt is_started self.serial yard.old self.place }
         ensures makes { Makes caller (event.Ended self.serial self.status) (is_ok result) yard.old yard.new }
         ensures gone { OnOk result (stage_of self.serial (yard_server yard.new).connections ≡ None) }
@@ -280,12 +291,12 @@ impl<L: Assumptions, D: Dir + Drop, J: Journal> Turn<L, D, J> for Ended<L> {
             status,
         } = self;
         let event = EventSnapshot::Other(Snapshot::of(&Event::Ended { serial, status }));
-        if speak_at(yard, caller, &place, serial) != Some(Stage::Started) {
+        if speak_at::<G>(yard, caller, &place, serial) != Some(Stage::Started) {
             place.strand();
             return Err(OutOfTurn { asked: event });
         }
         yard.ended(place, status);
-        Ok(made(yard, caller, event))
+        Ok(made::<G>(yard, caller, event))
     }
 }
 
@@ -295,34 +306,36 @@ impl<L: Assumptions, D: Dir + Drop, J: Journal> Turn<L, D, J> for Ended<L> {
 ///
 /// # Errors
 /// The event is out of turn. Nothing changed but the speaker.
-pub struct Retired<L: Assumptions, C: Job> {
+pub struct Retired<G: Ground, C: Job> {
     /// The connection's serial.
     pub serial: u64,
     /// The child.
-    pub running: Running<L, C>,
+    pub running: Running<G::Places, C>,
 }
 
-impl<L: Assumptions, D: Dir + Drop, J: Journal, C: Job> Turn<L, D, J> for Retired<L, C> {
+impl<G: Ground, C: Job> Turn<G> for Retired<G, C> {
     type Answer = Result<Made, OutOfTurn>;
 
     ghost may = { λ _. ⊤ };
 
     ghost answers = { λ turn. MakesOrNot (event.Retired turn.serial) };
 
-    fn run(self, yard: &mut Yard<L, D, J>, caller: u64) -> Result<Made, OutOfTurn>
+    fn run(self, yard: &mut YardOf<G>, caller: u64) -> Result<Made, OutOfTurn>
         ensures answers { Answers (MakesOrNot (event.Retired self.serial)) caller result yard.old yard.new }
         ensures counts { CountsAtMostOne (yard_books yard.old).count (yard_books yard.new).count }
+        ensures goes { G.is_servers ≡ true
+            → GoesOn G.File.honest (yard_state yard.old) (yard_state yard.new) }
         ensures in_turn { IsOk result ↔ IsAt is_started self.serial yard.old (place_of self.running) }
         ensures makes { Makes caller (event.Retired self.serial) (is_ok result) yard.old yard.new }
     {
         let Retired { serial, running } = self;
         let event = EventSnapshot::Other(Snapshot::of(&Event::Retired { serial }));
-        if speak_at(yard, caller, running.place(), serial) != Some(Stage::Started) {
+        if speak_at::<G>(yard, caller, running.place(), serial) != Some(Stage::Started) {
             running.strand();
             return Err(OutOfTurn { asked: event });
         }
         yard.retired(running);
-        Ok(made(yard, caller, event))
+        Ok(made::<G>(yard, caller, event))
     }
 }
 
@@ -331,25 +344,27 @@ impl<L: Assumptions, D: Dir + Drop, J: Journal, C: Job> Turn<L, D, J> for Retire
 ///
 /// # Errors
 /// The event is out of turn. The place stays counted for good, and nothing changed but the speaker.
-pub struct Dropped<L: Assumptions> {
+pub struct Dropped<G: Ground> {
     /// The connection's serial.
     pub serial: u64,
     /// Its place.
-    pub place: Place<L>,
+    pub place: Place<G::Places>,
     /// Why.
     pub cause: DropCause,
 }
 
-impl<L: Assumptions, D: Dir + Drop, J: Journal> Turn<L, D, J> for Dropped<L> {
+impl<G: Ground> Turn<G> for Dropped<G> {
     type Answer = Result<Made, OutOfTurn>;
 
     ghost may = { λ _. ⊤ };
 
     ghost answers = { λ turn. MakesOrNot (event.Dropped turn.serial turn.cause) };
 
-    fn run(self, yard: &mut Yard<L, D, J>, caller: u64) -> Result<Made, OutOfTurn>
+    fn run(self, yard: &mut YardOf<G>, caller: u64) -> Result<Made, OutOfTurn>
         ensures answers { Answers (MakesOrNot (event.Dropped self.serial self.cause)) caller result yard.old yard.new }
         ensures counts { CountsAtMostOne (yard_books yard.old).count (yard_books yard.new).count }
+        ensures goes { G.is_servers ≡ true
+            → GoesOn G.File.honest (yard_state yard.old) (yard_state yard.new) }
         ensures in_turn { IsOk result ↔ IsAt is_unstarted self.serial yard.old self.place }
         ensures makes { Makes caller (event.Dropped self.serial self.cause) (is_ok result) yard.old yard.new }
         ensures gone { OnOk result (stage_of self.serial (yard_server yard.new).connections ≡ None) }
@@ -360,19 +375,19 @@ impl<L: Assumptions, D: Dir + Drop, J: Journal> Turn<L, D, J> for Dropped<L> {
             cause,
         } = self;
         let event = EventSnapshot::Other(Snapshot::of(&Event::Dropped { serial, cause }));
-        if !is_unstarted(speak_at(yard, caller, &place, serial)) {
+        if !is_unstarted(speak_at::<G>(yard, caller, &place, serial)) {
             place.strand();
             return Err(OutOfTurn { asked: event });
         }
         yard.dropped(place, cause);
-        Ok(made(yard, caller, event))
+        Ok(made::<G>(yard, caller, event))
     }
 }
 
 // Whether the connection of a pass may be decided now.
-fn may_be_decided<L: Assumptions, D: Dir + Drop, J: Journal>(
-    yard: &Yard<L, D, J>,
-    pass: &Pass<L, D::File>,
+fn may_be_decided<G: Ground>(
+    yard: &YardOf<G>,
+    pass: &Pass<G::Places, G::File>,
     peer: &Peer,
 ) -> bool
     ensures { IsTrue result ↔ MayBeDecided yard.now pass.now peer.now }
@@ -383,10 +398,10 @@ fn may_be_decided<L: Assumptions, D: Dir + Drop, J: Journal>(
 }
 
 // Makes a caller the speaker, and answers the stage of the connection at a place, if that has this serial.
-fn speak_at<L: Assumptions, D: Dir + Drop, J: Journal>(
-    yard: &mut Yard<L, D, J>,
+fn speak_at<G: Ground>(
+    yard: &mut YardOf<G>,
     caller: u64,
-    place: &Place<L>,
+    place: &Place<G::Places>,
     serial: u64,
 ) -> Option<Stage>
     ensures spoken { IsPassedOver caller yard.old yard.new }

@@ -2,7 +2,7 @@
 //! the turn is over.
 ghost use Rattle.std.specs.Prelude.{◌≡◌, None};
 
-use crate::host::{Host, YardOf};
+use crate::host::Host;
 use crate::opening::{Rules, RulesHandle};
 use crate::reasons::{Reason, cause_of_absence, cause_of_damage};
 use crate::server::Server;
@@ -15,14 +15,14 @@ use rule_lookup::{DecideFault, Decision};
 use server_log::{Cause, Told};
 use server_yard::{Finding, Pass};
 use shared_site::turns::{Decided, Dropped, Ended, Opened, Retired, StartFailed, Started};
-use shared_site::{Made, OutOfTurn, Turn};
+use shared_site::{Ground, Made, OutOfTurn, Turn};
 use std::alloc::Global;
 use std::snapshot::Snapshot;
 use tcp_connections::Notes;
 use ucspi_env::Local;
 
 /// What a connection found when it opened the rules, if it came to that.
-pub(crate) type FoundBy<H> = Option<Snapshot<Pass<<H as Host>::Places, <H as Host>::File>>>;
+pub(crate) type FoundBy<H> = Option<Snapshot<Pass<<H as Ground>::Places, <H as Ground>::File>>>;
 
 /// The agent of one connection.
 ///
@@ -86,7 +86,7 @@ impl<H: Host> LoggedAgent<'_, H> {
     }
 
     // A turn of the caller that makes the events of connections.
-    fn turn<T: Turn<H::Places, H::Folder, H::Journal>>(&self, turn: T) -> T::Answer
+    fn turn<T: Turn<H>>(&self, turn: T) -> T::Answer
         requires may { T.may turn }
         ensures answered { IsAnswer (T.answers turn) result }
     {
@@ -98,7 +98,7 @@ impl<H: Host> LoggedAgent<'_, H> {
     // The same of an event of which the log is told.
     fn tell<T>(&self, turn: T, told: Told<'_>) -> Result<Made, OutOfTurn>
     where
-        T: Turn<H::Places, H::Folder, H::Journal, Answer = Result<Made, OutOfTurn>>,
+        T: Turn<H, Answer = Result<Made, OutOfTurn>>,
         requires may { T.may turn }
         ensures answered { IsAnswer (T.answers turn) result }
     {
@@ -127,7 +127,7 @@ impl<H: Host> LoggedAgent<'_, H> {
         ensures own { self.new.serial ≡ self.old.serial }
         ensures cause { IfErr result (FailsToOpen true (2 ^ 64 - 1) (2 ^ 64 - 1)) }
     {
-        let turn: Opened<H::Places, H::Folder> = Opened { serial, finding };
+        let turn = Opened::<H> { serial, finding };
         match self.turn(turn) {
             Some((pass, made)) => {
                 self.found = Some(Snapshot::of(&pass));
@@ -168,7 +168,7 @@ impl<H: Host> LoggedAgent<'_, H> {
                     Status::Signal => self.notes.signal(self.server.rt),
                     Status::Code(_) => None,
                 };
-                let turn = Ended {
+                let turn = Ended::<H> {
                     serial,
                     place,
                     status,
@@ -180,7 +180,10 @@ impl<H: Host> LoggedAgent<'_, H> {
                 };
                 self.tell(turn, told)
             }
-            Err(running) => self.tell(Retired { serial, running }, Told::Retired { serial }),
+            Err(running) => {
+                let turn = Retired::<H, H::Job> { serial, running };
+                self.tell(turn, Told::Retired { serial })
+            },
         };
         self.last = Some(answer);
     }
@@ -288,7 +291,7 @@ impl<H: Host> Agent<H::Places> for LoggedAgent<'_, H> {
             peer,
             file: cause_of_absence(self.server.rules.path(), &decision),
         };
-        let turn: Decided<'_, H::Places, H::Folder> = Decided {
+        let turn = Decided::<H> {
             pass,
             peer,
             decision,
@@ -305,7 +308,7 @@ impl<H: Host> Agent<H::Places> for LoggedAgent<'_, H> {
     #[tactic(auto, using(crate::proofs::Asked::asked_for))]
     fn started<C: Job>(&mut self, running: &Running<H::Places, C>, serial: u64, _peer: &Peer) {
         let process = self.notes.number(self.server.rt);
-        let turn = Started { serial, running };
+        let turn = Started::<H, C> { serial, running };
         self.last = Some(self.tell(turn, Told::Started { serial, process }));
     }
 
@@ -326,7 +329,7 @@ impl<H: Host> Agent<H::Places> for LoggedAgent<'_, H> {
             fault,
             cause,
         };
-        let turn = StartFailed {
+        let turn = StartFailed::<H> {
             serial,
             place,
             fault,
@@ -346,7 +349,7 @@ impl<H: Host> Agent<H::Places> for LoggedAgent<'_, H> {
             file,
             why,
         };
-        let turn = Dropped {
+        let turn = Dropped::<H> {
             serial,
             place,
             cause,

@@ -6,7 +6,7 @@ ghost use Rattle.tcp_connections.specs.declared.admission.AdmitOutcome.TheVarian
 ghost use Rattle.tcp_service.specs.declared.entrance.Refused.TheVariants.{OutOfMemory};
 ghost use Rattle.tcp_service.specs.Lives.{AdmitsOwn};
 
-use crate::host::{AcceptedBy, CallerOf, Host};
+use crate::host::{AcceptedBy, Host};
 use crate::life::Admitted;
 use crate::pumping::ClientStreams;
 use crate::server::Server;
@@ -14,7 +14,7 @@ use crate::telling::{AdmittedBy, TellingAdmission};
 use connection_facts::{DropCause, Peer};
 use server_yard::AdmitFault;
 use shared_site::turns::Dropped;
-use shared_site::{AllRetired, Refusal};
+use shared_site::{AllRetired, CallerOf, Refusal};
 use std::alloc::AllocError;
 use std::snapshot::Snapshot;
 use tcp_connections::{AcceptFault, Acceptor, Admission, AdmitOutcome};
@@ -42,7 +42,7 @@ pub(crate) struct Entrance<'a, H: Host> {
     pub acceptor: H::Acceptor,
     pub admitter: CallerOf<H>,
     /// That all places are retired, once the site has said so.
-    pub retired: Option<AllRetired>,
+    pub retired: Option<AllRetired<H::Places>>,
 }
 
 impl<'a, H: Host> Admission for Entrance<'a, H> {
@@ -136,7 +136,7 @@ fn admit<H: Host>(server: &Server<'_, H>, admitter: &mut CallerOf<H>, peer: &Pee
         Ok((serial, place, made)) => {
             if made.at() == u64::MAX {
                 let cause = DropCause::Memory;
-                let turn = Dropped {
+                let turn = Dropped::<H> {
                     serial,
                     place,
                     cause,

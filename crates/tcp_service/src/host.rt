@@ -3,37 +3,19 @@ use crate::opening::{Rules, RulesHandle};
 use crate::service::ChainSource;
 use byte_streams::LineWrapper;
 use child_jobs::Job;
-use dir_calls::{Dir, RulesFile};
-use event_journals::Journal;
-use server_yard::{Assumptions, Yard};
-use shared_site::{Caller, Callers, Site};
+use shared_site::Ground;
 use std::io::{Read, Write};
 use std::sync::Wait;
 use tcp_connections::{Accepted, Acceptor, Follow, Shut, Starter};
 
-/// What a server stands on: a type for each thing that it is lent. A host is a name for these types together, and has
-/// no values.
+/// What a server stands on: a type for each thing that it is lent, beside the ground of its site. A host is a name for
+/// these types together, and has no values.
 ///
 /// Which of these things threads share (`Sync`) and give one another (`Send`) is said where threads are started, and
 /// not here: the check does not take a call in a method of a trait where what is called says so in its bounds.
-pub trait Host {
+pub trait Host: Ground {
     /// The runtime.
     type Runtime: Wait;
-
-    /// The ledger of the places of connections, with what is assumed of the rules.
-    type Places: Assumptions;
-
-    /// The ledger of the callers of the site, and how many there are.
-    type Callers: Callers;
-
-    /// A rules file that a connection has opened.
-    type File: RulesFile + Drop;
-
-    /// The folder of the rules, as the site has it.
-    type Folder: Dir<File = Self::File> + Drop;
-
-    /// Where the site keeps its events, or only counts them.
-    type Journal: Journal;
 
     /// What one connection opens the rules by.
     type Handle: RulesHandle<Self::Places, Self::File> + Drop;
@@ -74,20 +56,6 @@ pub trait Host {
     /// What makes the line wrappers of connections that are pumped.
     type Chains: ChainSource<Wrapper = Self::Wrapper>;
 }
-
-/// The site of a server, at which its connections are counted.
-pub type SiteOf<H> = Site<
-    <H as Host>::Places,
-    <H as Host>::Callers,
-    <H as Host>::Folder,
-    <H as Host>::Journal,
->;
-
-/// What the site of a server is made of.
-pub type YardOf<H> = Yard<<H as Host>::Places, <H as Host>::Folder, <H as Host>::Journal>;
-
-/// Who makes events at the site of a server.
-pub type CallerOf<H> = Caller<<H as Host>::Callers>;
 
 /// A connection that was accepted.
 pub type AcceptedBy<H> = Accepted<<H as Host>::Reader, <H as Host>::Writer, <H as Host>::Shut>;

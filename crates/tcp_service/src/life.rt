@@ -17,9 +17,9 @@ use crate::service::Chains;
 use child_jobs::{Place, Running};
 use connection_facts::{DropCause, Peer};
 use one_connection::{Agent, Served, serve_one};
-use shared_site::Made;
+use shared_site::{Ground, Made};
 use std::snapshot::Snapshot;
-use tcp_connections::{ConnectionLauncher, Follow, Notes, Process, Shut, wait_in_rounds};
+use tcp_connections::{ConnectionLauncher, Notes, Process, Shut, wait_in_rounds};
 use ucspi_env::Local;
 
 /// A connection that was let in and whose program was not started yet: the right to what comes next. It is made of what
@@ -64,7 +64,7 @@ pub(crate) type Beginning<'a, H> = (Option<Upward<H>>, Alive<'a, H>);
 
 /// A program that was started for a connection, with what the connection found, and its process.
 type Ran<H> = (
-    Running<<H as Host>::Places, <H as Host>::Job>,
+    Running<<H as Ground>::Places, <H as Host>::Job>,
     FoundBy<H>,
     Option<Process>,
 );

@@ -1,9 +1,10 @@
 //! What all connections of a server share.
-use crate::host::{CallerOf, Host, SiteOf};
+use crate::host::Host;
 use crate::service::{ChainSource, Chains, Service};
 use child_jobs::Plan;
 use server_log::Log;
 use server_words::Mode;
+use shared_site::{CallerOf, Site};
 use std::alloc::{AllocError, Global};
 use std::sync::Mutex;
 
@@ -12,7 +13,7 @@ use std::sync::Mutex;
 pub(crate) struct Server<'a, H: Host> {
     pub rt: &'a H::Runtime,
     pub alloc: Global,
-    pub site: &'a SiteOf<H>,
+    pub site: &'a Site<H>,
     /// The caller of the site that makes all events but admissions.
     pub teller: &'a Mutex<CallerOf<H>>,
     pub rules: &'a H::Rules,

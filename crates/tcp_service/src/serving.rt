@@ -1,18 +1,19 @@
 //! The server: it lets connections in, each served by threads that are kept, until it comes to an end.
-ghost use Rattle.std.specs.Prelude.{◌≡◌, ◌≢◌, ◌+◌, ◌≤◌, [], IfOk, IfErr, IsTrue, is_some, length, vec_capacity, vec_len};
-ghost use Rattle.server_yard.specs.Yards.{yard_books, yard_server};
+ghost use Rattle.std.specs.Prelude.{◌≡◌, ◌≢◌, ◌+◌, ◌≤◌, [], true, IfOk, IfErr, IsTrue, is_some, length, vec_capacity, vec_len};
+ghost use Rattle.server_yard.specs.Runs.{HasRun};
+ghost use Rattle.server_yard.specs.Yards.{yard_books, yard_server, yard_state};
 ghost use Rattle.shared_site.specs.Callers.{caller_share, total_share};
 ghost use Rattle.tcp_connections.specs.Admissions.{FailedToAccept, IsServed, suffices};
 ghost use Rattle.tcp_connections.specs.declared.admission.ServeEnd.TheVariants.{AcceptFaults, NoPlaces};
 
 use crate::entrance::Entrance;
-use crate::host::{CallerOf, Host, SiteOf, YardOf};
+use crate::host::Host;
 use crate::server::Server;
 use crate::service::Service;
 use child_jobs::Plan;
 use event_journals::Journal;
 use server_log::Log;
-use shared_site::{AllRetired, Caller, Callers};
+use shared_site::{AllRetired, Caller, CallerOf, Callers, Site, YardOf};
 use std::alloc::Global;
 use std::snapshot::Snapshot;
 use std::sync::Mutex;
@@ -32,7 +33,7 @@ pub struct Closed<H: Host> {
     /// Where its connections came from, closed.
     pub acceptor: H::Acceptor,
     // that all places are retired, if its site has said so
-    retired: Option<AllRetired>,
+    retired: Option<AllRetired<H::Places>>,
     // the caller that let connections in, and the one that made all other events
     admitter: Snapshot<CallerOf<H>>,
     teller: Snapshot<CallerOf<H>>,
@@ -41,6 +42,8 @@ pub struct Closed<H: Host> {
         ≡ H.Callers.before + (caller_share admitter.value + caller_share teller.value) },
     pub ghost all_retired: { (yard_books yard).report.retired ≡ length (yard_server yard).connections },
     pub ghost by_places: { end ≡ NoPlaces → IsTrue (is_some retired) },
+    // all that happened is a run of a server
+    pub ghost ran: { H.is_servers ≡ true → H.Callers.before ≡ 0 → ∥ HasRun H.File.honest (yard_state yard) ∥₁ },
 }
 
 /// A server that has come to its end, but a connection is alive still that is not retired, though no thread has it.
@@ -53,6 +56,7 @@ pub struct Unfinished<H: Host> {
     // the caller that let connections in
     admitter: Snapshot<CallerOf<H>>,
     pub ghost lost: { (yard_books yard).report.retired ≢ length (yard_server yard).connections },
+    pub ghost ran: { H.is_servers ≡ true → H.Callers.before ≡ 0 → ∥ HasRun H.File.honest (yard_state yard) ∥₁ },
 }
 
 /// Serves connections until it comes to an end, waits until all that were let in are over, and closes the site.
@@ -69,7 +73,7 @@ pub fn serve<'a, H>(
     rt: &'a H::Runtime,
     alloc: Global,
     acceptor: H::Acceptor,
-    site: SiteOf<H>,
+    site: Site<H>,
     callers: Vec<CallerOf<H>>,
     rules: &'a H::Rules,
     wrapping: &H::Chains,
@@ -171,8 +175,8 @@ fn both<N: Callers>(callers: &mut Vec<Caller<N>>) -> (Caller<N>, Caller<N>)
 fn close<H: Host>(
     end: ServeEnd,
     acceptor: H::Acceptor,
-    retired: Option<AllRetired>,
-    site: SiteOf<H>,
+    retired: Option<AllRetired<H::Places>>,
+    site: Site<H>,
     callers: Vec<CallerOf<H>>,
     admitter: CallerOf<H>,
     teller: CallerOf<H>,

@@ -2,13 +2,13 @@
 ghost use Rattle.std.specs.Prelude.{⊤};
 ghost use Rattle.shared_site.specs.Receipts.{AdmitsOrNot};
 
-use crate::host::{Host, YardOf};
+use crate::host::Host;
 use child_jobs::Place;
 use connection_facts::Peer;
 use server_log::{Log, Told};
 use server_yard::AdmitFault;
 use shared_site::turns::Admit;
-use shared_site::{Made, OutOfTurn, Refusal, Turn};
+use shared_site::{Ground, Made, OutOfTurn, Refusal, Turn, YardOf};
 use std::sync::Mutex;
 
 /// A turn of a connection that was let in, and what the log is told of its event.
@@ -19,10 +19,10 @@ pub(crate) struct Telling<'a, H: Host, T> {
     pub log: &'a Mutex<Log<H::Lines>>,
 }
 
-impl<H, T> Turn<H::Places, H::Folder, H::Journal> for Telling<'_, H, T>
+impl<H, T> Turn<H> for Telling<'_, H, T>
 where
     H: Host,
-    T: Turn<H::Places, H::Folder, H::Journal, Answer = Result<Made, OutOfTurn>>,
+    T: Turn<H, Answer = Result<Made, OutOfTurn>>,
 {
     type Answer = Result<Made, OutOfTurn>;
 
@@ -46,7 +46,7 @@ where
 }
 
 /// Of a connection that was let in: its serial, its place, and the event that its admission made.
-pub(crate) type AdmittedBy<H> = (u64, Place<<H as Host>::Places>, Made);
+pub(crate) type AdmittedBy<H> = (u64, Place<<H as Ground>::Places>, Made);
 
 /// Lets a connection in, or tells why it is refused.
 pub(crate) struct TellingAdmission<'a, H: Host> {
@@ -55,7 +55,7 @@ pub(crate) struct TellingAdmission<'a, H: Host> {
     pub log: &'a Mutex<Log<H::Lines>>,
 }
 
-impl<H: Host> Turn<H::Places, H::Folder, H::Journal> for TellingAdmission<'_, H> {
+impl<H: Host> Turn<H> for TellingAdmission<'_, H> {
     type Answer = Result<AdmittedBy<H>, Refusal>;
 
     ghost may = { λ _. ⊤ };
@@ -78,15 +78,18 @@ fn tell_admission<H: Host>(
     live: u64,
     admitted: &Result<AdmittedBy<H>, Refusal>,
 ) {
-    let (ip, mut log) = (peer.ip(), log.lock(rt));
+    let ip = peer.ip();
     let _ = match admitted {
         Ok((serial, _, made)) => {
-            let serial = *serial;
-            log.tell(made.at(), live, Told::Admitted { serial, ip })
+            let told = Told::Admitted {
+                serial: *serial,
+                ip,
+            };
+            log.lock(rt).tell(made.at(), live, told)
         }
         Err(refusal) => match refusal.fault() {
-            AdmitFault::FullForAddress => log.address_full(ip),
-            AdmitFault::OutOfMemory => log.out_of_memory(),
+            AdmitFault::FullForAddress => log.lock(rt).address_full(ip),
+            AdmitFault::OutOfMemory => log.lock(rt).out_of_memory(),
             AdmitFault::Full | AdmitFault::Spent => Ok(()),
         },
     };

@@ -12,7 +12,7 @@ use event_journals::{Full, Journal};
 use fault_hints::Voice;
 use server_words::Level;
 use server_yard::{Assumptions, Finding, Yard};
-use shared_site::{Caller, Callers, Site};
+use shared_site::{CallerOf, Callers, Ground, Site};
 use std::alloc::{AllocError, Global};
 use std::io;
 use std::io::Empty;
@@ -89,14 +89,12 @@ struct InMemory<'s, 'w, R, L, N> {
     callers: PhantomData<N>,
 }
 
-impl<'s, 'w, R, L, N> Host for InMemory<'s, 'w, R, L, N>
+impl<'s, 'w, R, L, N> Ground for InMemory<'s, 'w, R, L, N>
 where
     R: Threads + Wait + Clock + Sync,
     L: Assumptions + Send + Sync,
     N: Callers + Send + Sync,
 {
-    type Runtime = R;
-
     type Places = L;
 
     type Callers = N;
@@ -106,6 +104,17 @@ where
     type Folder = MemDir;
 
     type Journal = Full;
+
+    ghost is_servers = { true };
+}
+
+impl<'s, 'w, R, L, N> Host for InMemory<'s, 'w, R, L, N>
+where
+    R: Threads + Wait + Clock + Sync,
+    L: Assumptions + Send + Sync,
+    N: Callers + Send + Sync,
+{
+    type Runtime = R;
 
     type Handle = NoRules;
 
@@ -178,7 +187,7 @@ where
     requires parts { (parts.name ≡ N.name) × (parts.parts ≡ N.parts) × (parts.parts ≡ 2) }
     requires callers { (N.all ≡ 2) × (N.before ≡ 0) }
 {
-    let Ok((site, callers)) = site_of::<L, N>(alloc, asked, places, parts) else {
+    let Ok((site, callers)) = site_of::<InMemory<'_, '_, R, L, N>>(alloc, asked, places, parts) else {
         return out.fail();
     };
     let log = Mutex::new(Log::new(alloc, lines, Level::All, Voice::Plain, asked.limit));
@@ -227,20 +236,20 @@ fn add_end<L: Assumptions, D: Dir + Drop, J: Journal + Lists>(
 }
 
 /// A site over an empty directory, and its callers.
-fn site_of<L: Assumptions, N: Callers>(
+fn site_of<G: Ground<File = MemFile, Folder = MemDir, Journal = Full>>(
     alloc: Global,
     asked: Asked,
     places: Blank,
     parts: Blank,
-) -> io::Result<(Site<L, N, MemDir, Full>, Vec<Caller<N>>)>
+) -> io::Result<(Site<G>, Vec<CallerOf<G>>)>
     requires limit { (0 < asked.limit) × (asked.limit < 10001) }
-    requires places { (places.name ≡ L.name) × (places.parts ≡ L.parts) × (places.parts ≡ asked.limit) }
-    requires met { L.met ≡ false }
-    requires parts { (parts.name ≡ N.name) × (parts.parts ≡ N.parts) × (parts.parts ≡ 2) }
-    requires callers { (N.all ≡ 2) × (N.before ≡ 0) }
+    requires places { (places.name ≡ G.Places.name) × (places.parts ≡ G.Places.parts) × (places.parts ≡ asked.limit) }
+    requires met { G.Places.met ≡ false }
+    requires parts { (parts.name ≡ G.Callers.name) × (parts.parts ≡ G.Callers.parts) × (parts.parts ≡ 2) }
+    requires callers { (G.Callers.all ≡ 2) × (G.Callers.before ≡ 0) }
     ensures new { IfOk result (λ made. (vec_len made.1 ≡ 2) × (total_share made.1.items ≡ 0)) }
 {
-    let yard = Yard::<L, MemDir, Full>::with_address_limit(
+    let yard = Yard::<G::Places, MemDir, Full>::with_address_limit(
         alloc,
         places,
         MemDir::new(alloc),
@@ -252,7 +261,7 @@ fn site_of<L: Assumptions, N: Callers>(
     let Ok(yard) = yard else {
         return Err(io::Error::from(io::ErrorKind::OutOfMemory));
     };
-    match Site::<L, N, MemDir, Full>::new(alloc, parts, yard, 2) {
+    match Site::<G>::new(alloc, parts, yard, 2) {
         Ok(made) => Ok(made),
         Err(_) => Err(io::Error::from(io::ErrorKind::OutOfMemory)),
     }

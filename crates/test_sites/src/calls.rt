@@ -3,8 +3,9 @@ ghost use Rattle.std.specs.Prelude.{◌≡◌, ℕ, IfOk};
 ghost use Rattle.shared_site.specs.Receipts.{made_event};
 ghost use Rattle.server_yard.specs.Passes.{IsDecidedBy};
 
-use crate::children::{end_child, start_child};
+use crate::children::{Idle, end_child, start_child};
 use crate::peer_of;
+use crate::sites::InMemory;
 use child_jobs::Place;
 use connection_facts::{DropCause, Peer};
 use dir_calls::{MemDir, MemFile, Name, RulesFile};
@@ -49,10 +50,10 @@ pub(crate) fn make<
     L: Assumptions,
     N: Callers,
     R: Abort + Wait,
-    T: Turn<L, MemDir, Full, Answer = Result<Made, OutOfTurn>>,
+    T: Turn<InMemory<L, N>, Answer = Result<Made, OutOfTurn>>,
 >(
     rt: &R,
-    site: &Site<L, N, MemDir, Full>,
+    site: &Site<InMemory<L, N>>,
     caller: &mut Caller<N>,
     turn: T,
     event: Event,
@@ -80,7 +81,7 @@ pub(crate) fn decide_by<L: Assumptions, F: RulesFile + Drop>(
 /// Lets a connection in once there is room for it.
 pub(crate) fn let_in<L: Assumptions, N: Callers, R: Abort + Wait>(
     rt: &R,
-    site: &Site<L, N, MemDir, Full>,
+    site: &Site<InMemory<L, N>>,
     caller: &mut Caller<N>,
     peer: &Peer,
     receipts: &mut Vec<Receipt>,
@@ -103,7 +104,7 @@ pub(crate) fn let_in<L: Assumptions, N: Callers, R: Abort + Wait>(
 pub(crate) fn open<L: Assumptions, N: Callers, R: Abort + Wait>(
     rt: &R,
     alloc: Global,
-    site: &Site<L, N, MemDir, Full>,
+    site: &Site<InMemory<L, N>>,
     caller: &mut Caller<N>,
     serial: u64,
     receipts: &mut Vec<Receipt>,
@@ -122,7 +123,7 @@ pub(crate) fn open<L: Assumptions, N: Callers, R: Abort + Wait>(
 pub(crate) fn decided<L: Assumptions, N: Callers, R: Abort + Wait>(
     rt: &R,
     alloc: Global,
-    site: &Site<L, N, MemDir, Full>,
+    site: &Site<InMemory<L, N>>,
     caller: &mut Caller<N>,
     pass: Pass<L, MemFile>,
     peer: &Peer,
@@ -135,7 +136,7 @@ pub(crate) fn decided<L: Assumptions, N: Callers, R: Abort + Wait>(
         serial: pass.serial(),
         decision: told,
     };
-    let turn: Decided<'_, L, MemDir> = Decided {
+    let turn = Decided::<InMemory<L, N>> {
         pass,
         peer,
         decision,
@@ -148,13 +149,13 @@ pub(crate) fn decided<L: Assumptions, N: Callers, R: Abort + Wait>(
 pub(crate) fn run_child<L: Assumptions, N: Callers, R: Abort + Wait>(
     rt: &R,
     alloc: Global,
-    site: &Site<L, N, MemDir, Full>,
+    site: &Site<InMemory<L, N>>,
     caller: &mut Caller<N>,
     (serial, place): (u64, Place<L>),
     receipts: &mut Vec<Receipt>,
 ) {
     let running = start_child(rt, alloc, place);
-    let started = Started {
+    let started = Started::<InMemory<L, N>, Idle> {
         serial,
         running: &running,
     };
@@ -167,7 +168,7 @@ pub(crate) fn run_child<L: Assumptions, N: Callers, R: Abort + Wait>(
         receipts,
     );
     let (place, status) = end_child(rt, running);
-    let ended = Ended {
+    let ended = Ended::<InMemory<L, N>> {
         serial,
         place,
         status,
@@ -185,13 +186,13 @@ pub(crate) fn run_child<L: Assumptions, N: Callers, R: Abort + Wait>(
 /// Gives a connection up.
 pub(crate) fn drop_one<L: Assumptions, N: Callers, R: Abort + Wait>(
     rt: &R,
-    site: &Site<L, N, MemDir, Full>,
+    site: &Site<InMemory<L, N>>,
     caller: &mut Caller<N>,
     (serial, place): (u64, Place<L>),
     cause: DropCause,
     receipts: &mut Vec<Receipt>,
 ) {
-    let turn = Dropped {
+    let turn = Dropped::<InMemory<L, N>> {
         serial,
         place,
         cause,
@@ -230,7 +231,7 @@ pub(crate) fn installation<R: Abort>(rt: &R, alloc: Global, text: &[u8]) -> Inst
 pub(crate) fn install<L: Assumptions, N: Callers, R: Abort + Wait>(
     rt: &R,
     alloc: Global,
-    site: &Site<L, N, MemDir, Full>,
+    site: &Site<InMemory<L, N>>,
     caller: &mut Caller<N>,
     install: Install,
     receipts: &mut Vec<Receipt>,

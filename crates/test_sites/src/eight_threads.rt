@@ -4,7 +4,7 @@ ghost use Rattle.std.specs.Prelude.{◌≡◌, false};
 use crate::calls::{
     decided, drop_one, install, installation, let_in, open, peer_for, rules_name, run_child,
 };
-use crate::sites::{close, new_site};
+use crate::sites::{InMemory, close, new_site};
 use connection_facts::DropCause;
 use dir_calls::MemDir;
 use event_journals::{Full, Journal};
@@ -42,7 +42,7 @@ struct Left<N: Callers> {
 fn serve<L: Assumptions, N: Callers, R: Abort + Wait>(
     rt: &R,
     alloc: Global,
-    site: &Site<L, N, MemDir, Full>,
+    site: &Site<InMemory<L, N>>,
     caller: &mut Caller<N>,
     receipts: &mut Vec<Receipt>,
 ) {
@@ -62,7 +62,7 @@ fn serve<L: Assumptions, N: Callers, R: Abort + Wait>(
 fn work<L: Assumptions, N: Callers, R: Abort + Wait>(
     rt: &R,
     alloc: Global,
-    site: &Site<L, N, MemDir, Full>,
+    site: &Site<InMemory<L, N>>,
     mut caller: Caller<N>,
 ) -> Left<N> {
     let mut receipts = Vec::new(alloc);
@@ -89,7 +89,7 @@ fn run_all<
 >(
     rt: &R,
     alloc: Global,
-    site: &Site<L, N, MemDir, Full>,
+    site: &Site<InMemory<L, N>>,
     callers: Vec<Caller<N>>,
 ) -> Result<Vec<Left<N>>, AllocError> {
     thread::map_vec(rt, callers, &|caller| work(rt, alloc, site, caller))
@@ -120,7 +120,7 @@ fn gathered<
 >(
     rt: &R,
     alloc: Global,
-    site: &Site<L, N, MemDir, Full>,
+    site: &Site<InMemory<L, N>>,
     callers: Vec<Caller<N>>,
 ) -> (Vec<Caller<N>>, Vec<Receipt>) {
     let all = run_all(rt, alloc, site, callers).expect(rt, "memory");

@@ -1,5 +1,5 @@
 //! Sites over a directory in memory, from the start to the audit.
-ghost use Rattle.std.specs.Prelude.{◌≡◌, ◌<◌, IsPermutation, IsTrue, map};
+ghost use Rattle.std.specs.Prelude.{◌≡◌, false, ◌<◌, IsPermutation, IsTrue, map};
 ghost use Rattle.dir_calls.specs.MemDir.{mem_state};
 ghost use Rattle.event_journals.specs.Full.{full_notes};
 ghost use Rattle.server_yard.specs.Kept.{rules_of};
@@ -7,15 +7,33 @@ ghost use Rattle.server_yard.specs.Standing.{Begins};
 ghost use Rattle.server_yard.specs.Yards.{yard_journal};
 ghost use Rattle.whole_yard.specs.Audits.{note_of};
 
-use dir_calls::{MemDir, Name};
+use dir_calls::{MemDir, MemFile, Name};
 use event_journals::Full;
 use rule_lookup::WhenMissing;
 use server_yard::{Assumptions, Yard};
-use shared_site::{Caller, Callers, Receipt, Site};
+use shared_site::{Caller, Callers, Ground, Receipt, Site};
 use std::alloc::Global;
+use std::marker::PhantomData;
 use std::process::Abort;
 use std::sync::ledger::Blank;
 use whole_yard::close_and_audit;
+
+/// What these sites stand on: a directory in memory, with these ledgers of places and of callers.
+pub(crate) struct InMemory<L, N>(PhantomData<(L, N)>);
+
+impl<L: Assumptions, N: Callers> Ground for InMemory<L, N> {
+    type Places = L;
+
+    type Callers = N;
+
+    type File = MemFile;
+
+    type Folder = MemDir;
+
+    type Journal = Full;
+
+    ghost is_servers = { false };
+}
 
 /// A site over a directory, and its callers.
 pub(crate) fn new_site<L: Assumptions, N: Callers, R: Abort>(
@@ -27,7 +45,7 @@ pub(crate) fn new_site<L: Assumptions, N: Callers, R: Abort>(
     rules: Option<(Name, WhenMissing)>,
     limit: u64,
     callers: u64,
-) -> (Site<L, N, MemDir, Full>, Vec<Caller<N>>)
+) -> (Site<InMemory<L, N>>, Vec<Caller<N>>)
     requires places { (places.name ≡ L.name) × (places.parts ≡ L.parts) × (places.parts ≡ limit) }
     requires begins { IsTrue L.met → Begins (mem_state dir) (rules_of rules) }
     requires parts { (parts.name ≡ N.name) × (parts.parts ≡ N.parts) × (parts.parts ≡ callers) }
@@ -37,7 +55,7 @@ pub(crate) fn new_site<L: Assumptions, N: Callers, R: Abort>(
     let Ok(yard) = Yard::<L, MemDir, Full>::new(alloc, places, dir, rules, limit, journal) else {
         panic!(rt; "the limit is above 0")
     };
-    match Site::<L, N, MemDir, Full>::new(alloc, parts, yard, callers) {
+    match Site::<InMemory<L, N>>::new(alloc, parts, yard, callers) {
         Ok(made) => made,
         Err(_) => panic!(rt; "there is memory for callers"),
     }
@@ -46,7 +64,7 @@ pub(crate) fn new_site<L: Assumptions, N: Callers, R: Abort>(
 /// The yard of a site whose callers are all back. Their receipts are its whole history.
 pub(crate) fn close<L: Assumptions, N: Callers, R: Abort>(
     rt: &R,
-    site: Site<L, N, MemDir, Full>,
+    site: Site<InMemory<L, N>>,
     callers: Vec<Caller<N>>,
     receipts: &[Receipt],
 ) -> Yard<L, MemDir, Full>

@@ -12,7 +12,7 @@ use crate::laws::whole;
 use dir_calls::Dir;
 use event_journals::{Full, Journal};
 use server_yard::{Assumptions, Yard};
-use shared_site::{Caller, Callers, Receipt, Site};
+use shared_site::{CallerOf, Ground, Receipt, Site, YardOf};
 use thiserror::Error;
 
 /// Why receipts are not the whole history.
@@ -54,17 +54,17 @@ pub fn audit_whole<L: Assumptions, D: Dir + Drop>(
 ///
 /// # Errors
 /// Some caller is lacking. The site and the callers are handed back.
-pub fn close_and_audit<L: Assumptions, N: Callers, D: Dir + Drop>(
-    site: Site<L, N, D, Full>,
-    callers: Vec<Caller<N>>,
+pub fn close_and_audit<G: Ground<Journal = Full>>(
+    site: Site<G>,
+    callers: Vec<CallerOf<G>>,
     receipts: &[Receipt],
-) -> Result<(Yard<L, D, Full>, Result<(), NotWhole>), (Site<L, N, D, Full>, Vec<Caller<N>>)>
-    requires parts { N.all ≡ N.parts }
-    ensures all { IsOk result ↔ (vec_len callers ≡ N.all) }
+) -> Result<(YardOf<G>, Result<(), NotWhole>), (Site<G>, Vec<CallerOf<G>>)>
+    requires parts { G.Callers.all ≡ G.Callers.parts }
+    ensures all { IsOk result ↔ (vec_len callers ≡ G.Callers.all) }
     ensures whole { IfOk result (λ r. OnOk r.1
         (IsPermutation (map note_of receipts.now) (full_notes (yard_journal r.0)))) }
     ensures refused { IfOk result (λ r. IfErr r.1 (IsNotWhole (full_notes (yard_journal r.0)) receipts.now)) }
-    ensures complete { N.before + total_share callers.items ≡ length receipts.now
+    ensures complete { G.Callers.before + total_share callers.items ≡ length receipts.now
         → IfOk result (λ r. r.1 ≢ Err Missing) }
     ensures back { IfErr result (λ r. (r.0 ≡ site) × (r.1 ≡ callers)) }
 {

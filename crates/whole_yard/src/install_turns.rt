@@ -1,6 +1,7 @@
 //! Turns of installations: to begin one, and to make its next step. Each notes its caller as the speaker, makes the
-//! yard's call of its name, and answers which event that was, if it was one.
-ghost use Rattle.std.specs.Prelude.{⊤, ◌≡◌, ◌≢◌, ◌+◌, ◌↔◌, Err, None, Some, IsTrue, IfOk, IfErr, IfSome, Ok, option_map, if◌then◌else◌};
+//! yard's call of its name, and answers which event that was, if it was one. The yard is not a server's, which installs
+//! nothing.
+ghost use Rattle.std.specs.Prelude.{◌≡◌, ◌≢◌, ◌+◌, ◌↔◌, false, Err, None, Some, IsTrue, IfOk, IfErr, IfSome, Ok, option_map, if◌then◌else◌};
 ghost use Rattle.rules_install.specs.Installs.{installing};
 ghost use Rattle.rules_install.specs.Steps.{BlamesDevice, BlamesFault, IsOfDevice};
 ghost use Rattle.rules_install.specs.declared.Phase.TheVariants.{Done};
@@ -14,14 +15,11 @@ ghost use Rattle.shared_site.specs.Receipts.{CountsAtMostOne, receipt_after, rec
 ghost use Rattle.shared_site.specs.Turns.{IsLastOf, spoken_by};
 ghost use Rattle.whole_yard.specs.YardTurns.{BeginsOrNot, StepsOrNot};
 
-use dir_calls::Dir;
-use event_journals::Journal;
 use rules_install::{Install, InstallFault, Phase};
 use server_events::Event;
-use server_yard::{Assumptions, Yard};
 use shared_site::receipt::EventSnapshot;
 use shared_site::turn::made;
-use shared_site::{Made, Turn};
+use shared_site::{Ground, Made, Turn, YardOf};
 use std::alloc::Global;
 use std::snapshot::Snapshot;
 
@@ -35,18 +33,19 @@ pub struct InstallBegin {
     pub install: Install,
 }
 
-impl<L: Assumptions, D: Dir + Drop, J: Journal> Turn<L, D, J> for InstallBegin {
+impl<G: Ground> Turn<G> for InstallBegin {
     type Answer = (Result<u64, (Install, InstallFault)>, Option<Made>);
 
-    ghost may = { λ _. ⊤ };
+    ghost may = { λ _. G.is_servers ≡ false };
 
     ghost answers = { λ turn. BeginsOrNot (installing turn.install) };
 
     fn run(
         self,
-        yard: &mut Yard<L, D, J>,
+        yard: &mut YardOf<G>,
         caller: u64,
     ) -> (Result<u64, (Install, InstallFault)>, Option<Made>)
+        requires whole { G.is_servers ≡ false }
         ensures answers { BeginsOrNot (installing self.install)
             caller (yard_books yard.old).count result (yard_books yard.new).count }
         ensures counts { CountsAtMostOne (yard_books yard.old).count (yard_books yard.new).count }
@@ -56,14 +55,14 @@ impl<L: Assumptions, D: Dir + Drop, J: Journal> Turn<L, D, J> for InstallBegin {
         ensures kept { kept_number yard.new ≡ kept_after_begin result.0 (kept_number yard.old) }
         ensures rules { yard_rules yard.new ≡ yard_rules yard.old }
         ensures noted { NotesSome (begin_event result.0) (spoken_by caller (yard_roll yard.old)) (yard_roll yard.new) }
-        ensures step { IsTrue D.honest → LeadsSome
+        ensures step { IsTrue G.Folder.honest → LeadsSome
             (begin_event result.0) (yard_state yard.old) (yard_state yard.new) }
-        ensures stops { IsTrue D.honest → LeavesNothingElse yard.old yard.new }
+        ensures stops { IsTrue G.Folder.honest → LeavesNothingElse yard.old yard.new }
         ensures lists { (yard_books yard.new).lists
             ≡ lists_after_begin result.0 (installing self.install).rules (yard_books yard.old).lists }
-        ensures device { IsTrue D.honest → IfErr result.0 (λ r. IsOfDevice (Err r.1)) }
+        ensures device { IsTrue G.Folder.honest → IfErr result.0 (λ r. IsOfDevice (Err r.1)) }
         ensures blames { IfErr result.0 (λ r.
-            BlamesFault (D.failed (yard_directory yard.old)) (D.failed (yard_directory yard.new)) r.1) }
+            BlamesFault (G.Folder.failed (yard_directory yard.old)) (G.Folder.failed (yard_directory yard.new)) r.1) }
         ensures untouched { IsRefusedAs Over result.0 → yard_directory yard.new ≡ yard_directory yard.old }
         ensures seats { KeepsSeats (yard_seat yard.old) (yard_seat yard.new) }
     {
@@ -85,18 +84,19 @@ pub struct InstallStep {
     pub number: u64,
 }
 
-impl<L: Assumptions, D: Dir + Drop, J: Journal> Turn<L, D, J> for InstallStep {
+impl<G: Ground> Turn<G> for InstallStep {
     type Answer = (Result<Phase, InstallFault>, Option<Made>);
 
-    ghost may = { λ _. ⊤ };
+    ghost may = { λ _. G.is_servers ≡ false };
 
     ghost answers = { λ _. StepsOrNot };
 
     fn run(
         self,
-        yard: &mut Yard<L, D, J>,
+        yard: &mut YardOf<G>,
         caller: u64,
     ) -> (Result<Phase, InstallFault>, Option<Made>)
+        requires whole { G.is_servers ≡ false }
         ensures answers { StepsOrNot caller (yard_books yard.old).count result (yard_books yard.new).count }
         ensures counts { CountsAtMostOne (yard_books yard.old).count (yard_books yard.new).count }
         ensures receipt { option_map receipt_of result.1
@@ -107,18 +107,18 @@ impl<L: Assumptions, D: Dir + Drop, J: Journal> Turn<L, D, J> for InstallStep {
             → yard_installing yard.old ≡ None → result.0 ≡ Ok Done }
         ensures noted { NotesSome (event_of_step (kept_under yard.old self.number) result.0)
             (spoken_by caller (yard_roll yard.old)) (yard_roll yard.new) }
-        ensures step { IsTrue D.honest → LeadsSome (event_of_step (kept_under yard.old self.number) result.0)
+        ensures step { IsTrue G.Folder.honest → LeadsSome (event_of_step (kept_under yard.old self.number) result.0)
             (yard_state yard.old) (yard_state yard.new) }
-        ensures stops { IsTrue D.honest → LeavesNothingElse yard.old yard.new }
+        ensures stops { IsTrue G.Folder.honest → LeavesNothingElse yard.old yard.new }
         ensures goes { IfSome (kept_under yard.old self.number)
             (λ s. GoesAsStep s (yard_installing yard.new) result.0) }
         ensures kept { kept_number yard.new ≡ kept_after_step result.0 (kept_number yard.old) }
         ensures begun { last_begun yard.new ≡ last_begun yard.old }
         ensures rules { yard_rules yard.new ≡ yard_rules yard.old }
         ensures lists { (yard_books yard.new).lists ≡ (yard_books yard.old).lists }
-        ensures device { IsTrue D.honest → IsOfDevice result.0 }
+        ensures device { IsTrue G.Folder.honest → IsOfDevice result.0 }
         ensures blames { BlamesDevice
-            (D.failed (yard_directory yard.old)) (D.failed (yard_directory yard.new)) result.0 }
+            (G.Folder.failed (yard_directory yard.old)) (G.Folder.failed (yard_directory yard.new)) result.0 }
         ensures untouched { kept_under yard.old self.number ≡ None
             → yard_directory yard.new ≡ yard_directory yard.old }
         ensures seats { KeepsSeats (yard_seat yard.old) (yard_seat yard.new) }
@@ -133,8 +133,8 @@ impl<L: Assumptions, D: Dir + Drop, J: Journal> Turn<L, D, J> for InstallStep {
 }
 
 // Evidence of the event that a caller made last, if it made one.
-fn evidence<L: Assumptions, D: Dir + Drop, J: Journal>(
-    yard: &Yard<L, D, J>,
+fn evidence<G: Ground>(
+    yard: &YardOf<G>,
     caller: u64,
     event: Option<Event>,
 ) -> Option<Made>

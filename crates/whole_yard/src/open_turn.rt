@@ -1,6 +1,6 @@
 //! The turn by which the yard itself opens the rules for a connection. The server doesn't make it: there a connection
 //! opens them by a handle of its own (`shared_site::turns::Opened`).
-ghost use Rattle.std.specs.Prelude.{⊤, ◌≡◌, ◌↔◌, false, Err, None, IsTrue, IfOk, OnErr, is_some};
+ghost use Rattle.std.specs.Prelude.{◌≡◌, ◌↔◌, false, Err, None, IsTrue, IfOk, OnErr, is_some};
 ghost use Rattle.dir_calls.specs.Directory.{Directory};
 ghost use Rattle.server_events.specs.ServerState.{is_admitted, stage_of};
 ghost use Rattle.server_events.specs.Worlds.{missing_by};
@@ -15,13 +15,12 @@ ghost use Rattle.shared_site.specs.Turns.{IsPassedOver, NotesBy, spoken_by};
 ghost use Rattle.whole_yard.specs.YardTurns.{CountsDevice, OpensOrNot};
 ghost use Rattle.whole_yard.specs.declared.open_turn.OpenFault.TheVariants as open_fault;
 
-use dir_calls::{Dir, DirFault};
-use event_journals::Journal;
+use dir_calls::DirFault;
 use server_events::{Event, Stage};
-use server_yard::{Assumptions, Pass, Yard};
+use server_yard::Pass;
 use shared_site::receipt::EventSnapshot;
 use shared_site::turn::made;
-use shared_site::{Made, Turn};
+use shared_site::{Ground, Made, Turn, YardOf};
 use std::alloc::Global;
 use std::snapshot::Snapshot;
 use thiserror::Error;
@@ -53,40 +52,41 @@ pub struct Open {
     pub serial: u64,
 }
 
-impl<L: Assumptions, D: Dir + Drop, J: Journal> Turn<L, D, J> for Open {
-    type Answer = Result<(Pass<L, D::File>, Made), OpenFault>;
+impl<G: Ground> Turn<G> for Open {
+    type Answer = Result<(Pass<G::Places, G::File>, Made), OpenFault>;
 
-    ghost may = { λ _. ⊤ };
+    ghost may = { λ _. G.is_servers ≡ false };
 
     ghost answers = { λ turn. OpensOrNot turn.serial };
 
     fn run(
         self,
-        yard: &mut Yard<L, D, J>,
+        yard: &mut YardOf<G>,
         caller: u64,
-    ) -> Result<(Pass<L, D::File>, Made), OpenFault>
+    ) -> Result<(Pass<G::Places, G::File>, Made), OpenFault>
+        requires whole { G.is_servers ≡ false }
         ensures answers { OpensOrNot self.serial
             caller (yard_books yard.old).count result (yard_books yard.new).count }
         ensures counts { CountsAtMostOne (yard_books yard.old).count (yard_books yard.new).count }
         ensures in_turn { (result ≡ Err open_fault.OutOfTurn)
             ↔ (is_admitted (stage_of self.serial (yard_server yard.old).connections) ≡ false) }
         ensures missing { IfOk result (λ r. pass_missing r.0 ≡ missing_by (yard_rules yard.old)) }
-        ensures found { IsTrue D.honest → IfOk result (λ r.
-            pass_bytes D.File.bytes r.0 ≡ standing_of (yard_state yard.old)) }
+        ensures found { IsTrue G.Folder.honest → IfOk result (λ r.
+            pass_bytes G.File.bytes r.0 ≡ standing_of (yard_state yard.old)) }
         ensures noted { IfOk result (λ r. NotesBy
             caller (event.Opened self.serial (is_some (pass_file r.0))) (yard_roll yard.old) (yard_roll yard.new)) }
-        ensures step { IsTrue D.honest → IfOk result (λ r. LeadsOpened self.serial
-            (pass_bytes D.File.bytes r.0) (yard_state yard.old) (yard_state yard.new)) }
+        ensures step { IsTrue G.Folder.honest → IfOk result (λ r. LeadsOpened self.serial
+            (pass_bytes G.File.bytes r.0) (yard_state yard.old) (yard_state yard.new)) }
         // and so over whatever directory others left
         ensures beside { (d : Directory) → IfOk result (λ r.
-            pass_bytes D.File.bytes r.0 ≡ standing_of (yard_over d yard.old)
-            → LeadsOpened self.serial (pass_bytes D.File.bytes r.0) (yard_over d yard.old) (yard_over d yard.new)) }
+            pass_bytes G.File.bytes r.0 ≡ standing_of (yard_over d yard.old)
+            → LeadsOpened self.serial (pass_bytes G.File.bytes r.0) (yard_over d yard.old) (yard_over d yard.new)) }
         ensures out { result ≡ Err open_fault.OutOfTurn → IsPassedOver caller yard.old yard.new }
         ensures refused { OnErr result (IsQuiet (spoken_by caller (yard_roll yard.old)) (yard_roll yard.new)) }
-        ensures err_state { IsTrue D.honest → OnErr result (yard_state yard.new ≡ yard_state yard.old) }
+        ensures err_state { IsTrue G.Folder.honest → OnErr result (yard_state yard.new ≡ yard_state yard.old) }
         ensures counted { CountsDevice
-            (D.failed (yard_directory yard.old)) (D.failed (yard_directory yard.new)) result }
-        ensures stops { IsTrue D.honest → LeavesNothingElse yard.old yard.new }
+            (G.Folder.failed (yard_directory yard.old)) (G.Folder.failed (yard_directory yard.new)) result }
+        ensures stops { IsTrue G.Folder.honest → LeavesNothingElse yard.old yard.new }
         ensures without { yard_rules yard.old ≡ None → yard_directory yard.new ≡ yard_directory yard.old }
         ensures same { IsSameButDirectory yard.old yard.new }
         ensures seats { KeepsSeats (yard_seat yard.old) (yard_seat yard.new) }

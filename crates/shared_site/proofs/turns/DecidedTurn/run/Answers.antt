@@ -3,8 +3,8 @@ use Rattle.std.specs.Prelude.{IsTrue}
 use Rattle.server_events.specs.declared.event.Event.TheVariants as event
 use Rattle.server_yard.specs.Passes.{pass_bytes, pass_serial}
 use Rattle.server_yard.specs.Standing.{LeadsDecided}
-use Rattle.server_yard.specs.Yards.{yard_roll}
-use Rattle.shared_site.proofs.Making.{answered, counted, last_of, made_by}
+use Rattle.server_yard.specs.Yards.{yard_roll, yard_state}
+use Rattle.shared_site.proofs.Making.{answered, counted, last_of, made_by, moves, stays}
 use Rattle.shared_site.proofs.turns.DecidedTurn.run.Goals as goal
 
 pub returns-clause-makes : goal.returns-clause-makes
@@ -13,8 +13,8 @@ returns-clause-makes g c =
     let call = c.decided in
     let spoke = c.speaker.ensures in
     made_by c.args.caller (event.Decided (pass_serial pass) c.args.self.decision)
-    (LeadsDecided (pass_serial pass) (pass_bytes g.D.File.RulesFile.bytes pass) c.args.self.decision)
-    (IsTrue g.D.File.RulesFile.honest) c.args.yard.now c.speaker.new.self call.new.self
+    (LeadsDecided (pass_serial pass) (pass_bytes g.G.File.RulesFile.bytes pass) c.args.self.decision)
+    (IsTrue g.G.File.RulesFile.honest) c.args.yard.now c.speaker.new.self call.new.self
     (record { roll = spoke.speaks; beside = spoke.same; seats = spoke.seats }) call.ensures.noted call.ensures.step call.ensures.beside
     call.ensures.same call.ensures.seats
 
@@ -33,3 +33,13 @@ pub returns-clause-answers : goal.returns-clause-answers
 returns-clause-answers g c =
     answered c.args.caller (event.Decided (pass_serial c.args.self.pass) c.args.self.decision) _ c.made.result
     (yard_roll c.args.yard.now) (yard_roll c.decided.new.self) (returns-clause-makes g c).noted refl (search rules)
+
+pub returns-clause-goes : goal.returns-clause-goes
+returns-clause-goes g c = λ _.
+    let pass = c.args.self.pass in
+    moves _ (record { event = event.Decided (pass_serial pass) c.args.self.decision; found = pass_bytes g.G.File.RulesFile.bytes pass })
+    (yard_state c.args.yard.now) (yard_state c.decided.new.self) (λ honest d. (returns-clause-makes g c).beside d honest)
+
+pub returns-then-clause-goes : goal.returns-then-clause-goes
+returns-then-clause-goes g c = λ _.
+    stays _ c.args.caller c.args.yard.now c.speaker.new.self (record { roll = c.speaker.ensures.speaks; beside = c.speaker.ensures.same; seats = c.speaker.ensures.seats })

@@ -6,13 +6,14 @@ use Rattle.server_yard.specs.Rolls.{Notes}
 use Rattle.server_yard.specs.Standing.{LeadsOpened, standing_of}
 use Rattle.server_yard.specs.Yards.{yard_over, yard_roll, yard_state}
 use Rattle.shared_site.specs.Turns.{LeadsFound}
-use Rattle.shared_site.proofs.Making.{counted, last_of, made_by}
+use Rattle.shared_site.proofs.Making.{counted, last_of, made_by, moves, stays}
+use Rattle.shared_site.proofs.Running.{there_is}
 use Rattle.shared_site.proofs.turns.OpenedTurn.run.Goals as goal
 
 pub returns-clause-makes : goal.returns-clause-makes
 returns-clause-makes g c =
     let file = finding_file c.args.self.finding in
-    let bytes = g.D.File.RulesFile.bytes in
+    let bytes = g.G.File.RulesFile.bytes in
     let call = c.opened-pass in
     let spoke = c.speaker.ensures in
     made_by c.args.caller (event.Opened c.args.self.serial (is_some file)) (LeadsFound c.args.self.serial (option_map bytes file)) ⊤
@@ -35,3 +36,14 @@ pub returns-clause-counts : goal.returns-clause-counts
 returns-clause-counts g c =
     counted c.args.caller (event.Opened c.args.self.serial (is_some (finding_file c.args.self.finding)))
     (yard_roll c.args.yard.now) (yard_roll c.opened-pass.new.self) (returns-clause-makes g c).noted
+
+pub returns-clause-goes : goal.returns-clause-goes
+returns-clause-goes g c = λ _.
+    let file = finding_file c.args.self.finding in
+    let bytes = g.G.File.RulesFile.bytes in
+    moves _ (record { event = event.Opened c.args.self.serial (is_some file); found = option_map bytes file })
+    (yard_state c.args.yard.now) (yard_state c.opened-pass.new.self) (there_is bytes file, λ d. (returns-clause-makes g c).beside d tt)
+
+pub returns-then-ne-clause-goes : goal.returns-then-ne-clause-goes
+returns-then-ne-clause-goes g c = λ _.
+    stays _ c.args.caller c.args.yard.now c.speaker.new.self (record { roll = c.speaker.ensures.speaks; beside = c.speaker.ensures.same; seats = c.speaker.ensures.seats })
