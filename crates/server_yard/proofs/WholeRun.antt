@@ -1,5 +1,5 @@
 -- Whatever a yard did since no connection had come, beside other processes, is a history of the headline.
-use Rattle.std.proofs.Common.{◌≡◌, Bool, true, ℕ, List, [], ◌∷◌, ◌++◌, Option, None, refl, sym, ap, subst, ◌∙◌}
+use Rattle.std.proofs.Common.{◌≡◌, Bool, true, ℕ, List, [], ◌∷◌, ◌++◌, Option, None, Some, refl, sym, ap, subst, ◌∙◌}
 use Rattle.std.specs.Prelude.{is_some, option_and_then}
 use Rattle.dir_calls.specs.Directory.{Directory, content}
 use Rattle.rules_install.specs.Installing.{Installing}
@@ -124,7 +124,13 @@ module _ (y z : YardState) (goes_on : List Event → World → Type 0) (on : Goe
       let woven : Woven u (Opened n there ∷ since) v =
       subst (λ (b : Bool). Woven u (Opened n b ∷ since) v) same at_once.woven in (
         v,
-        record { woven = woven; its = at_once.server; same = at_once.same },
+        record {
+          woven = woven;
+          its = at_once.server;
+          same = at_once.same;
+          keeps = at_once.keeps ∙ ap (λ (o : Option (List ℕ)). Some o) (sym in_it.stood);
+          others = at_once.others;
+        },
         on (before ++ Opened n there ∷ since) v v.kept (reaches_on in_it.reached woven) its,
       )
 
