@@ -20,4 +20,6 @@ pub mod Beginning
 pub mod Besides
 pub mod OpenedBefore
 pub mod Told
+pub mod WholeRun
+pub mod Unbegun
 pub mod ReadersLemmas

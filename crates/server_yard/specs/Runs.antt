@@ -1,5 +1,6 @@
--- A run of a server's yard: all that it did since no connection had come, beside other processes over the same directory.
-use Rattle.std.specs.Prelude.{◌≡◌, ⊤, ℕ, Bool, true, IsTrue, List, [], ◌∷◌, ◌++◌, Option, Some, None, is_some}
+-- A run of a server's yard: all that it did since no connection had come, beside other processes over the same
+-- directory.
+use Rattle.std.specs.Prelude.{◌≡◌, ◌≢◌, ⊤, ℕ, Bool, true, IsTrue, List, [], ◌∷◌, ◌++◌, Option, Some, None, is_some}
 use Rattle.dir_calls.specs.Directory.{Directory}
 use Rattle.server_events.specs.Headline.{IsKeptBy, Reaches}
 use Rattle.server_events.specs.Processes.{ServerSteps, Woven, is_connections, is_installations}
@@ -22,8 +23,10 @@ pub record Move : Type 0 where
 -- decision is by what its connection keeps, if files are honest.
 abbrev pub GoesBy : (honest : Bool) → Event → (found : Option (List ℕ)) → (y z : YardState) → Type 0
 GoesBy honest (Opened n there) found y z =
-    (there ≡ is_some found) × ((d : Directory) → found ≡ standing_of (over y d) → LeadsOpened n found (over y d) (over z d))
-GoesBy honest (Decided n decision) found y z = IsTrue honest → (d : Directory) → LeadsDecided n found decision (over y d) (over z d)
+    (there ≡ is_some found)
+    × ((d : Directory) → found ≡ standing_of (over y d) → LeadsOpened n found (over y d) (over z d))
+GoesBy honest (Decided n decision) found y z =
+    IsTrue honest → (d : Directory) → LeadsDecided n found decision (over y d) (over z d)
 GoesBy honest event found y z = (is_connections event ≡ true) × ((d : Directory) → LeadsOn event (over y d) (over z d))
 
 -- moves, one after another, lead from a yard to another
@@ -63,11 +66,14 @@ pub record FoundIn (u : World) (n : ℕ) (found : Option (List ℕ)) (before sin
   pub woven : Woven u since w
   pub apart : AreApart n since
 
--- it opened the rules then, and to all but the server the world is the same
-pub record OpensThen (u : World) (n : ℕ) (there : Bool) (since : List Event) (w v : World) : Type 0 where
+-- It opened the rules then, and to all but the server the world is the same. It keeps what it found, and each other
+-- connection keeps what it kept.
+pub record OpensThen (u : World) (n : ℕ) (there : Bool) (found : Option (List ℕ)) (since : List Event) (w v : World) : Type 0 where
   pub woven : Woven u (Opened n there ∷ since) v
   pub its : v.server ≡ after w.server (Opened n there)
   pub same : v ≡ record w { server = v.server; kept = v.kept }
+  pub keeps : kept_by n v.kept ≡ Some found
+  pub others : (m : ℕ) → m ≢ n → kept_by m v.kept ≡ kept_by m w.kept
 
 -- a history of the headline leads to a world
 pub record IsHistoryTo (history : List Event) (w : World) : Type 0 where
@@ -76,18 +82,21 @@ pub record IsHistoryTo (history : List Event) (w : World) : Type 0 where
 
 -- After a history the next move is a step of the server: an opening at the time at which it found what it did, and a
 -- decision by what its connection keeps since its opening. Then it goes on.
-abbrev pub StepsNext : Event → (found : Option (List ℕ)) → (history : List Event) → World → (goes_on : List Event → World → Type 0) → Type 0
+abbrev pub StepsNext : Event → (found : Option (List ℕ)) → (history : List Event) → World
+    → (goes_on : List Event → World → Type 0) → Type 0
 StepsNext (Opened n there) found history w goes_on =
     (before since : List Event) (u : World) → history ≡ before ++ since → FoundIn u n found before since w
-    → (v : World) × OpensThen u n there since w v × goes_on (before ++ Opened n there ∷ since) v
+    → (v : World) × OpensThen u n there found since w v × goes_on (before ++ Opened n there ∷ since) v
 StepsNext (Decided n decision) found history w goes_on =
-    kept_by n w.kept ≡ Some found → (v : World) × ServerSteps w (Decided n decision) v × goes_on (history ++ Decided n decision ∷ []) v
+    kept_by n w.kept ≡ Some found
+    → (v : World) × ServerSteps w (Decided n decision) v × goes_on (history ++ Decided n decision ∷ []) v
 StepsNext event found history w goes_on = (v : World) × ServerSteps w event v × goes_on (history ++ event ∷ []) v
 
 -- A history leads to a world, and these moves are next. Whatever others do before each move and after the last, it is a
 -- history of the headline at each time.
 abbrev pub IsPlayedOut : List Move → (history : List Event) → World → Type 0
-IsPlayedOut [] history w = (events : List Event) (v : World) → GoesWithout w events v → IsHistoryTo (history ++ events) v
+IsPlayedOut [] history w =
+    (events : List Event) (v : World) → GoesWithout w events v → IsHistoryTo (history ++ events) v
 IsPlayedOut (move ∷ moves) history w =
     (events : List Event) (v : World) → GoesWithout w events v → IsHistoryTo (history ++ events) v
     × StepsNext move.event move.found (history ++ events) v (IsPlayedOut moves)

@@ -71,8 +71,8 @@ pub fn readers()
 /// the headline.
 ///
 /// The yard keeps a run (`HasRun`) if it makes the calls of connections alone: each is one move of it. Others go on as
-/// they like between two moves. Each opening stands in the history at the time at which it found what it did, at any time
-/// between its admission and its telling. So at each time a whole accepted text stands under the rules name, each
+/// they like between two moves. Each opening stands in the history at the time at which it found what it did, at any
+/// time between its admission and its telling. So at each time a whole accepted text stands under the rules name, each
 /// decision is by the text that stood there when its connection opened the rules, and the limit is kept.
 pub fn whole_run()
     ensures { (y : YardState) (run : HasRun true y) (w : World) → BeginsRun run.begin w → IsPlayedOut run.moves [] w }
