@@ -96,7 +96,7 @@ impl<G: Ground> Site<G> {
         ensures callers { IfOk result (λ r. AreNew callers r.1.items) }
         ensures back { IfErr result (λ r. r.0 ≡ yard) }
     {
-        // UNBEGUN
+        yard.unbegun();
         let (events, mut rest) = blank.open::<G::Callers>();
         let made = match make_callers(alloc, &mut rest, callers) {
             Ok(made) => made,

@@ -37,7 +37,7 @@ pub(crate) struct Admitted<'a, H: Host> {
 
 /// A connection whose program was started, with what it runs by (`child`): the program is the plan's, with the variables
 /// of the decision by what this very connection found, for its client and its end. It found that by a new handle of the
-/// rules, which was opened for it. It goes on as an `Alive`, which no other value gives.
+/// rules, which was opened for it. It goes on as an `Alive`. Only the calls of this file make one, of a `Started`.
 pub(crate) struct Started<'a, H: Host> {
     alive: Alive<'a, H>,
     peer: Snapshot<Peer>,

@@ -64,7 +64,7 @@ impl<H: Host> Turn<H> for TellingAdmission<'_, H> {
 
     fn run(self, yard: &mut YardOf<H>, caller: u64) -> Result<AdmittedBy<H>, Refusal> {
         let TellingAdmission { peer, rt, log } = self;
-        let admitted = Admit { peer }.run(yard, caller);
+        let admitted = Turn::<H>::run(Admit { peer }, yard, caller);
         tell_admission::<H>(rt, log, peer, yard.live(), &admitted);
         admitted
     }

@@ -69,7 +69,7 @@ impl<G: Ground> Turn<G> for InstallBegin {
         let InstallBegin { alloc, install } = self;
         yard.speaker(caller);
         let answer = yard.install_begin(alloc, install);
-        let made = evidence(yard, caller, begin_event(&answer));
+        let made = evidence::<G>(yard, caller, begin_event(&answer));
         (answer, made)
     }
 }
@@ -127,7 +127,7 @@ impl<G: Ground> Turn<G> for InstallStep {
         yard.speaker(caller);
         let under_way = yard.is_under_way(number);
         let answer = yard.install_step(alloc, number);
-        let made = evidence(yard, caller, step_event(under_way, answer));
+        let made = evidence::<G>(yard, caller, step_event(under_way, answer));
         (answer, made)
     }
 }
@@ -143,7 +143,7 @@ fn evidence<G: Ground>(
 {
     let event = event?;
     let shown = EventSnapshot::Other(Snapshot::of(&event));
-    Some(made(yard, caller, shown))
+    Some(made::<G>(yard, caller, shown))
 }
 
 // Which event a first step was, if it was one.

@@ -100,7 +100,7 @@ impl<G: Ground> Turn<G> for Open {
             Ok(pass) => {
                 let there = pass.source().is_some();
                 let event = EventSnapshot::Other(Snapshot::of(&Event::Opened { serial, there }));
-                Ok((pass, made(yard, caller, event)))
+                Ok((pass, made::<G>(yard, caller, event)))
             }
             Err(DirFault::OutOfMemory) => Err(OpenFault::OutOfMemory),
             Err(_) => Err(OpenFault::Device),

@@ -40,6 +40,6 @@ returns-clause-goes g c = λ _.
     moves _ (record { event = event.Decided (pass_serial pass) c.args.self.decision; found = pass_bytes g.G.File.RulesFile.bytes pass })
     (yard_state c.args.yard.now) (yard_state c.decided.new.self) (λ honest d. (returns-clause-makes g c).beside d honest)
 
-pub returns-then-clause-goes : goal.returns-then-clause-goes
-returns-then-clause-goes g c = λ _.
+pub returns-then-not-may_be_decided-clause-goes : goal.returns-then-not-may_be_decided-clause-goes
+returns-then-not-may_be_decided-clause-goes g c = λ _.
     stays _ c.args.caller c.args.yard.now c.speaker.new.self (record { roll = c.speaker.ensures.speaks; beside = c.speaker.ensures.same; seats = c.speaker.ensures.seats })

@@ -52,5 +52,5 @@ returns-clause-goes g c = λ _.
     moves _ (record { event = event.Dropped c.args.self.serial c.args.self.cause; found = None }) (yard_state c.args.yard.now) (yard_state c.dropped.new.self)
     (refl, λ d. (returns-clause-makes g c).beside d tt)
 
-pub returns-then-ne-clause-goes : goal.returns-then-ne-clause-goes
-returns-then-ne-clause-goes g c = λ _. stays _ c.args.caller c.args.yard.now c.speak_at.new.yard c.speak_at.ensures.spoken
+pub returns-then-not-is_unstarted-clause-goes : goal.returns-then-not-is_unstarted-clause-goes
+returns-then-not-is_unstarted-clause-goes g c = λ _. stays _ c.args.caller c.args.yard.now c.speak_at.new.yard c.speak_at.ensures.spoken
