@@ -19,7 +19,8 @@ use tcp_service::{Rules, RulesHandle};
 /// A file of the system's rules.
 pub(crate) type RulesOnDisk = OsFile<SystemFile<File>>;
 
-/// Where a rules file stands: its path as it was given, and the name that is its last part; without a name there is none.
+/// Where a rules file stands: its path as it was given, and the name that is its last part; without a name there is
+/// none.
 #[derive(Drop)]
 pub(crate) struct RulesPath<'a, R> {
     files: &'a R,

@@ -58,7 +58,8 @@ const CALLERS: u64 = 2;
 /// connections were served as it was to serve, and all of them are over.
 ///
 /// # Errors
-/// In the order of `ServerFault`. What the voice tells behind its line is left in `causes`, where there is memory for it.
+/// In the order of `ServerFault`. What the voice tells behind its line is left in `causes`, where there is memory for
+/// it.
 pub fn run_tcpserver<R, E>(
     rt: &R,
     errors: E,

@@ -14,7 +14,8 @@ use std::marker::PhantomData;
 use std::sync::ledger::{Blank, Book, Share};
 use std::sync::{Condvar, Mutex, Wait};
 
-/// Evidence that all places of this ledger are retired, so that none will ever be free. Only a yard that is so makes it.
+/// Evidence that all places of this ledger are retired, so that none will ever be free. Only a yard that is so makes
+/// it.
 #[derive(Drop)]
 pub struct AllRetired<L: Assumptions> {
     ledger: PhantomData<L>,
@@ -149,8 +150,8 @@ impl<G: Ground> Site<G> {
     }
 
     /// The yard, once all callers are back. Its history has as many events as when the site was made, and those of all
-    /// shares. If it is a server's and had no event before, all that it did is a run, of which `server_yard::laws::whole_run`
-    /// speaks.
+    /// shares. If it is a server's and had no event before, all that it did is a run, of which
+    /// `server_yard::laws::whole_run` speaks.
     ///
     /// # Errors
     /// Some caller is lacking. The site and the callers are handed back.

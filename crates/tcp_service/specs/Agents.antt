@@ -29,7 +29,8 @@ ComesTo (Opened n there) serial at = (n ≡ serial) × (at ≡ stage.Opened)
 ComesTo (Decided n decision) serial at = (n ≡ serial) × (at ≡ stage.Decided decision.verdict)
 ComesTo event serial at = ⊥
 
--- how far the connection with a serial has come, by the last answer of the site, each event in its turn; the agent is that of its own
+-- how far the connection with a serial has come, by the last answer of the site, each event in its turn; the agent is
+-- that of its own
 abbrev pub StandsBy : Option (Result Made OutOfTurn) → (own serial : ℕ) → Stage → Type 0
 StandsBy None own serial at = (own ≡ serial) × (at ≡ stage.Admitted)
 StandsBy (Some (Ok event)) own serial at = ComesTo (made_event event) serial at
@@ -43,10 +44,10 @@ IsGoneBy last serial = option_and_then leaver (asked last) ≡ Some serial
 abbrev pub FindsWhole : (met : Bool) → Opening → Type 0
 FindsWhole met found = IsTrue met → ∥ IsWholeFile found.bytes ∥₁
 
--- a new handle of the rules was opened for the connection with this serial, and this stood there; where the assumptions are met it is compiled of
--- rules, or there is none
-pub record IsFoundFor {H : Type 0} (met : Bool) (gives : H → Type 0) (opened : H → ℕ → Option (List ℕ) → H → Type 0) (serial : ℕ)
-    (found : Opening) : Type 0 where
+-- a new handle of the rules was opened for the connection with this serial, and this stood there; where the assumptions
+-- are met it is compiled of rules, or there is none
+pub record IsFoundFor {H : Type 0} (met : Bool) (gives : H → Type 0) (opened : H → ℕ → Option (List ℕ) → H → Type 0)
+    (serial : ℕ) (found : Opening) : Type 0 where
   pub whole : FindsWhole met found
   pub handle : H
   pub new : gives handle

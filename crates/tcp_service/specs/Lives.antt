@@ -1,19 +1,25 @@
 -- How the life of a connection begins, and what was told last of it.
-use Rattle.std.specs.Prelude.{◌≡◌, ◌⊎◌, ℕ, Bool, Option, Some, ⊤, option_and_then}
+use Rattle.std.specs.Prelude.{◌≡◌, ◌⊎◌, ◌-◌, ◌^◌, ℕ, Bool, true, Option, Some, ⊤, option_and_then}
 use Rattle.child_jobs.specs.Plans.{PlanText}
 use Rattle.child_jobs.specs.Programs.{ProgramText}
 use Rattle.child_jobs.specs.Runs.{IsSameChild}
 use Rattle.connection_facts.specs.Peers.{Client}
+use Rattle.connection_facts.specs.declared.outcome.DropCause.{DropCause}
+use Rattle.connection_facts.specs.declared.outcome.DropCause.TheVariants as cause
+use Rattle.connection_facts.specs.declared.outcome.StartFault.{StartFault}
 use Rattle.connection_facts.specs.declared.outcome.Status.{Status}
 use Rattle.one_connection.specs.Openings.{Opening, WasFound}
-use Rattle.one_connection.specs.Servings.{IsChild}
+use Rattle.one_connection.specs.Servings.{Drops, FailsFor, IsChild, IsDecidedAs, IsRefused}
+use Rattle.rule_lines.specs.declared.instr.Verdict.TheVariants.{Deny}
 use Rattle.server_events.specs.declared.event.Event.{Event}
-use Rattle.server_events.specs.declared.event.Event.TheVariants.{Admitted, Ended, Retired}
+use Rattle.server_events.specs.declared.event.Event.TheVariants.{Admitted, Dropped, Ended, Retired, StartFailed}
 use Rattle.server_yard.specs.Seating.{leaver}
 use Rattle.shared_site.specs.Receipts.{made_event}
 use Rattle.shared_site.specs.declared.receipt.Made.{Made}
 use Rattle.tcp_connections.specs.declared.admission.AdmitOutcome.{AdmitOutcome}
 use Rattle.tcp_connections.specs.declared.admission.AdmitOutcome.TheVariants.{In}
+use Rattle.stream_tools.specs.declared.process.NotStarted.{NotStarted as Refusal}
+use Rattle.tcp_connections.specs.Refusals.{RefusesBy}
 use Rattle.tcp_connections.specs.Rounds.{AllFail, EndsAs, FailsToWait, Kills, OneEnds, rounds}
 use Rattle.ucspi_env.specs.Ends.{LocalEnd}
 use Rattle.ucspi_env.specs.Variables.{Variables}
@@ -27,8 +33,10 @@ AdmitsOwn outcome client = ⊤
 abbrev pub IsEndOf : Option Event → (serial : ℕ) → Type 0
 IsEndOf event serial = (option_and_then leaver event ≡ Some serial) ⊎ (event ≡ Some (Retired serial))
 
--- the end of a child was told for the connection with a serial: how it ended, by how the rounds of waiting for it went, or that all rounds failed
-abbrev pub IsEndOfChild : {J : Type 0} → Kills J → FailsToWait J → EndsAs J → (by_force : Bool) → J → Option Event → (serial : ℕ) → Type 0
+-- the end of a child was told for the connection with a serial: how it ended, by how the rounds of waiting for it went,
+-- or that all rounds failed
+abbrev pub IsEndOfChild : {J : Type 0} → Kills J → FailsToWait J → EndsAs J → (by_force : Bool) → J → Option Event
+    → (serial : ℕ) → Type 0
 IsEndOfChild kills fails ends by_force job event serial =
     ((status : Status) × OneEnds kills fails ends (rounds by_force) job status × (event ≡ Some (Ended serial status)))
     ⊎ (AllFail kills fails (rounds by_force) job × (event ≡ Some (Retired serial)))
@@ -40,9 +48,36 @@ pub record OfSameChild {J : Type 0} (program_of : J → ProgramText) (environmen
   pub same : IsSameChild program_of environment_of first job
   pub so : is_so job
 
--- a program that runs for a connection is the one of its decision, by what that connection found when it opened the rules: the plan's, with the
--- variables that this decision gives
-abbrev pub IsOwnChild : (found : Option Opening) → (finds : Opening → Type 0) → (honest sound : Bool) → Client → LocalEnd → PlanText → ProgramText
-    → Variables → Type 0
+-- a program that runs for a connection is the one of its decision, by what that connection found when it opened the
+-- rules: the plan's, with the variables that this decision gives
+abbrev pub IsOwnChild : (found : Option Opening) → (finds : Opening → Type 0) → (honest sound : Bool) → Client → LocalEnd
+    → PlanText → ProgramText → Variables → Type 0
 IsOwnChild found finds honest sound peer local plan program environment =
     ∥ IsChild (WasFound found finds) honest sound peer local plan program environment ∥₁
+
+-- how a starter may refuse a program with these variables
+abbrev pub Refuses : Type 1
+Refuses = ProgramText → Variables → StartFault → Type 0
+
+-- a launcher refuses what its starter refuses
+abbrev pub MayRefuse : (ProgramText → Variables → Refusal → Type 0) → Refuses
+MayRefuse refuses program variables fault = RefusesBy (refuses program variables) fault
+
+-- A connection was served, and no program of it runs. It was dropped: as denied, by the decision by what it found, or
+-- for another cause that it has. Or its program could not be started, of such a decision to allow.
+abbrev pub HasReason : (finds : Opening → Type 0) → (honest sound : Bool) → Client → LocalEnd → PlanText → Refuses
+    → (serial : ℕ) → Event → Type 0
+HasReason finds honest sound peer local plan refuses serial (Dropped n why) =
+    (n ≡ serial) × (((why ≡ cause.Denied) × IsDecidedAs finds honest sound peer Deny)
+    ⊎ Drops (FailsFor finds honest sound peer) true (2 ^ 64 - 1) (2 ^ 64 - 1) plan.banner why)
+HasReason finds honest sound peer local plan refuses serial (StartFailed n fault) =
+    (n ≡ serial) × IsRefused finds honest sound peer local plan refuses fault
+HasReason finds honest sound peer local plan refuses serial event = ⊥
+
+-- such an end was told, by what the connection found
+pub record EndsWithReason (finds : Opening → Type 0) (honest sound : Bool) (peer : Client) (local : LocalEnd)
+    (plan : PlanText) (refuses : Refuses) (serial : ℕ) (last : Option Event) : Type 0 where
+  pub found : Option Opening
+  pub event : Event
+  pub told : last ≡ Some event
+  pub reason : HasReason (WasFound found finds) honest sound peer local plan refuses serial event

@@ -189,19 +189,17 @@ impl<H: Host> LoggedAgent<'_, H> {
     }
 }
 
-impl<H: Host> Agent<H::Places> for LoggedAgent<'_, H> {
-    ghost use Rattle.std.specs.Prelude.{◌≡◌, ◌-◌, ◌^◌, true, false, Some, IfOk, IfErr, OnOk, OnErr};
+impl<H: Host> Agent for LoggedAgent<'_, H> {
+    ghost use Rattle.std.specs.Prelude.{◌≡◌, ◌-◌, ◌^◌, true, Some, IfOk, IfErr, OnOk, OnErr};
     ghost use Rattle.one_connection.specs.Openings.{Decides, FailsToDecide, RefusesDecision, kept_opening, opening_of};
     ghost use Rattle.server_events.specs.declared.event.Event.TheVariants as event;
     ghost use Rattle.server_events.specs.declared.event.Stage.TheVariants as stage;
     ghost use Rattle.server_yard.specs.Passes.{IsDecidedBy, pass_missing, pass_serial};
     ghost use Rattle.tcp_service.specs.Agents.{IsFoundFor, IsGoneBy, IsMissingBy, StandsBy, asked};
 
-    type Place = Place<H::Places>;
+    type Places = H::Places;
 
     type Pass = Pass<H::Places, H::File>;
-
-    ghost index = { λ place. place };
 
     ghost opening = { λ pass. opening_of H.File.bytes pass };
 

@@ -6,8 +6,8 @@
 //! connections are alive as are retired; `serve` looks at the last, and answers `Unfinished` if it is not so. All that
 //! its site did is a run, which `server_yard::laws::whole_run` is about. The life of a connection is one value after
 //! another: `Admitted`, `Started`, `Alive`, `Over`. None of the first three can be let go, and an end can't be told
-//! twice. `LoggedAgent` is the agent over which `serve_one` runs. Tested only: bytes pass through the two pumps of their
-//! connection, and no event comes out of turn.
+//! twice. `LoggedAgent` is the agent over which `serve_one` runs. Tested only: bytes pass through the two pumps of
+//! their connection, and no event comes out of turn.
 #![tactic(auto)]
 
 mod agent;

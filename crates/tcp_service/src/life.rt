@@ -1,12 +1,12 @@
 //! The life of a connection at a site, from its admission to its end: each value of it is made of the one before, and
 //! none can be let go.
-ghost use Rattle.std.specs.Prelude.{◌≡◌, None, IfOk, IfErr, true, false};
+ghost use Rattle.std.specs.Prelude.{◌≡◌, None, Some, IfOk, IfErr, true, false};
 ghost use Rattle.child_jobs.specs.Runs.{IsSameRun, job_of, place_of};
 ghost use Rattle.one_connection.specs.Openings.{kept_opening};
-ghost use Rattle.server_events.specs.declared.event.Event.TheVariants.{Admitted as AdmittedEvent};
+ghost use Rattle.server_events.specs.declared.event.Event.TheVariants.{Admitted as AdmittedEvent, Dropped as DroppedEvent};
 ghost use Rattle.shared_site.specs.Receipts.{made_event};
 ghost use Rattle.tcp_service.specs.Agents.{IsFoundFor, asked};
-ghost use Rattle.tcp_service.specs.Lives.{IsEndOfChild, IsOwnChild, OfSameChild};
+ghost use Rattle.tcp_service.specs.Lives.{EndsWithReason, IsEndOfChild, IsOwnChild, MayRefuse, OfSameChild};
 
 use crate::agent::FoundBy;
 use crate::host::Host;
@@ -35,9 +35,10 @@ pub(crate) struct Admitted<'a, H: Host> {
     pub(crate) ghost own: { made_event made.value ≡ AdmittedEvent serial peer },
 }
 
-/// A connection whose program was started, with what it runs by (`child`): the program is the plan's, with the variables
-/// of the decision by what this very connection found, for its client and its end. It found that by a new handle of the
-/// rules, which was opened for it. It goes on as an `Alive`. Only the calls of this file make one, of a `Started`.
+/// A connection whose program was started, with what it runs by (`child`): the program is the plan's, with the
+/// variables of the decision by what this very connection found, for its client and its end. It found that by a new
+/// handle of the rules, which was opened for it. It goes on as an `Alive`. Only the calls of this file make one, of a
+/// `Started`.
 pub(crate) struct Started<'a, H: Host> {
     alive: Alive<'a, H>,
     peer: Snapshot<Peer>,
@@ -80,6 +81,7 @@ impl<H: Host> Server<'_, H> {
         cause: DropCause,
     ) -> Over
         ensures own { result.serial ≡ serial }
+        ensures told { asked result.last.value ≡ Some (DroppedEvent serial cause) }
     {
         let notes = Notes::of(None);
         let mut agent = self.agent(serial, local, &notes);
@@ -104,6 +106,10 @@ impl<H: Host> Server<'_, H> {
             H.File.honest H.File.sound peer.now local.now self.now.plan.now
             (H.Job.program (job_of ran.0)) (H.Job.environment (job_of ran.0))) }
         ensures over { IfErr result (λ over. over.serial ≡ serial) }
+        ensures reason { IfErr result (λ over. EndsWithReason
+            (IsFoundFor H.Places.met (H.Rules.gives self.now.rules.now) H.Handle.opened serial)
+            H.File.honest H.File.sound peer.now local.now self.now.plan.now
+            (MayRefuse (H.Starter.refuses self.now.starter.now streams.old.shut)) serial (asked over.last.value)) }
     {
         let notes = Notes::of(None);
         let mut agent = self.agent(serial, local, &notes);
@@ -129,8 +135,8 @@ impl<H: Host> Server<'_, H> {
         }
     }
 
-    // Waits for a program in rounds, ends its connection, and only then tells how the program ended. So a slow log keeps
-    // no client waiting.
+    // Waits for a program in rounds, ends its connection, and only then tells how the program ended. So a slow log
+    // keeps no client waiting.
     fn see_out(
         &self,
         serial: u64,
@@ -178,6 +184,7 @@ impl<'a, H: Host> Admitted<'a, H> {
     // It is given up for this cause.
     fn give_up(self, cause: DropCause) -> Over
         ensures own { result.serial ≡ self.entry.serial }
+        ensures told { asked result.last.value ≡ Some (DroppedEvent self.entry.serial cause) }
     {
         let Admitted {
             server,
@@ -298,8 +305,8 @@ impl<'a, H: Host> Alive<'a, H> {
         Ok((Some(upward), alive))
     }
 
-    /// What its program says is passed on to the end, if the program does not hold it itself. Then the program is waited
-    /// for, and it ends.
+    /// What its program says is passed on to the end, if the program does not hold it itself. Then the program is
+    /// waited for, and it ends.
     pub(crate) fn finish(self) -> Over
         ensures own { result.serial ≡ self.entry.serial }
         ensures ended { IsEndOfChild H.Job.killed H.Job.refused_wait H.Job.ended false (job_of self.entry.running)

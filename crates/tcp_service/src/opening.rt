@@ -37,8 +37,8 @@ pub trait Rules<L: Assumptions, F: RulesFile + Drop> {
 
 /// What one connection opens the rules by. Nobody else waits meanwhile.
 pub trait RulesHandle<L: Assumptions, F: RulesFile + Drop> {
-    /// Between these two states it was opened for the connection with this serial number, and this stood under the rules
-    /// name: a file of these bytes, or nothing.
+    /// Between these two states it was opened for the connection with this serial number, and this stood under the
+    /// rules name: a file of these bytes, or nothing.
     ghost opened: { Self → (serial : ℕ) → Option (List ℕ) → Self → Type 0 };
 
     /// What stands under the rules name, for the connection with this serial number.

@@ -21,9 +21,9 @@ use std::thread::Threads;
 use std::time::Clock;
 use tcp_connections::{ServeEnd, serve_through};
 
-/// A server that has come to its end: nobody is let in any more and its threads have ended, both callers of its site are
-/// back and the site is closed. Each connection that is alive still is a retired one. For want of places it ended only if
-/// its site has said that all are retired.
+/// A server that has come to its end: nobody is let in any more and its threads have ended, both callers of its site
+/// are back and the site is closed. Each connection that is alive still is a retired one. For want of places it ended
+/// only if its site has said that all are retired.
 #[derive(Drop)]
 pub struct Closed<H: Host> {
     /// How it ended.
@@ -61,11 +61,11 @@ pub struct Unfinished<H: Host> {
 
 /// Serves connections until it comes to an end, waits until all that were let in are over, and closes the site.
 ///
-/// Of the two callers of the site the first lets connections in, and makes no other events; the second makes all others.
-/// `plan` is what each connection is served by. `wrapping` makes the line wrappers of those that are pumped. `starter`
-/// starts programs that have what the service's mode says as their standard input and output. Each connection opens
-/// `rules` for itself. Once no more connections are let in, the acceptor is closed. By faults of accepting the server
-/// ends only if the last hundred calls of the acceptor failed, or if there was too little for one connection.
+/// Of the two callers of the site the first lets connections in, and makes no other events; the second makes all
+/// others. `plan` is what each connection is served by. `wrapping` makes the line wrappers of those that are pumped.
+/// `starter` starts programs that have what the service's mode says as their standard input and output. Each connection
+/// opens `rules` for itself. Once no more connections are let in, the acceptor is closed. By faults of accepting the
+/// server ends only if the last hundred calls of the acceptor failed, or if there was too little for one connection.
 ///
 /// # Errors
 /// A place is lost: its connection is alive, and no thread has it. The site is closed all the same.
