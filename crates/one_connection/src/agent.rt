@@ -33,14 +33,11 @@ pub fn cause_of_open(fault: DirFault) -> DropCause
 /// The agent of one connection: it makes the events of the connection after its admission. It is a yard, or one
 /// caller's part of a yard that several share.
 ///
-/// `stands` is what is known of where the connection stands. `found` is what it found when it opened the rules. `tells`
-/// is the event that a call made. If others use the yard too, a call may be out of turn: its event was asked for, and
-/// did not happen. A call that fails answers the cause for which the connection is to be dropped. Out of turn counts as
-/// a fault of the directory.
-pub trait Agent {
-    /// The ledger of the places of connections. A place is the right to one child.
-    type Places: Assumptions;
-
+/// `stands` is what is known of where the connection stands. A place is the right to one child. `found` is what it
+/// found when it opened the rules. `tells` is the event that a call made. If others use the yard too, a call may be out
+/// of turn: its event was asked for, and did not happen. A call that fails answers the cause for which the connection
+/// is to be dropped. Out of turn counts as a fault of the directory.
+pub trait Agent<L: Assumptions> {
     /// What a connection has once it opened the rules.
     type Pass: Drop;
 
@@ -93,7 +90,7 @@ pub trait Agent {
     fn open(
         &mut self,
         alloc: Global,
-        place: &Place<Self::Places>,
+        place: &Place<L>,
         number: u64,
         peer: &Peer,
     ) -> Result<Self::Pass, DropCause>
@@ -125,7 +122,7 @@ pub trait Agent {
     fn decided(
         &mut self,
         alloc: Global,
-        place: &Place<Self::Places>,
+        place: &Place<L>,
         pass: Self::Pass,
         peer: &Peer,
         decision: Decision,
@@ -144,27 +141,21 @@ pub trait Agent {
         ensures failures { failures self.new ≡ failures self.old };
 
     /// Notes that the child of an allowed connection runs.
-    fn started<C: Job>(&mut self, running: &Running<Self::Places, C>, number: u64, peer: &Peer)
+    fn started<C: Job>(&mut self, running: &Running<L, C>, number: u64, peer: &Peer)
         requires stands { stands self.old (place_of running.now) number peer.now (stage.Decided Allow) }
         ensures told { tells self.old (Started number) self.new }
         ensures started { is_shared ≡ false → stands self.new (place_of running.now) number peer.now stage.Started }
         ensures keeps { found self.new ≡ found self.old };
 
     /// Notes that the child of an allowed connection could not be started, for this fault. The connection is gone.
-    fn start_failed(
-        &mut self,
-        place: Place<Self::Places>,
-        number: u64,
-        peer: &Peer,
-        fault: StartFault,
-    )
+    fn start_failed(&mut self, place: Place<L>, number: u64, peer: &Peer, fault: StartFault)
         requires stands { stands self.old place number peer.now (stage.Decided Allow) }
         ensures told { tells self.old (StartFailed number fault) self.new }
         ensures gone { is_gone self.new number }
         ensures keeps { found self.new ≡ found self.old };
 
     /// Notes that a connection is given up before a child was started, for this cause. It is gone.
-    fn dropped(&mut self, place: Place<Self::Places>, number: u64, peer: &Peer, cause: DropCause)
+    fn dropped(&mut self, place: Place<L>, number: u64, peer: &Peer, cause: DropCause)
         requires stands { IsUnstarted (stands self.old place number peer.now) }
         ensures told { tells self.old (Dropped number cause) self.new }
         ensures gone { is_gone self.new number }

@@ -15,6 +15,7 @@ use child_jobs::{Job, Launcher, Place, Plan, Running, start};
 use connection_facts::{DropCause, Peer, StartFault};
 use rule_lines::{FindFault, Verdict};
 use rule_lookup::DecideFault;
+use server_yard::Assumptions;
 use std::alloc::Global;
 use std::io::Write;
 use std::sync::ledger::Ledger;
@@ -63,10 +64,10 @@ fn greet<W: Write>(writer: &mut W, banner: &[u8]) -> Result<(), DropCause>
 }
 
 // Opens the rules for a connection, decides it, and makes the environment for its child.
-fn prepare<D: Agent>(
+fn prepare<L: Assumptions, D: Agent<L>>(
     alloc: Global,
     agent: &mut D,
-    place: &Place<D::Places>,
+    place: &Place<L>,
     serial: u64,
     peer: &Peer,
     local: &Local,
@@ -98,16 +99,16 @@ fn prepare<D: Agent>(
 }
 
 // Starts the child of a connection that was allowed.
-fn run<D: Agent, S: Launcher>(
+fn run<L: Assumptions, D: Agent<L>, S: Launcher>(
     alloc: Global,
     agent: &mut D,
-    place: Place<D::Places>,
+    place: Place<L>,
     serial: u64,
     peer: &Peer,
     plan: &Plan,
     launcher: S,
     environment: &Environment,
-) -> Served<D::Places, S::Job>
+) -> Served<L, S::Job>
     requires stands { D.stands agent.old place serial peer.now (stage.Decided Allow) }
     ensures running { IfRunning result (λ child. (S.Job.program (job_of child) ≡ plan.now.program)
         × (S.Job.environment (job_of child) ≡ environment.now)) }
@@ -143,17 +144,17 @@ fn run<D: Agent, S: Launcher>(
 /// `Dropped` with the cause: the banner could not be written, the rules file could not be opened or read or is damaged,
 /// or there was no memory. A connection that was decided to be denied is never dropped so. Unless the child runs, the
 /// connection is gone, and its place is free.
-pub fn serve_one<D: Agent, S: Launcher + Drop, W: Write>(
+pub fn serve_one<L: Assumptions, D: Agent<L>, S: Launcher + Drop, W: Write>(
     alloc: Global,
     agent: &mut D,
-    place: Place<D::Places>,
+    place: Place<L>,
     serial: u64,
     peer: &Peer,
     local: &Local,
     plan: &Plan,
     launcher: S,
     writer: &mut W,
-) -> Served<D::Places, S::Job>
+) -> Served<L, S::Job>
     requires admitted { D.stands agent.old place serial peer.now stage.Admitted }
     // the decided program, with the decided environment
     ensures running { IfRunning result (λ child. IsChild (WasFound (D.found agent.new) (D.finds agent.old)) D.honest D.sound

@@ -58,7 +58,7 @@ impl<L: Assumptions, D: Dir + Drop, J: Journal> YardAgent<L, D, J> {
     }
 }
 
-impl<L: Assumptions, D: Dir + Drop, J: Journal> Agent for YardAgent<L, D, J> {
+impl<L: Assumptions, D: Dir + Drop, J: Journal> Agent<L> for YardAgent<L, D, J> {
     ghost use Rattle.std.specs.Prelude.{◌≡◌, false, IfErr, IfOk, OnErr, OnOk};
     ghost use Rattle.rule_lines.specs.declared.instr.Verdict.TheVariants.{Allow};
     ghost use Rattle.server_events.specs.declared.event.Event.TheVariants.{Decided, Dropped, StartFailed};
@@ -70,8 +70,6 @@ impl<L: Assumptions, D: Dir + Drop, J: Journal> Agent for YardAgent<L, D, J> {
     ghost use Rattle.one_connection.specs.Unstarted.{IsUnstarted};
     ghost use Rattle.one_connection.specs.Openings.{Decides, FailsToDecide, RefusesDecision, kept_opening, opening_of};
     ghost use Rattle.whole_yard.specs.YardAgents.{FindsOf, IsGoneFrom, LeadsBy, MakesEvent, MakesNone, StandsAt};
-
-    type Places = L;
 
     type Pass = Pass<L, D::File>;
 

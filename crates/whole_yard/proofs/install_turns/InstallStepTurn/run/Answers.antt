@@ -57,7 +57,7 @@ pub returns-clause-stops : goal.returns-clause-stops
 returns-clause-stops g c = λ honest files w image at left.
     let old = c.args.yard.now in
     let mid = c.speaker.new.self in
-    let dir = g.D.Dir in
+    let dir = g.G.Folder.Dir in
     let same = c.speaker.ensures.same in
     c.install_step-answer.ensures.stops honest files w image
     (subst (λ (s : YardState). Matches s files w) (sym (spoken_state c.args.caller old mid c.speaker.ensures.speaks same)) at)
@@ -73,7 +73,7 @@ returns-clause-device g c = c.install_step-answer.ensures.device
 
 pub returns-clause-blames : goal.returns-clause-blames
 returns-clause-blames g c =
-    let failed = g.D.Dir.failed in
+    let failed = g.G.Folder.Dir.failed in
     let new = c.install_step-answer.new.self in
     subst (λ d. BlamesDevice (failed d) (failed (yard_directory new)) c.install_step-answer.result) c.speaker.ensures.same.directory c.install_step-answer.ensures.blames
 

@@ -32,14 +32,14 @@ pub returns-in-Ok-clause-step : goal.returns-in-Ok-clause-step
 returns-in-Ok-clause-step g c = λ honest.
     let old = c.args.yard.now in
     let mid = c.speaker.new.self in
-    subst (λ (s : YardState). LeadsOpened c.args.self.serial (pass_bytes g.D.File.RulesFile.bytes c.in-Ok.pass) s (yard_state c.open.new.self))
+    subst (λ (s : YardState). LeadsOpened c.args.self.serial (pass_bytes g.G.File.RulesFile.bytes c.in-Ok.pass) s (yard_state c.open.new.self))
     (spoken_state c.args.caller old mid c.speaker.ensures.speaks c.speaker.ensures.same) (c.in-Ok.ensures.step honest)
 
 pub returns-in-Ok-clause-beside : goal.returns-in-Ok-clause-beside
 returns-in-Ok-clause-beside g c = λ d.
     let old = c.args.yard.now in
     let mid = c.speaker.new.self in
-    let bytes = pass_bytes g.D.File.RulesFile.bytes c.in-Ok.pass in
+    let bytes = pass_bytes g.G.File.RulesFile.bytes c.in-Ok.pass in
     subst (λ (s : YardState). bytes ≡ standing_of s → LeadsOpened c.args.self.serial bytes s (yard_over d c.open.new.self))
     (spoken_over c.args.caller d old mid c.speaker.ensures.speaks c.speaker.ensures.same) (c.in-Ok.ensures.beside d)
 
@@ -80,7 +80,7 @@ pub returns-in-Ok-clause-stops : goal.returns-in-Ok-clause-stops
 returns-in-Ok-clause-stops g c = λ honest files w image at left.
     let old = c.args.yard.now in
     let mid = c.speaker.new.self in
-    let dir = g.D.Dir in
+    let dir = g.G.Folder.Dir in
     let same = c.speaker.ensures.same in
     c.open.ensures.stops honest files w image
     (subst (λ (s : YardState). Matches s files w) (sym (spoken_state c.args.caller old mid c.speaker.ensures.speaks same)) at)
@@ -90,7 +90,7 @@ pub returns-in-Err-OutOfMemory-clause-stops : goal.returns-in-Err-OutOfMemory-cl
 returns-in-Err-OutOfMemory-clause-stops g c = λ honest files w image at left.
     let old = c.args.yard.now in
     let mid = c.speaker.new.self in
-    let dir = g.D.Dir in
+    let dir = g.G.Folder.Dir in
     let same = c.speaker.ensures.same in
     c.open.ensures.stops honest files w image
     (subst (λ (s : YardState). Matches s files w) (sym (spoken_state c.args.caller old mid c.speaker.ensures.speaks same)) at)
@@ -100,7 +100,7 @@ pub returns-in-Err-clause-stops : goal.returns-in-Err-clause-stops
 returns-in-Err-clause-stops g c = λ honest files w image at left.
     let old = c.args.yard.now in
     let mid = c.speaker.new.self in
-    let dir = g.D.Dir in
+    let dir = g.G.Folder.Dir in
     let same = c.speaker.ensures.same in
     c.open.ensures.stops honest files w image
     (subst (λ (s : YardState). Matches s files w) (sym (spoken_state c.args.caller old mid c.speaker.ensures.speaks same)) at)
@@ -109,8 +109,8 @@ returns-in-Err-clause-stops g c = λ honest files w image at left.
 pub returns-then-ne-clause-stops : goal.returns-then-ne-clause-stops
 returns-then-ne-clause-stops g c = λ honest files w image at left.
     let same = c.speaker.ensures.same in
-    let dir = g.D.Dir in
-    inr (g.met.D.Dir.only_now (yard_directory c.speaker.new.self) image honest (subst (λ (from : _). dir.left_since (yard_directory c.speaker.new.self) (dir.moment from) image) (sym same.directory) left))
+    let dir = g.G.Folder.Dir in
+    inr (g.met.G.Folder.Dir.only_now (yard_directory c.speaker.new.self) image honest (subst (λ (from : _). dir.left_since (yard_directory c.speaker.new.self) (dir.moment from) image) (sym same.directory) left))
 
 pub returns-in-Ok-clause-counts : goal.returns-in-Ok-clause-counts
 returns-in-Ok-clause-counts g c =
