@@ -33,13 +33,19 @@ pub fn cause_of_open(fault: DirFault) -> DropCause
 /// The agent of one connection: it makes the events of the connection after its admission. It is a yard, or one
 /// caller's part of a yard that several share.
 ///
-/// `stands` is what is known of where the connection stands. A place is the right to one child. `found` is what it
-/// found when it opened the rules. `tells` is the event that a call made. If others use the yard too, a call may be out
-/// of turn: its event was asked for, and did not happen. A call that fails answers the cause for which the connection
-/// is to be dropped. Out of turn counts as a fault of the directory.
+/// `stands` is what is known of where the connection stands. `found` is what it found when it opened the rules. `tells`
+/// is the event that a call made. If others use the yard too, a call may be out of turn: its event was asked for, and
+/// did not happen. A call that fails answers the cause for which the connection is to be dropped. Out of turn counts as
+/// a fault of the directory.
 pub trait Agent<L: Assumptions> {
+    /// The right to one child, which `start_failed` and `dropped` take back: a `Place<L>`.
+    type Place;
+
     /// What a connection has once it opened the rules.
     type Pass: Drop;
+
+    /// The index of a place.
+    ghost index: { Self.Place → ℕ };
 
     /// What a pass found.
     ghost opening: { Self.Pass → Opening };
@@ -148,15 +154,15 @@ pub trait Agent<L: Assumptions> {
         ensures keeps { found self.new ≡ found self.old };
 
     /// Notes that the child of an allowed connection could not be started, for this fault. The connection is gone.
-    fn start_failed(&mut self, place: Place<L>, number: u64, peer: &Peer, fault: StartFault)
-        requires stands { stands self.old place number peer.now (stage.Decided Allow) }
+    fn start_failed(&mut self, place: Self::Place, number: u64, peer: &Peer, fault: StartFault)
+        requires stands { stands self.old (index place) number peer.now (stage.Decided Allow) }
         ensures told { tells self.old (StartFailed number fault) self.new }
         ensures gone { is_gone self.new number }
         ensures keeps { found self.new ≡ found self.old };
 
     /// Notes that a connection is given up before a child was started, for this cause. It is gone.
-    fn dropped(&mut self, place: Place<L>, number: u64, peer: &Peer, cause: DropCause)
-        requires stands { IsUnstarted (stands self.old place number peer.now) }
+    fn dropped(&mut self, place: Self::Place, number: u64, peer: &Peer, cause: DropCause)
+        requires stands { IsUnstarted (stands self.old (index place) number peer.now) }
         ensures told { tells self.old (Dropped number cause) self.new }
         ensures gone { is_gone self.new number }
         ensures keeps { found self.new ≡ found self.old }

@@ -64,7 +64,7 @@ fn greet<W: Write>(writer: &mut W, banner: &[u8]) -> Result<(), DropCause>
 }
 
 // Opens the rules for a connection, decides it, and makes the environment for its child.
-fn prepare<L: Assumptions, D: Agent<L>>(
+fn prepare<L: Assumptions, D: Agent<L, Place = Place<L>>>(
     alloc: Global,
     agent: &mut D,
     place: &Place<L>,
@@ -98,8 +98,43 @@ fn prepare<L: Assumptions, D: Agent<L>>(
     })
 }
 
+// Gives a connection up.
+fn give_up<L: Assumptions, D: Agent<L, Place = Place<L>>>(
+    agent: &mut D,
+    place: Place<L>,
+    serial: u64,
+    peer: &Peer,
+    cause: DropCause,
+)
+    requires index { (place : ℕ) → D.index place ≡ place }
+    requires stands { IsUnstarted (D.stands agent.old place serial peer.now) }
+    ensures told { D.tells agent.old (Dropped serial cause) agent.new }
+    ensures gone { D.is_gone agent.new serial }
+    ensures keeps { D.found agent.new ≡ D.found agent.old }
+    ensures failures { D.failures agent.new ≡ D.failures agent.old }
+{
+    agent.dropped(place, serial, peer, cause);
+}
+
+// Tells that the child of a connection could not be started.
+fn tell_failure<L: Assumptions, D: Agent<L, Place = Place<L>>>(
+    agent: &mut D,
+    place: Place<L>,
+    serial: u64,
+    peer: &Peer,
+    fault: StartFault,
+)
+    requires index { (place : ℕ) → D.index place ≡ place }
+    requires stands { D.stands agent.old place serial peer.now (stage.Decided Allow) }
+    ensures told { D.tells agent.old (StartFailed serial fault) agent.new }
+    ensures gone { D.is_gone agent.new serial }
+    ensures keeps { D.found agent.new ≡ D.found agent.old }
+{
+    agent.start_failed(place, serial, peer, fault);
+}
+
 // Starts the child of a connection that was allowed.
-fn run<L: Assumptions, D: Agent<L>, S: Launcher>(
+fn run<L: Assumptions, D: Agent<L, Place = Place<L>>, S: Launcher>(
     alloc: Global,
     agent: &mut D,
     place: Place<L>,
@@ -109,6 +144,7 @@ fn run<L: Assumptions, D: Agent<L>, S: Launcher>(
     launcher: S,
     environment: &Environment,
 ) -> Served<L, S::Job>
+    requires index { (place : ℕ) → D.index place ≡ place }
     requires stands { D.stands agent.old place serial peer.now (stage.Decided Allow) }
     ensures running { IfRunning result (λ child. (S.Job.program (job_of child) ≡ plan.now.program)
         × (S.Job.environment (job_of child) ≡ environment.now)) }
@@ -127,7 +163,7 @@ fn run<L: Assumptions, D: Agent<L>, S: Launcher>(
             Served::Running(running)
         }
         Err((place, fault)) => {
-            agent.start_failed(place, serial, peer, fault);
+            tell_failure(agent, place, serial, peer, fault);
             Served::StartFailed(fault)
         }
     }
@@ -144,7 +180,7 @@ fn run<L: Assumptions, D: Agent<L>, S: Launcher>(
 /// `Dropped` with the cause: the banner could not be written, the rules file could not be opened or read or is damaged,
 /// or there was no memory. A connection that was decided to be denied is never dropped so. Unless the child runs, the
 /// connection is gone, and its place is free.
-pub fn serve_one<L: Assumptions, D: Agent<L>, S: Launcher + Drop, W: Write>(
+pub fn serve_one<L: Assumptions, D: Agent<L, Place = Place<L>>, S: Launcher + Drop, W: Write>(
     alloc: Global,
     agent: &mut D,
     place: Place<L>,
@@ -155,6 +191,7 @@ pub fn serve_one<L: Assumptions, D: Agent<L>, S: Launcher + Drop, W: Write>(
     launcher: S,
     writer: &mut W,
 ) -> Served<L, S::Job>
+    requires index { (place : ℕ) → D.index place ≡ place }
     requires admitted { D.stands agent.old place serial peer.now stage.Admitted }
     // the decided program, with the decided environment
     ensures running { IfRunning result (λ child. IsChild (WasFound (D.found agent.new) (D.finds agent.old)) D.honest D.sound
@@ -175,17 +212,17 @@ pub fn serve_one<L: Assumptions, D: Agent<L>, S: Launcher + Drop, W: Write>(
     ensures greeted { Greets (W.contents writer.old) (W.contents writer.new) plan.now.banner (is_cut_short result) }
 {
     if let Err(cause) = greet(writer, plan.banner()) {
-        agent.dropped(place, serial, peer, cause);
+        give_up(agent, place, serial, peer, cause);
         return Served::Dropped(cause);
     }
     match prepare(alloc, agent, &place, serial, peer, local, plan) {
         Err(cause) => {
-            agent.dropped(place, serial, peer, cause);
+            give_up(agent, place, serial, peer, cause);
             Served::Dropped(cause)
         }
         Ok(prepared) => match prepared.verdict {
             Verdict::Deny => {
-                agent.dropped(place, serial, peer, DropCause::Denied);
+                give_up(agent, place, serial, peer, DropCause::Denied);
                 Served::Denied
             }
             Verdict::Allow => run(

@@ -192,14 +192,16 @@ impl<H: Host> LoggedAgent<'_, H> {
 impl<H: Host> Agent<H::Places> for LoggedAgent<'_, H> {
     ghost use Rattle.std.specs.Prelude.{◌≡◌, ◌-◌, ◌^◌, true, Some, IfOk, IfErr, OnOk, OnErr};
     ghost use Rattle.one_connection.specs.Openings.{Decides, FailsToDecide, RefusesDecision, kept_opening, opening_of};
-    ghost use Rattle.one_connection.specs.Unstarted.{IsUnstarted};
-    ghost use Rattle.rule_lines.specs.declared.instr.Verdict.TheVariants.{Allow};
     ghost use Rattle.server_events.specs.declared.event.Event.TheVariants as event;
     ghost use Rattle.server_events.specs.declared.event.Stage.TheVariants as stage;
     ghost use Rattle.server_yard.specs.Passes.{IsDecidedBy, pass_missing, pass_serial};
     ghost use Rattle.tcp_service.specs.Agents.{IsFoundFor, IsGoneBy, IsMissingBy, StandsBy, asked};
 
+    type Place = Place<H::Places>;
+
     type Pass = Pass<H::Places, H::File>;
+
+    ghost index = { λ place. place };
 
     ghost opening = { λ pass. opening_of H.File.bytes pass };
 
@@ -317,12 +319,7 @@ impl<H: Host> Agent<H::Places> for LoggedAgent<'_, H> {
         serial: u64,
         _peer: &Peer,
         fault: StartFault,
-    )
-        requires stands { StandsBy self.old.last self.old.serial serial (stage.Decided Allow) }
-        ensures told { asked self.new.last ≡ Some (event.StartFailed serial fault) }
-        ensures gone { IsGoneBy self.new.last serial }
-        ensures keeps { kept_opening H.File.bytes self.new.found ≡ kept_opening H.File.bytes self.old.found }
-    {
+    ) {
         let error = self.notes.refusal.lock(self.server.rt).take();
         let why = error.and_then(|error| words_of_error(self.server.alloc, error).ok());
         let program = self.server.plan.program().path().as_bytes();
@@ -341,13 +338,7 @@ impl<H: Host> Agent<H::Places> for LoggedAgent<'_, H> {
     }
 
     #[tactic(auto, using(crate::proofs::Asked::asked_for))]
-    fn dropped(&mut self, place: Place<H::Places>, serial: u64, peer: &Peer, cause: DropCause)
-        requires stands { IsUnstarted (StandsBy self.old.last self.old.serial serial) }
-        ensures told { asked self.new.last ≡ Some (event.Dropped serial cause) }
-        ensures gone { IsGoneBy self.new.last serial }
-        ensures keeps { kept_opening H.File.bytes self.new.found ≡ kept_opening H.File.bytes self.old.found }
-        ensures failures { 2 ^ 64 - 1 ≡ 2 ^ 64 - 1 }
-    {
+    fn dropped(&mut self, place: Place<H::Places>, serial: u64, peer: &Peer, cause: DropCause) {
         let path = self.server.rules.path();
         let reason = self.reason_of(cause, peer);
         let why = reason.as_ref().map(|reason| reason.cause(path));

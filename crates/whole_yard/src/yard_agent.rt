@@ -71,7 +71,11 @@ impl<L: Assumptions, D: Dir + Drop, J: Journal> Agent<L> for YardAgent<L, D, J> 
     ghost use Rattle.one_connection.specs.Openings.{Decides, FailsToDecide, RefusesDecision, kept_opening, opening_of};
     ghost use Rattle.whole_yard.specs.YardAgents.{FindsOf, IsGoneFrom, LeadsBy, MakesEvent, MakesNone, StandsAt};
 
+    type Place = Place<L>;
+
     type Pass = Pass<L, D::File>;
+
+    ghost index = { λ place. place };
 
     ghost opening = { λ pass. opening_of D.File.bytes pass };
 
