@@ -1,11 +1,21 @@
 -- What was told of the end of a child is as it was.
-use Rattle.std.proofs.Common.{◌≡◌, ◌∙◌, ap, ℕ, Bool, Option, Some, Result, Ok, Err, inl, inr}
+use Rattle.std.proofs.Common.{◌≡◌, ◌∙◌, ◌⊎◌, ap, refl, subst, ℕ, ◌-◌, ◌^◌, Bool, true, Option, Some, Result, Ok, Err, inl, inr}
 use Rattle.std.specs.Prelude.{IfOk, OnErr}
+use Rattle.child_jobs.specs.Plans.{PlanText}
+use Rattle.connection_facts.specs.Peers.{Client}
+use Rattle.connection_facts.specs.declared.outcome.DropCause.{DropCause}
+use Rattle.connection_facts.specs.declared.outcome.DropCause.TheVariants as cause
+use Rattle.connection_facts.specs.declared.outcome.StartFault.{StartFault}
 use Rattle.connection_facts.specs.declared.outcome.Status.{Status}
 use Rattle.server_events.specs.declared.event.Event.{Event}
-use Rattle.server_events.specs.declared.event.Event.TheVariants.{Ended, Retired}
+use Rattle.server_events.specs.declared.event.Event.TheVariants.{Dropped, Ended, Retired, StartFailed}
+use Rattle.one_connection.specs.Openings.{Opening, WasFound}
+use Rattle.one_connection.specs.Servings.{Drops, FailsFor, IfDropped, IfStartFailed, IsDecidedAs, IsRefused, OnDenied, last_event}
+use Rattle.one_connection.specs.declared.serving.Served.{Served}
+use Rattle.rule_lines.specs.declared.instr.Verdict.TheVariants.{Deny}
+use Rattle.ucspi_env.specs.Ends.{LocalEnd}
 use Rattle.tcp_connections.specs.Rounds.{AllFail, EndsAs, FailsToWait, Kills, OneEnds, rounds}
-use Rattle.tcp_service.specs.Lives.{IsEndOfChild}
+use Rattle.tcp_service.specs.Lives.{EndsWithReason, IsEndOfChild, Refuses}
 
 -- by how the waits for it went, and what was told of that to an agent of the same connection
 pub end_told : {P C J : Type 0} (waited : Result (P × Status) C) (kills : Kills J) (fails : FailsToWait J) (ends : EndsAs J)
@@ -19,3 +29,48 @@ end_told (Ok r) kills fails ends by_force job serial own last then same is its n
     inl (r.1, its, is ∙ (told ∙ ap (λ (n : ℕ). Some (Ended n r.1)) same))
 end_told (Err child) kills fails ends by_force job serial own last then same is none its untold told =
     inr (its, is ∙ (told ∙ ap (λ (n : ℕ). Some (Retired n)) same))
+
+-- ---- a connection was served, and no program of it runs
+
+module _ {L : Type 0} {J : Type 0} {I O : Type 0} (finds : Opening → Type 0) (found : Option Opening) (honest sound : Bool)
+    (peer : Client) (local : LocalEnd) (plan : PlanText) (refuses : Refuses) (serial : ℕ) (served : Served L J I O) (last : Option Event) where
+  -- as its answer says, which was told last
+  denied_told : served ≡ Served.Denied → last ≡ Some (last_event serial served)
+      → OnDenied served (IsDecidedAs (WasFound found finds) honest sound peer Deny)
+      → EndsWithReason finds honest sound peer local plan refuses serial last
+  denied_told is told why = record {
+    found = found;
+    event = Dropped serial cause.Denied;
+    told = told ∙ ap (λ (s : Served L J I O). Some (last_event serial s)) is;
+    reason = (refl, inl (refl, subst (λ (s : Served L J I O). OnDenied s (IsDecidedAs (WasFound found finds) honest sound peer Deny)) is why));
+  }
+
+  refusal_told : (fault : StartFault) → served ≡ Served.StartFailed fault → last ≡ Some (last_event serial served)
+      → IfStartFailed served (IsRefused (WasFound found finds) honest sound peer local plan refuses)
+      → EndsWithReason finds honest sound peer local plan refuses serial last
+  refusal_told fault is told why = record {
+    found = found;
+    event = StartFailed serial fault;
+    told = told ∙ ap (λ (s : Served L J I O). Some (last_event serial s)) is;
+    reason = (refl, subst (λ (s : Served L J I O). IfStartFailed s (IsRefused (WasFound found finds) honest sound peer local plan refuses)) is why);
+  }
+
+  drop_told : (why : DropCause) → served ≡ Served.Dropped why → last ≡ Some (last_event serial served)
+      → IfDropped served (Drops (FailsFor (WasFound found finds) honest sound peer) true (2 ^ 64 - 1) (2 ^ 64 - 1) plan.banner)
+      → EndsWithReason finds honest sound peer local plan refuses serial last
+  drop_told why is told drops = record {
+    found = found;
+    event = Dropped serial why;
+    told = told ∙ ap (λ (s : Served L J I O). Some (last_event serial s)) is;
+    reason = (refl, inr (subst (λ (s : Served L J I O). IfDropped s (Drops (FailsFor (WasFound found finds) honest sound peer) true (2 ^ 64 - 1) (2 ^ 64 - 1) plan.banner)) is drops));
+  }
+
+  pub unserved_told : (served ≡ Served.Denied) ⊎ (((fault : StartFault) × (served ≡ Served.StartFailed fault)) ⊎ ((why : DropCause) × (served ≡ Served.Dropped why)))
+      → last ≡ Some (last_event serial served)
+      → OnDenied served (IsDecidedAs (WasFound found finds) honest sound peer Deny)
+      → IfStartFailed served (IsRefused (WasFound found finds) honest sound peer local plan refuses)
+      → IfDropped served (Drops (FailsFor (WasFound found finds) honest sound peer) true (2 ^ 64 - 1) (2 ^ 64 - 1) plan.banner)
+      → EndsWithReason finds honest sound peer local plan refuses serial last
+  unserved_told (inl is) told denied refused drops = denied_told is told denied
+  unserved_told (inr (inl (fault, is))) told denied refused drops = refusal_told fault is told refused
+  unserved_told (inr (inr (why, is))) told denied refused drops = drop_told why is told drops

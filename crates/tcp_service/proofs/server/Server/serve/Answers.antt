@@ -1,0 +1,21 @@
+-- What was told last of a connection that was served is how it was served.
+use Rattle.std.proofs.Common.{◌∙◌, ap, ℕ, subst}
+use Rattle.one_connection.specs.Openings.{kept_opening}
+use Rattle.tcp_service.specs.Agents.{IsFoundFor, asked}
+use Rattle.tcp_service.specs.Lives.{EndsWithReason, MayRefuse}
+use Rattle.tcp_service.proofs.Told.{unserved_told}
+use Rattle.tcp_service.proofs.server.Server.serve.Goals as goal
+
+pub returns-clause-reason : goal.returns-clause-reason
+returns-clause-reason g c =
+    let agent = c.agent-agent.result in
+    let serial = c.args.serial in
+    let last = asked c.of-over.result.last.value in
+    let finds : _ → ℕ → _ → Type 0 = λ rules n. IsFoundFor g.H.Places.Assumptions.met (g.H.Rules.Rules.gives rules) g.H.Handle.RulesHandle.opened n in
+    let refuses = MayRefuse (g.H.Starter.Starter.refuses c.args.self.now.starter.now c.args.streams.now.shut) in
+    let ends : _ → ℕ → Type 0 = λ rules n. EndsWithReason (finds rules n) g.H.File.RulesFile.honest g.H.File.RulesFile.sound c.args.peer.now c.args.local.now c.args.self.now.plan.now refuses serial last in
+    subst (λ rules. ends rules serial) c.agent-agent.ensures.rules
+    (subst (λ n. ends agent.server.now.rules.now n) c.agent-agent.ensures.own
+    (unserved_told (finds agent.server.now.rules.now agent.serial) (kept_opening g.H.File.RulesFile.bytes c.serve_one.new.agent.found)
+    g.H.File.RulesFile.honest g.H.File.RulesFile.sound c.args.peer.now c.args.local.now c.args.self.now.plan.now refuses serial c.serve_one.result last
+    c.in-Denied.is (ap asked c.of-over.ensures.last ∙ c.serve_one.ensures.told.told) c.serve_one.ensures.denied c.serve_one.ensures.start_failed c.serve_one.ensures.dropped))
