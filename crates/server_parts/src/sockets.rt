@@ -160,6 +160,8 @@ where
 
     ghost failed_last = { λ _ _. true };
 
+    ghost last_error = { λ acceptor. acceptor.error };
+
     fn accept(&mut self) -> Result<Accepted<Self::Reader, Self::Writer, Self::Shut>, AcceptFault> {
         let (local, stream, peer) = self.next()?;
         let (Some(local), Some(peer)) = (ipv4(local), ipv4(peer)) else {

@@ -12,7 +12,3 @@ told_of Spent accepting = Ok tt
 told_of NoPlaces accepting = Err (record { fault = fault.NoPlaces; error = None })
 told_of AcceptFaults accepting = Err (record { fault = fault.AcceptFault; error = accepting })
 told_of OutOfMemory accepting = Err (record { fault = fault.OutOfMemory; error = None })
-
--- with some number
-abbrev pub IsToldOf : ServeEnd → Result (Unit {0}) ServerFailure → Type 0
-IsToldOf end told = (accepting : Option ℤ) × (told ≡ told_of end accepting)

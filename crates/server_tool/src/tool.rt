@@ -4,7 +4,7 @@ ghost use Rattle.server_parts.specs.Asked.{FailsNames, starts_in};
 ghost use Rattle.server_parts.specs.Services.{AreRulesOf};
 ghost use Rattle.server_parts.specs.declared.fault.ServerFault.TheVariants.{CannotListen, LostConnection, OutOfMemory, WriteFault};
 ghost use Rattle.server_tool.specs.Asked.{AcceptsAsAsked, AreAsked, AreAskedLimits, IsAskedLog, IsAskedService};
-ghost use Rattle.server_tool.specs.Ends.{IsToldOf, told_of};
+ghost use Rattle.server_tool.specs.Ends.{told_of};
 ghost use Rattle.server_yard.specs.Kept.{rules_of};
 ghost use Rattle.server_yard.specs.Yards.{yard_books, yard_rules, yard_server};
 ghost use Rattle.shared_site.specs.Callers.{total_share};
@@ -324,7 +324,8 @@ fn serve_on<'a, L: Assumptions + Send + Sync, N: Callers + Send + Sync, P: Syste
 
 // How the tool ends, by how its server did and the system's last error of accepting.
 fn end_of<H: Host>(served: Result<Closed<H>, Unfinished<H>>) -> Result<(), ServerFailure>
-    ensures closed { IfOk served (λ closed. IsToldOf closed.end result) }
+    ensures closed { IfOk served (λ closed.
+        result ≡ told_of closed.end (H.Acceptor.last_error closed.acceptor)) }
     ensures lost { OnErr served (result ≡ Err (record { fault = LostConnection; error = None })) }
 {
     let Ok(closed) = served else {

@@ -13,6 +13,11 @@ LetsIn (In work) old new = new ≡ old + 1
 LetsIn (Refused why) old new = new ≡ old
 LetsIn Spent old new = ⊤
 
+-- what is said once no number is left
+abbrev pub OnSpent : {T E : Type 0} → AdmitOutcome T E → Type 0 → Type 0
+OnSpent Spent P = P
+OnSpent outcome P = ⊤
+
 -- a server that ended by its count let in exactly that many
 abbrev pub IsServed : ServeEnd → (count : Option ℕ) → (old new : ℕ) → Type 0
 IsServed end.Count count old new = (old ≤ new) × (count ≡ Some (new - old))

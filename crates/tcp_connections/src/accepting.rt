@@ -1,5 +1,5 @@
 //! Where connections come from.
-ghost use Rattle.std.specs.Prelude.{◌+◌, ℕ, OnErr, Bool, IsTrue};
+ghost use Rattle.std.specs.Prelude.{◌≡◌, ◌+◌, ℕ, ℤ, Option, OnErr, Bool, IsTrue};
 
 use std::io::{Read, Write};
 use std::time::Duration;
@@ -73,6 +73,9 @@ pub trait Acceptor {
     /// At least the last so many calls of `accept` failed.
     ghost failed_last: { Self → ℕ → Bool };
 
+    /// The system's number of the last error (`errno`), if it had one.
+    ghost last_error: { Self → Option ℤ };
+
     /// Waits for the next connection.
     ///
     /// # Errors
@@ -85,9 +88,11 @@ pub trait Acceptor {
             ((n : ℕ) → IsTrue (failed_last self.old n) → IsTrue (failed_last self.new n)) };
 
     /// The system's number of the last error (`errno`), if it had one.
-    fn error(&self) -> Option<i32>;
+    fn error(&self) -> Option<i32>
+        ensures number { result ≡ last_error self.now };
 
     /// Stops listening: nobody comes any more, and the system turns away those who wait.
     fn close(&mut self)
-        ensures failed { (n : ℕ) → IsTrue (failed_last self.old n) → IsTrue (failed_last self.new n) };
+        ensures failed { (n : ℕ) → IsTrue (failed_last self.old n) → IsTrue (failed_last self.new n) }
+        ensures number { last_error self.new ≡ last_error self.old };
 }

@@ -1,6 +1,6 @@
 //! Where connections are let in, and what serves them.
 ghost use Rattle.std.specs.Prelude.{◌≡◌, ◌+◌, ℕ, IfOk, IfErr, OnErr, Bool, false, IsTrue};
-ghost use Rattle.tcp_connections.specs.Admissions.{LetsIn};
+ghost use Rattle.tcp_connections.specs.Admissions.{LetsIn, OnSpent};
 
 use crate::accepting::AcceptFault;
 
@@ -46,6 +46,9 @@ pub trait Admission {
     /// All places were seen retired.
     ghost all_retired: { Self → Bool };
 
+    /// The last serial number, or the last number of an event, was seen given.
+    ghost is_spent: { Self → Bool };
+
     /// Waits until fewer connections are alive than may be. `false` if all places are retired, so that this never
     /// comes.
     fn wait_for_room(&mut self) -> bool
@@ -59,6 +62,7 @@ pub trait Admission {
     /// No connection came; the call may be made again.
     fn next(&mut self) -> Result<AdmitOutcome<Self::Work, Self::Refusal>, AcceptFault>
         ensures came { IfOk result (λ entry. LetsIn entry (let_in self.old) (let_in self.new)) }
+        ensures spent { IfOk result (λ entry. OnSpent entry (IsTrue (is_spent self.new))) }
         ensures none { OnErr result (let_in self.new ≡ let_in self.old) }
         ensures once { OnErr result (IsTrue (failed_last self.new 1)) }
         ensures again { OnErr result
@@ -70,7 +74,8 @@ pub trait Admission {
     fn close(&mut self)
         ensures nobody { let_in self.new ≡ let_in self.old }
         ensures failed { (n : ℕ) → IsTrue (failed_last self.old n) → IsTrue (failed_last self.new n) }
-        ensures retired { IsTrue (all_retired self.old) → IsTrue (all_retired self.new) };
+        ensures retired { IsTrue (all_retired self.old) → IsTrue (all_retired self.new) }
+        ensures spent { IsTrue (is_spent self.old) → IsTrue (is_spent self.new) };
 }
 
 /// Serves the connections that were let in. A connection is a value that each call takes, and gives on to the next.
@@ -78,35 +83,35 @@ pub trait Serving<T> {
     /// The stream from a client, which `pass_up` passes on.
     type Upward: Send + Drop;
 
-    /// A connection whose child runs, with the stream to its client, which `pass_down` passes on.
-    type Talk: Send;
+    /// A connection whose program runs.
+    type Alive: Send;
 
     /// Evidence that a connection is over: only its end makes one.
     type Over: Send + Drop;
 
-    /// Which connection it is, by the serial number: one that was let in, one whose child runs, and one that is over.
+    /// Which connection it is, by the serial number: one that was let in, one whose program runs, and one that is over.
     ghost of_work: { T → ℕ };
 
-    ghost of_talk: { Self.Talk → ℕ };
+    ghost of_alive: { Self.Alive → ℕ };
 
     ghost of_over: { Self.Over → ℕ };
 
     /// Whether what clients send is passed on. Each worker has a second thread for that.
     fn passes_up(&self) -> bool;
 
-    /// Serves a connection up to the start of its child. The answer has the stream from the client, if that is to be
+    /// Serves a connection up to the start of its program. The answer has the stream from the client, if that is to be
     /// passed on.
     ///
     /// # Errors
-    /// The connection is over; its child never ran.
-    fn begin(&self, work: T) -> Result<(Option<Self::Upward>, Self::Talk), Self::Over>
-        ensures goes_on { IfOk result (λ begun. of_talk begun.1 ≡ of_work work) }
+    /// The connection is over.
+    fn begin(&self, work: T) -> Result<(Option<Self::Upward>, Self::Alive), Self::Over>
+        ensures goes_on { IfOk result (λ begun. of_alive begun.1 ≡ of_work work) }
         ensures over { IfErr result (λ end. of_over end ≡ of_work work) };
 
     /// Passes on what the client sends, to its end.
     fn pass_up(&self, upward: Self::Upward);
 
-    /// Passes on what the client is sent, to the end of the connection.
-    fn pass_down(&self, talk: Self::Talk) -> Self::Over
-        ensures over { of_over result ≡ of_talk talk };
+    /// Serves a connection whose program runs to its end.
+    fn finish(&self, alive: Self::Alive) -> Self::Over
+        ensures over { of_over result ≡ of_alive alive };
 }

@@ -1,8 +1,8 @@
 //! The door: the value under the lock of the socket.
 ghost use Rattle.std.specs.Option.{ForSome};
-ghost use Rattle.std.specs.Prelude.{◌≡◌, ◌≢◌, ◌<◌, None, Some, true, false, IsTrue};
-ghost use Rattle.tcp_connections.specs.Admissions.{IsServed};
-ghost use Rattle.tcp_connections.specs.declared.admission.ServeEnd.TheVariants.{AcceptFaults, Count, NoPlaces};
+ghost use Rattle.std.specs.Prelude.{◌≡◌, ◌≢◌, ◌<◌, None, Some, true, false, IfOk, IsTrue};
+ghost use Rattle.tcp_connections.specs.Admissions.{IsServed, OnSpent};
+ghost use Rattle.tcp_connections.specs.declared.admission.ServeEnd.TheVariants.{AcceptFaults, Count, NoPlaces, Spent};
 
 use crate::accepting::AcceptFault;
 use crate::admission::{Admission, AdmitOutcome, ServeEnd};
@@ -69,7 +69,9 @@ impl<Q: Admission> Entrance<Q> {
     }
 
     // Waits for the next connection, and lets it in. A refused connection is closed.
-    fn next(&mut self) -> Result<AdmitOutcome<Q::Work, Q::Refusal>, AcceptFault> {
+    fn next(&mut self) -> Result<AdmitOutcome<Q::Work, Q::Refusal>, AcceptFault>
+        ensures spent { IfOk result (λ entry. OnSpent entry (IsTrue (Q.is_spent self.new.admission))) }
+    {
         let outcome = self.admission.next();
         match &outcome {
             Ok(AdmitOutcome::In(_)) => {
@@ -91,6 +93,7 @@ impl<Q: Admission> Entrance<Q> {
     fn close(&mut self)
         ensures failed { IsTrue (Q.failed_last self.old.admission 100) → IsTrue (Q.failed_last self.new.admission 100) }
         ensures retired { IsTrue (Q.all_retired self.old.admission) → IsTrue (Q.all_retired self.new.admission) }
+        ensures spent { IsTrue (Q.is_spent self.old.admission) → IsTrue (Q.is_spent self.new.admission) }
     {
         self.admission.close();
     }
@@ -110,6 +113,7 @@ pub(crate) struct Door<Q: Admission> {
     ghost otherwise: { end ≢ Some Count },
     ghost by_faults: { end ≡ Some AcceptFaults → IsTrue (Q.failed_last entrance.admission 100) },
     ghost by_places: { end ≡ Some NoPlaces → IsTrue (Q.all_retired entrance.admission) },
+    ghost by_numbers: { end ≡ Some Spent → IsTrue (Q.is_spent entrance.admission) },
 }
 
 impl<Q: Admission> Door<Q> {
@@ -171,7 +175,8 @@ impl<Q: Admission> Door<Q> {
                 Ok(None)
             }
             AdmitOutcome::Spent => {
-                self.close(ServeEnd::Spent);
+                self.entrance.close();
+                self.end = Some(ServeEnd::Spent);
                 Ok(None)
             }
         }
@@ -206,13 +211,9 @@ impl<Q: Admission> Door<Q> {
         self.end = Some(ServeEnd::AcceptFaults);
     }
 
-    /// Closes the door for another reason than the count, faults of accepting, or retired places.
-    pub fn close(&mut self, end: ServeEnd)
-        requires other { end ≢ Count }
-        requires no_faults { end ≢ AcceptFaults }
-        requires places { end ≢ NoPlaces }
-    {
-        self.end = Some(end);
+    /// Closes the door, since there is no memory for the server or no thread that serves anybody.
+    pub fn give_up(&mut self) {
+        self.end = Some(ServeEnd::OutOfMemory);
         self.entrance.close();
     }
 
@@ -221,6 +222,7 @@ impl<Q: Admission> Door<Q> {
         ensures served { IsServed result.0 count 0 (Q.let_in result.1) }
         ensures faults { result.0 ≡ AcceptFaults → IsTrue (Q.failed_last result.1 100) }
         ensures places { result.0 ≡ NoPlaces → IsTrue (Q.all_retired result.1) }
+        ensures spent { result.0 ≡ Spent → IsTrue (Q.is_spent result.1) }
     {
         let Door { entrance, end, .. } = self;
         let Entrance {

@@ -11,7 +11,7 @@ pub(crate) struct GoingOn<'a, R: Wait, V: Serving<T>, T> {
     pub server: &'a V,
     pub means: &'a Means,
     pub seconds: &'a Helpers<V::Upward>,
-    pub talk: V::Talk,
+    pub alive: V::Alive,
     pub second: Option<Helper<V::Upward>>,
 }
 
@@ -22,10 +22,10 @@ impl<R: Wait, V: Serving<T>, T> Drop for GoingOn<'_, R, V, T> {
             server,
             means,
             seconds,
-            talk,
+            alive,
             second,
         } = self;
-        let _over = server.pass_down(talk);
+        let _over = server.finish(alive);
         if let Some(second) = second {
             second.wait_for_finish(rt);
             seconds.give_back(rt, &second);

@@ -1,8 +1,8 @@
 //! Workers: each lets one connection after another in, and serves it up to the start of its program and on to its end.
-ghost use Rattle.std.specs.Prelude.{◌≡◌, ◌≢◌, IsTrue};
+ghost use Rattle.std.specs.Prelude.{◌≡◌, IsTrue};
 ghost use Rattle.std.specs.Thread.{IsSend, IsSync};
 ghost use Rattle.tcp_connections.specs.Admissions.{FailedToAccept, IsServed, suffices};
-ghost use Rattle.tcp_connections.specs.declared.admission.ServeEnd.TheVariants.{AcceptFaults, Count, NoPlaces};
+ghost use Rattle.tcp_connections.specs.declared.admission.ServeEnd.TheVariants.{AcceptFaults, NoPlaces, Spent};
 
 use crate::accepting::AcceptFault;
 use crate::admission::{Admission, ServeEnd, Serving};
@@ -40,7 +40,7 @@ const THREAD: usize = 192 * 1024;
 ///
 /// The count begins at 0, since nobody was let in by `admission` before. By faults of accepting it ends only if the last
 /// hundred calls of `admission` failed, or if `supply` doesn't suffice for one connection. For want of places it ends
-/// only if all were seen retired.
+/// only if all were seen retired, and for want of numbers only if the last one was seen given.
 pub fn serve_through<R, V, Q>(
     rt: &R,
     alloc: Global,
@@ -59,6 +59,7 @@ where
     ensures served { IsServed result.0 count 0 (Q.let_in result.1) }
     ensures faults { result.0 ≡ AcceptFaults → FailedToAccept (suffices supply) (Q.failed_last result.1) }
     ensures places { result.0 ≡ NoPlaces → IsTrue (Q.all_retired result.1) }
+    ensures spent { result.0 ≡ Spent → IsTrue (Q.is_spent result.1) }
 {
     if !supply.suffices() {
         let mut admission = admission;
@@ -124,13 +125,9 @@ where
         !self.is_limited() && !self.reserve.is_gone(self.rt)
     }
 
-    // Ends the server in this way.
-    fn end(&self, end: ServeEnd)
-        requires other { end ≢ Count }
-        requires no_faults { end ≢ AcceptFaults }
-        requires places { end ≢ NoPlaces }
-    {
-        self.door.lock(self.rt).close(end);
+    // Ends the server, since there is no memory for it or no thread that serves anybody.
+    fn give_up(&self) {
+        self.door.lock(self.rt).give_up();
     }
 
     // Waits for the door, and lets the next connection in. `None` once no more come.
@@ -246,7 +243,7 @@ where
             thread::scope_env(),
             workers.rt,
             move |scope|
-                requires { IsSync R.row × IsSync V.row × IsSend Q.row × IsSend V.Upward.row × IsSend V.Talk.row }
+                requires { IsSync R.row × IsSync V.row × IsSend Q.row × IsSend V.Upward.row × IsSend V.Alive.row }
             {
                 if !workers.supply.has_reserve()
                     || !start_reserve(scope, workers.rt, workers.reserve)
@@ -279,7 +276,7 @@ where
             }
             left = left.saturating_sub(1);
             if left == 0 && !is_made {
-                self.end(ServeEnd::OutOfMemory);
+                self.give_up();
                 return;
             }
             self.crew.pause(self.rt, pause.next());
@@ -310,7 +307,7 @@ where
             .spawn_scoped(
                 scope,
                 move ||
-                    requires { IsSync R.row × IsSync V.row × IsSend Q.row × IsSend V.Upward.row × IsSend V.Talk.row }
+                    requires { IsSync R.row × IsSync V.row × IsSend Q.row × IsSend V.Upward.row × IsSend V.Alive.row }
                 { workers.come_to_work(scope) },
             )
             .is_ok()
@@ -341,7 +338,7 @@ where
         let started = connection_thread().spawn_scoped(
             scope,
             move ||
-                requires { IsSync R.row × IsSync V.row × IsSend Q.row × IsSend V.Upward.row × IsSend V.Talk.row }
+                requires { IsSync R.row × IsSync V.row × IsSend Q.row × IsSend V.Upward.row × IsSend V.Alive.row }
             {
                 workers.come_up();
                 his.finish(workers.rt);
@@ -379,7 +376,7 @@ where
         work: Q::Work,
         second: &mut Option<Helper<V::Upward>>,
     ) {
-        let (upward, talk) = match self.server.begin(work) {
+        let (upward, alive) = match self.server.begin(work) {
             Ok(begun) => begun,
             Err(_over) => {
                 self.means.give_back(self.rt);
@@ -396,7 +393,7 @@ where
             server: self.server,
             means: self.means,
             seconds: self.seconds,
-            talk,
+            alive,
             second: second_of_this,
         };
         match self.keeper(scope) {
@@ -443,7 +440,7 @@ where
         let started = connection_thread().spawn_scoped(
             scope,
             move ||
-                requires { IsSync R.row × IsSync V.row × IsSend Q.row × IsSend V.Upward.row × IsSend V.Talk.row }
+                requires { IsSync R.row × IsSync V.row × IsSend Q.row × IsSend V.Upward.row × IsSend V.Alive.row }
             {
                 his.finish(workers.rt);
                 workers.keep_in_turn(&his);

@@ -31,13 +31,13 @@ where
 {
     type Upward = Upward<H>;
 
-    type Talk = Alive<'b, H>;
+    type Alive = Alive<'b, H>;
 
     type Over = Over;
 
     ghost of_work = { λ admitted. admitted.serial };
 
-    ghost of_talk = { λ alive. alive.serial };
+    ghost of_alive = { λ alive. alive.serial };
 
     ghost of_over = { λ over. over.serial };
 
@@ -53,7 +53,7 @@ where
         Server::pass_up(self, upward);
     }
 
-    fn pass_down(&self, alive: Alive<'b, H>) -> Over {
+    fn finish(&self, alive: Alive<'b, H>) -> Over {
         alive.finish()
     }
 }

@@ -1,7 +1,9 @@
 //! How a connection is let in: accepted, named, and counted.
-ghost use Rattle.std.specs.Prelude.{◌≡◌, is_some};
+ghost use Rattle.std.specs.Prelude.{◌≡◌, ◌-◌, ◌^◌, IsTrue, is_some};
+ghost use Rattle.server_yard.specs.declared.register.AdmitFault.TheVariants.{Spent};
 ghost use Rattle.shared_site.specs.Callers.{caller_share};
-ghost use Rattle.tcp_connections.specs.Admissions.{LetsIn};
+ghost use Rattle.shared_site.specs.Receipts.{receipt_of, refusal_fault};
+ghost use Rattle.tcp_connections.specs.Admissions.{LetsIn, OnSpent};
 ghost use Rattle.tcp_connections.specs.declared.admission.AdmitOutcome.TheVariants as outcome;
 ghost use Rattle.tcp_service.specs.declared.entrance.Refused.TheVariants.{OutOfMemory};
 ghost use Rattle.tcp_service.specs.Lives.{AdmitsOwn};
@@ -12,9 +14,9 @@ use crate::pumping::ClientStreams;
 use crate::server::Server;
 use crate::telling::{AdmittedBy, TellingAdmission};
 use connection_facts::{DropCause, Peer};
-use server_yard::AdmitFault;
+use server_yard::{AdmitFault, Assumptions};
 use shared_site::turns::Dropped;
-use shared_site::{AllRetired, CallerOf, Refusal};
+use shared_site::{AllRetired, CallerOf, Made, Refusal};
 use std::alloc::AllocError;
 use std::snapshot::Snapshot;
 use tcp_connections::{AcceptFault, Acceptor, Admission, AdmitOutcome};
@@ -29,6 +31,48 @@ pub(crate) enum Refused {
     BySite(Refusal),
 }
 
+/// Evidence that no number is left, of a connection or of an event.
+#[derive(Drop)]
+pub(crate) struct NoNumbers {
+    // this field is private, so that nobody else makes one
+    seal: (),
+}
+
+impl NoNumbers {
+    // A site has let nobody in, since the last serial number was given.
+    fn of_refusal(_refusal: &Refusal) -> NoNumbers
+        requires spent { refusal_fault _refusal.now ≡ Spent }
+    {
+        NoNumbers { seal: () }
+    }
+
+    // An event got the last number.
+    fn of_event(_made: &Made) -> NoNumbers
+        requires last { (receipt_of _made.now).at ≡ 2 ^ 64 - 1 }
+    {
+        NoNumbers { seal: () }
+    }
+}
+
+/// What a site has said of all connections that follow.
+#[derive(Drop)]
+pub(crate) struct Seen<L: Assumptions> {
+    /// That all places are retired.
+    pub retired: Option<AllRetired<L>>,
+    /// That no number is left.
+    pub spent: Option<NoNumbers>,
+}
+
+impl<L: Assumptions> Seen<L> {
+    /// Nothing yet.
+    pub(crate) fn new() -> Seen<L> {
+        Seen {
+            retired: None,
+            spent: None,
+        }
+    }
+}
+
 /// What came of a connection, and of its turn at the site.
 type LetIn<'a, H> = AdmitOutcome<Admitted<'a, H>, Refused>;
 
@@ -41,8 +85,7 @@ pub(crate) struct Entrance<'a, H: Host> {
     pub server: &'a Server<'a, H>,
     pub acceptor: H::Acceptor,
     pub admitter: CallerOf<H>,
-    /// That all places are retired, once the site has said so.
-    pub retired: Option<AllRetired<H::Places>>,
+    pub seen: Seen<H::Places>,
 }
 
 impl<'a, H: Host> Admission for Entrance<'a, H> {
@@ -54,13 +97,15 @@ impl<'a, H: Host> Admission for Entrance<'a, H> {
 
     ghost failed_last = { λ entrance. H.Acceptor.failed_last entrance.acceptor };
 
-    ghost all_retired = { λ entrance. is_some entrance.retired };
+    ghost all_retired = { λ entrance. is_some entrance.seen.retired };
+
+    ghost is_spent = { λ entrance. is_some entrance.seen.spent };
 
     fn wait_for_room(&mut self) -> bool {
         match self.server.site.room(self.server.rt) {
             Ok(()) => true,
             Err(retired) => {
-                self.retired = Some(retired);
+                self.seen.retired = Some(retired);
                 false
             }
         }
@@ -69,7 +114,7 @@ impl<'a, H: Host> Admission for Entrance<'a, H> {
     fn next(&mut self) -> Result<LetIn<'a, H>, AcceptFault> {
         let server = self.server;
         match self.acceptor.accept() {
-            Ok(accepted) => Ok(let_in(server, &mut self.admitter, accepted)),
+            Ok(accepted) => Ok(let_in(server, &mut self.admitter, &mut self.seen.spent, accepted)),
             Err(AcceptFault::OutOfMemory) => Ok(lack_memory(server)),
             Err(fault) => Err(fault),
         }
@@ -103,14 +148,16 @@ fn lack_memory<'a, H: Host>(server: &'a Server<'a, H>) -> LetIn<'a, H>
 fn let_in<'a, H: Host>(
     server: &'a Server<'a, H>,
     admitter: &mut CallerOf<H>,
+    spent: &mut Option<NoNumbers>,
     accepted: AcceptedBy<H>,
 ) -> LetIn<'a, H>
     ensures came { LetsIn result (caller_share admitter.old) (caller_share admitter.new) }
+    ensures spent { OnSpent result (IsTrue (is_some spent.new)) }
 {
     let Ok((peer, local)) = ends_of(server, &accepted) else {
         return lack_memory(server);
     };
-    match admit(server, admitter, &peer) {
+    match admit(server, admitter, spent, &peer) {
         AdmitOutcome::In((serial, place, made)) => AdmitOutcome::In(Admitted {
             server,
             serial,
@@ -127,8 +174,14 @@ fn let_in<'a, H: Host>(
 
 // Counts a connection: its serial, and its place. Once the last number of an event is given nobody is let in any more.
 #[tactic(auto, using(crate::proofs::Shares::one_came, crate::proofs::Shares::none_came, crate::proofs::Shares::own_came))]
-fn admit<H: Host>(server: &Server<'_, H>, admitter: &mut CallerOf<H>, peer: &Peer) -> Counted<H>
+fn admit<H: Host>(
+    server: &Server<'_, H>,
+    admitter: &mut CallerOf<H>,
+    spent: &mut Option<NoNumbers>,
+    peer: &Peer,
+) -> Counted<H>
     ensures came { LetsIn result (caller_share admitter.old) (caller_share admitter.new) }
+    ensures spent { OnSpent result (IsTrue (is_some spent.new)) }
     ensures own { AdmitsOwn result peer.now }
 {
     let (rt, site, log) = (server.rt, server.site, server.log);
@@ -142,12 +195,16 @@ fn admit<H: Host>(server: &Server<'_, H>, admitter: &mut CallerOf<H>, peer: &Pee
                     cause,
                 };
                 let _ = site.turn(rt, admitter, turn);
+                *spent = Some(NoNumbers::of_event(&made));
                 return AdmitOutcome::Spent;
             }
             AdmitOutcome::In((serial, place, made))
         }
         Err(refusal) => match refusal.fault() {
-            AdmitFault::Spent => AdmitOutcome::Spent,
+            AdmitFault::Spent => {
+                *spent = Some(NoNumbers::of_refusal(&refusal));
+                AdmitOutcome::Spent
+            }
             _ => AdmitOutcome::Refused(refusal),
         },
     }

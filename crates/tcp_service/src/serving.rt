@@ -4,16 +4,16 @@ ghost use Rattle.server_yard.specs.Runs.{HasRun};
 ghost use Rattle.server_yard.specs.Yards.{yard_books, yard_server, yard_state};
 ghost use Rattle.shared_site.specs.Callers.{caller_share, total_share};
 ghost use Rattle.tcp_connections.specs.Admissions.{FailedToAccept, IsServed, suffices};
-ghost use Rattle.tcp_connections.specs.declared.admission.ServeEnd.TheVariants.{AcceptFaults, NoPlaces};
+ghost use Rattle.tcp_connections.specs.declared.admission.ServeEnd.TheVariants.{AcceptFaults, NoPlaces, Spent};
 
-use crate::entrance::Entrance;
+use crate::entrance::{Entrance, Seen};
 use crate::host::Host;
 use crate::server::Server;
 use crate::service::Service;
 use child_jobs::Plan;
 use event_journals::Journal;
 use server_log::Log;
-use shared_site::{AllRetired, Caller, CallerOf, Callers, Site, YardOf};
+use shared_site::{Caller, CallerOf, Callers, Site, YardOf};
 use std::alloc::Global;
 use std::snapshot::Snapshot;
 use std::sync::Mutex;
@@ -32,8 +32,8 @@ pub struct Closed<H: Host> {
     pub yard: YardOf<H>,
     /// Where its connections came from, closed.
     pub acceptor: H::Acceptor,
-    // that all places are retired, if its site has said so
-    retired: Option<AllRetired<H::Places>>,
+    // what its site has said of all connections that would have followed
+    seen: Seen<H::Places>,
     // the caller that let connections in, and the one that made all other events
     admitter: Snapshot<CallerOf<H>>,
     teller: Snapshot<CallerOf<H>>,
@@ -41,7 +41,8 @@ pub struct Closed<H: Host> {
     pub ghost all_back: { (yard_books yard).count
         ≡ H.Callers.before + (caller_share admitter.value + caller_share teller.value) },
     pub ghost all_retired: { (yard_books yard).report.retired ≡ length (yard_server yard).connections },
-    pub ghost by_places: { end ≡ NoPlaces → IsTrue (is_some retired) },
+    pub ghost by_places: { end ≡ NoPlaces → IsTrue (is_some seen.retired) },
+    pub ghost by_numbers: { end ≡ Spent → IsTrue (is_some seen.spent) },
     // all that happened is a run of a server
     pub ghost ran: { H.is_servers ≡ true → H.Callers.before ≡ 0 → ∥ HasRun H.File.honest (yard_state yard) ∥₁ },
 }
@@ -134,7 +135,7 @@ where
         server: &server,
         acceptor,
         admitter,
-        retired: None,
+        seen: Seen::new(),
     };
     let (end, entrance) = serve_through(
         rt,
@@ -150,10 +151,10 @@ where
         server: _,
         acceptor,
         admitter,
-        retired,
+        seen,
     } = entrance;
     let teller = teller.into_inner();
-    close(end, acceptor, retired, site, callers, admitter, teller)
+    close(end, acceptor, seen, site, callers, admitter, teller)
 }
 
 // The two callers of a site, the second first.
@@ -175,13 +176,14 @@ fn both<N: Callers>(callers: &mut Vec<Caller<N>>) -> (Caller<N>, Caller<N>)
 fn close<H: Host>(
     end: ServeEnd,
     acceptor: H::Acceptor,
-    retired: Option<AllRetired<H::Places>>,
+    seen: Seen<H::Places>,
     site: Site<H>,
     callers: Vec<CallerOf<H>>,
     admitter: CallerOf<H>,
     teller: CallerOf<H>,
 ) -> Result<Closed<H>, Unfinished<H>>
-    requires places { end ≡ NoPlaces → IsTrue (is_some retired) }
+    requires places { end ≡ NoPlaces → IsTrue (is_some seen.retired) }
+    requires spent { end ≡ Spent → IsTrue (is_some seen.spent) }
     requires all { (H.Callers.all ≡ 2) × (H.Callers.parts ≡ 2) }
     requires room { (callers.items ≡ []) × (2 ≤ vec_capacity callers) }
     ensures end { IfOk result (λ closed. (closed.end ≡ end) × (closed.admitter.value ≡ admitter)) }
@@ -200,7 +202,7 @@ fn close<H: Host>(
             end,
             yard,
             acceptor,
-            retired,
+            seen,
             admitter: admitter_then,
             teller: teller_then,
         })

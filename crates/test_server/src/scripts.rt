@@ -58,6 +58,8 @@ impl Acceptor for Clients {
 
     ghost failed_last = { λ _ _. true };
 
+    ghost last_error = { λ _. None };
+
     fn accept(&mut self) -> Result<Accepted<Empty, Silent, Silent>, AcceptFault> {
         if let Some(lost) = self.lost.checked_sub(1) {
             self.lost = lost;
