@@ -36,7 +36,7 @@ map-push : (notes : List Noted) (n : Noted) → map (λ (x : Noted). x.event) (n
 map-push [] n = refl
 map-push (x ∷ xs) n = ap (λ (es : List Event). x.event ∷ es) (map-push xs n)
 
-stored_on : (stored : Option (List Noted)) (n : Noted) (h : List Event) → IfSome stored (λ notes. map (λ (x : Noted). x.event) notes ≡ h)
+pub stored_on : (stored : Option (List Noted)) (n : Noted) (h : List Event) → IfSome stored (λ notes. map (λ (x : Noted). x.event) notes ≡ h)
     → IfSome (option_map (λ (notes : List Noted). notes ++ n ∷ []) stored) (λ notes. map (λ (x : Noted). x.event) notes ≡ h ++ n.event ∷ [])
 stored_on None n h same = tt
 stored_on (Some notes) n h same = map-push notes n ∙ ap (λ (es : List Event). es ++ n.event ∷ []) same

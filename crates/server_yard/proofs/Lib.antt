@@ -21,5 +21,5 @@ pub mod Besides
 pub mod OpenedBefore
 pub mod Told
 pub mod WholeRun
-pub mod Unbegun
+pub mod Running
 pub mod ReadersLemmas

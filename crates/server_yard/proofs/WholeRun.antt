@@ -1,34 +1,36 @@
--- Whatever a yard did since no connection had come, beside other processes, is a history of the headline.
-use Rattle.std.proofs.Common.{◌≡◌, Bool, true, ℕ, List, [], ◌∷◌, ◌++◌, Option, None, Some, refl, sym, ap, subst, ◌∙◌}
-use Rattle.std.specs.Prelude.{is_some, option_and_then}
-use Rattle.dir_calls.specs.Directory.{Directory, content}
-use Rattle.rules_install.specs.Installing.{Installing}
+-- A run of a server, beside other processes, is a history of the headline.
+use Rattle.std.proofs.Common.{◌≡◌, ◌&&◌, true, ℕ, List, [], ◌∷◌, ◌++◌, Bool, None, Some, refl, sym, ap, subst, ◌∙◌}
+use Rattle.std.specs.Prelude.{Option, is_some, option_map}
+use Rattle.cdb_read.specs.Reading.{reading}
+use Rattle.event_journals.specs.Journals.{Books}
+use Rattle.rule_lookup.specs.Decisions.{decision_from}
+use Rattle.rule_lookup.specs.declared.decision.Decision.{Decision}
 use Rattle.server_events.specs.Headline.{Reaches}
 use Rattle.server_events.specs.Processes.{ServerSteps, Woven, is_connections, none, serves, installs, stops, outside, of_connections, of_installations, of_server}
-use Rattle.server_events.specs.ServerState.{Effect, ServerState, lets_in, opens, decides, brings, lets_go, comes_to, fails_at, ends_all, effect}
-use Rattle.server_events.specs.Steps.{none as no_step}
-use Rattle.server_events.specs.Taken.{is_there}
-use Rattle.server_events.specs.Worlds.{KeptFile, RulesName, World, kept_by}
+use Rattle.server_events.specs.ServerState.{Effect, ServerState, lets_in, opens, decides, brings, lets_go, comes_to, fails_at, ends_all, after, effect, is_legal, may_happen, start}
+use Rattle.server_events.specs.Steps.{MovesBy, none as no_step}
+use Rattle.server_events.specs.Taken.{IsDue}
+use Rattle.server_events.specs.Worlds.{KeptFile, RulesName, World, kept_by, missing_by, peer_of}
 use Rattle.server_events.specs.declared.event.Event.{Event}
 use Rattle.server_events.specs.declared.event.Event.TheVariants.{Admitted, Opened, Decided, Started, StartFailed, Ended, Retired, Dropped, Stepped, StepFailed, Stop}
 use Rattle.server_events.proofs.Allowed.{reached_within}
+use Rattle.server_events.proofs.History.{and_true}
 use Rattle.server_events.proofs.InstalledRuns.{legal_then}
 use Rattle.server_events.proofs.Openings.{decided_by_standing, has_its_opening, moves_same}
+use Rattle.server_events.proofs.TableLemmas.{is_step}
 use Rattle.server_events.proofs.WholeText.{reached_whole}
 use Rattle.server_events.proofs.WovenSteps.{one_history}
-use Rattle.server_yard.specs.Runs.{AreInstallations, BeginsRun, GoesBy, HasRun, IsHistoryTo, IsPlayedOut, IsUnbegun, Move, Runs, StepsNext}
-use Rattle.server_yard.specs.Runs.Runs.{none as no_move, more as one_more}
+use Rattle.server_yard.specs.Runs.{AreConnections, AreInstallations, BeginsRun, IsHistoryTo, IsPlayedOut, IsRun, StepsNext}
 use Rattle.server_yard.specs.Serving.{IsServers, over}
-use Rattle.server_yard.specs.Standing.{HasUnderWay, Leads, LeadsOn, YardState, standing_of}
+use Rattle.server_yard.specs.Standing.{Leads, Matches, YardState}
 use Rattle.server_yard.proofs.Besides.{by_itself}
 use Rattle.server_yard.proofs.OpenedBefore.{opens_at_once}
-use Rattle.server_yard.proofs.Told.{nothing_under_way, rules_stay, told_then}
+use Rattle.server_yard.proofs.Told.{nothing_under_way}
 
 -- ---- histories that lead on
 
 -- a history goes on by events woven
-pub reaches_on : {history events : List Event} {w v : World} → Reaches history w → Woven w events v
-    → Reaches (history ++ events) v
+reaches_on : {history events : List Event} {w v : World} → Reaches history w → Woven w events v → Reaches (history ++ events) v
 reaches_on reached woven = record {
   begin = reached.begin;
   starts = reached.starts;
@@ -36,7 +38,7 @@ reaches_on reached woven = record {
 }
 
 -- what the headline says of it
-pub history_to : (history : List Event) (w : World) → Reaches history w → IsHistoryTo history w
+history_to : (history : List Event) (w : World) → Reaches history w → IsHistoryTo history w
 history_to history w reached = record {
   reached = reached;
   keeps = record {
@@ -73,7 +75,7 @@ stays_its y files u v rules server kept at = record {
 }
 
 -- what the server has stays so
-pub stays : (y : YardState) (files : List KeptFile) {events : List Event} {w v : World} → Woven w events v
+stays : (y : YardState) (files : List KeptFile) {events : List Event} {w v : World} → Woven w events v
     → AreInstallations events → IsServers y files w → IsServers y files v
 stays y files none its at = at
 stays y files (serves {event = event} made rest) its at = absurd (not_both (effect event) made.its its.0)
@@ -88,93 +90,123 @@ stays y files (outside {u} {v} {w} {events} out rest) its at =
     let kept = ap (λ (x : World). x.kept) out.moves in
     stays y files rest its (stays_its y files u v rules server kept at)
 
--- ---- one move
+-- what the server has of a world, as its yard would have it
+abbrev own_yard : World → YardState
+own_yard w = record { directory = w.directory; rules = w.rules; server = (of_server w).server; installing = None }
 
--- a run goes on so from each world to which a history leads, and which is the yard's
-abbrev GoesOn : YardState → (List Event → World → Type 0) → Type 0
-GoesOn z goes_on =
-    (history : List Event) (w : World) (files : List KeptFile) → Reaches history w → IsServers z files w → goes_on history w
+is_its : (w : World) → IsServers (own_yard w) w.kept w
+is_its w = record { directory = refl; rules = refl; server = refl; installing = refl; kept = refl }
 
-module _ (y z : YardState) (goes_on : List Event → World → Type 0) (on : GoesOn z goes_on) (history : List Event)
-    (w : World) (files : List KeptFile) (reached : Reaches history w) (at : IsServers y files w) where
-  -- a call of a connection is a step of the server by itself
-  moves_on : (event : Event) → is_connections event ≡ true
-      → Leads event (over y w.directory) files (over z w.directory) files
+still_its : {events : List Event} {w v : World} → Woven w events v → AreInstallations events
+    → (of_server v).server ≡ (of_server w).server
+still_its {w = w} woven its = (stays (own_yard w) w.kept woven its (is_its w)).server
+
+-- ---- one event
+
+-- a run goes on so from each world to which a history leads, and in which the server has this state
+abbrev GoesOnFrom : ServerState → (List Event → World → Type 0) → Type 0
+GoesOnFrom s goes_on = (history : List Event) (w : World) → Reaches history w → (of_server w).server ≡ s → goes_on history w
+
+-- the step of an event that the state of the server allows
+leads_by : (w : World) (event : Event) → may_happen (of_server w).server event ≡ true
+    → ((u : World) → Matches (own_yard w) w.kept u → MovesBy (effect event) u (record u { server = after u.server event }))
+    → Leads event (own_yard w) w.kept (record (own_yard w) { server = after (of_server w).server event }) w.kept
+leads_by w event may moves u at =
+    let v : World = record u { server = after u.server event } in (
+      v,
+      record {
+        table = is_step u.server event (ap (λ (s : ServerState). may_happen s event) at.server ∙ may);
+        moves = moves u at;
+      },
+      record {
+        directory = at.directory;
+        rules = at.rules;
+        server = ap (λ (s : ServerState). after s event) at.server;
+        installing = at.installing;
+        kept = at.kept;
+      },
+    )
+
+module _ (s : ServerState) (event : Event) (goes_on : List Event → World → Type 0) (on : GoesOnFrom (after s event) goes_on)
+    (may : may_happen s event ≡ true) (history : List Event) (w : World) (reached : Reaches history w)
+    (at : (of_server w).server ≡ s) where
+  steps_by : is_connections event ≡ true
+      → ((u : World) → Matches (own_yard w) w.kept u → MovesBy (effect event) u (record u { server = after u.server event }))
       → (v : World) × ServerSteps w event v × goes_on (history ++ event ∷ []) v
-  moves_on event own leads =
-      let next = by_itself w y z files files event own at leads in
-      (next.0, next.1, on (history ++ event ∷ []) next.0 files (reaches_on reached (serves next.1 none)) next.2)
-
-  -- whatever event of a connection, but for an opening and a decision
-  plainly : (event : Event) → (is_connections event ≡ true) × ((d : Directory) → LeadsOn event (over y d) (over z d))
-      → (v : World) × ServerSteps w event v × goes_on (history ++ event ∷ []) v
-  plainly event goes = moves_on event goes.0 (goes.1 w.directory files)
-
-  -- an opening stands in the history at the time at which it found what it did
-  opens_then : (n : ℕ) (there : Bool) (found : Option (List ℕ)) → GoesBy true (Opened n there) found y z
-      → StepsNext (Opened n there) found history w goes_on
-  opens_then n there found goes before since u splits in_it =
-      let at_once = opens_at_once before u w since n in_it.reached in_it.waits in_it.woven in_it.apart in
-      let v = at_once.v in
-      let rules : u.rules ≡ y.rules = sym (rules_stay (one_history in_it.woven)) ∙ at.rules in
-      let stood : found ≡ standing_of (over y u.directory) =
-      in_it.stood ∙ ap (λ (o : Option RulesName). option_and_then (λ (r : RulesName). content u.directory r.name) o) rules in
-      let its = told_then since u w y z files n found in_it.woven at (goes.1 u.directory stood) at_once in
-      let same : is_there u ≡ there = sym (ap (λ (o : Option (List ℕ)). is_some o) in_it.stood) ∙ sym goes.0 in
-      let woven : Woven u (Opened n there ∷ since) v =
-      subst (λ (b : Bool). Woven u (Opened n b ∷ since) v) same at_once.woven in (
-        v,
-        record {
-          woven = woven;
-          its = at_once.server;
-          same = at_once.same;
-          keeps = at_once.keeps ∙ ap (λ (o : Option (List ℕ)). Some o) (sym in_it.stood);
-          others = at_once.others;
-        },
-        on (before ++ Opened n there ∷ since) v v.kept (reaches_on in_it.reached woven) its,
+  steps_by own moves =
+      let then : YardState = record (own_yard w) { server = after (of_server w).server event } in
+      let here : may_happen (of_server w).server event ≡ true = ap (λ (t : ServerState). may_happen t event) at ∙ may in
+      let next = by_itself w (own_yard w) then w.kept w.kept event own (is_its w) (leads_by w event here moves) in (
+        next.0,
+        next.1,
+        on (history ++ event ∷ []) next.0 (reaches_on reached (serves next.1 none)) (next.2.server ∙ ap (λ (t : ServerState). after t event) at),
       )
 
-  steps_next : (event : Event) (found : Option (List ℕ)) → GoesBy true event found y z
-      → StepsNext event found history w goes_on
-  steps_next (Opened n there) found goes = opens_then n there found goes
-  steps_next (Decided n decision) found goes = λ keeps.
-      let its = ap (λ (ks : List KeptFile). kept_by n ks) (sym at.kept) ∙ keeps in
-      moves_on (Decided n decision) refl (goes refl w.directory files its)
-  steps_next (Admitted n peer) found goes = plainly (Admitted n peer) goes
-  steps_next (Started n) found goes = plainly (Started n) goes
-  steps_next (StartFailed n fault) found goes = plainly (StartFailed n fault) goes
-  steps_next (Ended n status) found goes = plainly (Ended n status) goes
-  steps_next (Retired n) found goes = plainly (Retired n) goes
-  steps_next (Dropped n cause) found goes = plainly (Dropped n cause) goes
-  steps_next (Stepped phase) found goes = plainly (Stepped phase) goes
-  steps_next (StepFailed phase) found goes = plainly (StepFailed phase) goes
-  steps_next Stop found goes = plainly Stop goes
+-- a decision by what its connection keeps
+decides_so : (w u : World) (n : ℕ) (decision : Decision) → IsDue w n decision → Matches (own_yard w) w.kept u
+    → MovesBy (effect (Decided n decision)) u (record u { server = after u.server (Decided n decision) })
+decides_so w u n decision due at = (
+  due.bytes,
+  due.peer,
+  ap (λ (ks : List KeptFile). kept_by n ks) at.kept ∙ due.kept,
+  ap (λ (s : ServerState). peer_of n s.connections) at.server ∙ due.is_its,
+  ap (λ (r : Option RulesName). decision_from (option_map reading due.bytes) (missing_by r) due.peer) at.rules ∙ due.decides,
+  refl,
+)
+
+-- an opening stands in the history at the time at which it found what it did
+opens_then : (s : ServerState) (n : ℕ) (there : Bool) (goes_on : List Event → World → Type 0)
+    → GoesOnFrom (after s (Opened n there)) goes_on → (history : List Event) (w : World)
+    → (of_server w).server ≡ s → StepsNext (Opened n there) history w goes_on
+opens_then s n there goes_on on history w at before since u splits in_it =
+    let at_once = opens_at_once before u w since n in_it.reached in_it.waits in_it.woven in_it.apart in
+    let v = at_once.v in
+    let woven : Woven u (Opened n there ∷ since) v =
+    subst (λ (b : Bool). Woven u (Opened n b ∷ since) v) (sym in_it.stood) at_once.woven in
+    let its : v.server ≡ after w.server (Opened n there) = at_once.server in (
+      v,
+      record { woven = woven; its = its; same = at_once.same; keeps = at_once.keeps; others = at_once.others },
+      on (before ++ Opened n there ∷ since) v (reaches_on in_it.reached woven)
+          (ap (λ (t : ServerState). record t { phase = None }) its ∙ ap (λ (t : ServerState). after t (Opened n there)) at),
+    )
+
+steps_next : (s : ServerState) (event : Event) (goes_on : List Event → World → Type 0) → GoesOnFrom (after s event) goes_on
+    → may_happen s event ≡ true → is_connections event ≡ true → (history : List Event) (w : World) → Reaches history w
+    → (of_server w).server ≡ s → StepsNext event history w goes_on
+steps_next s (Opened n there) goes_on on may own history w reached at = opens_then s n there goes_on on history w at
+steps_next s (Decided n decision) goes_on on may own history w reached at = λ due.
+    steps_by s (Decided n decision) goes_on on may history w reached at refl (λ u its. decides_so w u n decision due its)
+steps_next s (Admitted n peer) goes_on on may own history w reached at =
+    steps_by s (Admitted n peer) goes_on on may history w reached at refl (λ u its. refl)
+steps_next s (Started n) goes_on on may own history w reached at =
+    steps_by s (Started n) goes_on on may history w reached at refl (λ u its. refl)
+steps_next s (StartFailed n fault) goes_on on may own history w reached at =
+    steps_by s (StartFailed n fault) goes_on on may history w reached at refl (λ u its. refl)
+steps_next s (Ended n status) goes_on on may own history w reached at =
+    steps_by s (Ended n status) goes_on on may history w reached at refl (λ u its. refl)
+steps_next s (Retired n) goes_on on may own history w reached at =
+    steps_by s (Retired n) goes_on on may history w reached at refl (λ u its. refl)
+steps_next s (Dropped n why) goes_on on may own history w reached at =
+    steps_by s (Dropped n why) goes_on on may history w reached at refl (λ u its. refl)
+steps_next s (Stepped phase) goes_on on may own history w reached at = absurd (let never = own in cc)
+steps_next s (StepFailed phase) goes_on on may own history w reached at = absurd (let never = own in cc)
+steps_next s Stop goes_on on may own history w reached at = absurd (let never = own in cc)
 
 -- ---- the whole run
 
-played : {y z : YardState} {moves : List Move} → Runs true y moves z → GoesOn y (IsPlayedOut moves)
-played no_move history w files reached at = λ events v without.
-    history_to (history ++ events) v (reaches_on reached without.woven)
-played (one_more {x} {y} {z} {move} {moves} goes rest) history w files reached at = λ events v without.
+played : (events : List Event) (s : ServerState) → is_legal s events ≡ true → AreConnections events → GoesOnFrom s (IsPlayedOut events)
+played [] s legal own history w reached at = λ others v without. history_to (history ++ others) v (reaches_on reached without.woven)
+played (event ∷ events) s legal own history w reached at = λ others v without.
     let there = reaches_on reached without.woven in
-    let still = stays x files without.woven without.installs at in (
-      history_to (history ++ events) v there,
-      steps_next x y (IsPlayedOut moves) (played rest) (history ++ events) v files there still move.event move.found goes,
+    let parts = and_true (may_happen s event) (is_legal (after s event) events) legal in (
+      history_to (history ++ others) v there,
+      steps_next s event (IsPlayedOut events) (played events (after s event) parts.1 own.1) parts.0 own.0
+          (history ++ others) v there (still_its without.woven without.installs ∙ at),
     )
 
--- the world from which it began is the yard's
-begins : (y : YardState) (w : World) → IsUnbegun y → BeginsRun y w → IsServers y [] w
-begins y w unbegun begun =
-    let starts = begun.starts in
-    record {
-      directory = refl;
-      rules = begun.rules;
-      server = ap (λ (s : ServerState). record s { phase = None }) starts.server ∙ sym starts.server ∙ begun.server;
-      installing = subst (λ (o : Option Installing). HasUnderWay (of_server w) o) (sym unbegun.idle) refl;
-      kept = starts.kept;
-    }
-
-pub whole_run : (y : YardState) (run : HasRun true y) (w : World) → BeginsRun run.begin w → IsPlayedOut run.moves [] w
-whole_run y run w begun =
-    let reached : Reaches [] w = record { begin = w; starts = begun.starts; legal = no_step } in
-    played run.runs [] w [] reached (begins run.begin w run.unbegun begun)
+pub whole_run : (books : Books) (server : ServerState) (events : List Event) (w : World) → IsRun books server events
+    → BeginsRun server w → IsPlayedOut events [] w
+whole_run books server events w run begins =
+    let reached : Reaches [] w = record { begin = w; starts = begins.starts; legal = no_step } in
+    played events (start server.limit server.per_address) run.legal run.connections [] w reached
+    (ap (λ (s : ServerState). record s { phase = None }) begins.same)

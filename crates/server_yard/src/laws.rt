@@ -1,14 +1,16 @@
 //! Laws of the definitions alone.
 ghost use Rattle.std.specs.Prelude.{◌≡◌, ◌++◌, ℕ, List, [], Option, Some, length, true};
+ghost use Rattle.event_journals.specs.Journals.{Books};
 ghost use Rattle.rule_lines.specs.Pairs.{Rule};
 ghost use Rattle.server_events.specs.Headline.{Reaches};
 ghost use Rattle.server_events.specs.Processes.{Woven, is_connections};
+ghost use Rattle.server_events.specs.ServerState.{ServerState};
 ghost use Rattle.server_events.specs.Table.{HasStage};
 ghost use Rattle.server_events.specs.Worlds.{KeptFile, World};
 ghost use Rattle.server_events.specs.declared.event.Event.{Event};
 ghost use Rattle.server_events.specs.declared.event.Stage.TheVariants as Stage;
 ghost use Rattle.server_yard.specs.Readers.{IsAbsentOrCompiled, KeptYard, NamesStoredSinceDone, begun_in};
-ghost use Rattle.server_yard.specs.Runs.{BeginsRun, HasRun, IsPlayedOut};
+ghost use Rattle.server_yard.specs.Runs.{BeginsRun, IsPlayedOut, IsRun};
 ghost use Rattle.server_yard.specs.Serving.{IsReachedOn, IsServers, Serves, StepsByItself, over};
 ghost use Rattle.server_yard.specs.Standing.{IsNew, IsReachedBy, Leads, LeadsOpened, Series, YardState, standing_of};
 ghost use Rattle.server_yard.specs.Telling.{AreApart, ToldLater};
@@ -67,13 +69,16 @@ pub fn readers()
         → length lists ≡ begun_in k.kept.history }
 {}
 
-/// Whatever a yard did since no connection had come, beside installers in other processes, and others, is a history of
-/// the headline.
+/// A run of a server, beside installers in other processes and others, is a history of the headline.
 ///
-/// The yard keeps a run (`HasRun`) if it makes the calls of connections alone: each is one move of it. Others go on as
-/// they like between two moves. Each opening stands in the history at the time at which it found what it did, at any
-/// time between its admission and its telling. So at each time a whole accepted text stands under the rules name, each
-/// decision is by the text that stood there when its connection opened the rules, and the limit is kept.
+/// A site of a server keeps one (`HasRun`). Others do what they like between two of its events. Each opening then stands
+/// in the history at the time at which it found what it did, any time between its admission and its telling. So at each
+/// time a whole accepted text stands under the rules name, or none; each decision is by the text that stood there when
+/// its connection opened the rules; and the limit is kept.
+///
+/// Two things are premises: at some time an opening found what stood there, and a decision is by the bytes that its
+/// connection keeps since then.
 pub fn whole_run()
-    ensures { (y : YardState) (run : HasRun true y) (w : World) → BeginsRun run.begin w → IsPlayedOut run.moves [] w }
+    ensures { (books : Books) (server : ServerState) (events : List Event) (w : World) → IsRun books server events
+        → BeginsRun server w → IsPlayedOut events [] w }
 {}

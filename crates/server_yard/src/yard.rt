@@ -19,7 +19,7 @@ ghost use Rattle.server_yard.specs.Passes.{IsDecidedBy, finding_file, pass_bytes
 ghost use Rattle.server_yard.specs.Readers.{ReadersFind};
 ghost use Rattle.server_yard.specs.Rolls.{CountsStored, IsQuiet, Lived, Notes, NotesSome};
 ghost use Rattle.server_yard.specs.Rooms.{KeepsRoom};
-ghost use Rattle.server_yard.specs.Runs.{IsUnbegun};
+ghost use Rattle.server_yard.specs.Runs.{HasRun};
 ghost use Rattle.server_yard.specs.Registers.{books_of, roll_of};
 ghost use Rattle.server_yard.specs.Seating.{GivesSeat, IsAddressFull, IsSpent, KeepsSeats, KeepsSerials, goes_on, leaver};
 ghost use Rattle.server_yard.specs.Standing.{BeginsWell, LeadsDecided, LeadsOn, LeadsOpened, LeadsSome, standing_of};
@@ -195,9 +195,9 @@ impl<L: Assumptions, D: Dir + Drop, J: Journal> Yard<L, D, J> {
         ensures stored { CountsStored (yard_books self.now) }
     {}
 
-    /// A law: as long as a yard has no event, no connection has come, and no installation is under way.
+    /// A law: a yard without an event has a run, which is empty.
     pub fn unbegun(&self)
-        ensures { (yard_books self.now).count ≡ 0 → IsUnbegun (yard_state self.now) }
+        ensures { (yard_books self.now).count ≡ 0 → HasRun (yard_books self.now) (yard_server self.now) }
     {}
 
     /// Says who makes the events that follow: a number from 1, or 0 for nobody, as at first. Nothing else changes.
