@@ -13,13 +13,12 @@ use Rattle.server_events.specs.declared.event.Stage.{Stage}
 use Rattle.server_events.specs.declared.event.Stage.TheVariants as stage
 use Rattle.server_yard.specs.Rolls.{Notes, Roll, number_at, stage_at}
 use Rattle.server_yard.specs.Seating.{KeepsSeats}
-use Rattle.server_yard.specs.Runs.{GoesBy, Move}
 use Rattle.server_yard.specs.Standing.{LeadsOn, YardState}
 use Rattle.server_yard.specs.Yards.{IsSameBeside, stage_of_place, yard_over, yard_roll, yard_seat, yard_state}
 use Rattle.server_yard.specs.declared.assumptions.Assumptions as assumptions
 use Rattle.server_yard.specs.declared.yard.Yard.{Yard}
 use Rattle.shared_site.specs.Receipts.{CountsAtMostOne, receipt_after, receipt_at, receipt_of}
-use Rattle.shared_site.specs.Turns.{GoesOn, IsAt, IsLastOf, IsPassedOver, Makes, MakesBy, NotesBy, spoken_by}
+use Rattle.shared_site.specs.Turns.{IsAt, IsLastOf, IsPassedOver, Makes, MakesBy, NotesBy, NotesOne, spoken_by}
 use Rattle.shared_site.specs.declared.receipt.Made.{Made}
 use Rattle.shared_site.proofs.Spoken.{notes_from, spoken_over, spoken_state}
 
@@ -98,13 +97,15 @@ passed who event leads needs old new spoken = record {
   seats = spoken.seats;
 }
 
--- out of turn a yard is as before to all that see it, and in turn it goes on by a move
-pub stays : {L D J F : Type 0} {p : assumptions.Ghosts L} {d : dir.Ghosts D F} {f : file.Ghosts F} {j : journal.Ghosts J}
-    (honest : Bool) (who : ℕ) (old new : Yard L D J F p d f j) → IsPassedOver who old new → GoesOn honest (yard_state old) (yard_state new)
-stays honest who old new spoken = inl (spoken_state who old new spoken.roll spoken.beside)
-
-pub moves : (honest : Bool) (move : Move) (old new : YardState) → GoesBy honest move.event move.found old new → GoesOn honest old new
-moves honest move old new by = inr (move, by)
+-- out of turn no event was noted
+pub stays : (who : ℕ) (old new : Roll) → new ≡ spoken_by who old → NotesOne who old new
+stays who old new spoken = inl (record {
+  stays = ap (λ (r : Roll). r.server) spoken;
+  speaks = ap (λ (r : Roll). r.speaker) spoken;
+  tells = ap (λ (r : Roll). r.books.report) spoken;
+  counts = ap (λ (r : Roll). r.books.count) spoken;
+  stores = ap (λ (r : Roll). r.books.notes) spoken;
+})
 
 -- a connection stands at its place as before its caller spoke
 pub at_after : {L D J F : Type 0} {p : assumptions.Ghosts L} {d : dir.Ghosts D F} {f : file.Ghosts F} {j : journal.Ghosts J}

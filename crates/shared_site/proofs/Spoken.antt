@@ -1,8 +1,8 @@
 -- A turn is the yard's call, where its caller speaks.
-use Rattle.std.proofs.Common.{◌≡◌, ◌∙◌, ℕ, sym, subst}
+use Rattle.std.proofs.Common.{◌≡◌, ℕ, sym, subst}
 use Rattle.dir_calls.specs.Directory.{Directory}
 use Rattle.server_events.specs.declared.event.Event.{Event}
-use Rattle.server_yard.specs.Rolls.{IsQuiet, Notes, Roll}
+use Rattle.server_yard.specs.Rolls.{Notes, Roll}
 use Rattle.server_yard.specs.Yards.{IsSameBeside, yard_over, yard_roll, yard_state}
 use Rattle.server_yard.specs.declared.yard.Yard.{Yard}
 use Rattle.shared_site.specs.Turns.{spoken_by}
@@ -13,14 +13,6 @@ pub spoken_state : {L D J F : Type 0} {p : _} {l : _} {d : _} {j : _} (who : ℕ
     → yard_state mid ≡ yard_state old
 spoken_state {l = l} who old mid speaks same =
     λ i. record { directory = l.state (same.directory i); rules = same.rules i; server = (speaks i).server; installing = same.installing i }
-
--- and neither is a call of which no event was noted
-pub quiet_state : {L D J F : Type 0} {p : _} {l : _} {d : _} {j : _} (who : ℕ)
-    (old mid new : Yard L D J F p l d j) → yard_roll mid ≡ spoken_by who (yard_roll old) → IsSameBeside old mid
-    → IsQuiet (yard_roll mid) (yard_roll new) → IsSameBeside mid new → yard_state new ≡ yard_state old
-quiet_state {l = l} who old mid new speaks spoke quiet same =
-    (λ i. record { directory = l.state (same.directory i); rules = same.rules i; server = quiet.stays i; installing = same.installing i })
-    ∙ spoken_state who old mid speaks spoke
 
 -- the same over whatever directory others left
 pub spoken_over : {L D J F : Type 0} {p : _} {l : _} {d : _} {j : _} (who : ℕ) (left : Directory)

@@ -7,6 +7,7 @@ use Rattle.dir_calls.specs.declared.rules_file.RulesFile as file
 use Rattle.event_journals.specs.Journals.{one_more}
 use Rattle.event_journals.specs.declared.journal.Journal as journal
 use Rattle.connection_facts.specs.Peers.{Client}
+use Rattle.server_events.specs.Processes.{is_connections}
 use Rattle.server_events.specs.ServerState.{stage_of}
 use Rattle.server_events.specs.Worlds.{missing_by, peer_of}
 use Rattle.server_events.specs.declared.event.Event.{Event}
@@ -14,8 +15,7 @@ use Rattle.server_events.specs.declared.event.Event.TheVariants.{Opened}
 use Rattle.server_events.specs.declared.event.Stage.{Stage}
 use Rattle.server_events.specs.declared.event.Stage.TheVariants as stage
 use Rattle.server_yard.specs.Passes.{pass_file, pass_missing, pass_serial}
-use Rattle.server_yard.specs.Rolls.{Notes, Roll}
-use Rattle.server_yard.specs.Runs.{GoesBy, Move}
+use Rattle.server_yard.specs.Rolls.{IsQuiet, Notes, Roll}
 use Rattle.server_yard.specs.Seating.{KeepsSeats}
 use Rattle.server_yard.specs.Standing.{LeadsOn, LeadsOpened, YardState, standing_of}
 use Rattle.server_yard.specs.Yards.{IsSameBeside, number_of, stage_of_place, yard_books, yard_over, yard_roll, yard_rules, yard_seat, yard_server, yard_state}
@@ -33,6 +33,11 @@ spoken_by who roll = record roll { speaker = who }
 abbrev pub NotesBy : ℕ → Event → (old new : Roll) → Type 0
 NotesBy who event old new = Notes event (spoken_by who old) new
 
+-- one event of a connection was noted, as this caller's; or no event was
+abbrev pub NotesOne : ℕ → (old new : Roll) → Type 0
+NotesOne who old new =
+    IsQuiet (spoken_by who old) new ⊎ ((event : Event) × (is_connections event ≡ true) × NotesBy who event old new)
+
 -- this event was noted last, as this caller's
 pub record IsLastOf (who : ℕ) (event : Event) (roll : Roll) : Type 0 where
   pub before : Roll
@@ -42,10 +47,6 @@ pub record IsLastOf (who : ℕ) (event : Event) (roll : Roll) : Type 0 where
 -- stands there
 abbrev pub LeadsFound : ℕ → Option (List ℕ) → (old new : YardState) → Type 0
 LeadsFound serial bytes old new = bytes ≡ standing_of old → LeadsOpened serial bytes old new
-
--- a yard went on by one move of a server, or is as before to all that see it
-abbrev pub GoesOn : (honest : Bool) → (old new : YardState) → Type 0
-GoesOn honest old new = (new ≡ old) ⊎ ((move : Move) × GoesBy honest move.event move.found old new)
 
 -- a yard with this ledger, this directory, this journal and these files, and what their traits tell of them
 module _ {L D J F : Type 0} {p : assumptions.Ghosts L} {d : dir.Ghosts D F} {f : file.Ghosts F} {j : journal.Ghosts J} where

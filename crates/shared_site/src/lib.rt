@@ -2,7 +2,8 @@
 //!
 //! The server uses `Site::turn`, which runs any value that is a `Turn` and counts its event for its caller, and
 //! `Site::close`. A turn is the yard's call of its name if the table allows the event; otherwise it is an error that
-//! changes nothing but the speaker. All turns of a site together are a run of its yard (`Guarded`, `Site::close`). Only
+//! changes nothing but the speaker. If the yard is
+//! a server's and had no event before, its events are a run (`Guarded`, `Site::close`). Only
 //! laws and tests make a `Receipt` of the evidence that a turn answers: see `whole_yard`, which audits receipts. A
 //! `Refusal`, and `AllRetired`, are made only of a yard that is so. Nothing is proved about the answer of `live`, and
 //! `Ok` of `room`. That threads get the lock and go on is tested (`test_sites`).

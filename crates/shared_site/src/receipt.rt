@@ -97,11 +97,7 @@ impl Refusal {
     }
 
     // That this yard has not let a client in.
-    pub(crate) fn of<G: Ground>(
-        _yard: &YardOf<G>,
-        _peer: &Peer,
-        fault: AdmitFault,
-    ) -> Refusal
+    pub(crate) fn of<G: Ground>(_yard: &YardOf<G>, _peer: &Peer, fault: AdmitFault) -> Refusal
         requires reason { Refuses fault _peer.now.ip (yard_server _yard.now) }
         ensures { refusal_fault result ≡ fault }
     {

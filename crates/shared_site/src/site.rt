@@ -1,7 +1,7 @@
 //! The site: a yard under one lock, for many threads.
 ghost use Rattle.std.specs.Prelude.{◌≡◌, ◌+◌, ◌<◌, ◌≤◌, ◌↔◌, true, IsOk, IsTrue, IfOk, IfErr, length, vec_len};
 ghost use Rattle.server_yard.specs.Runs.{HasRun};
-ghost use Rattle.server_yard.specs.Yards.{yard_books, yard_server, yard_state};
+ghost use Rattle.server_yard.specs.Yards.{yard_books, yard_server};
 ghost use Rattle.shared_site.specs.Callers.{AreNew, CountsForIts, total_share};
 
 use crate::caller::{Caller, Callers};
@@ -39,8 +39,8 @@ struct Guarded<G: Ground> {
     events: Book<G::Callers>,
     // the shares together are that number
     ghost counted: { G.Callers.before + events.total ≡ (yard_books yard).count },
-    // if the yard is a server's and had no event before, all that it did is a run
-    ghost ran: { G.is_servers ≡ true → G.Callers.before ≡ 0 → ∥ HasRun G.File.honest (yard_state yard) ∥₁ },
+    // if the yard is a server's and had no event before, its events are a run
+    ghost ran: { G.is_servers ≡ true → G.Callers.before ≡ 0 → HasRun (yard_books yard) (yard_server yard) },
 }
 
 impl<G: Ground> Guarded<G> {
@@ -114,12 +114,7 @@ impl<G: Ground> Site<G> {
     /// Makes a turn for a caller. It waits for the lock, runs the turn on the yard with the caller's number, and lets
     /// the lock go. If the turn made an event, the caller's share grows by it. If it made room, those who wait for room
     /// are woken. Under the lock nobody waits for anything but what the turn itself waits for.
-    pub fn turn<R: Wait, T: Turn<G>>(
-        &self,
-        rt: &R,
-        caller: &mut CallerOf<G>,
-        turn: T,
-    ) -> T::Answer
+    pub fn turn<R: Wait, T: Turn<G>>(&self, rt: &R, caller: &mut CallerOf<G>, turn: T) -> T::Answer
         requires may { T.may turn }
         ensures counted { CountsForIts (T.answers turn) result caller.old caller.new }
     {
@@ -150,20 +145,17 @@ impl<G: Ground> Site<G> {
     }
 
     /// The yard, once all callers are back. Its history has as many events as when the site was made, and those of all
-    /// shares. If it is a server's and had no event before, all that it did is a run, of which
+    /// shares. If it is a server's and had no event before, its events are a run, of which
     /// `server_yard::laws::whole_run` speaks.
     ///
     /// # Errors
     /// Some caller is lacking. The site and the callers are handed back.
-    pub fn close(
-        self,
-        callers: Vec<CallerOf<G>>,
-    ) -> Result<YardOf<G>, (Site<G>, Vec<CallerOf<G>>)>
+    pub fn close(self, callers: Vec<CallerOf<G>>) -> Result<YardOf<G>, (Site<G>, Vec<CallerOf<G>>)>
         requires parts { G.Callers.all ≡ G.Callers.parts }
         ensures all { IsOk result ↔ (vec_len callers ≡ G.Callers.all) }
         ensures history { IfOk result (λ yard. (yard_books yard).count ≡ G.Callers.before + total_share callers.items) }
         ensures ran { IfOk result (λ yard. G.is_servers ≡ true → G.Callers.before ≡ 0
-            → ∥ HasRun G.File.honest (yard_state yard) ∥₁) }
+            → HasRun (yard_books yard) (yard_server yard)) }
         ensures back { IfErr result (λ r. (r.0 ≡ self) × (r.1 ≡ callers)) }
     {
         if callers.len() as u64 != self.callers {

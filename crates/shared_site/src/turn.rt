@@ -1,8 +1,8 @@
 //! Turns as values: a caller hands one to its site, which runs it on the yard under its lock.
 ghost use Rattle.std.specs.Prelude.{◌≡◌, ℕ, true};
-ghost use Rattle.server_yard.specs.Yards.{yard_books, yard_roll, yard_state};
+ghost use Rattle.server_yard.specs.Yards.{yard_books, yard_roll};
 ghost use Rattle.shared_site.specs.Receipts.{CountsAtMostOne, receipt_at, receipt_of, shown_event};
-ghost use Rattle.shared_site.specs.Turns.{GoesOn, IsLastOf};
+ghost use Rattle.shared_site.specs.Turns.{IsLastOf, NotesOne};
 
 use crate::ground::{Ground, YardOf};
 use crate::receipt::{EventSnapshot, Made};
@@ -26,8 +26,7 @@ pub trait Turn<G: Ground> {
         ensures answers { answers self caller
             (yard_books yard.old).count result (yard_books yard.new).count }
         ensures counts { CountsAtMostOne (yard_books yard.old).count (yard_books yard.new).count }
-        ensures goes { G.is_servers ≡ true
-            → GoesOn G.File.honest (yard_state yard.old) (yard_state yard.new) };
+        ensures notes { G.is_servers ≡ true → NotesOne caller (yard_roll yard.old) (yard_roll yard.new) };
 }
 
 /// Evidence that a caller made a yard's last event, as which this event was just noted. There is no other way to

@@ -16,10 +16,10 @@ ghost use Rattle.server_yard.specs.Passes.{IsDecidedBy, finding_file, pass_bytes
 ghost use Rattle.server_yard.specs.Rolls.{IsQuiet};
 ghost use Rattle.server_yard.specs.Seating.{GivesSeat, IsAddressFull, IsSpent, KeepsSerials};
 ghost use Rattle.server_yard.specs.Standing.{LeadsDecided, LeadsOn};
-ghost use Rattle.server_yard.specs.Yards.{IsSameBeside, number_of, stage_of_place, yard_books, yard_over, yard_roll, yard_rules, yard_seat, yard_server, yard_state};
+ghost use Rattle.server_yard.specs.Yards.{IsSameBeside, yard_books, yard_over, yard_roll, yard_rules, yard_seat, yard_server, yard_state};
 ghost use Rattle.server_yard.specs.declared.register.AdmitFault.TheVariants.{Full, FullForAddress, Spent};
 ghost use Rattle.shared_site.specs.Receipts.{AdmitsOrNot, CountsAtMostOne, MakesOrNot, refused_as};
-ghost use Rattle.shared_site.specs.Turns.{Answers, GoesOn, IsAt, IsPassedOver, LeadsFound, Makes, MakesBy, MayBeDecided, NotesBy, OpensBy, spoken_by};
+ghost use Rattle.shared_site.specs.Turns.{Answers, IsAt, IsPassedOver, LeadsFound, Makes, MakesBy, MayBeDecided, NotesBy, NotesOne, OpensBy, spoken_by};
 
 use crate::ground::{Ground, YardOf};
 use crate::receipt::{EventSnapshot, Made, OutOfTurn, Refusal};
@@ -49,11 +49,14 @@ impl<G: Ground> Turn<G> for Admit<'_> {
 
     ghost answers = { λ turn. AdmitsOrNot turn.peer.now };
 
-    fn run(self, yard: &mut YardOf<G>, caller: u64) -> Result<(u64, Place<G::Places>, Made), Refusal>
+    fn run(
+        self,
+        yard: &mut YardOf<G>,
+        caller: u64,
+    ) -> Result<(u64, Place<G::Places>, Made), Refusal>
         ensures answers { Answers (AdmitsOrNot self.entry.peer.now) caller result yard.old yard.new }
         ensures counts { CountsAtMostOne (yard_books yard.old).count (yard_books yard.new).count }
-        ensures goes { G.is_servers ≡ true
-            → GoesOn G.File.honest (yard_state yard.old) (yard_state yard.new) }
+        ensures notes { G.is_servers ≡ true → NotesOne caller (yard_roll yard.old) (yard_roll yard.new) }
         ensures full { (refused_as result ≡ Some Full)
             ↔ (length (yard_server yard.old).connections ≡ (yard_server yard.old).limit) }
         ensures spent { (refused_as result ≡ Some Spent) ↔ IsSpent (yard_server yard.old) }
@@ -104,8 +107,7 @@ impl<G: Ground> Turn<G> for Opened<G> {
     fn run(self, yard: &mut YardOf<G>, caller: u64) -> Option<(Pass<G::Places, G::File>, Made)>
         ensures answers { Answers (OpensBy self.serial (finding_file self.finding)) caller result yard.old yard.new }
         ensures counts { CountsAtMostOne (yard_books yard.old).count (yard_books yard.new).count }
-        ensures goes { G.is_servers ≡ true
-            → GoesOn G.File.honest (yard_state yard.old) (yard_state yard.new) }
+        ensures notes { G.is_servers ≡ true → NotesOne caller (yard_roll yard.old) (yard_roll yard.new) }
         ensures in_turn { is_some result ≡ is_admitted (stage_of self.serial (yard_server yard.old).connections) }
         ensures missing { IfSome result (λ r. pass_missing r.0 ≡ missing_by (yard_rules yard.old)) }
         ensures makes { MakesBy caller (event.Opened self.serial (is_some (finding_file self.finding)))
@@ -151,8 +153,7 @@ impl<G: Ground> Turn<G> for Decided<'_, G> {
         ensures answers { Answers (MakesOrNot (event.Decided (pass_serial self.entry.pass) self.entry.decision))
             caller result yard.old yard.new }
         ensures counts { CountsAtMostOne (yard_books yard.old).count (yard_books yard.new).count }
-        ensures goes { G.is_servers ≡ true
-            → GoesOn G.File.honest (yard_state yard.old) (yard_state yard.new) }
+        ensures notes { G.is_servers ≡ true → NotesOne caller (yard_roll yard.old) (yard_roll yard.new) }
         ensures in_turn { IsOk result ↔ MayBeDecided yard.old self.entry.pass self.entry.peer.now }
         // over whatever directory others left, too, if files are honest
         ensures makes { MakesBy caller (event.Decided (pass_serial self.entry.pass) self.entry.decision)
@@ -194,14 +195,15 @@ impl<G: Ground, C: Job> Turn<G> for Started<'_, G, C> {
     fn run(self, yard: &mut YardOf<G>, caller: u64) -> Result<Made, OutOfTurn>
         ensures answers { Answers (MakesOrNot (event.Started self.entry.serial)) caller result yard.old yard.new }
         ensures counts { CountsAtMostOne (yard_books yard.old).count (yard_books yard.new).count }
-        ensures goes { G.is_servers ≡ true
-            → GoesOn G.File.honest (yard_state yard.old) (yard_state yard.new) }
+        ensures notes { G.is_servers ≡ true → NotesOne caller (yard_roll yard.old) (yard_roll yard.new) }
         ensures in_turn { IsOk result ↔ IsAt is_allowed self.entry.serial yard.old (place_of self.entry.running.now) }
         ensures makes { Makes caller (event.Started self.entry.serial) (is_ok result) yard.old yard.new }
     {
         let Started { serial, running } = self;
         let event = EventSnapshot::Other(Snapshot::of(&Event::Started { serial }));
-        if speak_at::<G>(yard, caller, running.place(), serial) != Some(Stage::Decided(Verdict::Allow)) {
+        if speak_at::<G>(yard, caller, running.place(), serial)
+            != Some(Stage::Decided(Verdict::Allow))
+        {
             return Err(OutOfTurn { asked: event });
         }
         yard.started(running);
@@ -234,8 +236,7 @@ impl<G: Ground> Turn<G> for StartFailed<G> {
         ensures answers { Answers (MakesOrNot (event.StartFailed self.serial self.fault))
             caller result yard.old yard.new }
         ensures counts { CountsAtMostOne (yard_books yard.old).count (yard_books yard.new).count }
-        ensures goes { G.is_servers ≡ true
-            → GoesOn G.File.honest (yard_state yard.old) (yard_state yard.new) }
+        ensures notes { G.is_servers ≡ true → NotesOne caller (yard_roll yard.old) (yard_roll yard.new) }
         ensures in_turn { IsOk result ↔ IsAt is_allowed self.serial yard.old self.place }
         ensures makes { Makes caller (event.StartFailed self.serial self.fault) (is_ok result) yard.old yard.new }
         ensures gone { OnOk result (stage_of self.serial (yard_server yard.new).connections ≡ None) }
@@ -279,8 +280,7 @@ impl<G: Ground> Turn<G> for Ended<G> {
     fn run(self, yard: &mut YardOf<G>, caller: u64) -> Result<Made, OutOfTurn>
         ensures answers { Answers (MakesOrNot (event.Ended self.serial self.status)) caller result yard.old yard.new }
         ensures counts { CountsAtMostOne (yard_books yard.old).count (yard_books yard.new).count }
-        ensures goes { G.is_servers ≡ true
-            → GoesOn G.File.honest (yard_state yard.old) (yard_state yard.new) }
+        ensures notes { G.is_servers ≡ true → NotesOne caller (yard_roll yard.old) (yard_roll yard.new) }
         ensures in_turn { IsOk result ↔ IsAt is_started self.serial yard.old self.place }
         ensures makes { Makes caller (event.Ended self.serial self.status) (is_ok result) yard.old yard.new }
         ensures gone { OnOk result (stage_of self.serial (yard_server yard.new).connections ≡ None) }
@@ -323,8 +323,7 @@ impl<G: Ground, C: Job> Turn<G> for Retired<G, C> {
     fn run(self, yard: &mut YardOf<G>, caller: u64) -> Result<Made, OutOfTurn>
         ensures answers { Answers (MakesOrNot (event.Retired self.serial)) caller result yard.old yard.new }
         ensures counts { CountsAtMostOne (yard_books yard.old).count (yard_books yard.new).count }
-        ensures goes { G.is_servers ≡ true
-            → GoesOn G.File.honest (yard_state yard.old) (yard_state yard.new) }
+        ensures notes { G.is_servers ≡ true → NotesOne caller (yard_roll yard.old) (yard_roll yard.new) }
         ensures in_turn { IsOk result ↔ IsAt is_started self.serial yard.old (place_of self.running) }
         ensures makes { Makes caller (event.Retired self.serial) (is_ok result) yard.old yard.new }
     {
@@ -363,8 +362,7 @@ impl<G: Ground> Turn<G> for Dropped<G> {
     fn run(self, yard: &mut YardOf<G>, caller: u64) -> Result<Made, OutOfTurn>
         ensures answers { Answers (MakesOrNot (event.Dropped self.serial self.cause)) caller result yard.old yard.new }
         ensures counts { CountsAtMostOne (yard_books yard.old).count (yard_books yard.new).count }
-        ensures goes { G.is_servers ≡ true
-            → GoesOn G.File.honest (yard_state yard.old) (yard_state yard.new) }
+        ensures notes { G.is_servers ≡ true → NotesOne caller (yard_roll yard.old) (yard_roll yard.new) }
         ensures in_turn { IsOk result ↔ IsAt is_unstarted self.serial yard.old self.place }
         ensures makes { Makes caller (event.Dropped self.serial self.cause) (is_ok result) yard.old yard.new }
         ensures gone { OnOk result (stage_of self.serial (yard_server yard.new).connections ≡ None) }
@@ -385,11 +383,7 @@ impl<G: Ground> Turn<G> for Dropped<G> {
 }
 
 // Whether the connection of a pass may be decided now.
-fn may_be_decided<G: Ground>(
-    yard: &YardOf<G>,
-    pass: &Pass<G::Places, G::File>,
-    peer: &Peer,
-) -> bool
+fn may_be_decided<G: Ground>(yard: &YardOf<G>, pass: &Pass<G::Places, G::File>, peer: &Peer) -> bool
     ensures { IsTrue result ↔ MayBeDecided yard.now pass.now peer.now }
 {
     yard.stage(pass.serial()) == Some(Stage::Opened)

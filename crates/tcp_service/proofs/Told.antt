@@ -1,4 +1,4 @@
--- What was told of the end of a child is as it was.
+-- What was told of the end of a child, or of a connection without one, is as it was.
 use Rattle.std.proofs.Common.{◌≡◌, ◌∙◌, ◌⊎◌, ap, refl, subst, ℕ, ◌-◌, ◌^◌, Bool, true, Option, Some, Result, Ok, Err, inl, inr}
 use Rattle.std.specs.Prelude.{IfOk, OnErr}
 use Rattle.child_jobs.specs.Plans.{PlanText}

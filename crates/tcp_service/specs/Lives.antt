@@ -4,7 +4,6 @@ use Rattle.child_jobs.specs.Plans.{PlanText}
 use Rattle.child_jobs.specs.Programs.{ProgramText}
 use Rattle.child_jobs.specs.Runs.{IsSameChild}
 use Rattle.connection_facts.specs.Peers.{Client}
-use Rattle.connection_facts.specs.declared.outcome.DropCause.{DropCause}
 use Rattle.connection_facts.specs.declared.outcome.DropCause.TheVariants as cause
 use Rattle.connection_facts.specs.declared.outcome.StartFault.{StartFault}
 use Rattle.connection_facts.specs.declared.outcome.Status.{Status}
@@ -18,7 +17,7 @@ use Rattle.shared_site.specs.Receipts.{made_event}
 use Rattle.shared_site.specs.declared.receipt.Made.{Made}
 use Rattle.tcp_connections.specs.declared.admission.AdmitOutcome.{AdmitOutcome}
 use Rattle.tcp_connections.specs.declared.admission.AdmitOutcome.TheVariants.{In}
-use Rattle.stream_tools.specs.declared.process.NotStarted.{NotStarted as Refusal}
+use Rattle.stream_tools.specs.declared.process.NotStarted.{NotStarted}
 use Rattle.tcp_connections.specs.Refusals.{RefusesBy}
 use Rattle.tcp_connections.specs.Rounds.{AllFail, EndsAs, FailsToWait, Kills, OneEnds, rounds}
 use Rattle.ucspi_env.specs.Ends.{LocalEnd}
@@ -60,7 +59,7 @@ abbrev pub Refuses : Type 1
 Refuses = ProgramText → Variables → StartFault → Type 0
 
 -- a launcher refuses what its starter refuses
-abbrev pub MayRefuse : (ProgramText → Variables → Refusal → Type 0) → Refuses
+abbrev pub MayRefuse : (ProgramText → Variables → NotStarted → Type 0) → Refuses
 MayRefuse refuses program variables fault = RefusesBy (refuses program variables) fault
 
 -- A connection was served, and no program of it runs. It was dropped: as denied, by the decision by what it found, or
@@ -81,3 +80,10 @@ pub record EndsWithReason (finds : Opening → Type 0) (honest sound : Bool) (pe
   pub event : Event
   pub told : last ≡ Some event
   pub reason : HasReason (WasFound found finds) honest sound peer local plan refuses serial event
+
+-- a connection is over before it went on: it was given up for want of memory, or served without a program, or its program
+-- was ended by force
+abbrev pub IsOverAtOnce : {J : Type 0} → Kills J → FailsToWait J → EndsAs J → (unserved : Type 0) → (serial : ℕ)
+    → Option Event → Type 0
+IsOverAtOnce {J} kills fails ends unserved serial last =
+    (last ≡ Some (Dropped serial cause.Memory)) ⊎ (unserved ⊎ ((job : J) × IsEndOfChild kills fails ends true job last serial))

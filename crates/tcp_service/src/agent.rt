@@ -183,7 +183,7 @@ impl<H: Host> LoggedAgent<'_, H> {
             Err(running) => {
                 let turn = Retired::<H, H::Job> { serial, running };
                 self.tell(turn, Told::Retired { serial })
-            },
+            }
         };
         self.last = Some(answer);
     }

@@ -6,7 +6,7 @@ ghost use Rattle.one_connection.specs.Openings.{kept_opening};
 ghost use Rattle.server_events.specs.declared.event.Event.TheVariants.{Admitted as AdmittedEvent, Dropped as DroppedEvent};
 ghost use Rattle.shared_site.specs.Receipts.{made_event};
 ghost use Rattle.tcp_service.specs.Agents.{IsFoundFor, asked};
-ghost use Rattle.tcp_service.specs.Lives.{EndsWithReason, IsEndOfChild, IsOwnChild, MayRefuse, OfSameChild};
+ghost use Rattle.tcp_service.specs.Lives.{EndsWithReason, IsEndOfChild, IsOverAtOnce, IsOwnChild, MayRefuse, OfSameChild};
 
 use crate::agent::FoundBy;
 use crate::host::Host;
@@ -37,8 +37,7 @@ pub(crate) struct Admitted<'a, H: Host> {
 
 /// A connection whose program was started, with what it runs by (`child`): the program is the plan's, with the
 /// variables of the decision by what this very connection found, for its client and its end. It found that by a new
-/// handle of the rules, which was opened for it. It goes on as an `Alive`. Only the calls of this file make one, of a
-/// `Started`.
+/// handle of the rules, which was opened for it. It goes on as an `Alive`.
 pub(crate) struct Started<'a, H: Host> {
     alive: Alive<'a, H>,
     peer: Snapshot<Peer>,
@@ -171,6 +170,12 @@ impl<'a, H: Host> Admitted<'a, H> {
     pub(crate) fn begin(self) -> Result<Beginning<'a, H>, Over>
         ensures own { IfOk result (λ begun. begun.1.serial ≡ self.entry.serial) }
         ensures over { IfErr result (λ over. over.serial ≡ self.entry.serial) }
+        ensures reason { IfErr result (λ over. IsOverAtOnce H.Job.killed H.Job.refused_wait H.Job.ended
+            (EndsWithReason
+            (IsFoundFor H.Places.met (H.Rules.gives self.entry.server.now.rules.now) H.Handle.opened self.entry.serial)
+            H.File.honest H.File.sound self.entry.peer self.entry.local self.entry.server.now.plan.now
+            (MayRefuse (H.Starter.refuses self.entry.server.now.starter.now self.entry.streams.shut)) self.entry.serial
+            (asked over.last.value)) self.entry.serial (asked over.last.value)) }
     {
         let Ok(chains) = self.server.chains() else {
             return Err(self.give_up(DropCause::Memory));
@@ -205,6 +210,11 @@ impl<'a, H: Host> Admitted<'a, H> {
         ensures own { IfOk result (λ started. (started.0.alive.serial ≡ self.entry.serial)
             × (place_of started.0.alive.running ≡ self.entry.place)) }
         ensures over { IfErr result (λ over. over.serial ≡ self.entry.serial) }
+        ensures reason { IfErr result (λ over. EndsWithReason
+            (IsFoundFor H.Places.met (H.Rules.gives self.entry.server.now.rules.now) H.Handle.opened self.entry.serial)
+            H.File.honest H.File.sound self.entry.peer self.entry.local self.entry.server.now.plan.now
+            (MayRefuse (H.Starter.refuses self.entry.server.now.starter.now self.entry.streams.shut)) self.entry.serial
+            (asked over.last.value)) }
     {
         let Admitted {
             server,
@@ -258,6 +268,9 @@ fn go_on<H: Host>(
 ) -> Result<Beginning<'_, H>, Over>
     ensures own { IfOk result (λ begun. begun.1.serial ≡ alive.entry.serial) }
     ensures over { IfErr result (λ over. over.serial ≡ alive.entry.serial) }
+    ensures ended { IfErr result (λ over. OfSameChild H.Job.program H.Job.environment (job_of alive.entry.running)
+        (λ job. IsEndOfChild H.Job.killed H.Job.refused_wait H.Job.ended true job
+        (asked over.last.value) alive.entry.serial)) }
 {
     match chains {
         None => Ok((None, alive)),

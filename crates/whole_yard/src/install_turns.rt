@@ -45,7 +45,7 @@ impl<G: Ground> Turn<G> for InstallBegin {
         yard: &mut YardOf<G>,
         caller: u64,
     ) -> (Result<u64, (Install, InstallFault)>, Option<Made>)
-        requires whole { G.is_servers ≡ false }
+        requires not_servers { G.is_servers ≡ false }
         ensures answers { BeginsOrNot (installing self.install)
             caller (yard_books yard.old).count result (yard_books yard.new).count }
         ensures counts { CountsAtMostOne (yard_books yard.old).count (yard_books yard.new).count }
@@ -96,7 +96,7 @@ impl<G: Ground> Turn<G> for InstallStep {
         yard: &mut YardOf<G>,
         caller: u64,
     ) -> (Result<Phase, InstallFault>, Option<Made>)
-        requires whole { G.is_servers ≡ false }
+        requires not_servers { G.is_servers ≡ false }
         ensures answers { StepsOrNot caller (yard_books yard.old).count result (yard_books yard.new).count }
         ensures counts { CountsAtMostOne (yard_books yard.old).count (yard_books yard.new).count }
         ensures receipt { option_map receipt_of result.1

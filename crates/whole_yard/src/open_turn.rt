@@ -64,7 +64,7 @@ impl<G: Ground> Turn<G> for Open {
         yard: &mut YardOf<G>,
         caller: u64,
     ) -> Result<(Pass<G::Places, G::File>, Made), OpenFault>
-        requires whole { G.is_servers ≡ false }
+        requires not_servers { G.is_servers ≡ false }
         ensures answers { OpensOrNot self.serial
             caller (yard_books yard.old).count result (yard_books yard.new).count }
         ensures counts { CountsAtMostOne (yard_books yard.old).count (yard_books yard.new).count }

@@ -1,5 +1,6 @@
 -- As many events as the journal has more are in the caller's share and in the book.
 use Rattle.std.proofs.Common.{rules}
+use Rattle.server_yard.specs.Yards.{yard_roll}
 use Rattle.shared_site.proofs.Running.{run_on}
 use Rattle.shared_site.proofs.Counting.{share_counted, still_counted}
 use Rattle.shared_site.proofs.site.Guarded.turn.Goals as goal
@@ -18,5 +19,5 @@ returns g c = record {
 pub invariant_of-self : goal.invariant_of-self
 invariant_of-self g c = record {
   counted = still_counted _ _ _ _ _ c.args.self.now.counted c.run-answer.ensures.counts (search rules) (search rules);
-  ran = λ servers before. run_on _ _ _ (c.run-answer.ensures.goes servers) (c.args.self.now.ran servers before);
+  ran = λ servers before. run_on _ (yard_roll c.args.self.now.yard) _ (c.run-answer.ensures.notes servers) (c.args.self.now.ran servers before);
 }

@@ -1,11 +1,11 @@
-use Rattle.std.proofs.Common.{inl, refl, subst, rules}
-use Rattle.std.specs.Prelude.{None}
+use Rattle.std.proofs.Common.{inl, inr, refl, subst, rules}
 use Rattle.server_events.specs.declared.event.Event.TheVariants as event
+use Rattle.server_yard.specs.Rolls.{IsQuiet, Roll}
 use Rattle.server_yard.specs.Standing.{LeadsOn, YardState}
 use Rattle.server_yard.specs.Yards.{yard_over, yard_roll, yard_state}
 use Rattle.shared_site.specs.Turns.{spoken_by}
-use Rattle.shared_site.proofs.Spoken.{notes_from, quiet_state, spoken_over, spoken_state}
-use Rattle.shared_site.proofs.Making.{answered, counted, last_of, moves}
+use Rattle.shared_site.proofs.Spoken.{notes_from, spoken_over, spoken_state}
+use Rattle.shared_site.proofs.Making.{answered, counted, last_of}
 use Rattle.shared_site.proofs.turns.AdmitTurn.run.Goals as goal
 
 pub returns-in-Ok-clause-noted : goal.returns-in-Ok-clause-noted
@@ -46,11 +46,9 @@ returns-in-Ok-clause-answers g c = (
   tt,
 )
 
-pub returns-in-Ok-clause-goes : goal.returns-in-Ok-clause-goes
-returns-in-Ok-clause-goes g c = λ _.
-    moves _ (record { event = event.Admitted c.in-Ok.serial c.args.self.peer.now; found = None }) (yard_state c.args.yard.now) (yard_state c.admit.new.self)
-    (refl, returns-in-Ok-clause-beside g c)
+pub returns-in-Ok-clause-notes : goal.returns-in-Ok-clause-notes
+returns-in-Ok-clause-notes g c = λ _. inr (event.Admitted c.in-Ok.serial c.args.self.peer.now, refl, returns-in-Ok-clause-noted g c)
 
-pub returns-in-Err-clause-goes : goal.returns-in-Err-clause-goes
-returns-in-Err-clause-goes g c = λ _.
-    inl (quiet_state c.args.caller c.args.yard.now c.speaker.new.self c.admit.new.self c.speaker.ensures.speaks c.speaker.ensures.same (search rules) c.admit.ensures.same)
+pub returns-in-Err-clause-notes : goal.returns-in-Err-clause-notes
+returns-in-Err-clause-notes g c = λ _.
+    inl (subst (λ (r : Roll). IsQuiet r (yard_roll c.admit.new.self)) c.speaker.ensures.speaks (search rules))

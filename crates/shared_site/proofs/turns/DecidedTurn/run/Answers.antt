@@ -1,10 +1,10 @@
-use Rattle.std.proofs.Common.{refl, rules}
+use Rattle.std.proofs.Common.{inr, refl, rules}
 use Rattle.std.specs.Prelude.{IsTrue}
 use Rattle.server_events.specs.declared.event.Event.TheVariants as event
 use Rattle.server_yard.specs.Passes.{pass_bytes, pass_serial}
 use Rattle.server_yard.specs.Standing.{LeadsDecided}
-use Rattle.server_yard.specs.Yards.{yard_roll, yard_state}
-use Rattle.shared_site.proofs.Making.{answered, counted, last_of, made_by, moves, stays}
+use Rattle.server_yard.specs.Yards.{yard_roll}
+use Rattle.shared_site.proofs.Making.{answered, counted, last_of, made_by, stays}
 use Rattle.shared_site.proofs.turns.DecidedTurn.run.Goals as goal
 
 pub returns-clause-makes : goal.returns-clause-makes
@@ -34,12 +34,10 @@ returns-clause-answers g c =
     answered c.args.caller (event.Decided (pass_serial c.args.self.pass) c.args.self.decision) _ c.made.result
     (yard_roll c.args.yard.now) (yard_roll c.decided.new.self) (returns-clause-makes g c).noted refl (search rules)
 
-pub returns-clause-goes : goal.returns-clause-goes
-returns-clause-goes g c = λ _.
-    let pass = c.args.self.pass in
-    moves _ (record { event = event.Decided (pass_serial pass) c.args.self.decision; found = pass_bytes g.G.File.RulesFile.bytes pass })
-    (yard_state c.args.yard.now) (yard_state c.decided.new.self) (λ honest d. (returns-clause-makes g c).beside d honest)
+pub returns-clause-notes : goal.returns-clause-notes
+returns-clause-notes g c = λ _.
+    inr (event.Decided (pass_serial c.args.self.pass) c.args.self.decision, refl, (returns-clause-makes g c).noted)
 
-pub returns-then-not-may_be_decided-clause-goes : goal.returns-then-not-may_be_decided-clause-goes
-returns-then-not-may_be_decided-clause-goes g c = λ _.
-    stays _ c.args.caller c.args.yard.now c.speaker.new.self (record { roll = c.speaker.ensures.speaks; beside = c.speaker.ensures.same; seats = c.speaker.ensures.seats })
+pub returns-then-not-may_be_decided-clause-notes : goal.returns-then-not-may_be_decided-clause-notes
+returns-then-not-may_be_decided-clause-notes g c = λ _.
+    stays c.args.caller (yard_roll c.args.yard.now) (yard_roll c.speaker.new.self) c.speaker.ensures.speaks

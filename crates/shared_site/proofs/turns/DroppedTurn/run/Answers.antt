@@ -1,9 +1,9 @@
-use Rattle.std.proofs.Common.{◌≡◌, ℕ, refl, rules, subst}
+use Rattle.std.proofs.Common.{inr, ◌≡◌, ℕ, refl, rules, subst}
 use Rattle.std.specs.Prelude.{None}
 use Rattle.server_events.specs.ServerState.{is_unstarted, stage_of}
 use Rattle.server_events.specs.declared.event.Event.TheVariants as event
-use Rattle.server_yard.specs.Yards.{yard_state, yard_roll, yard_server}
-use Rattle.shared_site.proofs.Making.{moves, stays, answered, counted, last_own, made_own}
+use Rattle.server_yard.specs.Yards.{yard_roll, yard_server}
+use Rattle.shared_site.proofs.Making.{stays, answered, counted, last_own, made_own}
 use Rattle.shared_site.proofs.turns.DroppedTurn.run.Goals as goal
 
 pub dropped-requires : goal.dropped-requires
@@ -47,10 +47,8 @@ returns-clause-gone g c =
 pub returns-then-not-is_unstarted-clause-in_turn : goal.returns-then-not-is_unstarted-clause-in_turn
 returns-then-not-is_unstarted-clause-in_turn g c = (λ ok. absurd (cc), λ at. let is = (c.speak_at.ensures.passes is_unstarted refl).1 at in cc)
 
-pub returns-clause-goes : goal.returns-clause-goes
-returns-clause-goes g c = λ _.
-    moves _ (record { event = event.Dropped c.args.self.serial c.args.self.cause; found = None }) (yard_state c.args.yard.now) (yard_state c.dropped.new.self)
-    (refl, λ d. (returns-clause-makes g c).beside d tt)
+pub returns-clause-notes : goal.returns-clause-notes
+returns-clause-notes g c = λ _. inr (event.Dropped c.args.self.serial c.args.self.cause, refl, (returns-clause-makes g c).noted)
 
-pub returns-then-not-is_unstarted-clause-goes : goal.returns-then-not-is_unstarted-clause-goes
-returns-then-not-is_unstarted-clause-goes g c = λ _. stays _ c.args.caller c.args.yard.now c.speak_at.new.yard c.speak_at.ensures.spoken
+pub returns-then-not-is_unstarted-clause-notes : goal.returns-then-not-is_unstarted-clause-notes
+returns-then-not-is_unstarted-clause-notes g c = λ _. stays c.args.caller (yard_roll c.args.yard.now) (yard_roll c.speak_at.new.yard) c.speak_at.ensures.spoken.roll

@@ -1,4 +1,4 @@
-use Rattle.std.proofs.Common.{◌≡◌, subst, rules}
+use Rattle.std.proofs.Common.{◌≡◌, inr, refl, subst, rules}
 use Rattle.std.specs.Prelude.{⊤, Option, is_some, option_map}
 use Rattle.server_events.specs.declared.event.Event.TheVariants as event
 use Rattle.server_yard.specs.Passes.{finding_file}
@@ -6,8 +6,7 @@ use Rattle.server_yard.specs.Rolls.{Notes}
 use Rattle.server_yard.specs.Standing.{LeadsOpened, standing_of}
 use Rattle.server_yard.specs.Yards.{yard_over, yard_roll, yard_state}
 use Rattle.shared_site.specs.Turns.{LeadsFound}
-use Rattle.shared_site.proofs.Making.{counted, last_of, made_by, moves, stays}
-use Rattle.shared_site.proofs.Running.{there_is}
+use Rattle.shared_site.proofs.Making.{counted, last_of, made_by, stays}
 use Rattle.shared_site.proofs.turns.OpenedTurn.run.Goals as goal
 
 pub returns-clause-makes : goal.returns-clause-makes
@@ -37,13 +36,9 @@ returns-clause-counts g c =
     counted c.args.caller (event.Opened c.args.self.serial (is_some (finding_file c.args.self.finding)))
     (yard_roll c.args.yard.now) (yard_roll c.opened-pass.new.self) (returns-clause-makes g c).noted
 
-pub returns-clause-goes : goal.returns-clause-goes
-returns-clause-goes g c = λ _.
-    let file = finding_file c.args.self.finding in
-    let bytes = g.G.File.RulesFile.bytes in
-    moves _ (record { event = event.Opened c.args.self.serial (is_some file); found = option_map bytes file })
-    (yard_state c.args.yard.now) (yard_state c.opened-pass.new.self) (there_is bytes file, λ d. (returns-clause-makes g c).beside d tt)
+pub returns-clause-notes : goal.returns-clause-notes
+returns-clause-notes g c = λ _.
+    inr (event.Opened c.args.self.serial (is_some (finding_file c.args.self.finding)), refl, (returns-clause-makes g c).noted)
 
-pub returns-then-ne-clause-goes : goal.returns-then-ne-clause-goes
-returns-then-ne-clause-goes g c = λ _.
-    stays _ c.args.caller c.args.yard.now c.speaker.new.self (record { roll = c.speaker.ensures.speaks; beside = c.speaker.ensures.same; seats = c.speaker.ensures.seats })
+pub returns-then-ne-clause-notes : goal.returns-then-ne-clause-notes
+returns-then-ne-clause-notes g c = λ _. stays c.args.caller (yard_roll c.args.yard.now) (yard_roll c.speaker.new.self) c.speaker.ensures.speaks

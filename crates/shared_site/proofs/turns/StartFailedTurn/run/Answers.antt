@@ -1,9 +1,9 @@
-use Rattle.std.proofs.Common.{◌≡◌, ℕ, refl, rules, subst}
+use Rattle.std.proofs.Common.{inr, ◌≡◌, ℕ, refl, rules, subst}
 use Rattle.std.specs.Prelude.{None}
 use Rattle.server_events.specs.ServerState.{is_allowed, stage_of}
 use Rattle.server_events.specs.declared.event.Event.TheVariants as event
-use Rattle.server_yard.specs.Yards.{yard_state, yard_roll, yard_server}
-use Rattle.shared_site.proofs.Making.{moves, stays, allowed_is, answered, counted, last_own, made_own}
+use Rattle.server_yard.specs.Yards.{yard_roll, yard_server}
+use Rattle.shared_site.proofs.Making.{stays, allowed_is, answered, counted, last_own, made_own}
 use Rattle.shared_site.proofs.turns.StartFailedTurn.run.Goals as goal
 
 pub start_failed-requires : goal.start_failed-requires
@@ -47,10 +47,8 @@ returns-clause-gone g c =
 pub returns-then-ne-clause-in_turn : goal.returns-then-ne-clause-in_turn
 returns-then-ne-clause-in_turn g c = (λ ok. absurd (cc), λ at. let is = allowed_is _ ((c.speak_at.ensures.passes is_allowed refl).1 (at)) in absurd (search (rules, is)))
 
-pub returns-clause-goes : goal.returns-clause-goes
-returns-clause-goes g c = λ _.
-    moves _ (record { event = event.StartFailed c.args.self.serial c.args.self.fault; found = None }) (yard_state c.args.yard.now) (yard_state c.start_failed.new.self)
-    (refl, λ d. (returns-clause-makes g c).beside d tt)
+pub returns-clause-notes : goal.returns-clause-notes
+returns-clause-notes g c = λ _. inr (event.StartFailed c.args.self.serial c.args.self.fault, refl, (returns-clause-makes g c).noted)
 
-pub returns-then-ne-clause-goes : goal.returns-then-ne-clause-goes
-returns-then-ne-clause-goes g c = λ _. stays _ c.args.caller c.args.yard.now c.speak_at.new.yard c.speak_at.ensures.spoken
+pub returns-then-ne-clause-notes : goal.returns-then-ne-clause-notes
+returns-then-ne-clause-notes g c = λ _. stays c.args.caller (yard_roll c.args.yard.now) (yard_roll c.speak_at.new.yard) c.speak_at.ensures.spoken.roll
