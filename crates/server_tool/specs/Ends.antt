@@ -1,5 +1,5 @@
 -- How the tool ends, by how its server did.
-use Rattle.std.specs.Prelude.{◌≡◌, ℤ, Option, None, Result, Ok, Err}
+use Rattle.std.specs.Prelude.{ℤ, Option, None, Result, Ok, Err}
 use Rattle.server_parts.specs.declared.fault.ServerFailure.{ServerFailure}
 use Rattle.server_parts.specs.declared.fault.ServerFault.TheVariants as fault
 use Rattle.tcp_connections.specs.declared.admission.ServeEnd.{ServeEnd}

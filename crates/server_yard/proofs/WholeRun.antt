@@ -1,6 +1,6 @@
 -- A run of a server, beside other processes, is a history of the headline.
-use Rattle.std.proofs.Common.{◌≡◌, ◌&&◌, true, ℕ, List, [], ◌∷◌, ◌++◌, Bool, None, Some, refl, sym, ap, subst, ◌∙◌}
-use Rattle.std.specs.Prelude.{Option, is_some, option_map}
+use Rattle.std.proofs.Common.{◌≡◌, true, ℕ, List, [], ◌∷◌, ◌++◌, Bool, None, refl, sym, ap, subst, ◌∙◌}
+use Rattle.std.specs.Prelude.{Option, option_map}
 use Rattle.cdb_read.specs.Reading.{reading}
 use Rattle.event_journals.specs.Journals.{Books}
 use Rattle.rule_lookup.specs.Decisions.{decision_from}
@@ -21,7 +21,7 @@ use Rattle.server_events.proofs.TableLemmas.{is_step}
 use Rattle.server_events.proofs.WholeText.{reached_whole}
 use Rattle.server_events.proofs.WovenSteps.{one_history}
 use Rattle.server_yard.specs.Runs.{AreConnections, AreInstallations, BeginsRun, IsHistoryTo, IsPlayedOut, IsRun, StepsNext}
-use Rattle.server_yard.specs.Serving.{IsServers, over}
+use Rattle.server_yard.specs.Serving.{IsServers}
 use Rattle.server_yard.specs.Standing.{Leads, Matches, YardState}
 use Rattle.server_yard.proofs.Besides.{by_itself}
 use Rattle.server_yard.proofs.OpenedBefore.{opens_at_once}

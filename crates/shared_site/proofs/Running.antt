@@ -1,5 +1,5 @@
 -- A run goes on by each turn.
-use Rattle.std.proofs.Common.{◌≡◌, ℕ, inl, inr}
+use Rattle.std.proofs.Common.{ℕ, inl, inr}
 use Rattle.server_yard.specs.Rolls.{Roll}
 use Rattle.server_yard.specs.Runs.{HasRun}
 use Rattle.server_yard.proofs.Running.{run_noted, run_quiet}

@@ -1,7 +1,8 @@
 -- What was told of the end of a child, or of a connection without one, is as it was.
 use Rattle.std.proofs.Common.{◌≡◌, ◌∙◌, ◌⊎◌, ap, refl, subst, ℕ, ◌-◌, ◌^◌, Bool, true, Option, Some, Result, Ok, Err, inl, inr}
-use Rattle.std.specs.Prelude.{IfOk, OnErr}
+use Rattle.std.specs.Prelude.{IfErr, IfOk, OnErr}
 use Rattle.child_jobs.specs.Plans.{PlanText}
+use Rattle.child_jobs.specs.Programs.{ProgramText}
 use Rattle.connection_facts.specs.Peers.{Client}
 use Rattle.connection_facts.specs.declared.outcome.DropCause.{DropCause}
 use Rattle.connection_facts.specs.declared.outcome.DropCause.TheVariants as cause
@@ -15,7 +16,8 @@ use Rattle.one_connection.specs.declared.serving.Served.{Served}
 use Rattle.rule_lines.specs.declared.instr.Verdict.TheVariants.{Deny}
 use Rattle.ucspi_env.specs.Ends.{LocalEnd}
 use Rattle.tcp_connections.specs.Rounds.{AllFail, EndsAs, FailsToWait, Kills, OneEnds, rounds}
-use Rattle.tcp_service.specs.Lives.{EndsWithReason, IsEndOfChild, Refuses}
+use Rattle.tcp_service.specs.Lives.{EndsWithReason, IsEndOfChild, IsOverAtOnce, OfSameChild, Refuses}
+use Rattle.ucspi_env.specs.Variables.{Variables}
 
 -- by how the waits for it went, and what was told of that to an agent of the same connection
 pub end_told : {P C J : Type 0} (waited : Result (P × Status) C) (kills : Kills J) (fails : FailsToWait J) (ends : EndsAs J)
@@ -74,3 +76,14 @@ module _ {L : Type 0} {J : Type 0} {I O : Type 0} (finds : Opening → Type 0) (
   unserved_told (inl is) told denied refused drops = denied_told is told denied
   unserved_told (inr (inl (fault, is))) told denied refused drops = refusal_told fault is told refused
   unserved_told (inr (inr (why, is))) told denied refused drops = drop_told why is told drops
+
+-- ---- a connection is over before it went on
+
+-- its program was ended by force
+pub forced : {R O J : Type 0} (unserved : O → Type 0) (last : O → Option Event) (kills : Kills J) (fails : FailsToWait J) (ends : EndsAs J)
+    (program : J → ProgramText) (environment : J → Variables) (first : J) (own serial : ℕ) → own ≡ serial → (r : Result R O)
+    → IfErr r (λ over. OfSameChild program environment first (λ job. IsEndOfChild kills fails ends true job (last over) own))
+    → IfErr r (λ over. IsOverAtOnce kills fails ends (unserved over) serial (last over))
+forced unserved last kills fails ends program environment first own serial same (Ok begun) ended = tt
+forced unserved last kills fails ends program environment first own serial same (Err over) ended =
+    inr (inr (ended.job, subst (λ (n : ℕ). IsEndOfChild kills fails ends true ended.job (last over) n) same ended.so))

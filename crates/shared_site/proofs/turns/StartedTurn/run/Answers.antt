@@ -1,5 +1,4 @@
 use Rattle.std.proofs.Common.{inr, ℕ, refl, rules, subst, sym}
-use Rattle.std.specs.Prelude.{None}
 use Rattle.server_events.specs.ServerState.{is_allowed}
 use Rattle.server_events.specs.declared.event.Event.TheVariants as event
 use Rattle.server_yard.specs.Yards.{yard_roll}
