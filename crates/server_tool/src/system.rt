@@ -1,5 +1,5 @@
 //! What the tool has of the system, and what its server stands on.
-ghost use Rattle.std.specs.Prelude.{◌≡◌, ⊤, ℕ, List, IfOk, IfErr};
+ghost use Rattle.std.specs.Prelude.{◌≡◌, ⊤, ℕ, List, true, IfOk, IfErr};
 ghost use Rattle.server_parts.specs.declared.fault.ServerFault.TheVariants.{CannotListen};
 
 use crate::no_folder::NoFolder;

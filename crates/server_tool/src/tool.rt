@@ -1,11 +1,12 @@
 //! The tool: its words, what it opens, and the server.
-ghost use Rattle.std.specs.Prelude.{◌≡◌, ◌⊎◌, false, Err, None, IfOk, IfErr, OnErr, vec_len};
+ghost use Rattle.std.specs.Prelude.{◌≡◌, ◌⊎◌, true, false, Err, None, IfOk, IfErr, OnErr, vec_len};
 ghost use Rattle.server_parts.specs.Asked.{FailsNames, starts_in};
 ghost use Rattle.server_parts.specs.Services.{AreRulesOf};
 ghost use Rattle.server_parts.specs.declared.fault.ServerFault.TheVariants.{CannotListen, LostConnection, OutOfMemory, WriteFault};
 ghost use Rattle.server_tool.specs.Asked.{AcceptsAsAsked, AreAsked, AreAskedLimits, IsAskedLog, IsAskedService};
 ghost use Rattle.server_tool.specs.Ends.{told_of};
 ghost use Rattle.server_yard.specs.Kept.{rules_of};
+ghost use Rattle.server_yard.specs.Runs.{HasRun};
 ghost use Rattle.server_yard.specs.Yards.{yard_books, yard_rules, yard_server};
 ghost use Rattle.shared_site.specs.Callers.{total_share};
 
@@ -300,7 +301,8 @@ fn serve_on<'a, L: Assumptions + Send + Sync, N: Callers + Send + Sync, P: Syste
     words: &'a ServerWords<'_>,
 ) -> Result<(), ServerFailure>
     requires met { L.met ≡ false }
-    requires callers { (N.all ≡ 2) × (N.parts ≡ 2) × (vec_len callers ≡ 2) × (total_share callers.items ≡ 0) }
+    requires callers { (N.all ≡ 2) × (N.parts ≡ 2) × (N.before ≡ 0)
+        × (vec_len callers ≡ 2) × (total_share callers.items ≡ 0) }
     requires asked { AreAsked words.now server.now.plan server.now.service }
     requires accepts { AcceptsAsAsked P.listens words.now acceptor }
     requires starts { starts_in starter.now ≡ words.now.mode }
@@ -322,8 +324,12 @@ fn serve_on<'a, L: Assumptions + Send + Sync, N: Callers + Send + Sync, P: Syste
     end_of(served)
 }
 
-// How the tool ends, by how its server did and the system's last error of accepting.
+// How the tool ends, by how its server did and the system's last error of accepting. The events of its site were a run.
 fn end_of<H: Host>(served: Result<Closed<H>, Unfinished<H>>) -> Result<(), ServerFailure>
+    requires servers { H.is_servers ≡ true }
+    requires new { H.Callers.before ≡ 0 }
+    ensures ran { IfOk served (λ closed. HasRun (yard_books closed.yard) (yard_server closed.yard)) }
+    ensures ran_too { IfErr served (λ unfinished. HasRun (yard_books unfinished.yard) (yard_server unfinished.yard)) }
     ensures closed { IfOk served (λ closed.
         result ≡ told_of closed.end (H.Acceptor.last_error closed.acceptor)) }
     ensures lost { OnErr served (result ≡ Err (record { fault = LostConnection; error = None })) }

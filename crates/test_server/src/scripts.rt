@@ -1,5 +1,5 @@
 //! Connections and jobs that answer as they are told.
-ghost use Rattle.std.specs.Prelude.{is_some, true, ⊤};
+ghost use Rattle.std.specs.Prelude.{None, is_some, true, ⊤};
 
 use child_jobs::{Job, Launcher, NoEnds, Program, WaitFault};
 use connection_facts::{StartFault, Status};

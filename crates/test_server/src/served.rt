@@ -1,5 +1,5 @@
 //! A server without a rules file, over a directory in memory.
-ghost use Rattle.std.specs.Prelude.{◌≡◌, ◌<◌, false, IfOk, None, ⊤, vec_len};
+ghost use Rattle.std.specs.Prelude.{◌≡◌, ◌<◌, true, false, IfOk, None, ⊤, vec_len};
 ghost use Rattle.shared_site.specs.Callers.{total_share};
 
 use crate::history::Lists;
@@ -187,7 +187,8 @@ where
     requires parts { (parts.name ≡ N.name) × (parts.parts ≡ N.parts) × (parts.parts ≡ 2) }
     requires callers { (N.all ≡ 2) × (N.before ≡ 0) }
 {
-    let Ok((site, callers)) = site_of::<InMemory<'_, '_, R, L, N>>(alloc, asked, places, parts) else {
+    let Ok((site, callers)) = site_of::<InMemory<'_, '_, R, L, N>>(alloc, asked, places, parts)
+    else {
         return out.fail();
     };
     let log = Mutex::new(Log::new(alloc, lines, Level::All, Voice::Plain, asked.limit));

@@ -91,11 +91,7 @@ impl<G: Ground> Turn<G> for InstallStep {
 
     ghost answers = { λ _. StepsOrNot };
 
-    fn run(
-        self,
-        yard: &mut YardOf<G>,
-        caller: u64,
-    ) -> (Result<Phase, InstallFault>, Option<Made>)
+    fn run(self, yard: &mut YardOf<G>, caller: u64) -> (Result<Phase, InstallFault>, Option<Made>)
         requires not_servers { G.is_servers ≡ false }
         ensures answers { StepsOrNot caller (yard_books yard.old).count result (yard_books yard.new).count }
         ensures counts { CountsAtMostOne (yard_books yard.old).count (yard_books yard.new).count }
@@ -133,11 +129,7 @@ impl<G: Ground> Turn<G> for InstallStep {
 }
 
 // Evidence of the event that a caller made last, if it made one.
-fn evidence<G: Ground>(
-    yard: &YardOf<G>,
-    caller: u64,
-    event: Option<Event>,
-) -> Option<Made>
+fn evidence<G: Ground>(yard: &YardOf<G>, caller: u64, event: Option<Event>) -> Option<Made>
     requires { IfSome event (λ event. IsLastOf caller event (yard_roll yard.now)) }
     ensures { option_map receipt_of result ≡ option_map (receipt_at (yard_books yard.now).count caller) event }
 {
