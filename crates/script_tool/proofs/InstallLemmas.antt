@@ -15,7 +15,8 @@ use Rattle.rules_install.specs.NamePair.{NamePair}
 use Rattle.rules_install.specs.Whole.{Begins, MayBeInstalled}
 use Rattle.script_tool.specs.declared.simulation.Progress.{Progress}
 use Rattle.script_tool.specs.Kept.{IsInstalling, MayBeInstalling, sim_names}
-use Rattle.script_tool.specs.Sim.{BegunInstall, Refusal, profile, refusal_of, told}
+use Rattle.rules_tools.specs.Reviews.{profile}
+use Rattle.script_tool.specs.Sim.{BegunInstall, Refusal, refusal_of, told}
 
 -- limits with these numbers are those of the tools
 limits_are : (limits : Limits) → limits.text ≡ profile.text → limits.line ≡ profile.line → limits.file ≡ profile.file → limits ≡ profile

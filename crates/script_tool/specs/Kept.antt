@@ -17,7 +17,8 @@ use Rattle.rules_install.specs.NamePair.{NamePair}
 use Rattle.rules_install.specs.declared.Phase.{Phase}
 use Rattle.script_tool.specs.declared.simulation.Simulation.{Simulation}
 use Rattle.script_tool.specs.declared.simulation.Progress.{Progress}
-use Rattle.script_tool.specs.Sim.{BegunInstall, State, begun_to, profile}
+use Rattle.rules_tools.specs.Reviews.{profile}
+use Rattle.script_tool.specs.Sim.{BegunInstall, State, begun_to}
 use Rattle.script_tool.specs.Texts.{Texts, at_phases, later_of, left_by, position_reached}
 
 -- the names of the rules file and of the scratch file

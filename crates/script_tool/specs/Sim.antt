@@ -4,7 +4,6 @@ use Rattle.std.specs.Io.KnownBytes.{Appends}
 use Rattle.cdb_write.specs.Image.{finished_length}
 use Rattle.cdb_read.specs.Compiled.{stored}
 use Rattle.rule_lines.specs.declared.fault.LineFault.{LineFault}
-use Rattle.rule_lines.specs.declared.limits.Limits.{Limits}
 use Rattle.rule_lines.specs.Faults.{fault_of}
 use Rattle.rule_lines.specs.Lines.{Line, lines_of}
 use Rattle.rule_lines.specs.Pairs.{pairs_of}
@@ -15,6 +14,7 @@ use Rattle.rules_install.specs.declared.Phase.TheVariants.{Done}
 use Rattle.server_events.specs.declared.event.Event.{Event}
 use Rattle.server_events.specs.Reports.{first_illegal, report_of}
 use Rattle.server_events.specs.ServerState.{start as server_at_start}
+use Rattle.rules_tools.specs.Reviews.{profile}
 use Rattle.script_tool.specs.declared.sim.SimFault.{SimFault}
 use Rattle.script_tool.specs.declared.sim.SimFault.TheVariants.{BadCommand, ReadFault, WriteFault, OutOfMemory}
 use Rattle.rule_lookup.specs.Answers.{answer_lines}
@@ -23,10 +23,6 @@ use Rattle.script_tool.specs.Replies.{fault_text, illegal_line, reached_line, re
 use Rattle.script_words.specs.Events.{History, with_event}
 use Rattle.script_words.specs.Scripts.{Command, Skip, Add, Install, Begin, To, Stop, Ask, Open, AskBy, BeginEvents, AddEvent, Replay, Verdicts, command_of}
 use Rattle.script_tool.specs.Texts.{Texts, no_texts, at_phases, later_of, stopped}
-
--- the limits of the tools
-abbrev pub profile : Limits
-profile = record { text = 67108864; line = 65536; file = 1073741824 }
 
 -- why a text is not installed: it has a fault, or its compiled file would be too large
 pub data Refusal : Type 0 where

@@ -13,7 +13,8 @@ ghost use Rattle.script_tool.specs.Kept.{GoesOn, HasTexts, IsAt, IsFileOf, IsIns
 ghost use Rattle.script_words.specs.Readings.{meaning};
 ghost use Rattle.script_words.specs.Scripts.{Add, Install as InstallText, Begin, To, Stop, Ask, Open, AskBy, BeginEvents, AddEvent, Replay};
 ghost use Rattle.script_tool.specs.Logs.{decided_now};
-ghost use Rattle.script_tool.specs.Sim.{BegunInstall, State, start, after, is_in_order, printed, profile, refusal_of, replayed, told};
+ghost use Rattle.rules_tools.specs.Reviews.{profile};
+ghost use Rattle.script_tool.specs.Sim.{BegunInstall, State, start, after, is_in_order, printed, refusal_of, replayed, told};
 ghost use Rattle.script_tool.specs.Texts.{Texts, at_phase, position_of};
 
 use crate::replies::{append_fault, append_illegal, append_reached, append_report};

@@ -6,8 +6,7 @@ ghost use Rattle.server_parts.specs.declared.fault.ServerFault.TheVariants.{Cann
 ghost use Rattle.server_tool.specs.Asked.{AcceptsAsAsked, AreAsked, AreAskedLimits, IsAskedLog, IsAskedService};
 ghost use Rattle.server_tool.specs.Ends.{told_of};
 ghost use Rattle.server_yard.specs.Kept.{rules_of};
-ghost use Rattle.server_yard.specs.Runs.{HasRun};
-ghost use Rattle.server_yard.specs.Yards.{yard_books, yard_rules, yard_server};
+ghost use Rattle.server_yard.specs.Yards.{HasRun, yard_books, yard_rules, yard_server};
 ghost use Rattle.shared_site.specs.Callers.{total_share};
 
 use crate::causes::{tell_failure, tell_words};
@@ -328,8 +327,8 @@ fn serve_on<'a, L: Assumptions + Send + Sync, N: Callers + Send + Sync, P: Syste
 fn end_of<H: Host>(served: Result<Closed<H>, Unfinished<H>>) -> Result<(), ServerFailure>
     requires servers { H.is_servers ≡ true }
     requires new { H.Callers.before ≡ 0 }
-    ensures ran { IfOk served (λ closed. HasRun (yard_books closed.yard) (yard_server closed.yard)) }
-    ensures ran_too { IfErr served (λ unfinished. HasRun (yard_books unfinished.yard) (yard_server unfinished.yard)) }
+    ensures ran { IfOk served (λ closed. HasRun closed.yard) }
+    ensures ran_too { IfErr served (λ unfinished. HasRun unfinished.yard) }
     ensures closed { IfOk served (λ closed.
         result ≡ told_of closed.end (H.Acceptor.last_error closed.acceptor)) }
     ensures lost { OnErr served (result ≡ Err (record { fault = LostConnection; error = None })) }

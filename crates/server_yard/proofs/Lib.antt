@@ -20,6 +20,7 @@ pub mod Beginning
 pub mod Besides
 pub mod OpenedBefore
 pub mod Told
+pub mod SoonerOpenings
 pub mod WholeRun
 pub mod Running
 pub mod ReadersLemmas

@@ -69,7 +69,7 @@ stage_of-push_found n t (x ∷ cs) c e =
 
 -- ---- a state in which one connection has opened the rules already
 
-abbrev opened : ℕ → ServerState → ServerState
+abbrev pub opened : ℕ → ServerState → ServerState
 opened n s = record s { connections = with_stage n stage.Opened s.connections }
 
 -- another serial
@@ -84,7 +84,7 @@ its_stage : (n m : ℕ) (s : ServerState) → (m == n) ≡ false → stage_of m 
 its_stage n m s other =
     stage_of-with_stage_other m n stage.Opened s.connections (let back : (n == m) ≡ false = grind (arith, nat_tests, other) in back)
 
-may_there : (n : ℕ) (s : ServerState) (f : Effect) → apart_by n f ≡ true → may_have (opened n s) f ≡ may_have s f
+pub may_there : (n : ℕ) (s : ServerState) (f : Effect) → apart_by n f ≡ true → may_have (opened n s) f ≡ may_have s f
 may_there n s (lets_in m peer) apart =
     ap (λ (k : ℕ). (m == s.last + 1) && nat_lt k s.limit && nat_lt (count_from peer.ip (opened n s).connections) s.per_address) (length-with_stage n stage.Opened s.connections)
     ∙ ap (λ (k : ℕ). (m == s.last + 1) && nat_lt (length s.connections) s.limit && nat_lt k s.per_address) (count_from-with_stage peer.ip n stage.Opened s.connections)
@@ -100,7 +100,7 @@ may_there n s ends_all apart = absurd (cc)
 with_connections : (s : ServerState) (cs ds : List Connection) → cs ≡ ds → (record s { connections = cs }) ≡ record s { connections = ds }
 with_connections s cs ds is = ap (λ (xs : List Connection). record s { connections = xs }) is
 
-leads_there : (n : ℕ) (s : ServerState) (f : Effect) → stage_of n s.connections ≡ Some stage.Admitted → apart_by n f ≡ true
+pub leads_there : (n : ℕ) (s : ServerState) (f : Effect) → stage_of n s.connections ≡ Some stage.Admitted → apart_by n f ≡ true
     → with_effect (opened n s) f ≡ opened n (with_effect s f)
 leads_there n s (lets_in m peer) waits apart =
     ap (λ (cs : List Connection). record s { last = m; connections = cs }) (sym (with_stage-push n stage.Opened stage.Admitted s.connections (newcomer m peer) waits))

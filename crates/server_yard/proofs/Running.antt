@@ -1,5 +1,5 @@
 -- A yard without an event has an empty run, and a run goes on by each event of a connection that is noted.
-use Rattle.std.proofs.Common.{◌≡◌, ◌∙◌, ◌+◌, ◌-◌, ◌^◌, ◌++◌, true, ℕ, List, [], ◌∷◌, Option, length, length-append, refl, sym, ap, subst, arith}
+use Rattle.std.proofs.Common.{◌≡◌, ◌∙◌, ◌-◌, ◌^◌, ◌++◌, true, ℕ, List, [], ◌∷◌, Option, length, length-append, refl, sym, ap, subst, arith}
 use Rattle.std.specs.Prelude.{IfSome, map, min}
 use mathlib.Core.Logic.{∥∥₁_map}
 use Rattle.event_journals.specs.Journals.{Books}
@@ -10,7 +10,7 @@ use Rattle.server_events.specs.declared.event.Event.{Event}
 use Rattle.server_events.proofs.History.{is_legal-snoc, state_after-snoc}
 use Rattle.server_events.proofs.Limits.{limit_after, per_address_after}
 use Rattle.server_yard.specs.Rolls.{HasHistory, IsHistory, IsQuiet, Notes, Roll}
-use Rattle.server_yard.specs.Runs.{AreConnections, HasRun, IsRun}
+use Rattle.server_yard.specs.Runs.{AreConnections, IsRun}
 use Rattle.server_yard.proofs.Histories.{stored_on}
 
 -- ---- no event
@@ -31,7 +31,8 @@ empty_run books s history none is =
       stores = subst (λ (es : List Event). IfSome books.notes (λ notes. map (λ (n : Noted). n.event) notes ≡ es)) nothing is.stores;
     }
 
-pub run_of_none : (books : Books) (s : ServerState) → HasHistory books s → books.count ≡ 0 → HasRun books s
+pub run_of_none : (books : Books) (s : ServerState) → HasHistory books s → books.count ≡ 0
+    → ∥ ((events : List Event) × IsRun books s events) ∥₁
 run_of_none books s has none =
     ∥∥₁_map has (λ (x : (h : List Event) × IsHistory books s h). ([], empty_run books s x.0 none x.1))
 
@@ -48,7 +49,7 @@ module _ (old new : Roll) (event : Event) (own : is_connections event ≡ true) 
       ∙ ap (λ (l : ℕ). start l (after old.server event).per_address) (limit_after old.server event)
       ∙ ap (λ (p : ℕ). start old.server.limit p) (per_address_after old.server event)
 
-  run_with : (events : List Event) → IsRun old.books old.server events → IsRun new.books new.server (events ++ event ∷ [])
+  pub run_with : (events : List Event) → IsRun old.books old.server events → IsRun new.books new.server (events ++ event ∷ [])
   run_with events run =
       let first = start old.server.limit old.server.per_address in
       let goes : is_legal first (events ++ event ∷ []) ≡ true =
@@ -64,10 +65,7 @@ module _ (old new : Roll) (event : Event) (own : is_connections event ≡ true) 
             (sym noted.stores) (stored_on old.books.notes (record { event = event; caller = old.speaker }) events run.stores);
       }
 
-  pub run_noted : HasRun old.books old.server → HasRun new.books new.server
-  run_noted has = ∥∥₁_map has (λ (x : (es : List Event) × IsRun old.books old.server es). (x.0 ++ event ∷ [], run_with x.0 x.1))
-
-same_run : (old new : Roll) → IsQuiet old new → (events : List Event) → IsRun old.books old.server events → IsRun new.books new.server events
+pub same_run : (old new : Roll) → IsQuiet old new → (events : List Event) → IsRun old.books old.server events → IsRun new.books new.server events
 same_run old new quiet events run = record {
   connections = run.connections;
   legal = ap (λ (u : ServerState). is_legal (start u.limit u.per_address) events) quiet.stays ∙ run.legal;
@@ -75,6 +73,3 @@ same_run old new quiet events run = record {
   number = quiet.counts ∙ run.number;
   stores = subst (λ (o : Option (List Noted)). IfSome o (λ notes. map (λ (x : Noted). x.event) notes ≡ events)) (sym quiet.stores) run.stores;
 }
-
-pub run_quiet : (old new : Roll) → IsQuiet old new → HasRun old.books old.server → HasRun new.books new.server
-run_quiet old new quiet has = ∥∥₁_map has (λ (x : (es : List Event) × IsRun old.books old.server es). (x.0, same_run old new quiet x.0 x.1))

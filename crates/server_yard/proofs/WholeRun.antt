@@ -1,30 +1,38 @@
 -- A run of a server, beside other processes, is a history of the headline.
-use Rattle.std.proofs.Common.{◌≡◌, true, ℕ, List, [], ◌∷◌, ◌++◌, Bool, None, refl, sym, ap, subst, ◌∙◌}
-use Rattle.std.specs.Prelude.{Option, option_map}
+use Rattle.std.proofs.Common.{◌≡◌, ◌∙◌, true, ℕ, List, [], ◌∷◌, ◌++◌, Bool, None, Option, Some, inl, inr, refl, sym, ap, subst}
+use Rattle.std.specs.Prelude.{is_some, option_and_then, option_map}
 use Rattle.cdb_read.specs.Reading.{reading}
+use Rattle.connection_facts.specs.Peers.{Client}
+use Rattle.dir_calls.specs.Directory.{content}
 use Rattle.event_journals.specs.Journals.{Books}
 use Rattle.rule_lookup.specs.Decisions.{decision_from}
 use Rattle.rule_lookup.specs.declared.decision.Decision.{Decision}
+use Rattle.rule_lookup.specs.declared.decision.WhenMissing.{WhenMissing}
 use Rattle.server_events.specs.Headline.{Reaches}
+use Rattle.server_events.specs.Live.{since_stop}
 use Rattle.server_events.specs.Processes.{ServerSteps, Woven, is_connections, none, serves, installs, stops, outside, of_connections, of_installations, of_server}
-use Rattle.server_events.specs.ServerState.{Effect, ServerState, lets_in, opens, decides, brings, lets_go, comes_to, fails_at, ends_all, after, effect, is_legal, may_happen, start}
+use Rattle.server_events.specs.ServerState.{Effect, ServerState, lets_in, opens, decides, brings, lets_go, comes_to, fails_at, ends_all, after, effect, may_happen, newcomer, stage_of, start, with_stage, without}
 use Rattle.server_events.specs.Steps.{MovesBy, none as no_step}
-use Rattle.server_events.specs.Taken.{IsDue}
-use Rattle.server_events.specs.Worlds.{KeptFile, RulesName, World, kept_by, missing_by, peer_of}
+use Rattle.server_events.specs.Worlds.{KeptFile, RulesName, World, kept_by, missing_by, missing_in, peer_of, standing}
 use Rattle.server_events.specs.declared.event.Event.{Event}
 use Rattle.server_events.specs.declared.event.Event.TheVariants.{Admitted, Opened, Decided, Started, StartFailed, Ended, Retired, Dropped, Stepped, StepFailed, Stop}
+use Rattle.server_events.specs.declared.event.Stage.{Stage}
+use Rattle.server_events.specs.declared.event.Stage.TheVariants as stage
 use Rattle.server_events.proofs.Allowed.{reached_within}
-use Rattle.server_events.proofs.History.{and_true}
+use Rattle.server_events.proofs.Effects.{is_admitted-true, is_opened-true}
 use Rattle.server_events.proofs.InstalledRuns.{legal_then}
-use Rattle.server_events.proofs.Openings.{decided_by_standing, has_its_opening, moves_same}
+use Rattle.server_events.proofs.LiveLemmas.{Tells, tells as tells_of, tells_after}
+use Rattle.server_events.proofs.Openings.{decided_by_standing, has_its_opening, kept_by-push_found, kept_by-push_own, kept_with, moves_same, waiting_keeps}
+use Rattle.server_events.proofs.Peers.{stage_of-peer_of, stage_of-push_is, stage_of-with_stage_is, stage_of-without_is}
+use Rattle.server_events.proofs.Serials.{Rise}
 use Rattle.server_events.proofs.TableLemmas.{is_step}
 use Rattle.server_events.proofs.WholeText.{reached_whole}
 use Rattle.server_events.proofs.WovenSteps.{one_history}
-use Rattle.server_yard.specs.Runs.{AreConnections, AreInstallations, BeginsRun, IsHistoryTo, IsPlayedOut, IsRun, StepsNext}
+use Rattle.server_yard.specs.Runs.{AreByFound, AreInstallations, BeginsRun, FindsWhatStands, Found, InOrderOfFinding, IsByFound, IsHistoryTo, IsPlayedOut, IsRun}
 use Rattle.server_yard.specs.Serving.{IsServers}
 use Rattle.server_yard.specs.Standing.{Leads, Matches, YardState}
 use Rattle.server_yard.proofs.Besides.{by_itself}
-use Rattle.server_yard.proofs.OpenedBefore.{opens_at_once}
+use Rattle.server_yard.proofs.SoonerOpenings.{MayBeTold, may_be_told, may_be_told_so}
 use Rattle.server_yard.proofs.Told.{nothing_under_way}
 
 -- ---- histories that lead on
@@ -97,116 +105,212 @@ own_yard w = record { directory = w.directory; rules = w.rules; server = (of_ser
 is_its : (w : World) → IsServers (own_yard w) w.kept w
 is_its w = record { directory = refl; rules = refl; server = refl; installing = refl; kept = refl }
 
-still_its : {events : List Event} {w v : World} → Woven w events v → AreInstallations events
-    → (of_server v).server ≡ (of_server w).server
-still_its {w = w} woven its = (stays (own_yard w) w.kept woven its (is_its w)).server
+still_its : {events : List Event} {w v : World} → Woven w events v → AreInstallations events → IsServers (own_yard w) w.kept v
+still_its {w = w} woven its = stays (own_yard w) w.kept woven its (is_its w)
 
--- ---- one event
+-- ---- what opened connections keep
 
--- a run goes on so from each world to which a history leads, and in which the server has this state
-abbrev GoesOnFrom : ServerState → (List Event → World → Type 0) → Type 0
-GoesOnFrom s goes_on = (history : List Event) (w : World) → Reaches history w → (of_server w).server ≡ s → goes_on history w
+-- what stands there in a world that is the same to the server
+stands_same : (w u : World) → Matches (own_yard w) w.kept u → standing u ≡ standing w
+stands_same w u at = λ i. option_and_then (λ (r : RulesName). content (at.directory i) r.name) (at.rules i)
 
--- the step of an event that the state of the server allows
-leads_by : (w : World) (event : Event) → may_happen (of_server w).server event ≡ true
-    → ((u : World) → Matches (own_yard w) w.kept u → MovesBy (effect event) u (record u { server = after u.server event }))
-    → Leads event (own_yard w) w.kept (record (own_yard w) { server = after (of_server w).server event }) w.kept
-leads_by w event may moves u at =
-    let v : World = record u { server = after u.server event } in (
-      v,
-      record {
-        table = is_step u.server event (ap (λ (s : ServerState). may_happen s event) at.server ∙ may);
-        moves = moves u at;
-      },
-      record {
-        directory = at.directory;
-        rules = at.rules;
-        server = ap (λ (s : ServerState). after s event) at.server;
-        installing = at.installing;
-        kept = at.kept;
-      },
-    )
+-- what is kept after an event there
+kept_same : (x : Effect) (w u : World) → Matches (own_yard w) w.kept u → kept_with u x ≡ kept_with w x
+kept_same (opens n there) w u at = λ i. (at.kept i) ++ record { serial = n; bytes = stands_same w u at i } ∷ []
+kept_same (lets_in n peer) w u at = at.kept
+kept_same (decides n decision) w u at = at.kept
+kept_same (brings n from to) w u at = at.kept
+kept_same (lets_go n from) w u at = at.kept
+kept_same (comes_to phase) w u at = at.kept
+kept_same (fails_at phase) w u at = at.kept
+kept_same ends_all w u at = refl
 
-module _ (s : ServerState) (event : Event) (goes_on : List Event → World → Type 0) (on : GoesOnFrom (after s event) goes_on)
-    (may : may_happen s event ≡ true) (history : List Event) (w : World) (reached : Reaches history w)
-    (at : (of_server w).server ≡ s) where
-  steps_by : is_connections event ≡ true
-      → ((u : World) → Matches (own_yard w) w.kept u → MovesBy (effect event) u (record u { server = after u.server event }))
-      → (v : World) × ServerSteps w event v × goes_on (history ++ event ∷ []) v
-  steps_by own moves =
-      let then : YardState = record (own_yard w) { server = after (of_server w).server event } in
-      let here : may_happen (of_server w).server event ≡ true = ap (λ (t : ServerState). may_happen t event) at ∙ may in
-      let next = by_itself w (own_yard w) then w.kept w.kept event own (is_its w) (leads_by w event here moves) in (
-        next.0,
-        next.1,
-        on (history ++ event ∷ []) next.0 (reaches_on reached (serves next.1 none)) (next.2.server ∙ ap (λ (t : ServerState). after t event) at),
-      )
+module _ (found : Found) where
+  -- each connection that has opened the rules, and is not decided yet, keeps what it found
+  abbrev KeepsFound : ServerState → List KeptFile → Type 0
+  KeepsFound s kept = (n : ℕ) → stage_of n s.connections ≡ Some stage.Opened → kept_by n kept ≡ Some (found n)
 
--- a decision by what its connection keeps
-decides_so : (w u : World) (n : ℕ) (decision : Decision) → IsDue w n decision → Matches (own_yard w) w.kept u
-    → MovesBy (effect (Decided n decision)) u (record u { server = after u.server (Decided n decision) })
-decides_so w u n decision due at = (
-  due.bytes,
-  due.peer,
-  ap (λ (ks : List KeptFile). kept_by n ks) at.kept ∙ due.kept,
-  ap (λ (s : ServerState). peer_of n s.connections) at.server ∙ due.is_its,
-  ap (λ (r : Option RulesName). decision_from (option_map reading due.bytes) (missing_by r) due.peer) at.rules ∙ due.decides,
-  refl,
-)
+  -- what an event does beside its effect on the state, and what connections keep then
+  record Moves (event : Event) (s : ServerState) (w : World) : Type 0 where
+    moves : (u : World) → Matches (own_yard w) w.kept u
+        → MovesBy (effect event) u (record u { server = after u.server event; kept = kept_with u (effect event) })
+    keeps : KeepsFound (after s event) (kept_with w (effect event))
 
--- an opening stands in the history at the time at which it found what it did
-opens_then : (s : ServerState) (n : ℕ) (there : Bool) (goes_on : List Event → World → Type 0)
-    → GoesOnFrom (after s (Opened n there)) goes_on → (history : List Event) (w : World)
-    → (of_server w).server ≡ s → StepsNext (Opened n there) history w goes_on
-opens_then s n there goes_on on history w at before since u splits in_it =
-    let at_once = opens_at_once before u w since n in_it.reached in_it.waits in_it.woven in_it.apart in
-    let v = at_once.v in
-    let woven : Woven u (Opened n there ∷ since) v =
-    subst (λ (b : Bool). Woven u (Opened n b ∷ since) v) (sym in_it.stood) at_once.woven in
-    let its : v.server ≡ after w.server (Opened n there) = at_once.server in (
-      v,
-      record { woven = woven; its = its; same = at_once.same; keeps = at_once.keeps; others = at_once.others },
-      on (before ++ Opened n there ∷ since) v (reaches_on in_it.reached woven)
-          (ap (λ (t : ServerState). record t { phase = None }) its ∙ ap (λ (t : ServerState). after t (Opened n there)) at),
-    )
+  module _ (s : ServerState) (w : World) where
+    -- an event by which no connection opens the rules
+    brought : (n : ℕ) (t : Stage) → (t ≡ stage.Opened → ⊥) → KeepsFound s w.kept
+        → KeepsFound (record s { connections = with_stage n t s.connections }) w.kept
+    brought n t other keeps m at =
+        elim (stage_of-with_stage_is m n t stage.Opened s.connections at) [ inl before ↦ keeps m before.1 | inr now ↦ absurd (other now.1) ]
 
-steps_next : (s : ServerState) (event : Event) (goes_on : List Event → World → Type 0) → GoesOnFrom (after s event) goes_on
-    → may_happen s event ≡ true → is_connections event ≡ true → (history : List Event) (w : World) → Reaches history w
-    → (of_server w).server ≡ s → StepsNext event history w goes_on
-steps_next s (Opened n there) goes_on on may own history w reached at = opens_then s n there goes_on on history w at
-steps_next s (Decided n decision) goes_on on may own history w reached at = λ due.
-    steps_by s (Decided n decision) goes_on on may history w reached at refl (λ u its. decides_so w u n decision due its)
-steps_next s (Admitted n peer) goes_on on may own history w reached at =
-    steps_by s (Admitted n peer) goes_on on may history w reached at refl (λ u its. refl)
-steps_next s (Started n) goes_on on may own history w reached at =
-    steps_by s (Started n) goes_on on may history w reached at refl (λ u its. refl)
-steps_next s (StartFailed n fault) goes_on on may own history w reached at =
-    steps_by s (StartFailed n fault) goes_on on may history w reached at refl (λ u its. refl)
-steps_next s (Ended n status) goes_on on may own history w reached at =
-    steps_by s (Ended n status) goes_on on may history w reached at refl (λ u its. refl)
-steps_next s (Retired n) goes_on on may own history w reached at =
-    steps_by s (Retired n) goes_on on may history w reached at refl (λ u its. refl)
-steps_next s (Dropped n why) goes_on on may own history w reached at =
-    steps_by s (Dropped n why) goes_on on may history w reached at refl (λ u its. refl)
-steps_next s (Stepped phase) goes_on on may own history w reached at = absurd (let never = own in cc)
-steps_next s (StepFailed phase) goes_on on may own history w reached at = absurd (let never = own in cc)
-steps_next s Stop goes_on on may own history w reached at = absurd (let never = own in cc)
+    gone : (n : ℕ) → Rise 0 s.connections s.last → KeepsFound s w.kept
+        → KeepsFound (record s { connections = without n s.connections }) w.kept
+    gone n rise keeps m at = keeps m (stage_of-without_is m n stage.Opened 0 s.connections s.last rise at)
 
--- ---- the whole run
+    new_one : (n : ℕ) (peer : Client) → KeepsFound s w.kept
+        → KeepsFound (record s { last = n; connections = s.connections ++ newcomer n peer ∷ [] }) w.kept
+    new_one n peer keeps m at =
+        elim (stage_of-push_is m stage.Opened s.connections (newcomer n peer) at) [ inl before ↦ keeps m before | inr now ↦ absurd (let never = now in cc) ]
 
-played : (events : List Event) (s : ServerState) → is_legal s events ≡ true → AreConnections events → GoesOnFrom s (IsPlayedOut events)
-played [] s legal own history w reached at = λ others v without. history_to (history ++ others) v (reaches_on reached without.woven)
-played (event ∷ events) s legal own history w reached at = λ others v without.
-    let there = reaches_on reached without.woven in
-    let parts = and_true (may_happen s event) (is_legal (after s event) events) legal in (
-      history_to (history ++ others) v there,
-      steps_next s event (IsPlayedOut events) (played events (after s event) parts.1 own.1) parts.0 own.0
-          (history ++ others) v there (still_its without.woven without.installs ∙ at),
-    )
+    -- a connection opens the rules, and finds what stands there
+    opened_now : (n : ℕ) (there : Bool) → kept_by n w.kept ≡ None → FindsWhatStands found (Opened n there) w
+        → KeepsFound s w.kept → Moves (Opened n there) s w
+    opened_now n there nothing finds keeps =
+        let new : KeptFile = record { serial = n; bytes = standing w } in
+        let its = kept_by-push_own n (standing w) w.kept nothing ∙ ap (λ (f : Option (List ℕ)). Some f) (sym finds.0) in
+        record {
+          moves = λ u at. (finds.1 ∙ ap is_some (sym (stands_same w u at)), refl);
+          keeps = λ m at.
+              elim (stage_of-with_stage_is m n stage.Opened stage.Opened s.connections at) [
+                | inl before ↦ kept_by-push_found m (found m) w.kept new (keeps m before.1)
+                | inr now ↦ subst (λ (k : ℕ). kept_by k (w.kept ++ new ∷ []) ≡ Some (found k)) now.0 its
+              ];
+        }
 
-pub whole_run : (books : Books) (server : ServerState) (events : List Event) (w : World) → IsRun books server events
-    → BeginsRun server w → IsPlayedOut events [] w
-whole_run books server events w run begins =
+    -- a connection is decided by what it keeps
+    decided_now : (missing : WhenMissing) (n : ℕ) (decision : Decision) → IsByFound found missing s (Decided n decision)
+        → missing_in w ≡ missing → (of_server w).server ≡ s → stage_of n s.connections ≡ Some stage.Opened → KeepsFound s w.kept
+        → Moves (Decided n decision) s w
+    decided_now missing n decision by decides_so server is_opened keeps =
+        let its = stage_of-peer_of n stage.Opened s.connections is_opened in
+        record {
+          moves = λ u at. (
+            found n,
+            its.0,
+            ap (λ (ks : List KeptFile). kept_by n ks) at.kept ∙ keeps n is_opened,
+            ap (λ (t : ServerState). peer_of n t.connections) (at.server ∙ server) ∙ its.1,
+            ap (λ (m : WhenMissing). decision_from (option_map reading (found n)) m its.0) (ap missing_by at.rules ∙ decides_so)
+                ∙ by its.0 its.1,
+            refl,
+          );
+          keeps = brought n (stage.Decided decision.verdict) (λ never. cc) keeps;
+        }
+
+  -- ---- one event
+
+  -- A history has led to a world of a server whose next events are these.
+  record Stands (missing : WhenMissing) (done : List Event) (s : ServerState) (history : List Event) (w : World) : Type 0 where
+    reached : Reaches history w
+    server : (of_server w).server ≡ s
+    decides : missing_in w ≡ missing
+    told : Tells (since_stop done) s
+    keeps : KeepsFound s w.kept
+
+  module _ (missing : WhenMissing) where
+    moves_so : (done : List Event) (s : ServerState) (event : Event) (history : List Event) (w : World) → Stands missing done s history w
+        → may_happen s event ≡ true → is_connections event ≡ true → IsByFound found missing s event → FindsWhatStands found event w
+        → Moves event s w
+    moves_so done s (Opened n there) history w at may own by finds =
+        let waits = ap (λ (t : ServerState). stage_of n t.connections) at.server ∙ is_admitted-true _ may in
+        opened_now s w n there (waiting_keeps history w at.reached n waits) finds at.keeps
+    moves_so done s (Decided n decision) history w at may own by finds =
+        decided_now s w missing n decision by at.decides at.server (is_opened-true _ may) at.keeps
+    moves_so done s (Admitted n peer) history w at may own by finds =
+        record { moves = λ u its. refl; keeps = new_one s w n peer at.keeps }
+    moves_so done s (Started n) history w at may own by finds =
+        record { moves = λ u its. refl; keeps = brought s w n stage.Started (λ never. cc) at.keeps }
+    moves_so done s (Retired n) history w at may own by finds =
+        record { moves = λ u its. refl; keeps = brought s w n stage.Retired (λ never. cc) at.keeps }
+    moves_so done s (StartFailed n fault) history w at may own by finds =
+        record { moves = λ u its. refl; keeps = gone s w n at.told.rise at.keeps }
+    moves_so done s (Ended n status) history w at may own by finds =
+        record { moves = λ u its. refl; keeps = gone s w n at.told.rise at.keeps }
+    moves_so done s (Dropped n why) history w at may own by finds =
+        record { moves = λ u its. refl; keeps = gone s w n at.told.rise at.keeps }
+    moves_so done s (Stepped phase) history w at may own by finds = absurd (let never = own in cc)
+    moves_so done s (StepFailed phase) history w at may own by finds = absurd (let never = own in cc)
+    moves_so done s Stop history w at may own by finds = absurd (let never = own in cc)
+
+    -- the step by an event that the state of the server allows
+    leads_by : (w : World) (event : Event) → may_happen (of_server w).server event ≡ true
+        → ((u : World) → Matches (own_yard w) w.kept u
+        → MovesBy (effect event) u (record u { server = after u.server event; kept = kept_with u (effect event) }))
+        → Leads event (own_yard w) w.kept (record (own_yard w) { server = after (of_server w).server event }) (kept_with w (effect event))
+    leads_by w event may moves u at =
+        let v : World = record u { server = after u.server event; kept = kept_with u (effect event) } in (
+          v,
+          record {
+            table = is_step u.server event (ap (λ (s : ServerState). may_happen s event) at.server ∙ may);
+            moves = moves u at;
+          },
+          record {
+            directory = at.directory;
+            rules = at.rules;
+            server = ap (λ (s : ServerState). after s event) at.server;
+            installing = at.installing;
+            kept = kept_same (effect event) w u at;
+          },
+        )
+
+    -- it leads to a world in which the others are next
+    record StepsOn (done : List Event) (s : ServerState) (event : Event) (history : List Event) (w : World) : Type 0 where
+      v : World
+      step : ServerSteps w event v
+      on : Stands missing (done ++ event ∷ []) (after s event) (history ++ event ∷ []) v
+
+    steps_on : (done : List Event) (s : ServerState) (event : Event) (history : List Event) (w : World) → Stands missing done s history w
+        → may_happen s event ≡ true → is_connections event ≡ true → IsByFound found missing s event → FindsWhatStands found event w
+        → StepsOn done s event history w
+    steps_on done s event history w at may own by finds =
+        let goes = moves_so done s event history w at may own by finds in
+        let then : YardState = record (own_yard w) { server = after (of_server w).server event } in
+        let here : may_happen (of_server w).server event ≡ true = ap (λ (t : ServerState). may_happen t event) at.server ∙ may in
+        let more = kept_with w (effect event) in
+        let to = by_itself w (own_yard w) then w.kept more event own (is_its w) (leads_by w event here goes.moves) in
+        record {
+          v = to.0;
+          step = to.1;
+          on = record {
+            reached = reaches_on at.reached (serves to.1 none);
+            server = to.2.server ∙ ap (λ (t : ServerState). after t event) at.server;
+            decides = ap missing_by to.2.rules ∙ at.decides;
+            told = tells_after done s event may at.told;
+            keeps = subst (λ (ks : List KeptFile). KeepsFound (after s event) ks) (sym to.2.kept) goes.keeps;
+          };
+        }
+
+    -- others go on without the server
+    stands_still : {done : List Event} {s : ServerState} {history others : List Event} {w v : World}
+        → Stands missing done s history w → Woven w others v → AreInstallations others → Stands missing done s (history ++ others) v
+    stands_still {done} {s} {history} {others} {w} {v} at woven its =
+        let same = still_its woven its in
+        record {
+          reached = reaches_on at.reached woven;
+          server = same.server ∙ at.server;
+          decides = ap missing_by same.rules ∙ at.decides;
+          told = at.told;
+          keeps = subst (λ (ks : List KeptFile). KeepsFound s ks) (sym same.kept) at.keeps;
+        }
+
+    -- ---- the whole run
+
+    played : (done : List Event) (s : ServerState) (events : List Event) (history : List Event) (w : World)
+        → MayBeTold found missing s events → Stands missing done s history w → IsPlayedOut found events history w
+    played done s [] history w told at =
+        λ others v without. history_to (history ++ others) v (reaches_on at.reached without.woven)
+    played done s (event ∷ events) history w told at =
+        λ others v without.
+        let there = stands_still at without.woven without.installs in (
+          history_to (history ++ others) v there.reached,
+          λ finds.
+              let to = steps_on done s event (history ++ others) v there told.0 told.1 told.2 finds in (
+                to.v,
+                to.step,
+                played (done ++ event ∷ []) (after s event) events ((history ++ others) ++ event ∷ []) to.v told.3 to.on,
+              ),
+        )
+
+pub whole_run : (books : Books) (server : ServerState) (events order : List Event) (found : Found) (missing : WhenMissing) (w : World)
+    → IsRun books server events → AreByFound found missing (start server.limit server.per_address) events
+    → InOrderOfFinding events order → BeginsRun missing server.limit server.per_address w → IsPlayedOut found order [] w
+whole_run books server events order found missing w run by in_order begins =
+    let first = start server.limit server.per_address in
     let reached : Reaches [] w = record { begin = w; starts = begins.starts; legal = no_step } in
-    played events (start server.limit server.per_address) run.legal run.connections [] w reached
-    (ap (λ (s : ServerState). record s { phase = None }) begins.same)
+    let told = may_be_told_so found missing in_order first (may_be_told found missing first events run.legal run.connections by) in
+    played found missing [] first order [] w told (record {
+      reached = reached;
+      server = ap (λ (s : ServerState). record s { phase = None }) begins.empty;
+      decides = begins.decides;
+      told = tells_of server.limit server.per_address [] refl;
+      keeps = λ n at. absurd (let never = at in cc);
+    })

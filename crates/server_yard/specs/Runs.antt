@@ -1,17 +1,18 @@
 -- A run of a server: all its events since no connection had come, beside other processes over the same directory.
-use Rattle.std.specs.Prelude.{◌≡◌, ◌≢◌, ◌-◌, ◌^◌, ⊤, ℕ, Bool, true, List, [], ◌∷◌, ◌++◌, length, map, min, Some, IfSome, is_some}
+use Rattle.std.specs.Prelude.{◌≡◌, ◌-◌, ◌^◌, ◌==◌, ⊤, ℕ, Bool, true, false, List, [], ◌∷◌, ◌++◌, length, map, min, Ok, Option, Some, IfSome, is_some, option_map}
+use Rattle.cdb_read.specs.Reading.{reading}
+use Rattle.connection_facts.specs.Peers.{Client}
 use Rattle.event_journals.specs.Journals.{Books}
 use Rattle.event_journals.specs.declared.journal.Noted.{Noted}
+use Rattle.rule_lookup.specs.Decisions.{decision_from}
+use Rattle.rule_lookup.specs.declared.decision.WhenMissing.{WhenMissing}
 use Rattle.server_events.specs.Headline.{IsKeptBy, Reaches}
+use Rattle.server_events.specs.Live.{concerns_by}
 use Rattle.server_events.specs.Processes.{ServerSteps, Woven, is_connections, is_installations}
-use Rattle.server_events.specs.ServerState.{ServerState, after, is_legal, start, state_after}
-use Rattle.server_events.specs.Table.{HasStage}
-use Rattle.server_events.specs.Taken.{IsDue}
-use Rattle.server_events.specs.Worlds.{IsStart, World, kept_by, standing}
+use Rattle.server_events.specs.ServerState.{Effect, ServerState, lets_in, after, effect, is_legal, start, state_after}
+use Rattle.server_events.specs.Worlds.{IsStart, World, missing_in, peer_of, standing}
 use Rattle.server_events.specs.declared.event.Event.{Event}
 use Rattle.server_events.specs.declared.event.Event.TheVariants.{Opened, Decided}
-use Rattle.server_events.specs.declared.event.Stage.TheVariants as stage
-use Rattle.server_yard.specs.Telling.{AreApart}
 
 -- each event is one of a connection
 abbrev pub AreConnections : List Event → Type 0
@@ -27,9 +28,46 @@ pub record IsRun (books : Books) (server : ServerState) (events : List Event) : 
   pub number : books.count ≡ min (length events) (2 ^ 64 - 1)
   pub stores : IfSome books.notes (λ notes. map (λ (n : Noted). n.event) notes ≡ events)
 
--- there is such a run
-abbrev pub HasRun : Books → ServerState → Type 0
-HasRun books server = ∥ ((events : List Event) × IsRun books server events) ∥₁
+-- ---- when openings found what they found
+
+abbrev pub is_own_by : ℕ → Effect → Bool
+is_own_by n (lets_in m peer) = n == m
+is_own_by n x = concerns_by n x
+
+-- an event of this connection
+abbrev pub is_own : ℕ → Event → Bool
+is_own n event = is_own_by n (effect event)
+
+-- A server is told of an opening when it is over; before that the opening found its file. In the order of finding each
+-- opening stands earlier by some events of other connections, or by none: so at some time since its connection was let
+-- in.
+pub data InOrderOfFinding : (events order : List Event) → Type 0 where
+  same : {events : List Event} → InOrderOfFinding events events
+  sooner : {order : List Event} (n : ℕ) (there : Bool) (event : Event) (before since : List Event) → is_own n event ≡ false
+      → InOrderOfFinding (before ++ Opened n there ∷ event ∷ since) order
+      → InOrderOfFinding (before ++ event ∷ Opened n there ∷ since) order
+
+-- what the opening of each connection found, by its serial: the bytes of a file, or nothing
+abbrev pub Found : Type 0
+Found = ℕ → Option (List ℕ)
+
+-- a decision is that of `decide` by what the opening of its own connection found, for its peer
+abbrev pub IsByFound : Found → WhenMissing → ServerState → Event → Type 0
+IsByFound found missing s (Decided n decision) =
+    (peer : Client) → peer_of n s.connections ≡ Some peer → decision_from (option_map reading (found n)) missing peer ≡ Ok decision
+IsByFound found missing s event = ⊤
+
+abbrev pub AreByFound : Found → WhenMissing → ServerState → List Event → Type 0
+AreByFound found missing s [] = ⊤
+AreByFound found missing s (event ∷ events) =
+    IsByFound found missing s event × AreByFound found missing (after s event) events
+
+-- what an opening found stands there now; of no other event is anything asked
+abbrev pub FindsWhatStands : Found → Event → World → Type 0
+FindsWhatStands found (Opened n there) w = (found n ≡ standing w) × (there ≡ is_some (standing w))
+FindsWhatStands found event w = ⊤
+
+-- ---- a run among others
 
 -- each event is one of an installation
 abbrev pub AreInstallations : List Event → Type 0
@@ -41,50 +79,24 @@ pub record GoesWithout (w : World) (events : List Event) (v : World) : Type 0 wh
   pub woven : Woven w events v
   pub installs : AreInstallations events
 
--- After a history, a connection is told to have opened the rules. It found what stood in the world u, some events ago,
--- and was let in before that. These are the events before, and those since.
-pub record FoundIn (u : World) (n : ℕ) (there : Bool) (before since : List Event) (w : World) : Type 0 where
-  pub reached : Reaches before u
-  pub waits : HasStage u.server n stage.Admitted
-  pub stood : there ≡ is_some (standing u)
-  pub woven : Woven u since w
-  pub apart : AreApart n since
-
--- It opened the rules then, and to all but the server the world is the same. It keeps what stood there, and each other
--- connection keeps what it kept.
-pub record OpensThen (u : World) (n : ℕ) (there : Bool) (since : List Event) (w v : World) : Type 0 where
-  pub woven : Woven u (Opened n there ∷ since) v
-  pub its : v.server ≡ after w.server (Opened n there)
-  pub same : v ≡ record w { server = v.server; kept = v.kept }
-  pub keeps : kept_by n v.kept ≡ Some (standing u)
-  pub others : (m : ℕ) → m ≢ n → kept_by m v.kept ≡ kept_by m w.kept
-
 -- a history of the headline leads to a world
 pub record IsHistoryTo (history : List Event) (w : World) : Type 0 where
   pub reached : Reaches history w
   pub keeps : IsKeptBy history w
 
--- After a history the next event is a step of the server, and the server goes on. An opening stands at the time at which
--- it found what it did, and a decision has to be by what its connection keeps. Where that is not so, nothing is said of
--- what follows.
-abbrev pub StepsNext : Event → (history : List Event) → World → (goes_on : List Event → World → Type 0) → Type 0
-StepsNext (Opened n there) history w goes_on =
-    (before since : List Event) (u : World) → history ≡ before ++ since → FoundIn u n there before since w
-    → (v : World) × OpensThen u n there since w v × goes_on (before ++ Opened n there ∷ since) v
-StepsNext (Decided n decision) history w goes_on =
-    IsDue w n decision → (v : World) × ServerSteps w (Decided n decision) v × goes_on (history ++ Decided n decision ∷ []) v
-StepsNext event history w goes_on = (v : World) × ServerSteps w event v × goes_on (history ++ event ∷ []) v
-
--- A history leads to a world, and these events of the server are next. Whatever others do before each of them and after
--- the last, it is a history of the headline at each time.
-abbrev pub IsPlayedOut : List Event → (history : List Event) → World → Type 0
-IsPlayedOut [] history w =
+-- A history leads to a world, and these are the server's next events. Whatever installers and others do before each of
+-- them and after the last, all is a history of the headline, and the next event is a step of the server. If an opening
+-- did not find what stands there, nothing is said of what follows.
+abbrev pub IsPlayedOut : Found → List Event → (history : List Event) → World → Type 0
+IsPlayedOut found [] history w =
     (others : List Event) (v : World) → GoesWithout w others v → IsHistoryTo (history ++ others) v
-IsPlayedOut (event ∷ events) history w =
+IsPlayedOut found (event ∷ events) history w =
     (others : List Event) (v : World) → GoesWithout w others v → IsHistoryTo (history ++ others) v
-    × StepsNext event (history ++ others) v (IsPlayedOut events)
+    × (FindsWhatStands found event v
+    → (u : World) × ServerSteps v event u × IsPlayedOut found events ((history ++ others) ++ event ∷ []) u)
 
--- a world from which a run may begin: a start with the server's limits
-pub record BeginsRun (server : ServerState) (w : World) : Type 0 where
+-- a world from which a run may begin: a start with these limits, and with what is decided without a file
+pub record BeginsRun (missing : WhenMissing) (limit per_address : ℕ) (w : World) : Type 0 where
   pub starts : IsStart w
-  pub same : w.server ≡ start server.limit server.per_address
+  pub empty : w.server ≡ start limit per_address
+  pub decides : missing_in w ≡ missing

@@ -10,9 +10,11 @@ use Rattle.rules_install.specs.Installing.{Installing}
 use Rattle.server_events.specs.ServerState.{ServerState, start}
 use Rattle.server_events.specs.Steps.{MayLeave}
 use Rattle.server_events.specs.Worlds.{KeptFile, RulesName, World}
+use Rattle.server_events.specs.declared.event.Event.{Event}
 use Rattle.server_events.specs.declared.event.Stage.{Stage}
 use Rattle.server_yard.specs.Kept.{installing_of, is_kept, rules_of, state_of}
 use Rattle.server_yard.specs.Rolls.{Roll, number_at, serial_at, stage_at}
+use Rattle.server_yard.specs.Runs.{IsRun}
 use Rattle.server_yard.specs.Registers.{books_of, journal_of, roll_of, seat_of}
 use Rattle.server_yard.specs.Standing.{Matches, YardState}
 use Rattle.server_yard.specs.declared.assumptions.Assumptions as assumptions
@@ -55,6 +57,14 @@ module _ {L D J F : Type 0} {p : assumptions.Ghosts L} {d : dir.Ghosts D F} {f :
   -- its rules name, with what is decided if no file stands there
   abbrev pub yard_rules : Yard L D J F p d f j → Option RulesName
   yard_rules y = rules_of y.rules
+
+  -- these events are a run of a server that has this yard
+  abbrev pub IsRunOf : List Event → Yard L D J F p d f j → Type 0
+  IsRunOf events y = IsRun (yard_books y) (yard_server y) events
+
+  -- there is one
+  abbrev pub HasRun : Yard L D J F p d f j → Type 0
+  HasRun y = ∥ ((events : List Event) × IsRunOf events y) ∥₁
 
   -- the serial that the place of an index was last given to
   abbrev pub yard_seat : Yard L D J F p d f j → ℕ → Option ℕ

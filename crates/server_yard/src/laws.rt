@@ -2,15 +2,16 @@
 ghost use Rattle.std.specs.Prelude.{◌≡◌, ◌++◌, ℕ, List, [], Option, Some, length, true};
 ghost use Rattle.event_journals.specs.Journals.{Books};
 ghost use Rattle.rule_lines.specs.Pairs.{Rule};
+ghost use Rattle.rule_lookup.specs.declared.decision.WhenMissing.{WhenMissing};
 ghost use Rattle.server_events.specs.Headline.{Reaches};
 ghost use Rattle.server_events.specs.Processes.{Woven, is_connections};
-ghost use Rattle.server_events.specs.ServerState.{ServerState};
+ghost use Rattle.server_events.specs.ServerState.{ServerState, start};
 ghost use Rattle.server_events.specs.Table.{HasStage};
 ghost use Rattle.server_events.specs.Worlds.{KeptFile, World};
 ghost use Rattle.server_events.specs.declared.event.Event.{Event};
 ghost use Rattle.server_events.specs.declared.event.Stage.TheVariants as Stage;
 ghost use Rattle.server_yard.specs.Readers.{IsAbsentOrCompiled, KeptYard, NamesStoredSinceDone, begun_in};
-ghost use Rattle.server_yard.specs.Runs.{BeginsRun, IsPlayedOut, IsRun};
+ghost use Rattle.server_yard.specs.Runs.{AreByFound, BeginsRun, Found, InOrderOfFinding, IsPlayedOut, IsRun};
 ghost use Rattle.server_yard.specs.Serving.{IsReachedOn, IsServers, Serves, StepsByItself, over};
 ghost use Rattle.server_yard.specs.Standing.{IsNew, IsReachedBy, Leads, LeadsOpened, Series, YardState, standing_of};
 ghost use Rattle.server_yard.specs.Telling.{AreApart, ToldLater};
@@ -71,14 +72,18 @@ pub fn readers()
 
 /// A run of a server, beside installers in other processes and others, is a history of the headline.
 ///
-/// A site of a server keeps one (`HasRun`). Others do what they like between two of its events. Each opening then stands
-/// in the history at the time at which it found what it did, any time between its admission and its telling. So at each
-/// time a whole accepted text stands under the rules name, or none; each decision is by the text that stood there when
-/// its connection opened the rules; and the limit is kept.
+/// What the turns of a server's site tell, one after another, is a run (`shared_site`: `Turn::run`: `notes`). Between two
+/// of its events installers, one after another, and others go on. An opening stands in the history when it found its
+/// file: at some time since its connection was let in, in whatever order (`InOrderOfFinding`). So at each time a whole
+/// accepted text stands under the rules name, or none; each decision is by the text that stood there when its connection
+/// opened the rules; and the limit is kept.
 ///
-/// Two things are premises: at some time an opening found what stood there, and a decision is by the bytes that its
-/// connection keeps since then.
+/// The premises are the headline's: the start is whole (`BeginsRun`); what an opening found stood there
+/// (`FindsWhatStands`); and a read gives the bytes of the file that was found, so that each decision is by these
+/// (`AreByFound`; for one connection `one_connection::serve_one` says that it is, if files are honest).
 pub fn whole_run()
-    ensures { (books : Books) (server : ServerState) (events : List Event) (w : World) → IsRun books server events
-        → BeginsRun server w → IsPlayedOut events [] w }
+    ensures { (books : Books) (server : ServerState) (events order : List Event) (found : Found) (missing : WhenMissing)
+        (w : World) → IsRun books server events
+        → AreByFound found missing (start server.limit server.per_address) events → InOrderOfFinding events order
+        → BeginsRun missing server.limit server.per_address w → IsPlayedOut found order [] w }
 {}

@@ -21,7 +21,7 @@ use connection_facts::Peer;
 use event_journals::Journal;
 use rule_lines::RuleList;
 use server_events::{Event, Stage, State};
-use std::alloc::{AllocError, AllocFailed, Global};
+use std::alloc::{AllocError, Global};
 use std::collections::BTreeMap;
 use std::sync::ledger::{Blank, Ledger};
 use thiserror::Error;

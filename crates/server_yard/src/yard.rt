@@ -19,7 +19,6 @@ ghost use Rattle.server_yard.specs.Passes.{IsDecidedBy, finding_file, pass_bytes
 ghost use Rattle.server_yard.specs.Readers.{ReadersFind};
 ghost use Rattle.server_yard.specs.Rolls.{CountsStored, IsQuiet, Lived, Notes, NotesSome};
 ghost use Rattle.server_yard.specs.Rooms.{KeepsRoom};
-ghost use Rattle.server_yard.specs.Runs.{HasRun};
 ghost use Rattle.server_yard.specs.Registers.{books_of, roll_of};
 ghost use Rattle.server_yard.specs.Seating.{GivesSeat, IsAddressFull, IsSpent, KeepsSeats, KeepsSerials, goes_on, leaver};
 ghost use Rattle.server_yard.specs.Standing.{BeginsWell, LeadsDecided, LeadsOn, LeadsOpened, LeadsSome, standing_of};
@@ -40,7 +39,7 @@ use event_journals::Journal;
 use rule_lookup::{Decision, WhenMissing};
 use rules_install::{Install, InstallFault, Phase};
 use server_events::{Event, Stage};
-use std::alloc::{AllocError, Global};
+use std::alloc::Global;
 use std::marker::PhantomData;
 use std::mem;
 use std::sync::ledger::Blank;
@@ -80,7 +79,7 @@ pub struct Yard<L: Assumptions, D: Dir + Drop, J: Journal> {
 }
 
 impl<L: Assumptions, D: Dir + Drop, J: Journal> Yard<L, D, J> {
-    ghost use Rattle.server_yard.specs.Yards.{IsMade, IsSameBeside, IsSameButDirectory, LeavesNothingElse, MayBegin, kept_number, kept_under, last_begun, name_of, number_of, serial_of, stage_of_place, yard_books, yard_directory, yard_installing, yard_journal, yard_over, yard_roll, yard_rules, yard_seat, yard_server, yard_state};
+    ghost use Rattle.server_yard.specs.Yards.{HasRun, IsMade, IsSameBeside, IsSameButDirectory, LeavesNothingElse, MayBegin, kept_number, kept_under, last_begun, name_of, number_of, serial_of, stage_of_place, yard_books, yard_directory, yard_installing, yard_journal, yard_over, yard_roll, yard_rules, yard_seat, yard_server, yard_state};
 
     /// A yard over a directory, without connections and without an installation under way.
     ///
@@ -197,7 +196,7 @@ impl<L: Assumptions, D: Dir + Drop, J: Journal> Yard<L, D, J> {
 
     /// A law: a yard without an event has a run, which is empty.
     pub fn unbegun(&self)
-        ensures { (yard_books self.now).count ≡ 0 → HasRun (yard_books self.now) (yard_server self.now) }
+        ensures { (yard_books self.now).count ≡ 0 → HasRun self.now }
     {}
 
     /// Says who makes the events that follow: a number from 1, or 0 for nobody, as at first. Nothing else changes.

@@ -1,5 +1,5 @@
 -- What a turn makes of a yard, and what it leaves as it was.
-use Rattle.std.proofs.Common.{◌≡◌, ℕ, Bool, true, false, ap, inl, inr, refl, subst, ◌∙◌}
+use Rattle.std.proofs.Common.{◌≡◌, ℕ, Bool, true, false, ap, inr, refl, subst, ◌∙◌}
 use Rattle.std.specs.Prelude.{⊤, IsTrue, None, Option, Some}
 use Rattle.dir_calls.specs.Directory.{Directory}
 use Rattle.dir_calls.specs.declared.dir.Dir as dir
@@ -14,11 +14,11 @@ use Rattle.server_events.specs.declared.event.Stage.TheVariants as stage
 use Rattle.server_yard.specs.Rolls.{Notes, Roll, number_at, stage_at}
 use Rattle.server_yard.specs.Seating.{KeepsSeats}
 use Rattle.server_yard.specs.Standing.{LeadsOn, YardState}
-use Rattle.server_yard.specs.Yards.{IsSameBeside, stage_of_place, yard_over, yard_roll, yard_seat, yard_state}
+use Rattle.server_yard.specs.Yards.{IsSameBeside, stage_of_place, yard_over, yard_roll, yard_rules, yard_seat, yard_server, yard_state}
 use Rattle.server_yard.specs.declared.assumptions.Assumptions as assumptions
 use Rattle.server_yard.specs.declared.yard.Yard.{Yard}
 use Rattle.shared_site.specs.Receipts.{CountsAtMostOne, receipt_after, receipt_at, receipt_of}
-use Rattle.shared_site.specs.Turns.{IsAt, IsLastOf, IsPassedOver, Makes, MakesBy, NotesBy, NotesOne, spoken_by}
+use Rattle.shared_site.specs.Turns.{IsAt, IsLastOf, IsPassedOver, Makes, MakesBy, NotesAs, NotesBy, spoken_by}
 use Rattle.shared_site.specs.declared.receipt.Made.{Made}
 use Rattle.shared_site.proofs.Spoken.{notes_from, spoken_over, spoken_state}
 
@@ -98,14 +98,14 @@ passed who event leads needs old new spoken = record {
 }
 
 -- out of turn no event was noted
-pub stays : (who : ℕ) (old new : Roll) → new ≡ spoken_by who old → NotesOne who old new
-stays who old new spoken = inl (record {
+pub stays : (who : ℕ) (old new : Roll) → new ≡ spoken_by who old → NotesAs who None old new
+stays who old new spoken = record {
   stays = ap (λ (r : Roll). r.server) spoken;
   speaks = ap (λ (r : Roll). r.speaker) spoken;
   tells = ap (λ (r : Roll). r.books.report) spoken;
   counts = ap (λ (r : Roll). r.books.count) spoken;
   stores = ap (λ (r : Roll). r.books.notes) spoken;
-})
+}
 
 -- a connection stands at its place as before its caller spoke
 pub at_after : {L D J F : Type 0} {p : assumptions.Ghosts L} {d : dir.Ghosts D F} {f : file.Ghosts F} {j : journal.Ghosts J}

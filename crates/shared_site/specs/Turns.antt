@@ -1,5 +1,5 @@
 -- What a turn does to a yard, and when its event is allowed.
-use Rattle.std.specs.Prelude.{⊤, ◌≡◌, ◌⊎◌, ℕ, Bool, true, List, Option, Some, IsTrue, IfNone, IfSome, is_some}
+use Rattle.std.specs.Prelude.{⊤, ◌≡◌, ◌<◌, ◌≤◌, ◌++◌, ◌∷◌, ℕ, Bool, true, List, [], Option, None, Some, Result, Ok, Err, IsTrue, IfNone, IfSome, is_some, length}
 use Rattle.std.specs.Bool.{OnFalse, OnTrue}
 use Rattle.dir_calls.specs.Directory.{Directory}
 use Rattle.dir_calls.specs.declared.dir.Dir as dir
@@ -11,7 +11,7 @@ use Rattle.server_events.specs.Processes.{is_connections}
 use Rattle.server_events.specs.ServerState.{stage_of}
 use Rattle.server_events.specs.Worlds.{missing_by, peer_of}
 use Rattle.server_events.specs.declared.event.Event.{Event}
-use Rattle.server_events.specs.declared.event.Event.TheVariants.{Opened}
+use Rattle.server_events.specs.declared.event.Event.TheVariants.{Admitted, Opened}
 use Rattle.server_events.specs.declared.event.Stage.{Stage}
 use Rattle.server_events.specs.declared.event.Stage.TheVariants as stage
 use Rattle.server_yard.specs.Passes.{pass_file, pass_missing, pass_serial}
@@ -24,6 +24,7 @@ use Rattle.server_yard.specs.declared.pass.Pass.{Pass}
 use Rattle.server_yard.specs.declared.yard.Yard.{Yard}
 use Rattle.shared_site.specs.Receipts.{receipt_after, receipt_of}
 use Rattle.shared_site.specs.declared.receipt.Made.{Made}
+use Rattle.shared_site.specs.declared.receipt.OutOfTurn.{OutOfTurn}
 
 -- the same with another speaker
 abbrev pub spoken_by : ℕ → Roll → Roll
@@ -33,10 +34,10 @@ spoken_by who roll = record roll { speaker = who }
 abbrev pub NotesBy : ℕ → Event → (old new : Roll) → Type 0
 NotesBy who event old new = Notes event (spoken_by who old) new
 
--- one event of a connection was noted, as this caller's; or no event was
-abbrev pub NotesOne : ℕ → (old new : Roll) → Type 0
-NotesOne who old new =
-    IsQuiet (spoken_by who old) new ⊎ ((event : Event) × (is_connections event ≡ true) × NotesBy who event old new)
+-- this event of a connection was noted, as this caller's; or there was nothing to tell, and no event
+abbrev pub NotesAs : (who : ℕ) → Option Event → (old new : Roll) → Type 0
+NotesAs who None old new = IsQuiet (spoken_by who old) new
+NotesAs who (Some event) old new = (is_connections event ≡ true) × NotesBy who event old new
 
 -- this event was noted last, as this caller's
 pub record IsLastOf (who : ℕ) (event : Event) (roll : Roll) : Type 0 where
@@ -50,6 +51,11 @@ LeadsFound serial bytes old new = bytes ≡ standing_of old → LeadsOpened seri
 
 -- a yard with this ledger, this directory, this journal and these files, and what their traits tell of them
 module _ {L D J F : Type 0} {p : assumptions.Ghosts L} {d : dir.Ghosts D F} {f : file.Ghosts F} {j : journal.Ghosts J} where
+  -- no place is free, but one may become free
+  pub record IsFullForNow (y : Yard L D J F p d f j) : Type 0 where
+    pub full : (yard_server y).limit ≤ length (yard_server y).connections
+    pub not_all_retired : (yard_books y).report.retired < (yard_server y).limit
+
   -- a turn of a caller gave this answer between these states of a yard, as it may by the numbers of events before and
   -- after it
   abbrev pub Answers : {A : Type 0} → (answers : ℕ → ℕ → A → ℕ → Type 0) → (who : ℕ) → A
@@ -91,6 +97,26 @@ pub record MayBeDecided {L D J F G : Type 0} {p : _} {l : _} {d : _} {j : _} {q 
   pub is_opened : stage_of (pass_serial pass) (yard_server yard).connections ≡ Some stage.Opened
   pub missing : pass_missing pass ≡ missing_by (yard_rules yard)
   pub its_peer : peer_of (pass_serial pass) (yard_server yard).connections ≡ Some peer
+
+-- what a turn tells if it made its event
+abbrev pub told_if_made : Event → Result Made OutOfTurn → Option Event
+told_if_made event (Ok made) = Some event
+told_if_made event (Err refusal) = None
+
+-- what is told of a client: that it was let in
+abbrev pub told_if_admitted : {P F : Type 0} → Client → Result (ℕ × P × Made) F → Option Event
+told_if_admitted client (Ok r) = Some (Admitted r.0 client)
+told_if_admitted client (Err refusal) = None
+
+-- what is told of an opening, by whether it found a file
+abbrev pub told_if_opened : {P : Type 0} → (serial : ℕ) → (there : Bool) → Option P → Option Event
+told_if_opened serial there (Some pass) = Some (Opened serial there)
+told_if_opened serial there None = None
+
+-- the list with what was told, if that was something
+abbrev pub told_then : List Event → Option Event → List Event
+told_then events None = events
+told_then events (Some event) = events ++ event ∷ []
 
 -- the event that a connection opened the rules
 abbrev pub opened_by : {L F : Type 0} {p : _} {l : _} {f : _} → (serial : ℕ) → Pass L F p l f → Event

@@ -1,8 +1,9 @@
 //! The site: a yard under one lock, for many threads.
-ghost use Rattle.std.specs.Prelude.{◌≡◌, ◌+◌, ◌<◌, ◌≤◌, ◌↔◌, true, IsOk, IsTrue, IfOk, IfErr, length, vec_len};
-ghost use Rattle.server_yard.specs.Runs.{HasRun};
-ghost use Rattle.server_yard.specs.Yards.{yard_books, yard_server};
+ghost use Rattle.std.specs.Prelude.{◌≡◌, ◌+◌, ◌<◌, ◌≤◌, ◌↔◌, true, List, IsOk, IsTrue, IfOk, IfErr, vec_len};
+ghost use Rattle.server_events.specs.declared.event.Event.{Event};
+ghost use Rattle.server_yard.specs.Yards.{HasRun, IsRunOf, yard_books, yard_server};
 ghost use Rattle.shared_site.specs.Callers.{AreNew, CountsForIts, total_share};
+ghost use Rattle.shared_site.specs.Turns.{IsFullForNow, told_then};
 
 use crate::caller::{Caller, Callers};
 use crate::ground::{CallerOf, Ground, YardOf};
@@ -40,7 +41,7 @@ struct Guarded<G: Ground> {
     // the shares together are that number
     ghost counted: { G.Callers.before + events.total ≡ (yard_books yard).count },
     // if the yard is a server's and had no event before, its events are a run
-    ghost ran: { G.is_servers ≡ true → G.Callers.before ≡ 0 → HasRun (yard_books yard) (yard_server yard) },
+    ghost ran: { G.is_servers ≡ true → G.Callers.before ≡ 0 → HasRun yard },
 }
 
 impl<G: Ground> Guarded<G> {
@@ -49,6 +50,10 @@ impl<G: Ground> Guarded<G> {
     fn turn<T: Turn<G>>(&mut self, caller: &mut CallerOf<G>, turn: T) -> (T::Answer, bool)
         requires may { T.may turn }
         ensures counted { CountsForIts (T.answers turn) result.0 caller.old caller.new }
+        // what turns tell, one after another, is a run
+        ensures runs_on { G.is_servers ≡ true → (events : List Event)
+            → IsRunOf events self.old.yard → IsRunOf (told_then events (T.tells turn result.0)) self.new.yard }
+        ensures makes_room { IsTrue result.1 ↔ (IsFullForNow self.old.yard × ¬ IsFullForNow self.new.yard) }
     {
         let was_taken = self.is_taken();
         let before = self.yard.journal().events();
@@ -60,8 +65,7 @@ impl<G: Ground> Guarded<G> {
 
     // Whether no place is free, but one may become free.
     fn is_taken(&self) -> bool
-        ensures { IsTrue result ↔ (((yard_server self.now.yard).limit ≤ length (yard_server self.now.yard).connections)
-            × ((yard_books self.now.yard).report.retired < (yard_server self.now.yard).limit)) }
+        ensures { IsTrue result ↔ IsFullForNow self.now.yard }
     {
         self.yard.live() >= self.yard.limit()
             && self.yard.journal().report().retired < self.yard.limit()
@@ -146,7 +150,7 @@ impl<G: Ground> Site<G> {
 
     /// The yard, once all callers are back. Its history has as many events as when the site was made, and those of all
     /// shares. If it is a server's and had no event before, its events are a run, of which
-    /// `server_yard::laws::whole_run` speaks.
+    /// `server_yard::laws::whole_run` speaks: what its turns told, one after another (`notes`).
     ///
     /// # Errors
     /// Some caller is lacking. The site and the callers are handed back.
@@ -154,8 +158,7 @@ impl<G: Ground> Site<G> {
         requires parts { G.Callers.all ≡ G.Callers.parts }
         ensures all { IsOk result ↔ (vec_len callers ≡ G.Callers.all) }
         ensures history { IfOk result (λ yard. (yard_books yard).count ≡ G.Callers.before + total_share callers.items) }
-        ensures ran { IfOk result (λ yard. G.is_servers ≡ true → G.Callers.before ≡ 0
-            → HasRun (yard_books yard) (yard_server yard)) }
+        ensures ran { IfOk result (λ yard. G.is_servers ≡ true → G.Callers.before ≡ 0 → HasRun yard) }
         ensures back { IfErr result (λ r. (r.0 ≡ self) × (r.1 ≡ callers)) }
     {
         if callers.len() as u64 != self.callers {

@@ -19,7 +19,7 @@ ghost use Rattle.server_yard.specs.Standing.{LeadsDecided, LeadsOn};
 ghost use Rattle.server_yard.specs.Yards.{IsSameBeside, yard_books, yard_over, yard_roll, yard_rules, yard_seat, yard_server, yard_state};
 ghost use Rattle.server_yard.specs.declared.register.AdmitFault.TheVariants.{Full, FullForAddress, Spent};
 ghost use Rattle.shared_site.specs.Receipts.{AdmitsOrNot, CountsAtMostOne, MakesOrNot, refused_as};
-ghost use Rattle.shared_site.specs.Turns.{Answers, IsAt, IsPassedOver, LeadsFound, Makes, MakesBy, MayBeDecided, NotesBy, NotesOne, OpensBy, spoken_by};
+ghost use Rattle.shared_site.specs.Turns.{Answers, IsAt, IsPassedOver, LeadsFound, Makes, MakesBy, MayBeDecided, NotesAs, NotesBy, OpensBy, spoken_by, told_if_admitted, told_if_made, told_if_opened};
 
 use crate::ground::{Ground, YardOf};
 use crate::receipt::{EventSnapshot, Made, OutOfTurn, Refusal};
@@ -49,6 +49,8 @@ impl<G: Ground> Turn<G> for Admit<'_> {
 
     ghost answers = { λ turn. AdmitsOrNot turn.peer.now };
 
+    ghost tells = { λ turn. told_if_admitted turn.peer.now };
+
     fn run(
         self,
         yard: &mut YardOf<G>,
@@ -56,7 +58,9 @@ impl<G: Ground> Turn<G> for Admit<'_> {
     ) -> Result<(u64, Place<G::Places>, Made), Refusal>
         ensures answers { Answers (AdmitsOrNot self.entry.peer.now) caller result yard.old yard.new }
         ensures counts { CountsAtMostOne (yard_books yard.old).count (yard_books yard.new).count }
-        ensures notes { G.is_servers ≡ true → NotesOne caller (yard_roll yard.old) (yard_roll yard.new) }
+        ensures notes { G.is_servers ≡ true → NotesAs caller
+            (told_if_admitted self.entry.peer.now result)
+            (yard_roll yard.old) (yard_roll yard.new) }
         ensures full { (refused_as result ≡ Some Full)
             ↔ (length (yard_server yard.old).connections ≡ (yard_server yard.old).limit) }
         ensures spent { (refused_as result ≡ Some Spent) ↔ IsSpent (yard_server yard.old) }
@@ -104,10 +108,14 @@ impl<G: Ground> Turn<G> for Opened<G> {
 
     ghost answers = { λ turn. OpensBy turn.serial (finding_file turn.finding) };
 
+    ghost tells = { λ turn. told_if_opened turn.serial (is_some (finding_file turn.finding)) };
+
     fn run(self, yard: &mut YardOf<G>, caller: u64) -> Option<(Pass<G::Places, G::File>, Made)>
         ensures answers { Answers (OpensBy self.serial (finding_file self.finding)) caller result yard.old yard.new }
         ensures counts { CountsAtMostOne (yard_books yard.old).count (yard_books yard.new).count }
-        ensures notes { G.is_servers ≡ true → NotesOne caller (yard_roll yard.old) (yard_roll yard.new) }
+        ensures notes { G.is_servers ≡ true → NotesAs caller
+            (told_if_opened self.serial (is_some (finding_file self.finding)) result)
+            (yard_roll yard.old) (yard_roll yard.new) }
         ensures in_turn { is_some result ≡ is_admitted (stage_of self.serial (yard_server yard.old).connections) }
         ensures missing { IfSome result (λ r. pass_missing r.0 ≡ missing_by (yard_rules yard.old)) }
         ensures makes { MakesBy caller (event.Opened self.serial (is_some (finding_file self.finding)))
@@ -148,12 +156,16 @@ impl<G: Ground> Turn<G> for Decided<'_, G> {
 
     ghost answers = { λ turn. MakesOrNot (event.Decided (pass_serial turn.pass) turn.decision) };
 
+    ghost tells = { λ turn. told_if_made (event.Decided (pass_serial turn.pass) turn.decision) };
+
     fn run(self, yard: &mut YardOf<G>, caller: u64) -> Result<Made, OutOfTurn>
         requires decides { IsDecidedBy G.File.honest G.File.sound G.File.bytes self.pass self.peer.now self.decision }
         ensures answers { Answers (MakesOrNot (event.Decided (pass_serial self.entry.pass) self.entry.decision))
             caller result yard.old yard.new }
         ensures counts { CountsAtMostOne (yard_books yard.old).count (yard_books yard.new).count }
-        ensures notes { G.is_servers ≡ true → NotesOne caller (yard_roll yard.old) (yard_roll yard.new) }
+        ensures notes { G.is_servers ≡ true → NotesAs caller
+            (told_if_made (event.Decided (pass_serial self.entry.pass) self.entry.decision) result)
+            (yard_roll yard.old) (yard_roll yard.new) }
         ensures in_turn { IsOk result ↔ MayBeDecided yard.old self.entry.pass self.entry.peer.now }
         // over whatever directory others left, too, if files are honest
         ensures makes { MakesBy caller (event.Decided (pass_serial self.entry.pass) self.entry.decision)
@@ -192,10 +204,14 @@ impl<G: Ground, C: Job> Turn<G> for Started<'_, G, C> {
 
     ghost answers = { λ turn. MakesOrNot (event.Started turn.serial) };
 
+    ghost tells = { λ turn. told_if_made (event.Started turn.serial) };
+
     fn run(self, yard: &mut YardOf<G>, caller: u64) -> Result<Made, OutOfTurn>
         ensures answers { Answers (MakesOrNot (event.Started self.entry.serial)) caller result yard.old yard.new }
         ensures counts { CountsAtMostOne (yard_books yard.old).count (yard_books yard.new).count }
-        ensures notes { G.is_servers ≡ true → NotesOne caller (yard_roll yard.old) (yard_roll yard.new) }
+        ensures notes { G.is_servers ≡ true → NotesAs caller
+            (told_if_made (event.Started self.entry.serial) result)
+            (yard_roll yard.old) (yard_roll yard.new) }
         ensures in_turn { IsOk result ↔ IsAt is_allowed self.entry.serial yard.old (place_of self.entry.running.now) }
         ensures makes { Makes caller (event.Started self.entry.serial) (is_ok result) yard.old yard.new }
     {
@@ -232,11 +248,15 @@ impl<G: Ground> Turn<G> for StartFailed<G> {
 
     ghost answers = { λ turn. MakesOrNot (event.StartFailed turn.serial turn.fault) };
 
+    ghost tells = { λ turn. told_if_made (event.StartFailed turn.serial turn.fault) };
+
     fn run(self, yard: &mut YardOf<G>, caller: u64) -> Result<Made, OutOfTurn>
         ensures answers { Answers (MakesOrNot (event.StartFailed self.serial self.fault))
             caller result yard.old yard.new }
         ensures counts { CountsAtMostOne (yard_books yard.old).count (yard_books yard.new).count }
-        ensures notes { G.is_servers ≡ true → NotesOne caller (yard_roll yard.old) (yard_roll yard.new) }
+        ensures notes { G.is_servers ≡ true → NotesAs caller
+            (told_if_made (event.StartFailed self.serial self.fault) result)
+            (yard_roll yard.old) (yard_roll yard.new) }
         ensures in_turn { IsOk result ↔ IsAt is_allowed self.serial yard.old self.place }
         ensures makes { Makes caller (event.StartFailed self.serial self.fault) (is_ok result) yard.old yard.new }
         ensures gone { OnOk result (stage_of self.serial (yard_server yard.new).connections ≡ None) }
@@ -277,10 +297,14 @@ impl<G: Ground> Turn<G> for Ended<G> {
 
     ghost answers = { λ turn. MakesOrNot (event.Ended turn.serial turn.status) };
 
+    ghost tells = { λ turn. told_if_made (event.Ended turn.serial turn.status) };
+
     fn run(self, yard: &mut YardOf<G>, caller: u64) -> Result<Made, OutOfTurn>
         ensures answers { Answers (MakesOrNot (event.Ended self.serial self.status)) caller result yard.old yard.new }
         ensures counts { CountsAtMostOne (yard_books yard.old).count (yard_books yard.new).count }
-        ensures notes { G.is_servers ≡ true → NotesOne caller (yard_roll yard.old) (yard_roll yard.new) }
+        ensures notes { G.is_servers ≡ true → NotesAs caller
+            (told_if_made (event.Ended self.serial self.status) result)
+            (yard_roll yard.old) (yard_roll yard.new) }
         ensures in_turn { IsOk result ↔ IsAt is_started self.serial yard.old self.place }
         ensures makes { Makes caller (event.Ended self.serial self.status) (is_ok result) yard.old yard.new }
         ensures gone { OnOk result (stage_of self.serial (yard_server yard.new).connections ≡ None) }
@@ -320,10 +344,14 @@ impl<G: Ground, C: Job> Turn<G> for Retired<G, C> {
 
     ghost answers = { λ turn. MakesOrNot (event.Retired turn.serial) };
 
+    ghost tells = { λ turn. told_if_made (event.Retired turn.serial) };
+
     fn run(self, yard: &mut YardOf<G>, caller: u64) -> Result<Made, OutOfTurn>
         ensures answers { Answers (MakesOrNot (event.Retired self.serial)) caller result yard.old yard.new }
         ensures counts { CountsAtMostOne (yard_books yard.old).count (yard_books yard.new).count }
-        ensures notes { G.is_servers ≡ true → NotesOne caller (yard_roll yard.old) (yard_roll yard.new) }
+        ensures notes { G.is_servers ≡ true → NotesAs caller
+            (told_if_made (event.Retired self.serial) result)
+            (yard_roll yard.old) (yard_roll yard.new) }
         ensures in_turn { IsOk result ↔ IsAt is_started self.serial yard.old (place_of self.running) }
         ensures makes { Makes caller (event.Retired self.serial) (is_ok result) yard.old yard.new }
     {
@@ -359,10 +387,14 @@ impl<G: Ground> Turn<G> for Dropped<G> {
 
     ghost answers = { λ turn. MakesOrNot (event.Dropped turn.serial turn.cause) };
 
+    ghost tells = { λ turn. told_if_made (event.Dropped turn.serial turn.cause) };
+
     fn run(self, yard: &mut YardOf<G>, caller: u64) -> Result<Made, OutOfTurn>
         ensures answers { Answers (MakesOrNot (event.Dropped self.serial self.cause)) caller result yard.old yard.new }
         ensures counts { CountsAtMostOne (yard_books yard.old).count (yard_books yard.new).count }
-        ensures notes { G.is_servers ≡ true → NotesOne caller (yard_roll yard.old) (yard_roll yard.new) }
+        ensures notes { G.is_servers ≡ true → NotesAs caller
+            (told_if_made (event.Dropped self.serial self.cause) result)
+            (yard_roll yard.old) (yard_roll yard.new) }
         ensures in_turn { IsOk result ↔ IsAt is_unstarted self.serial yard.old self.place }
         ensures makes { Makes caller (event.Dropped self.serial self.cause) (is_ok result) yard.old yard.new }
         ensures gone { OnOk result (stage_of self.serial (yard_server yard.new).connections ≡ None) }

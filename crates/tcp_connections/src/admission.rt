@@ -25,7 +25,7 @@ pub enum AdmitOutcome<T, E> {
     In(T),
     /// It was refused, for this reason.
     Refused(E),
-    /// It was refused, and so are all that follow: no serial number is left.
+    /// It was refused, and so are all that follow: the last serial number, or the last number of an event, was used.
     Spent,
 }
 

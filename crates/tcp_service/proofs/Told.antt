@@ -1,6 +1,7 @@
 -- What was told of the end of a child, or of a connection without one, is as it was.
-use Rattle.std.proofs.Common.{◌≡◌, ◌∙◌, ◌⊎◌, ap, refl, subst, ℕ, ◌-◌, ◌^◌, Bool, true, Option, Some, Result, Ok, Err, inl, inr}
+use Rattle.std.proofs.Common.{◌≡◌, ◌∙◌, ◌⊎◌, ap, refl, subst, sym, ℕ, ◌-◌, ◌^◌, Bool, true, Option, None, Some, Result, Ok, Err, inl, inr}
 use Rattle.std.specs.Prelude.{IfErr, IfOk, OnErr}
+use mathlib.Core.Logic.{∥∥₁_map}
 use Rattle.child_jobs.specs.Plans.{PlanText}
 use Rattle.child_jobs.specs.Programs.{ProgramText}
 use Rattle.connection_facts.specs.Peers.{Client}
@@ -11,12 +12,12 @@ use Rattle.connection_facts.specs.declared.outcome.Status.{Status}
 use Rattle.server_events.specs.declared.event.Event.{Event}
 use Rattle.server_events.specs.declared.event.Event.TheVariants.{Dropped, Ended, Retired, StartFailed}
 use Rattle.one_connection.specs.Openings.{Opening, WasFound}
-use Rattle.one_connection.specs.Servings.{Drops, FailsFor, IfDropped, IfStartFailed, IsDecidedAs, IsRefused, OnDenied, last_event}
+use Rattle.one_connection.specs.Servings.{Drops, FailsFor, IfDropped, IfStartFailed, IsChild, IsDecidedAs, IsRefused, OnDenied, last_event}
 use Rattle.one_connection.specs.declared.serving.Served.{Served}
 use Rattle.rule_lines.specs.declared.instr.Verdict.TheVariants.{Deny}
 use Rattle.ucspi_env.specs.Ends.{LocalEnd}
 use Rattle.tcp_connections.specs.Rounds.{AllFail, EndsAs, FailsToWait, Kills, OneEnds, rounds}
-use Rattle.tcp_service.specs.Lives.{EndsWithReason, IsEndOfChild, IsOverAtOnce, OfSameChild, Refuses}
+use Rattle.tcp_service.specs.Lives.{EndsWithReason, IsDecidedChild, IsEndOfChild, IsEndedByForce, IsOwnChild, OfSameChild, Refuses}
 use Rattle.ucspi_env.specs.Variables.{Variables}
 
 -- by how the waits for it went, and what was told of that to an agent of the same connection
@@ -79,11 +80,53 @@ module _ {L : Type 0} {J : Type 0} {I O : Type 0} (finds : Opening → Type 0) (
 
 -- ---- a connection is over before it went on
 
--- its program was ended by force
-pub forced : {R O J : Type 0} (unserved : O → Type 0) (last : O → Option Event) (kills : Kills J) (fails : FailsToWait J) (ends : EndsAs J)
-    (program : J → ProgramText) (environment : J → Variables) (first : J) (own serial : ℕ) → own ≡ serial → (r : Result R O)
+-- want of memory is a reason
+pub gave_up : (finds : Opening → Type 0) (honest sound : Bool) (peer : Client) (local : LocalEnd) (plan : PlanText) (refuses : Refuses)
+    (serial : ℕ) (last : Option Event) → last ≡ Some (Dropped serial cause.Memory)
+    → EndsWithReason finds honest sound peer local plan refuses serial last
+gave_up finds honest sound peer local plan refuses serial last told = record {
+  found = None;
+  event = Dropped serial cause.Memory;
+  told = told;
+  reason = (refl, inr tt);
+}
+
+-- what a connection found is something that it may have found
+pub own_is_decided : (found : Option Opening) (finds : Opening → Type 0) (honest sound : Bool) (peer : Client) (local : LocalEnd) (plan : PlanText)
+    (program : ProgramText) (environment : Variables) → IsOwnChild found finds honest sound peer local plan program environment
+    → IsDecidedChild finds honest sound peer local plan program environment
+own_is_decided found finds honest sound peer local plan program environment own =
+    ∥∥₁_map own (λ (child : IsChild (WasFound found finds) honest sound peer local plan program environment).
+    let by = child.allowed.decided in
+    record {
+      allowed = record {
+        decision = child.allowed.decision;
+        decided = record { found = by.found; was_found = by.was_found.may_be; by_rules = by.by_rules };
+        same = child.allowed.same;
+        given = child.allowed.given;
+      };
+      planned = child.planned;
+    })
+
+-- the program that was started was ended by force
+pub forced : {J : Type 0} (is_own : ProgramText → Variables → Type 0) (last : Option Event) (kills : Kills J) (fails : FailsToWait J)
+    (ends : EndsAs J) (program : J → ProgramText) (environment : J → Variables) (first : J) (own serial : ℕ) → own ≡ serial
+    → is_own (program first) (environment first)
+    → OfSameChild program environment first (λ job. IsEndOfChild kills fails ends true job last own)
+    → IsEndedByForce is_own program environment kills fails ends serial last
+forced is_own last kills fails ends program environment first own serial same its ended = record {
+  job = ended.job;
+  own = subst (λ (p : ProgramText). is_own p (environment ended.job)) (sym ended.same.program)
+      (subst (λ (e : Variables). is_own (program first) e) (sym ended.same.environment) its);
+  ended = subst (λ (n : ℕ). IsEndOfChild kills fails ends true ended.job last n) same ended.so;
+}
+
+-- so it is if a connection is over then
+pub forced_if : {R O J : Type 0} (unserved : O → Type 0) (is_own : ProgramText → Variables → Type 0) (last : O → Option Event)
+    (kills : Kills J) (fails : FailsToWait J) (ends : EndsAs J) (program : J → ProgramText) (environment : J → Variables) (first : J)
+    (own serial : ℕ) → own ≡ serial → is_own (program first) (environment first) → (r : Result R O)
     → IfErr r (λ over. OfSameChild program environment first (λ job. IsEndOfChild kills fails ends true job (last over) own))
-    → IfErr r (λ over. IsOverAtOnce kills fails ends (unserved over) serial (last over))
-forced unserved last kills fails ends program environment first own serial same (Ok begun) ended = tt
-forced unserved last kills fails ends program environment first own serial same (Err over) ended =
-    inr (inr (ended.job, subst (λ (n : ℕ). IsEndOfChild kills fails ends true ended.job (last over) n) same ended.so))
+    → IfErr r (λ over. unserved over ⊎ IsEndedByForce is_own program environment kills fails ends serial (last over))
+forced_if unserved is_own last kills fails ends program environment first own serial same its (Ok begun) ended = tt
+forced_if unserved is_own last kills fails ends program environment first own serial same its (Err over) ended =
+    inr (forced is_own (last over) kills fails ends program environment first own serial same its ended)

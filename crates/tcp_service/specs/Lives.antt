@@ -81,9 +81,16 @@ pub record EndsWithReason (finds : Opening → Type 0) (honest sound : Bool) (pe
   pub told : last ≡ Some event
   pub reason : HasReason (WasFound found finds) honest sound peer local plan refuses serial event
 
--- a connection is over before it went on: it was given up for want of memory, or served without a program, or its program
--- was ended by force
-abbrev pub IsOverAtOnce : {J : Type 0} → Kills J → FailsToWait J → EndsAs J → (unserved : Type 0) → (serial : ℕ)
-    → Option Event → Type 0
-IsOverAtOnce {J} kills fails ends unserved serial last =
-    (last ≡ Some (Dropped serial cause.Memory)) ⊎ (unserved ⊎ ((job : J) × IsEndOfChild kills fails ends true job last serial))
+-- a program is the one of a decision by something that the connection may have found, as `IsOwnChild` says it
+abbrev pub IsDecidedChild : (finds : Opening → Type 0) → (honest sound : Bool) → Client → LocalEnd → PlanText
+    → ProgramText → Variables → Type 0
+IsDecidedChild finds honest sound peer local plan program environment =
+    ∥ IsChild finds honest sound peer local plan program environment ∥₁
+
+-- a job of a program that is so was ended by force, and that was told
+pub record IsEndedByForce {J : Type 0} (is_own : ProgramText → Variables → Type 0) (program_of : J → ProgramText)
+    (environment_of : J → Variables) (kills : Kills J) (fails : FailsToWait J) (ends : EndsAs J) (serial : ℕ)
+    (last : Option Event) : Type 0 where
+  pub job : J
+  pub own : is_own (program_of job) (environment_of job)
+  pub ended : IsEndOfChild kills fails ends true job last serial

@@ -1,12 +1,12 @@
 //! The life of a connection at a site, from its admission to its end: each value of it is made of the one before, and
 //! none can be let go.
-ghost use Rattle.std.specs.Prelude.{◌≡◌, None, Some, IfOk, IfErr, true, false};
+ghost use Rattle.std.specs.Prelude.{◌≡◌, ◌⊎◌, None, Some, IfOk, IfErr, true, false};
 ghost use Rattle.child_jobs.specs.Runs.{IsSameRun, job_of, place_of};
 ghost use Rattle.one_connection.specs.Openings.{kept_opening};
 ghost use Rattle.server_events.specs.declared.event.Event.TheVariants.{Admitted as AdmittedEvent, Dropped as DroppedEvent};
 ghost use Rattle.shared_site.specs.Receipts.{made_event};
 ghost use Rattle.tcp_service.specs.Agents.{IsFoundFor, asked};
-ghost use Rattle.tcp_service.specs.Lives.{EndsWithReason, IsEndOfChild, IsOverAtOnce, IsOwnChild, MayRefuse, OfSameChild};
+ghost use Rattle.tcp_service.specs.Lives.{EndsWithReason, IsDecidedChild, IsEndOfChild, IsEndedByForce, IsOwnChild, MayRefuse, OfSameChild};
 
 use crate::agent::FoundBy;
 use crate::host::Host;
@@ -166,16 +166,21 @@ impl<'a, H: Host> Admitted<'a, H> {
     /// It is served, and goes on if its program was started.
     ///
     /// # Errors
-    /// It is over: it was denied or given up, its program could not be started, or that gave no pipe ends.
+    /// It is over: it was denied or given up, its program could not be started, or that had no pipe ends and was ended
+    /// by force.
     pub(crate) fn begin(self) -> Result<Beginning<'a, H>, Over>
         ensures own { IfOk result (λ begun. begun.1.serial ≡ self.entry.serial) }
         ensures over { IfErr result (λ over. over.serial ≡ self.entry.serial) }
-        ensures reason { IfErr result (λ over. IsOverAtOnce H.Job.killed H.Job.refused_wait H.Job.ended
-            (EndsWithReason
+        ensures reason { IfErr result (λ over. EndsWithReason
             (IsFoundFor H.Places.met (H.Rules.gives self.entry.server.now.rules.now) H.Handle.opened self.entry.serial)
             H.File.honest H.File.sound self.entry.peer self.entry.local self.entry.server.now.plan.now
             (MayRefuse (H.Starter.refuses self.entry.server.now.starter.now self.entry.streams.shut)) self.entry.serial
-            (asked over.last.value)) self.entry.serial (asked over.last.value)) }
+            (asked over.last.value)
+            ⊎ IsEndedByForce (IsDecidedChild
+            (IsFoundFor H.Places.met (H.Rules.gives self.entry.server.now.rules.now) H.Handle.opened self.entry.serial)
+            H.File.honest H.File.sound self.entry.peer self.entry.local self.entry.server.now.plan.now)
+            H.Job.program H.Job.environment H.Job.killed H.Job.refused_wait H.Job.ended self.entry.serial
+            (asked over.last.value)) }
     {
         let Ok(chains) = self.server.chains() else {
             return Err(self.give_up(DropCause::Memory));
@@ -209,6 +214,9 @@ impl<'a, H: Host> Admitted<'a, H> {
     fn serve(self) -> Result<(Started<'a, H>, ClientStreams<H>), Over>
         ensures own { IfOk result (λ started. (started.0.alive.serial ≡ self.entry.serial)
             × (place_of started.0.alive.running ≡ self.entry.place)) }
+        ensures ends { IfOk result (λ started. (started.0.peer.value ≡ self.entry.peer)
+            × (started.0.alive.local ≡ self.entry.local)) }
+        ensures server { IfOk result (λ started. started.0.alive.server ≡ self.entry.server) }
         ensures over { IfErr result (λ over. over.serial ≡ self.entry.serial) }
         ensures reason { IfErr result (λ over. EndsWithReason
             (IsFoundFor H.Places.met (H.Rules.gives self.entry.server.now.rules.now) H.Handle.opened self.entry.serial)

@@ -1,7 +1,6 @@
 //! The server: it lets connections in, each served by threads that are kept, until it comes to an end.
 ghost use Rattle.std.specs.Prelude.{◌≡◌, ◌≢◌, ◌+◌, ◌≤◌, [], true, IfOk, IfErr, IsTrue, is_some, length, vec_capacity, vec_len};
-ghost use Rattle.server_yard.specs.Runs.{HasRun};
-ghost use Rattle.server_yard.specs.Yards.{yard_books, yard_server};
+ghost use Rattle.server_yard.specs.Yards.{HasRun, yard_books, yard_server};
 ghost use Rattle.shared_site.specs.Callers.{caller_share, total_share};
 ghost use Rattle.tcp_connections.specs.Admissions.{FailedToAccept, IsServed, suffices};
 ghost use Rattle.tcp_connections.specs.declared.admission.ServeEnd.TheVariants.{AcceptFaults, NoPlaces, Spent};
@@ -44,7 +43,7 @@ pub struct Closed<H: Host> {
     pub ghost by_places: { end ≡ NoPlaces → IsTrue (is_some seen.retired) },
     pub ghost by_numbers: { end ≡ Spent → IsTrue (is_some seen.spent) },
     // its events are a run of a server
-    pub ghost ran: { H.is_servers ≡ true → H.Callers.before ≡ 0 → HasRun (yard_books yard) (yard_server yard) },
+    pub ghost ran: { H.is_servers ≡ true → H.Callers.before ≡ 0 → HasRun yard },
 }
 
 /// A server that has come to its end, but a connection is alive still that is not retired, though no thread has it.
@@ -57,7 +56,7 @@ pub struct Unfinished<H: Host> {
     // the caller that let connections in
     admitter: Snapshot<CallerOf<H>>,
     pub ghost lost: { (yard_books yard).report.retired ≢ length (yard_server yard).connections },
-    pub ghost ran: { H.is_servers ≡ true → H.Callers.before ≡ 0 → HasRun (yard_books yard) (yard_server yard) },
+    pub ghost ran: { H.is_servers ≡ true → H.Callers.before ≡ 0 → HasRun yard },
 }
 
 /// Serves connections until it comes to an end, waits until all that were let in are over, and closes the site.

@@ -1,6 +1,7 @@
 //! Turns of which the log is told before they are over. So its lines stand in the order of events.
 ghost use Rattle.std.specs.Prelude.{⊤};
 ghost use Rattle.shared_site.specs.Receipts.{AdmitsOrNot};
+ghost use Rattle.shared_site.specs.Turns.{told_if_admitted};
 
 use crate::host::Host;
 use child_jobs::Place;
@@ -29,6 +30,8 @@ where
     ghost may = { λ telling. T.may telling.turn };
 
     ghost answers = { λ telling. T.answers telling.turn };
+
+    ghost tells = { λ telling. T.tells telling.turn };
 
     fn run(self, yard: &mut YardOf<H>, caller: u64) -> Result<Made, OutOfTurn> {
         let Telling {
@@ -61,6 +64,8 @@ impl<H: Host> Turn<H> for TellingAdmission<'_, H> {
     ghost may = { λ _. ⊤ };
 
     ghost answers = { λ turn. AdmitsOrNot turn.peer.now };
+
+    ghost tells = { λ turn. told_if_admitted turn.peer.now };
 
     fn run(self, yard: &mut YardOf<H>, caller: u64) -> Result<AdmittedBy<H>, Refusal> {
         let TellingAdmission { peer, rt, log } = self;

@@ -40,6 +40,8 @@ impl<G: Ground> Turn<G> for InstallBegin {
 
     ghost answers = { λ turn. BeginsOrNot (installing turn.install) };
 
+    ghost tells = { λ _ _. None };
+
     fn run(
         self,
         yard: &mut YardOf<G>,
@@ -90,6 +92,8 @@ impl<G: Ground> Turn<G> for InstallStep {
     ghost may = { λ _. G.is_servers ≡ false };
 
     ghost answers = { λ _. StepsOrNot };
+
+    ghost tells = { λ _ _. None };
 
     fn run(self, yard: &mut YardOf<G>, caller: u64) -> (Result<Phase, InstallFault>, Option<Made>)
         requires not_servers { G.is_servers ≡ false }

@@ -59,6 +59,8 @@ impl<G: Ground> Turn<G> for Open {
 
     ghost answers = { λ turn. OpensOrNot turn.serial };
 
+    ghost tells = { λ _ _. None };
+
     fn run(
         self,
         yard: &mut YardOf<G>,

@@ -1,7 +1,7 @@
 use Rattle.std.proofs.Common.{◌≡◌, Ok, sym, ◌∙◌}
 use Rattle.rule_lookup.specs.declared.decision.DecideFault.TheVariants.{OutOfMemory}
 use Rattle.rule_lookup.specs.Decisions.{decision_of}
-use Rattle.script_tool.specs.Sim.{profile}
+use Rattle.rules_tools.specs.Reviews.{profile}
 use Rattle.script_tool.proofs.DecideLemmas.{fault-OutOfMemory}
 use Rattle.script_tool.proofs.simulation.decide_by.Goals as goal
 

@@ -1,7 +1,8 @@
 use Rattle.std.proofs.Common.{[], Option, codes, subst}
 use Rattle.rules_install.specs.Whole.{RefusesText}
 use Rattle.script_tool.specs.Kept.{IsAt}
-use Rattle.script_tool.specs.Sim.{Refusal, begun_by, profile, refusal_of}
+use Rattle.rules_tools.specs.Reviews.{profile}
+use Rattle.script_tool.specs.Sim.{Refusal, begun_by, refusal_of}
 use Rattle.script_tool.proofs.InstallLemmas.{OnOk-refused}
 use Rattle.script_tool.proofs.simulation.Simulation.begin.Goals as goal
 

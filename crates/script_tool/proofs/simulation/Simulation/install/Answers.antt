@@ -4,7 +4,8 @@ use Rattle.dir_calls.specs.MemDir.{mem_state}
 use Rattle.rules_install.specs.declared.Phase.TheVariants.{Done}
 use Rattle.rules_install.specs.Whole.{MayBeInstalled, RefusesText}
 use Rattle.script_tool.specs.Kept.{HasTexts, IsAt}
-use Rattle.script_tool.specs.Sim.{Refusal, installed_texts, profile, refusal_of, told}
+use Rattle.rules_tools.specs.Reviews.{profile}
+use Rattle.script_tool.specs.Sim.{Refusal, installed_texts, refusal_of, told}
 use Rattle.script_tool.specs.Texts.{at_phases}
 use Rattle.rule_lookup.proofs.AppendLemmas.{on_ok_added}
 use Rattle.script_tool.proofs.InstallLemmas.{IsInstalling-begun, MayBeInstalling-none, OnOk-refused, refusal_of-none}

@@ -1,5 +1,6 @@
 -- As many events as the journal has more are in the caller's share and in the book.
 use Rattle.std.proofs.Common.{rules}
+use mathlib.Core.Logic.{∥∥₁_map}
 use Rattle.server_yard.specs.Yards.{yard_roll}
 use Rattle.shared_site.proofs.Running.{run_on}
 use Rattle.shared_site.proofs.Counting.{share_counted, still_counted}
@@ -14,10 +15,13 @@ returns g c = record {
     counted = share_counted _ _ _ _ c.run-answer.ensures.counts (search rules) (search rules);
     same_number = search rules;
   };
+  runs_on = λ servers events run. run_on _ (yard_roll c.args.self.now.yard) _ _ (c.run-answer.ensures.notes servers) events run;
+  makes_room = search rules;
 }
 
 pub invariant_of-self : goal.invariant_of-self
 invariant_of-self g c = record {
   counted = still_counted _ _ _ _ _ c.args.self.now.counted c.run-answer.ensures.counts (search rules) (search rules);
-  ran = λ servers before. run_on _ (yard_roll c.args.self.now.yard) _ (c.run-answer.ensures.notes servers) (c.args.self.now.ran servers before);
+  ran = λ servers before.
+      ∥∥₁_map (c.args.self.now.ran servers before) (λ x. (_, run_on _ (yard_roll c.args.self.now.yard) _ _ (c.run-answer.ensures.notes servers) x.0 x.1));
 }

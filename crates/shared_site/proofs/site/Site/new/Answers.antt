@@ -1,4 +1,4 @@
--- A yard without an event has a run without a move.
+-- A yard without an event has an empty run.
 use Rattle.std.proofs.Common.{◌∙◌, sym}
 use Rattle.shared_site.proofs.site.Site.new.Goals as goal
 

@@ -1,4 +1,4 @@
-use Rattle.std.proofs.Common.{inl, inr, refl, subst, rules}
+use Rattle.std.proofs.Common.{refl, subst, rules}
 use Rattle.server_events.specs.declared.event.Event.TheVariants as event
 use Rattle.server_yard.specs.Rolls.{IsQuiet, Roll}
 use Rattle.server_yard.specs.Standing.{LeadsOn, YardState}
@@ -47,8 +47,8 @@ returns-in-Ok-clause-answers g c = (
 )
 
 pub returns-in-Ok-clause-notes : goal.returns-in-Ok-clause-notes
-returns-in-Ok-clause-notes g c = λ _. inr (event.Admitted c.in-Ok.serial c.args.self.peer.now, refl, returns-in-Ok-clause-noted g c)
+returns-in-Ok-clause-notes g c = λ _. (refl, returns-in-Ok-clause-noted g c)
 
 pub returns-in-Err-clause-notes : goal.returns-in-Err-clause-notes
 returns-in-Err-clause-notes g c = λ _.
-    inl (subst (λ (r : Roll). IsQuiet r (yard_roll c.admit.new.self)) c.speaker.ensures.speaks (search rules))
+    subst (λ (r : Roll). IsQuiet r (yard_roll c.admit.new.self)) c.speaker.ensures.speaks (search rules)

@@ -1,4 +1,4 @@
-use Rattle.std.proofs.Common.{inr, refl, rules}
+use Rattle.std.proofs.Common.{refl, rules}
 use Rattle.std.specs.Prelude.{IsTrue}
 use Rattle.server_events.specs.declared.event.Event.TheVariants as event
 use Rattle.server_yard.specs.Passes.{pass_bytes, pass_serial}
@@ -35,8 +35,7 @@ returns-clause-answers g c =
     (yard_roll c.args.yard.now) (yard_roll c.decided.new.self) (returns-clause-makes g c).noted refl (search rules)
 
 pub returns-clause-notes : goal.returns-clause-notes
-returns-clause-notes g c = λ _.
-    inr (event.Decided (pass_serial c.args.self.pass) c.args.self.decision, refl, (returns-clause-makes g c).noted)
+returns-clause-notes g c = λ _. (refl, (returns-clause-makes g c).noted)
 
 pub returns-then-not-may_be_decided-clause-notes : goal.returns-then-not-may_be_decided-clause-notes
 returns-then-not-may_be_decided-clause-notes g c = λ _.

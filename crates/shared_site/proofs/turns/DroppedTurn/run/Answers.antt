@@ -1,9 +1,9 @@
-use Rattle.std.proofs.Common.{inr, ◌≡◌, ℕ, refl, rules, subst}
+use Rattle.std.proofs.Common.{◌≡◌, ℕ, refl, rules, subst}
 use Rattle.std.specs.Prelude.{None}
 use Rattle.server_events.specs.ServerState.{is_unstarted, stage_of}
 use Rattle.server_events.specs.declared.event.Event.TheVariants as event
 use Rattle.server_yard.specs.Yards.{yard_roll, yard_server}
-use Rattle.shared_site.proofs.Making.{stays, answered, counted, last_own, made_own}
+use Rattle.shared_site.proofs.Making.{answered, counted, last_own, made_own, stays}
 use Rattle.shared_site.proofs.turns.DroppedTurn.run.Goals as goal
 
 pub dropped-requires : goal.dropped-requires
@@ -48,7 +48,7 @@ pub returns-then-not-is_unstarted-clause-in_turn : goal.returns-then-not-is_unst
 returns-then-not-is_unstarted-clause-in_turn g c = (λ ok. absurd (cc), λ at. let is = (c.speak_at.ensures.passes is_unstarted refl).1 at in cc)
 
 pub returns-clause-notes : goal.returns-clause-notes
-returns-clause-notes g c = λ _. inr (event.Dropped c.args.self.serial c.args.self.cause, refl, (returns-clause-makes g c).noted)
+returns-clause-notes g c = λ _. (refl, (returns-clause-makes g c).noted)
 
 pub returns-then-not-is_unstarted-clause-notes : goal.returns-then-not-is_unstarted-clause-notes
 returns-then-not-is_unstarted-clause-notes g c = λ _. stays c.args.caller (yard_roll c.args.yard.now) (yard_roll c.speak_at.new.yard) c.speak_at.ensures.spoken.roll

@@ -1,4 +1,4 @@
-use Rattle.std.proofs.Common.{◌≡◌, inr, refl, subst, rules}
+use Rattle.std.proofs.Common.{◌≡◌, refl, subst, rules}
 use Rattle.std.specs.Prelude.{⊤, Option, is_some, option_map}
 use Rattle.server_events.specs.declared.event.Event.TheVariants as event
 use Rattle.server_yard.specs.Passes.{finding_file}
@@ -37,8 +37,7 @@ returns-clause-counts g c =
     (yard_roll c.args.yard.now) (yard_roll c.opened-pass.new.self) (returns-clause-makes g c).noted
 
 pub returns-clause-notes : goal.returns-clause-notes
-returns-clause-notes g c = λ _.
-    inr (event.Opened c.args.self.serial (is_some (finding_file c.args.self.finding)), refl, (returns-clause-makes g c).noted)
+returns-clause-notes g c = λ _. (refl, (returns-clause-makes g c).noted)
 
 pub returns-then-ne-clause-notes : goal.returns-then-ne-clause-notes
 returns-then-ne-clause-notes g c = λ _. stays c.args.caller (yard_roll c.args.yard.now) (yard_roll c.speaker.new.self) c.speaker.ensures.speaks

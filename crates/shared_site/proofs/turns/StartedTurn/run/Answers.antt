@@ -1,9 +1,9 @@
-use Rattle.std.proofs.Common.{inr, ℕ, refl, rules, subst, sym}
+use Rattle.std.proofs.Common.{ℕ, refl, rules, subst, sym}
 use Rattle.server_events.specs.ServerState.{is_allowed}
 use Rattle.server_events.specs.declared.event.Event.TheVariants as event
 use Rattle.server_yard.specs.Yards.{yard_roll}
 use Rattle.shared_site.specs.Turns.{IsAt}
-use Rattle.shared_site.proofs.Making.{stays, allowed_is, answered, counted, last_own, made_own}
+use Rattle.shared_site.proofs.Making.{allowed_is, answered, counted, last_own, made_own, stays}
 use Rattle.shared_site.proofs.turns.StartedTurn.run.Goals as goal
 
 pub started-requires : goal.started-requires
@@ -43,7 +43,7 @@ pub returns-then-ne-clause-in_turn : goal.returns-then-ne-clause-in_turn
 returns-then-ne-clause-in_turn g c = (λ ok. absurd (cc), λ at. let is = allowed_is _ ((c.speak_at.ensures.passes is_allowed refl).1 (subst (λ (i : ℕ). IsAt is_allowed c.args.self.serial c.args.yard.now i) (sym c.place.ensures) at)) in absurd (search (rules, is)))
 
 pub returns-clause-notes : goal.returns-clause-notes
-returns-clause-notes g c = λ _. inr (event.Started c.args.self.serial, refl, (returns-clause-makes g c).noted)
+returns-clause-notes g c = λ _. (refl, (returns-clause-makes g c).noted)
 
 pub returns-then-ne-clause-notes : goal.returns-then-ne-clause-notes
 returns-then-ne-clause-notes g c = λ _. stays c.args.caller (yard_roll c.args.yard.now) (yard_roll c.speak_at.new.yard) c.speak_at.ensures.spoken.roll

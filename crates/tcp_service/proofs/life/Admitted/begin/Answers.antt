@@ -1,12 +1,28 @@
 -- A connection whose program was started is over only by the end of that program.
-use Rattle.std.proofs.Common.{◌∙◌, ap}
+use Rattle.std.proofs.Common.{◌∙◌, ap, subst, sym}
 use Rattle.child_jobs.specs.Runs.{job_of}
-use Rattle.tcp_service.specs.Agents.{asked}
-use Rattle.tcp_service.proofs.Told.{forced}
+use Rattle.tcp_service.specs.Agents.{IsFoundFor, asked}
+use Rattle.tcp_service.specs.Lives.{IsDecidedChild}
+use Rattle.tcp_service.proofs.Told.{forced_if, own_is_decided}
 use Rattle.tcp_service.proofs.life.Admitted.begin.Goals as goal
 
 pub returns-in-Ok-serve-clause-reason : goal.returns-in-Ok-serve-clause-reason
 returns-in-Ok-serve-clause-reason g c =
-    forced _ (λ over. asked over.last.value) g.H.Job.Job.killed g.H.Job.Job.refused_wait g.H.Job.Job.ended g.H.Job.Job.program g.H.Job.Job.environment
+    let job = g.H.Job.Job in
+    let started = c.in-Ok-serve.started in
+    let serve = c.in-Ok-serve.ensures in
+    let is_own : _ → _ → _ → _ → _ → _ → Type 0 = λ server serial peer local program environment.
+    IsDecidedChild (IsFoundFor g.H.Places.Assumptions.met (g.H.Rules.Rules.gives server.now.rules.now) g.H.Handle.RulesHandle.opened serial)
+    g.H.File.RulesFile.honest g.H.File.RulesFile.sound peer local server.now.plan.now program environment in
+    let runs : _ → _ → _ → _ → _ → Type 0 = λ server serial peer local alive.
+    is_own server serial peer local (job.program (job_of alive.running)) (job.environment (job_of alive.running)) in
+    let its = own_is_decided _ _ _ _ _ _ _ _ _ started.child in
+    let by_alive = subst (λ alive. runs started.alive.server started.alive.serial started.peer.value started.alive.local alive) (sym c.go_on.ensures.same) its in
+    let by_server = subst (λ server. runs server started.alive.serial started.peer.value started.alive.local c.go_on.result) serve.server by_alive in
+    let by_serial = subst (λ serial. runs c.args.self.server serial started.peer.value started.alive.local c.go_on.result) serve.own.0 by_server in
+    let by_peer = subst (λ peer. runs c.args.self.server c.args.self.serial peer started.alive.local c.go_on.result) serve.ends.0 by_serial in
+    let by_local = subst (λ local. runs c.args.self.server c.args.self.serial c.args.self.peer local c.go_on.result) serve.ends.1 by_peer in
+    forced_if _ (is_own c.args.self.server c.args.self.serial c.args.self.peer c.args.self.local) (λ over. asked over.last.value)
+    job.killed job.refused_wait job.ended job.program job.environment
     (job_of c.go_on.result.running) c.go_on.result.serial c.args.self.serial
-    (ap (λ alive. alive.serial) c.go_on.ensures.same ∙ c.in-Ok-serve.ensures.own.0) c.go_on-in-Ok-serve.result c.go_on-in-Ok-serve.ensures.ended
+    (ap (λ alive. alive.serial) c.go_on.ensures.same ∙ serve.own.0) by_local c.go_on-in-Ok-serve.result c.go_on-in-Ok-serve.ensures.ended
