@@ -6,7 +6,7 @@ use Rattle.rule_lookup.specs.declared.decision.WhenMissing.{WhenMissing}
 use Rattle.server_events.specs.Processes.{is_connections, of_connections}
 use Rattle.server_events.specs.ServerState.{Effect, ServerState, lets_in, opens, decides, brings, lets_go, comes_to, fails_at, ends_all, after, effect, is_admitted, is_legal, may_happen, newcomer, stage_of, with_effect}
 use Rattle.server_events.specs.declared.event.Event.{Event}
-use Rattle.server_events.specs.declared.event.Event.TheVariants.{Admitted, Opened, Decided, Started, StartFailed, Ended, Retired, Dropped, Stepped, StepFailed, Stop}
+use Rattle.server_events.specs.declared.event.Event.TheVariants.{Opened}
 use Rattle.server_events.specs.declared.event.Stage.TheVariants as stage
 use Rattle.server_events.proofs.Effects.{is_admitted-true}
 use Rattle.server_events.proofs.History.{and_true}
@@ -50,7 +50,7 @@ module _ (found : Found) (missing : WhenMissing) where
   abbrev pub MayBeTold : ServerState → List Event → Type 0
   MayBeTold s [] = ⊤
   MayBeTold s (event ∷ events) =
-      (may_happen s event ≡ true) × (is_connections event ≡ true) × IsByFound found missing s event × MayBeTold (after s event) events
+      (may_happen s event ≡ true) × (is_connections event ≡ true) × IsByFound found missing s (effect event) × MayBeTold (after s event) events
 
   pub may_be_told : (s : ServerState) (events : List Event) → is_legal s events ≡ true → AreConnections events
       → AreByFound found missing s events → MayBeTold s events
@@ -61,19 +61,16 @@ module _ (found : Found) (missing : WhenMissing) where
 
   -- ---- an opening one place earlier
 
-  by_there : (n : ℕ) (s : ServerState) (event : Event) → IsByFound found missing s event → IsByFound found missing (opened n s) event
-  by_there n s (Decided m decision) by =
+  by_there : (n : ℕ) (s : ServerState) (x : Effect) → IsByFound found missing s x → IsByFound found missing (opened n s) x
+  by_there n s (decides m decision) by =
       λ peer is. by peer (sym (peer_of-with_stage m n stage.Opened s.connections) ∙ is)
-  by_there n s (Admitted m peer) by = tt
-  by_there n s (Opened m there) by = tt
-  by_there n s (Started m) by = tt
-  by_there n s (StartFailed m fault) by = tt
-  by_there n s (Ended m status) by = tt
-  by_there n s (Retired m) by = tt
-  by_there n s (Dropped m why) by = tt
-  by_there n s (Stepped phase) by = tt
-  by_there n s (StepFailed phase) by = tt
-  by_there n s Stop by = tt
+  by_there n s (lets_in m peer) by = tt
+  by_there n s (opens m there) by = tt
+  by_there n s (brings m from to) by = tt
+  by_there n s (lets_go m from) by = tt
+  by_there n s (comes_to phase) by = tt
+  by_there n s (fails_at phase) by = tt
+  by_there n s ends_all by = tt
 
   swapped : (n : ℕ) (there : Bool) (event : Event) (since : List Event) (s : ServerState) → is_own n event ≡ false
       → MayBeTold s (event ∷ Opened n there ∷ since) → MayBeTold s (Opened n there ∷ event ∷ since)
@@ -88,7 +85,7 @@ module _ (found : Found) (missing : WhenMissing) where
         (
           may_there n s x apart ∙ told.0,
           told.1,
-          by_there n s event told.2,
+          by_there n s x told.2,
           subst (λ (u : ServerState). MayBeTold u since) (sym (leads_there n s x is apart)) told.3.3,
         ),
       )

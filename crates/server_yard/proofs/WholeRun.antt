@@ -11,15 +11,14 @@ use Rattle.rule_lookup.specs.declared.decision.WhenMissing.{WhenMissing}
 use Rattle.server_events.specs.Headline.{Reaches}
 use Rattle.server_events.specs.Live.{since_stop}
 use Rattle.server_events.specs.Processes.{ServerSteps, Woven, is_connections, none, serves, installs, stops, outside, of_connections, of_installations, of_server}
-use Rattle.server_events.specs.ServerState.{Effect, ServerState, lets_in, opens, decides, brings, lets_go, comes_to, fails_at, ends_all, after, effect, may_happen, newcomer, stage_of, start, with_stage, without}
+use Rattle.server_events.specs.ServerState.{Effect, ServerState, lets_in, opens, decides, brings, lets_go, comes_to, fails_at, ends_all, after, effect, may_happen, may_have, newcomer, stage_of, start, with_effect, with_stage, without}
 use Rattle.server_events.specs.Steps.{MovesBy, none as no_step}
 use Rattle.server_events.specs.Worlds.{KeptFile, RulesName, World, kept_by, missing_by, missing_in, peer_of, standing}
 use Rattle.server_events.specs.declared.event.Event.{Event}
-use Rattle.server_events.specs.declared.event.Event.TheVariants.{Admitted, Opened, Decided, Started, StartFailed, Ended, Retired, Dropped, Stepped, StepFailed, Stop}
 use Rattle.server_events.specs.declared.event.Stage.{Stage}
 use Rattle.server_events.specs.declared.event.Stage.TheVariants as stage
 use Rattle.server_events.proofs.Allowed.{reached_within}
-use Rattle.server_events.proofs.Effects.{is_admitted-true, is_opened-true}
+use Rattle.server_events.proofs.Effects.{Sound, is_admitted-true, is_opened-true, not_opened, sound}
 use Rattle.server_events.proofs.InstalledRuns.{legal_then}
 use Rattle.server_events.proofs.LiveLemmas.{Tells, tells as tells_of, tells_after}
 use Rattle.server_events.proofs.Openings.{decided_by_standing, has_its_opening, kept_by-push_found, kept_by-push_own, kept_with, moves_same, waiting_keeps}
@@ -131,10 +130,9 @@ module _ (found : Found) where
   KeepsFound s kept = (n : ℕ) → stage_of n s.connections ≡ Some stage.Opened → kept_by n kept ≡ Some (found n)
 
   -- what an event does beside its effect on the state, and what connections keep then
-  record Moves (event : Event) (s : ServerState) (w : World) : Type 0 where
-    moves : (u : World) → Matches (own_yard w) w.kept u
-        → MovesBy (effect event) u (record u { server = after u.server event; kept = kept_with u (effect event) })
-    keeps : KeepsFound (after s event) (kept_with w (effect event))
+  record Moves (x : Effect) (s : ServerState) (w : World) : Type 0 where
+    moves : (u : World) → Matches (own_yard w) w.kept u → MovesBy x u (record u { server = with_effect u.server x; kept = kept_with u x })
+    keeps : KeepsFound (with_effect s x) (kept_with w x)
 
   module _ (s : ServerState) (w : World) where
     -- an event by which no connection opens the rules
@@ -153,8 +151,8 @@ module _ (found : Found) where
         elim (stage_of-push_is m stage.Opened s.connections (newcomer n peer) at) [ inl before ↦ keeps m before | inr now ↦ absurd (let never = now in cc) ]
 
     -- a connection opens the rules, and finds what stands there
-    opened_now : (n : ℕ) (there : Bool) → kept_by n w.kept ≡ None → FindsWhatStands found (Opened n there) w
-        → KeepsFound s w.kept → Moves (Opened n there) s w
+    opened_now : (n : ℕ) (there : Bool) → kept_by n w.kept ≡ None → FindsWhatStands found (opens n there) w
+        → KeepsFound s w.kept → Moves (opens n there) s w
     opened_now n there nothing finds keeps =
         let new : KeptFile = record { serial = n; bytes = standing w } in
         let its = kept_by-push_own n (standing w) w.kept nothing ∙ ap (λ (f : Option (List ℕ)). Some f) (sym finds.0) in
@@ -168,9 +166,9 @@ module _ (found : Found) where
         }
 
     -- a connection is decided by what it keeps
-    decided_now : (missing : WhenMissing) (n : ℕ) (decision : Decision) → IsByFound found missing s (Decided n decision)
+    decided_now : (missing : WhenMissing) (n : ℕ) (decision : Decision) → IsByFound found missing s (decides n decision)
         → missing_in w ≡ missing → (of_server w).server ≡ s → stage_of n s.connections ≡ Some stage.Opened → KeepsFound s w.kept
-        → Moves (Decided n decision) s w
+        → Moves (decides n decision) s w
     decided_now missing n decision by decides_so server is_opened keeps =
         let its = stage_of-peer_of n stage.Opened s.connections is_opened in
         record {
@@ -197,29 +195,22 @@ module _ (found : Found) where
     keeps : KeepsFound s w.kept
 
   module _ (missing : WhenMissing) where
-    moves_so : (done : List Event) (s : ServerState) (event : Event) (history : List Event) (w : World) → Stands missing done s history w
-        → may_happen s event ≡ true → is_connections event ≡ true → IsByFound found missing s event → FindsWhatStands found event w
-        → Moves event s w
-    moves_so done s (Opened n there) history w at may own by finds =
+    moves_so : (done : List Event) (s : ServerState) (x : Effect) (history : List Event) (w : World) → Stands missing done s history w
+        → Sound x → may_have s x ≡ true → of_connections x ≡ true → IsByFound found missing s x → FindsWhatStands found x w → Moves x s w
+    moves_so done s (lets_in n peer) history w at is may own by finds =
+        record { moves = λ u its. refl; keeps = new_one s w n peer at.keeps }
+    moves_so done s (opens n there) history w at is may own by finds =
         let waits = ap (λ (t : ServerState). stage_of n t.connections) at.server ∙ is_admitted-true _ may in
         opened_now s w n there (waiting_keeps history w at.reached n waits) finds at.keeps
-    moves_so done s (Decided n decision) history w at may own by finds =
+    moves_so done s (decides n decision) history w at is may own by finds =
         decided_now s w missing n decision by at.decides at.server (is_opened-true _ may) at.keeps
-    moves_so done s (Admitted n peer) history w at may own by finds =
-        record { moves = λ u its. refl; keeps = new_one s w n peer at.keeps }
-    moves_so done s (Started n) history w at may own by finds =
-        record { moves = λ u its. refl; keeps = brought s w n stage.Started (λ never. cc) at.keeps }
-    moves_so done s (Retired n) history w at may own by finds =
-        record { moves = λ u its. refl; keeps = brought s w n stage.Retired (λ never. cc) at.keeps }
-    moves_so done s (StartFailed n fault) history w at may own by finds =
+    moves_so done s (brings n from to) history w at is may own by finds =
+        record { moves = λ u its. refl; keeps = brought s w n to (not_opened to is.late) at.keeps }
+    moves_so done s (lets_go n from) history w at is may own by finds =
         record { moves = λ u its. refl; keeps = gone s w n at.told.rise at.keeps }
-    moves_so done s (Ended n status) history w at may own by finds =
-        record { moves = λ u its. refl; keeps = gone s w n at.told.rise at.keeps }
-    moves_so done s (Dropped n why) history w at may own by finds =
-        record { moves = λ u its. refl; keeps = gone s w n at.told.rise at.keeps }
-    moves_so done s (Stepped phase) history w at may own by finds = absurd (let never = own in cc)
-    moves_so done s (StepFailed phase) history w at may own by finds = absurd (let never = own in cc)
-    moves_so done s Stop history w at may own by finds = absurd (let never = own in cc)
+    moves_so done s (comes_to phase) history w at is may own by finds = absurd (let never = own in cc)
+    moves_so done s (fails_at phase) history w at is may own by finds = absurd (let never = own in cc)
+    moves_so done s ends_all history w at is may own by finds = absurd (let never = own in cc)
 
     -- the step by an event that the state of the server allows
     leads_by : (w : World) (event : Event) → may_happen (of_server w).server event ≡ true
@@ -249,10 +240,10 @@ module _ (found : Found) where
       on : Stands missing (done ++ event ∷ []) (after s event) (history ++ event ∷ []) v
 
     steps_on : (done : List Event) (s : ServerState) (event : Event) (history : List Event) (w : World) → Stands missing done s history w
-        → may_happen s event ≡ true → is_connections event ≡ true → IsByFound found missing s event → FindsWhatStands found event w
-        → StepsOn done s event history w
+        → may_happen s event ≡ true → is_connections event ≡ true → IsByFound found missing s (effect event)
+        → FindsWhatStands found (effect event) w → StepsOn done s event history w
     steps_on done s event history w at may own by finds =
-        let goes = moves_so done s event history w at may own by finds in
+        let goes = moves_so done s (effect event) history w at (sound event) may own by finds in
         let then : YardState = record (own_yard w) { server = after (of_server w).server event } in
         let here : may_happen (of_server w).server event ≡ true = ap (λ (t : ServerState). may_happen t event) at.server ∙ may in
         let more = kept_with w (effect event) in

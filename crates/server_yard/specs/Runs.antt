@@ -9,10 +9,10 @@ use Rattle.rule_lookup.specs.declared.decision.WhenMissing.{WhenMissing}
 use Rattle.server_events.specs.Headline.{IsKeptBy, Reaches}
 use Rattle.server_events.specs.Live.{concerns_by}
 use Rattle.server_events.specs.Processes.{ServerSteps, Woven, is_connections, is_installations}
-use Rattle.server_events.specs.ServerState.{Effect, ServerState, lets_in, after, effect, is_legal, start, state_after}
+use Rattle.server_events.specs.ServerState.{Effect, ServerState, decides, lets_in, opens, after, effect, is_legal, start, state_after}
 use Rattle.server_events.specs.Worlds.{IsStart, World, missing_in, peer_of, standing}
 use Rattle.server_events.specs.declared.event.Event.{Event}
-use Rattle.server_events.specs.declared.event.Event.TheVariants.{Opened, Decided}
+use Rattle.server_events.specs.declared.event.Event.TheVariants.{Opened}
 
 -- each event is one of a connection
 abbrev pub AreConnections : List Event → Type 0
@@ -52,20 +52,21 @@ abbrev pub Found : Type 0
 Found = ℕ → Option (List ℕ)
 
 -- a decision is that of `decide` by what the opening of its own connection found, for its peer
-abbrev pub IsByFound : Found → WhenMissing → ServerState → Event → Type 0
-IsByFound found missing s (Decided n decision) =
+abbrev pub IsByFound : Found → WhenMissing → ServerState → Effect → Type 0
+IsByFound found missing s (decides n decision) =
     (peer : Client) → peer_of n s.connections ≡ Some peer → decision_from (option_map reading (found n)) missing peer ≡ Ok decision
-IsByFound found missing s event = ⊤
+IsByFound found missing s x = ⊤
 
+-- each decision is so, in the state that the events before it lead to
 abbrev pub AreByFound : Found → WhenMissing → ServerState → List Event → Type 0
 AreByFound found missing s [] = ⊤
 AreByFound found missing s (event ∷ events) =
-    IsByFound found missing s event × AreByFound found missing (after s event) events
+    IsByFound found missing s (effect event) × AreByFound found missing (after s event) events
 
 -- what an opening found stands there now; of no other event is anything asked
-abbrev pub FindsWhatStands : Found → Event → World → Type 0
-FindsWhatStands found (Opened n there) w = (found n ≡ standing w) × (there ≡ is_some (standing w))
-FindsWhatStands found event w = ⊤
+abbrev pub FindsWhatStands : Found → Effect → World → Type 0
+FindsWhatStands found (opens n there) w = (found n ≡ standing w) × (there ≡ is_some (standing w))
+FindsWhatStands found x w = ⊤
 
 -- ---- a run among others
 
@@ -92,7 +93,7 @@ IsPlayedOut found [] history w =
     (others : List Event) (v : World) → GoesWithout w others v → IsHistoryTo (history ++ others) v
 IsPlayedOut found (event ∷ events) history w =
     (others : List Event) (v : World) → GoesWithout w others v → IsHistoryTo (history ++ others) v
-    × (FindsWhatStands found event v
+    × (FindsWhatStands found (effect event) v
     → (u : World) × ServerSteps v event u × IsPlayedOut found events ((history ++ others) ++ event ∷ []) u)
 
 -- a world from which a run may begin: a start with these limits, and with what is decided without a file

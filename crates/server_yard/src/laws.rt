@@ -72,15 +72,15 @@ pub fn readers()
 
 /// A run of a server, beside installers in other processes and others, is a history of the headline.
 ///
-/// What the turns of a server's site tell, one after another, is a run (`shared_site`: `Turn::run`: `notes`). Between two
-/// of its events installers, one after another, and others go on. An opening stands in the history when it found its
-/// file: at some time since its connection was let in, in whatever order (`InOrderOfFinding`). So at each time a whole
-/// accepted text stands under the rules name, or none; each decision is by the text that stood there when its connection
-/// opened the rules; and the limit is kept.
+/// What the turns of a server's site tell, one after another, is a run (`shared_site`: `Guarded::turn`: `runs_on`).
+/// Between two of its events installers, one after another, and others go on. An opening stands in the history when it
+/// found its file: at some time since its connection was let in, in whatever order (`InOrderOfFinding`). So at each time
+/// a whole accepted text stands under the rules name, or none; each decision is by the text that stood there when its
+/// connection opened the rules; and the limit is kept.
 ///
-/// The premises are the headline's: the start is whole (`BeginsRun`); what an opening found stood there
-/// (`FindsWhatStands`); and a read gives the bytes of the file that was found, so that each decision is by these
-/// (`AreByFound`; for one connection `one_connection::serve_one` says that it is, if files are honest).
+/// The premises are the headline's: the start is whole (`BeginsRun`), and what an opening found stood there
+/// (`FindsWhatStands`). Besides, each decision is by what its own connection found (`AreByFound`): the turn of a decision
+/// asks this of its pass, as far as files are honest.
 pub fn whole_run()
     ensures { (books : Books) (server : ServerState) (events order : List Event) (found : Found) (missing : WhenMissing)
         (w : World) → IsRun books server events

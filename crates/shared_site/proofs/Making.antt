@@ -14,7 +14,7 @@ use Rattle.server_events.specs.declared.event.Stage.TheVariants as stage
 use Rattle.server_yard.specs.Rolls.{Notes, Roll, number_at, stage_at}
 use Rattle.server_yard.specs.Seating.{KeepsSeats}
 use Rattle.server_yard.specs.Standing.{LeadsOn, YardState}
-use Rattle.server_yard.specs.Yards.{IsSameBeside, stage_of_place, yard_over, yard_roll, yard_rules, yard_seat, yard_server, yard_state}
+use Rattle.server_yard.specs.Yards.{IsSameBeside, stage_of_place, yard_over, yard_roll, yard_seat, yard_state}
 use Rattle.server_yard.specs.declared.assumptions.Assumptions as assumptions
 use Rattle.server_yard.specs.declared.yard.Yard.{Yard}
 use Rattle.shared_site.specs.Receipts.{CountsAtMostOne, receipt_after, receipt_at, receipt_of}

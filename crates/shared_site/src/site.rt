@@ -45,15 +45,16 @@ struct Guarded<G: Ground> {
 }
 
 impl<G: Ground> Guarded<G> {
-    // Runs a turn of a caller. It also answers whether that made room when there was none. The journal's number before
-    // and after the turn says how many events it made.
+    // Runs a turn of a caller. It also answers whether those who wait for room have to be woken: there is room now, or
+    // all places are retired, and neither was so before. The journal's number before and after the turn says how many
+    // events it made.
     fn turn<T: Turn<G>>(&mut self, caller: &mut CallerOf<G>, turn: T) -> (T::Answer, bool)
         requires may { T.may turn }
         ensures counted { CountsForIts (T.answers turn) result.0 caller.old caller.new }
         // what turns tell, one after another, is a run
         ensures runs_on { G.is_servers ≡ true → (events : List Event)
             → IsRunOf events self.old.yard → IsRunOf (told_then events (T.tells turn result.0)) self.new.yard }
-        ensures makes_room { IsTrue result.1 ↔ (IsFullForNow self.old.yard × ¬ IsFullForNow self.new.yard) }
+        ensures wakes { IsTrue result.1 ↔ (IsFullForNow self.old.yard × ¬ IsFullForNow self.new.yard) }
     {
         let was_taken = self.is_taken();
         let before = self.yard.journal().events();
@@ -149,8 +150,8 @@ impl<G: Ground> Site<G> {
     }
 
     /// The yard, once all callers are back. Its history has as many events as when the site was made, and those of all
-    /// shares. If it is a server's and had no event before, its events are a run, of which
-    /// `server_yard::laws::whole_run` speaks: what its turns told, one after another (`notes`).
+    /// shares. If it is a server's and had no event before, there is a run that led to it, of which
+    /// `server_yard::laws::whole_run` speaks: what its turns told, one after another.
     ///
     /// # Errors
     /// Some caller is lacking. The site and the callers are handed back.

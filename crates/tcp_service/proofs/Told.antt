@@ -1,9 +1,10 @@
 -- What was told of the end of a child, or of a connection without one, is as it was.
-use Rattle.std.proofs.Common.{◌≡◌, ◌∙◌, ◌⊎◌, ap, refl, subst, sym, ℕ, ◌-◌, ◌^◌, Bool, true, Option, None, Some, Result, Ok, Err, inl, inr}
+use Rattle.std.proofs.Common.{◌≡◌, ◌∙◌, ◌⊎◌, ap, refl, subst, sym, ℕ, ◌-◌, ◌^◌, Bool, true, Option, Some, Result, Ok, Err, inl, inr}
 use Rattle.std.specs.Prelude.{IfErr, IfOk, OnErr}
 use mathlib.Core.Logic.{∥∥₁_map}
 use Rattle.child_jobs.specs.Plans.{PlanText}
 use Rattle.child_jobs.specs.Programs.{ProgramText}
+use Rattle.child_jobs.specs.Runs.{IsSameChild}
 use Rattle.connection_facts.specs.Peers.{Client}
 use Rattle.connection_facts.specs.declared.outcome.DropCause.{DropCause}
 use Rattle.connection_facts.specs.declared.outcome.DropCause.TheVariants as cause
@@ -80,17 +81,6 @@ module _ {L : Type 0} {J : Type 0} {I O : Type 0} (finds : Opening → Type 0) (
 
 -- ---- a connection is over before it went on
 
--- want of memory is a reason
-pub gave_up : (finds : Opening → Type 0) (honest sound : Bool) (peer : Client) (local : LocalEnd) (plan : PlanText) (refuses : Refuses)
-    (serial : ℕ) (last : Option Event) → last ≡ Some (Dropped serial cause.Memory)
-    → EndsWithReason finds honest sound peer local plan refuses serial last
-gave_up finds honest sound peer local plan refuses serial last told = record {
-  found = None;
-  event = Dropped serial cause.Memory;
-  told = told;
-  reason = (refl, inr tt);
-}
-
 -- what a connection found is something that it may have found
 pub own_is_decided : (found : Option Opening) (finds : Opening → Type 0) (honest sound : Bool) (peer : Client) (local : LocalEnd) (plan : PlanText)
     (program : ProgramText) (environment : Variables) → IsOwnChild found finds honest sound peer local plan program environment
@@ -108,25 +98,30 @@ own_is_decided found finds honest sound peer local plan program environment own 
       planned = child.planned;
     })
 
--- the program that was started was ended by force
-pub forced : {J : Type 0} (is_own : ProgramText → Variables → Type 0) (last : Option Event) (kills : Kills J) (fails : FailsToWait J)
-    (ends : EndsAs J) (program : J → ProgramText) (environment : J → Variables) (first : J) (own serial : ℕ) → own ≡ serial
-    → is_own (program first) (environment first)
-    → OfSameChild program environment first (λ job. IsEndOfChild kills fails ends true job last own)
-    → IsEndedByForce is_own program environment kills fails ends serial last
-forced is_own last kills fails ends program environment first own serial same its ended = record {
-  job = ended.job;
-  own = subst (λ (p : ProgramText). is_own p (environment ended.job)) (sym ended.same.program)
-      (subst (λ (e : Variables). is_own (program first) e) (sym ended.same.environment) its);
-  ended = subst (λ (n : ℕ). IsEndOfChild kills fails ends true ended.job last n) same ended.so;
-}
+-- a job of the same program, with the same variables
+same_such : {J : Type 0} (is_such : ProgramText → Variables → Type 0) (program : J → ProgramText) (environment : J → Variables) (first job : J)
+    → IsSameChild program environment first job → is_such (program first) (environment first) → is_such (program job) (environment job)
+same_such is_such program environment first job same its =
+    subst (λ (p : ProgramText). is_such p (environment job)) (sym same.program)
+    (subst (λ (e : Variables). is_such (program first) e) (sym same.environment) its)
 
--- so it is if a connection is over then
-pub forced_if : {R O J : Type 0} (unserved : O → Type 0) (is_own : ProgramText → Variables → Type 0) (last : O → Option Event)
+-- the program that was started was ended by force, if the connection is over
+pub forced_if : {R O J : Type 0} (unserved : O → Type 0) (is_such : ProgramText → Variables → Type 0) (last : O → Option Event)
     (kills : Kills J) (fails : FailsToWait J) (ends : EndsAs J) (program : J → ProgramText) (environment : J → Variables) (first : J)
-    (own serial : ℕ) → own ≡ serial → is_own (program first) (environment first) → (r : Result R O)
+    (own serial : ℕ) → own ≡ serial → is_such (program first) (environment first) → (r : Result R O)
     → IfErr r (λ over. OfSameChild program environment first (λ job. IsEndOfChild kills fails ends true job (last over) own))
-    → IfErr r (λ over. unserved over ⊎ IsEndedByForce is_own program environment kills fails ends serial (last over))
-forced_if unserved is_own last kills fails ends program environment first own serial same its (Ok begun) ended = tt
-forced_if unserved is_own last kills fails ends program environment first own serial same its (Err over) ended =
-    inr (forced is_own (last over) kills fails ends program environment first own serial same its ended)
+    → IfErr r (λ over. unserved over ⊎ IsEndedByForce is_such program environment kills fails ends serial (last over))
+forced_if unserved is_such last kills fails ends program environment first own serial same its (Ok begun) ended = tt
+forced_if unserved is_such last kills fails ends program environment first own serial same its (Err over) ended = inr (record {
+  job = ended.job;
+  such = same_such is_such program environment first ended.job ended.same its;
+  ended = subst (λ (n : ℕ). IsEndOfChild kills fails ends true ended.job (last over) n) same ended.so;
+})
+
+-- and runs, if it goes on
+pub runs_if : {R O J : Type 0} (is_such : ProgramText → Variables → Type 0) (job_in : R → J) (program : J → ProgramText)
+    (environment : J → Variables) (first : J) → is_such (program first) (environment first) → (r : Result R O)
+    → IfOk r (λ begun. IsSameChild program environment first (job_in begun))
+    → IfOk r (λ begun. is_such (program (job_in begun)) (environment (job_in begun)))
+runs_if is_such job_in program environment first its (Ok begun) same = same_such is_such program environment first (job_in begun) same its
+runs_if is_such job_in program environment first its (Err over) same = tt

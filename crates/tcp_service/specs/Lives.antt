@@ -47,12 +47,18 @@ pub record OfSameChild {J : Type 0} (program_of : J → ProgramText) (environmen
   pub same : IsSameChild program_of environment_of first job
   pub so : is_so job
 
--- a program that runs for a connection is the one of its decision, by what that connection found when it opened the
--- rules: the plan's, with the variables that this decision gives
+-- a program is the one of a decision to allow, by something that may be found: the plan's, with the variables that this
+-- decision gives
+abbrev pub IsDecidedChild : (finds : Opening → Type 0) → (honest sound : Bool) → Client → LocalEnd → PlanText
+    → ProgramText → Variables → Type 0
+IsDecidedChild finds honest sound peer local plan program environment =
+    ∥ IsChild finds honest sound peer local plan program environment ∥₁
+
+-- a program that runs for a connection is so by what that connection found when it opened the rules
 abbrev pub IsOwnChild : (found : Option Opening) → (finds : Opening → Type 0) → (honest sound : Bool) → Client → LocalEnd
     → PlanText → ProgramText → Variables → Type 0
 IsOwnChild found finds honest sound peer local plan program environment =
-    ∥ IsChild (WasFound found finds) honest sound peer local plan program environment ∥₁
+    IsDecidedChild (WasFound found finds) honest sound peer local plan program environment
 
 -- how a starter may refuse a program with these variables
 abbrev pub Refuses : Type 1
@@ -81,16 +87,10 @@ pub record EndsWithReason (finds : Opening → Type 0) (honest sound : Bool) (pe
   pub told : last ≡ Some event
   pub reason : HasReason (WasFound found finds) honest sound peer local plan refuses serial event
 
--- a program is the one of a decision by something that the connection may have found, as `IsOwnChild` says it
-abbrev pub IsDecidedChild : (finds : Opening → Type 0) → (honest sound : Bool) → Client → LocalEnd → PlanText
-    → ProgramText → Variables → Type 0
-IsDecidedChild finds honest sound peer local plan program environment =
-    ∥ IsChild finds honest sound peer local plan program environment ∥₁
-
--- a job of a program that is so was ended by force, and that was told
-pub record IsEndedByForce {J : Type 0} (is_own : ProgramText → Variables → Type 0) (program_of : J → ProgramText)
+-- a job of such a program was killed before it was waited for, and what came of that was told
+pub record IsEndedByForce {J : Type 0} (is_such : ProgramText → Variables → Type 0) (program_of : J → ProgramText)
     (environment_of : J → Variables) (kills : Kills J) (fails : FailsToWait J) (ends : EndsAs J) (serial : ℕ)
     (last : Option Event) : Type 0 where
   pub job : J
-  pub own : is_own (program_of job) (environment_of job)
+  pub such : is_such (program_of job) (environment_of job)
   pub ended : IsEndOfChild kills fails ends true job last serial

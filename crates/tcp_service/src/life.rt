@@ -1,7 +1,7 @@
 //! The life of a connection at a site, from its admission to its end: each value of it is made of the one before, and
 //! none can be let go.
 ghost use Rattle.std.specs.Prelude.{◌≡◌, ◌⊎◌, None, Some, IfOk, IfErr, true, false};
-ghost use Rattle.child_jobs.specs.Runs.{IsSameRun, job_of, place_of};
+ghost use Rattle.child_jobs.specs.Runs.{IsSameChild, IsSameRun, job_of, place_of};
 ghost use Rattle.one_connection.specs.Openings.{kept_opening};
 ghost use Rattle.server_events.specs.declared.event.Event.TheVariants.{Admitted as AdmittedEvent, Dropped as DroppedEvent};
 ghost use Rattle.shared_site.specs.Receipts.{made_event};
@@ -166,10 +166,14 @@ impl<'a, H: Host> Admitted<'a, H> {
     /// It is served, and goes on if its program was started.
     ///
     /// # Errors
-    /// It is over: it was denied or given up, its program could not be started, or that had no pipe ends and was ended
-    /// by force.
+    /// It is over: it was denied or given up, its program could not be started, or its program had no pipe ends and was
+    /// killed.
     pub(crate) fn begin(self) -> Result<Beginning<'a, H>, Over>
         ensures own { IfOk result (λ begun. begun.1.serial ≡ self.entry.serial) }
+        ensures child { IfOk result (λ begun. IsDecidedChild
+            (IsFoundFor H.Places.met (H.Rules.gives self.entry.server.now.rules.now) H.Handle.opened self.entry.serial)
+            H.File.honest H.File.sound self.entry.peer self.entry.local self.entry.server.now.plan.now
+            (H.Job.program (job_of begun.1.running)) (H.Job.environment (job_of begun.1.running))) }
         ensures over { IfErr result (λ over. over.serial ≡ self.entry.serial) }
         ensures reason { IfErr result (λ over. EndsWithReason
             (IsFoundFor H.Places.met (H.Rules.gives self.entry.server.now.rules.now) H.Handle.opened self.entry.serial)
@@ -275,6 +279,8 @@ fn go_on<H: Host>(
     chains: Option<Chains<H::Wrapper>>,
 ) -> Result<Beginning<'_, H>, Over>
     ensures own { IfOk result (λ begun. begun.1.serial ≡ alive.entry.serial) }
+    ensures same { IfOk result (λ begun. IsSameChild H.Job.program H.Job.environment
+        (job_of alive.entry.running) (job_of begun.1.running)) }
     ensures over { IfErr result (λ over. over.serial ≡ alive.entry.serial) }
     ensures ended { IfErr result (λ over. OfSameChild H.Job.program H.Job.environment (job_of alive.entry.running)
         (λ job. IsEndOfChild H.Job.killed H.Job.refused_wait H.Job.ended true job
