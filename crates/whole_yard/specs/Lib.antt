@@ -3,3 +3,4 @@ pub mod YardAgents
 pub mod YardTurns
 pub mod Audits
 pub mod Closings
+pub mod Programs
