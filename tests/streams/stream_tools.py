@@ -4,6 +4,7 @@ import fcntl
 import os
 import random
 import re
+import select
 import signal
 import socket
 import subprocess
@@ -220,6 +221,9 @@ class Streams(Runs):
             got = tuple(b"".join(line for line in lines if line.startswith(mark)) for mark in (b"0 < ", b"0 > "))
             wanted = (recorded(0, b"<", given), recorded(0, b">", given))
             self.expect("recordio on %r" % given, (ended.returncode, ended.stdout, got), (0, given, wanted))
+        ended = self.run(["recordio", "sh", "-c", "printf a; sleep 0.3; printf 'b\\n'"], b"")
+        said = b"".join(line for line in lines_in(ended.stderr) if line.startswith(b"0 > "))
+        self.expect("recordio: two reads are two records", (ended.stdout, said), (b"ab\n", b"0 > a+\n0 > b \n0 > [EOF]\n"))
 
     def check_shared_records(self):
         """Two writers of one small pipe that is read slowly: no line of the other lands inside a record."""
@@ -262,6 +266,9 @@ class Streams(Runs):
                 for line in (b"a\n", b"b\n"):
                     typed.stdin.write(line)
                     typed.stdin.flush()
+                    if not select.select([typed.stdout], [], [], 60)[0]:
+                        typed.kill()
+                        break
                     got.append(typed.stdout.readline())
                 typed.communicate(timeout=LIMIT)
             self.expect("%s line by line" % words, (typed.returncode, tuple(got)), (0, answers))
