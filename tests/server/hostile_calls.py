@@ -329,7 +329,9 @@ def no_places(suite):
     run = library.run("waitpid", "ECHILD", 1)
     with suite.start(["-v", "-c", "2"], [shutil.which("cat")], env=dict(os.environ, **run.environment)) as server:
         suite.expect("with one place of two", [server.ask(b"a\n") for _ in range(6)], [b"a\n"] * 6)
-        suite.expect("one is retired", [line for line in server.lines() if line.startswith("retired")], [log_forms.retired(1)])
+        retired = [line for line in server.lines() if line.startswith("retired")]
+        # (on a busy machine the first to be waited for need not be the first connection)
+        suite.holds("one is retired", len(retired) == 1 and retired[0] in map(log_forms.retired, range(1, 7)), retired)
         server_runs.wait_until("the retired one alone", lambda: server.live() == 1)
         suite.audit("one retired place", server)
 
