@@ -221,9 +221,13 @@ class Streams(Runs):
             got = tuple(b"".join(line for line in lines if line.startswith(mark)) for mark in (b"0 < ", b"0 > "))
             wanted = (recorded(0, b"<", given), recorded(0, b">", given))
             self.expect("recordio on %r" % given, (ended.returncode, ended.stdout, got), (0, given, wanted))
-        ended = self.run(["recordio", "sh", "-c", "printf a; sleep 0.3; printf 'b\\n'"], b"")
-        said = b"".join(line for line in lines_in(ended.stderr) if line.startswith(b"0 > "))
-        self.expect("recordio: two reads are two records", (ended.stdout, said), (b"ab\n", b"0 > a+\n0 > b \n0 > [EOF]\n"))
+        # the second piece is written once the first one's record was seen
+        words = [self.program, "recordio", "sh", "-c", "printf a; read line; printf 'b\\n'"]
+        with subprocess.Popen(words, stdin=subprocess.PIPE, stdout=subprocess.PIPE, stderr=subprocess.PIPE) as typed:
+            first = os.read(typed.stderr.fileno(), 100) if select.select([typed.stderr], [], [], 60)[0] else typed.kill()
+            out, rest = typed.communicate(b"\n", timeout=LIMIT)
+        said = b"".join(line for line in lines_in(rest) if line.startswith(b"0 > "))
+        self.expect("recordio: two reads are two records", (out, first, said), (b"ab\n", b"0 > a+\n", b"0 > b \n0 > [EOF]\n"))
 
     def check_shared_records(self):
         """Two writers of one small pipe that is read slowly: no line of the other lands inside a record."""
