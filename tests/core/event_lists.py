@@ -1,14 +1,6 @@
-"""Lists of events, by `rulesim`: which lists may happen, and what they lead to. The program test_yards tries what
-`rulesim` cannot say: limits of 0, and what journals tell and store.
-"""
-import os
-import tempfile
-
-from shared import plain_words, refusals
-from shared.checks import Checks, needs_proved
-from shared.probes import Calls
-
-GROUP = "event_lists"
+"""Lists of events, by `rulesim`: which lists may happen, and what they lead to."""
+from shared import plain_words
+from shared.checks import Runs
 
 ADMITTED = ["admitted 1 1.1.1.1"]
 OPENED = ADMITTED + ["opened 1 no"]
@@ -59,21 +51,9 @@ OUT_OF_TURN = [
     ("a fresh file that failed", "1 1", ["phase fresh", "failed fresh"], ["phase filling"]),
 ]
 
-# the limits, the events, and the answer of the probe, which tells a fault in its own words
-REPLAYS = [
-    ("0 9", ADMITTED, "illegal event 1"),
-    ("9 0", ADMITTED, "illegal event 1"),
-    ("1 1", RETIRED + ["admitted 2 1.1.1.1"], "illegal event 6"),
-]
-
 CONNECTIONS = 1000
-CALLERS = 3
-# every fifth connection is retired, and the last one is let in beside all of those; of five connections the events are 3, 4, 5, 5 and 4
+# every fifth connection is retired, and the last one is let in beside all of those
 REPORT = "admitted 1000 live 200 retired 200 most 201"
-EVENTS = 4200
-AFTER_A_STOP = "admitted 1000 live 0 retired 0 most 201, 4201 events"
-# of the connections 1 and 2, which have four events and five, the fifth and the ninth event
-FIFTH, NINTH = "caller 2: admitted 2 10.0.2.1", "caller 3: ended 2 3"
 
 
 def lines(texts):
@@ -124,65 +104,18 @@ def all_after(limits, before):
     return b"".join(given), b"".join(wanted)
 
 
-def check_lists(program, failures):
-    """What lists of events come to, by `rulesim`."""
-    rulesim = Calls(program, GROUP, failures)
+def check(program, failures):
+    """Replays all lists, and answers how many they were."""
+    runs = Runs("event_lists", failures, program)
+
+    def replays(name, given, wanted):
+        runs.ended(name, runs.run(["rulesim"], given), 0, wanted)
+
     for name, limits, events, answer in LISTS:
-        rulesim.call(name, ["rulesim"], script(limits, events), lines([answer]))
+        replays(name, script(limits, events), lines([answer]))
     for name, limits, before, wrong in OUT_OF_TURN:
         for event in wrong:
-            answer = "illegal %d" % (len(before) + 1)
-            rulesim.call("%s after %s" % (event, name), ["rulesim"], script(limits, before + [event]), lines([answer]))
-    for name, limits, before, _ in OUT_OF_TURN:
-        given, wanted = all_after(limits, before)
-        rulesim.call("each event after " + name, ["rulesim"], given, wanted)
-    rulesim.call("a thousand connections", ["rulesim"], script(str(CONNECTIONS), all_events()), lines([REPORT]))
-    return rulesim.tests
-
-
-def check_calls(probe, failures):
-    """What the probe tells of lists and journals."""
-    calls = Calls(probe, GROUP, failures)
-    as_script = lambda events: lines("event " + event for event in events)
-    for limits, events, answer in REPLAYS:
-        calls.call("%d events under the limits %s" % (len(events), limits), ["replay"] + limits.split(), as_script(events), lines([answer]))
-    events = all_events()
-    report = "%s, %d events" % (REPORT, EVENTS)
-    calls.call("a journal that counts", ["count_events", str(CALLERS)], as_script(events), lines([report]))
-    calls.call("a stop ends all", ["count_events", str(CALLERS)], as_script(events + ["stop"]), lines([AFTER_A_STOP]))
-    noted = ["caller %d: %s" % (at % CALLERS + 1, event) for at, event in enumerate(events)]
-    if (noted[4], noted[8], len(noted)) != (FIFTH, NINTH, EVENTS):
-        calls.fail("the events of a thousand connections", (len(noted), noted[:9]))
-    # at the places before the first and after the last there is none
-    calls.call("a journal that stores", ["store_events", str(CALLERS)], as_script(events), lines([report, "none"] + noted + ["none"]))
-    for name in plain_words.EVENTS:
-        events = [words_of(event) for event in plain_words.shortest_list(name)]
-        report = "%s, %d events" % (report_of("2 2", events).strip(), len(events))
-        noted = ["caller 1: " + event for event in events]
-        calls.call("a journal that counts %s" % events, ["count_events", "1"], as_script(events), lines([report]))
-        calls.call("a journal that stores %s" % events, ["store_events", "1"], as_script(events), lines([report, "none"] + noted + ["none"]))
-    return calls.tests
-
-
-@needs_proved(16, is_about=True)
-def check_memory(checks, probe):
-    """Each request for memory refused in turn: a replay that meets it tells so, where the probe itself does it ends without an answer, or else the
-    answer is that with ample memory."""
-    words, given, ample = ["replay", "1", "1"], lines("event " + event for event in ADMITTED), b"admitted 1 live 1 retired 0 most 1, 1 events\n"
-    told = []
-    with tempfile.TemporaryDirectory() as folder:
-        requests = refusals.Requests(folder)
-        for request, variables in requests.each():
-            outcome = refusals.run([probe] + words, folder, given, dict(os.environ, **variables))
-            allowed = [(0, ample, b"")] + ([(0, b"out of memory\n", b""), (1, b"", b"")] if requests.is_refused() else [])
-            checks.holds("a replay, request %d refused" % request, outcome in allowed, outcome)
-            told.append(outcome[1])
-    if b"out of memory\n" not in told:
-        checks.fail("no replay was out of memory")
-
-
-def check(probe, program, failures):
-    """Runs all cases, and answers how many they were."""
-    checks = Checks(GROUP, failures)
-    check_memory(checks, probe)
-    return check_lists(program, failures) + check_calls(probe, failures) + checks.tests
+            replays("%s after %s" % (event, name), script(limits, before + [event]), lines(["illegal %d" % (len(before) + 1)]))
+        replays("each event after " + name, *all_after(limits, before))
+    replays("a thousand connections", script(str(CONNECTIONS), all_events()), lines([REPORT]))
+    return runs.tests

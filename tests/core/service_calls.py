@@ -2,7 +2,8 @@
 test_server."""
 import re
 
-from shared import log_forms, probes
+from shared import log_forms
+from shared.checks import Runs
 
 # before the first connection, of its admission, and of its decision
 IDLE, BUSY = log_forms.status(0, 1), log_forms.status(1, 1)
@@ -130,31 +131,31 @@ tcpserver: out of memory
 """
 
 
-def served(program, asked, scripts):
+def served(calls, asked, scripts):
     """How a server ends, its history, and its log."""
-    code, printed = probes.run([program, "serve"] + asked + scripts)
-    end, _, rest = printed.partition(b"\n")
+    ended = calls.run(["serve"] + asked + scripts)
+    end, _, rest = ended.stdout.partition(b"\n")
     history, _, log = (b"\n" + rest).partition(b"\n\n")
-    return code, end, history.lstrip(), log
+    return ended.returncode, end, history.lstrip(), log
 
 
-def serve(program, asked, scripts):
+def serve(calls, asked, scripts):
     """How a server ends, and its log. Its connections come from one address, which may have as many as there may be."""
-    code, end, _, log = served(program, asked + [asked[0], "1"], scripts)
+    code, end, _, log = served(calls, asked + [asked[0], "1"], scripts)
     return code, end, log
 
 
-def check_longer(program, calls):
+def check_longer(calls):
     """Servers of several connections, of whose log only a part is the same each time."""
-    code, end, log = serve(program, ["2", "0", "2", "2"], ["ek=a"])
+    code, end, log = serve(calls, ["2", "0", "2", "2"], ["ek=a"])
     calls.holds("two children live at once", (code, end) == (0, b"Count, 0 alive, 0 kills"), (code, end))
     for serial in (1, 2):
         calls.holds("two children live at once, and end", log_forms.log(log_forms.end(serial)) in log, log)
-    code, end, log = serve(program, ["2", "0", "4", "4"], ["ek", "ek=7"])
+    code, end, log = serve(calls, ["2", "0", "4", "4"], ["ek", "ek=7"])
     calls.holds("one place is retired and the other serves on", (code, end) == (0, b"Count, 1 alive, 2 kills"), (code, end))
     calls.holds("two places at first", log.startswith(log_forms.log(log_forms.status(0, 2))), log)
     calls.holds("and one of them taken for good", log.endswith(log_forms.log(log_forms.status(1, 2))), log)
-    code, end, log = serve(program, ["1", "0", "3", "-"], ["ek=7"])
+    code, end, log = serve(calls, ["1", "0", "3", "-"], ["ek=7"])
     calls.holds("a hundred faults of accepting end a server", (code, end) == (0, b"AcceptFaults, 0 alive, 0 kills"), (code, end))
     calls.holds("after the last connection", log.endswith(log_forms.log(log_forms.end(3, 7), IDLE)), log)
 
@@ -191,10 +192,10 @@ def event_in(words):
     return " ".join([name] + rest) if name == "decided" else name, int(serial)
 
 
-def check_history(program, calls):
+def check_history(calls):
     """Two thousand connections of forty at once and three from an address: the log tells the very events of the server's history, in their order."""
     scripts = ["ek=%d" % (n % 10) for n in range(90)] + ["n", "m", "k=s", "ek=fs", "ek=ff3", "r", "ek", "k", "ek"] + ["ek=7"]
-    code, end, history, log = served(program, ["40", "0", "10000000", "2000", "3", "30"], scripts * 3)
+    code, end, history, log = served(calls, ["40", "0", "10000000", "2000", "3", "30"], scripts * 3)
     calls.holds("two thousand connections end", (code, end.split(b", ")[:2]) == (0, [b"Count", b"9 alive"]), (code, end))
     events = [(caller, event_in(words)) for caller, *words in (line.split() for line in history.decode().splitlines())]
     first = [event for caller, event in events if caller == "1"]
@@ -211,7 +212,7 @@ def check_history(program, calls):
     calls.holds("its lines fit", (read.faults, read.admitted, read.last_live) == ([], 2000, 9), (read.faults[:3], read.admitted, read.last_live))
 
 
-def check_logs(program, calls):
+def check_logs(calls):
     """The lines of each event at each level, in both voices."""
     for voice, levels in (
         ("plain", (("all", ALL), ("errors", ERRORS), ("quiet", b""))), ("helpful", (("all", HELPFUL_ALL), ("errors", HELPFUL_ERRORS), ("quiet", b""))),
@@ -219,20 +220,20 @@ def check_logs(program, calls):
         for level, lines in levels:
             # (what was not written of the room are zeros)
             wanted = b"taken\n" + lines.ljust(2000, b"\0")
-            calls.call("each event at level %s, %s" % (level, voice), ["log", level, "2000", voice], b"", wanted)
-    calls.call("a line that is not taken is told", ["log", "errors", "10"], b"", b"not taken\ntcpserver:")
+            calls.ended("each event at level %s, %s" % (level, voice), calls.run(["log", level, "2000", voice]), 0, wanted)
+    calls.ended("a line that is not taken is told", calls.run(["log", "errors", "10"]), 0, b"not taken\ntcpserver:")
 
 
 def check(program, failures):
-    calls = probes.Calls(program, "service_calls", failures)
+    calls = Runs("service_calls", failures, program)
     for name, asked, scripts, end, log in CASES:
-        calls.expect(name, serve(program, asked, scripts), (0, end.encode(), FIRST + log))
+        calls.expect(name, serve(calls, asked, scripts), (0, end.encode(), FIRST + log))
     lost = log_forms.log(IDLE) + log_forms.log("out of memory") * 150 + ADMISSION + ENDED_WITH_7
-    answer = serve(program, ["1", "150", "1", "1"], ["ek=7"])
+    answer = serve(calls, ["1", "150", "1", "1"], ["ek=7"])
     calls.expect("connections that find no memory are told and end no server", answer, (0, b"Count, 0 alive, 0 kills", lost))
     for name, script, answer in PROGRAMS:
-        calls.call(name, ["between", script], b"", answer.encode())
-    check_longer(program, calls)
-    check_history(program, calls)
-    check_logs(program, calls)
+        calls.ended(name, calls.run(["between", script]), 0, answer.encode())
+    check_longer(calls)
+    check_history(calls)
+    check_logs(calls)
     return calls.tests

@@ -1,4 +1,4 @@
-"""Calls of a directory on a real folder, by the program test_disks: what they answer, what they leave, and which system calls they make."""
+"""Calls of a directory on a real folder, by the program test_folders: what they answer, what they leave, and which system calls they make."""
 import os
 import pwd
 import re
@@ -8,8 +8,13 @@ import signal
 import subprocess
 import tempfile
 
-from disk.disk_calls import file_of
 from shared.checks import LIMIT, Checks
+
+
+def file_of(content):
+    """The answer for a file: its length and its bytes."""
+    return "%d %s" % (len(content), list(content))
+
 
 # every call of a whole replacement, and then what stands there
 REPLACEMENT = "fresh tmp append abc append def patch 1 XY sync rename tmp rules settle open rules open tmp failures"
@@ -50,7 +55,7 @@ class Probe:
 
     def answers(self, folder, words, **how):
         """The lines that these calls answer."""
-        command = [self.program, "folder", folder]
+        command = [self.program, folder]
         ended = subprocess.run(command, input=commands(words), stdout=subprocess.PIPE, stderr=subprocess.STDOUT, timeout=LIMIT, **how)
         lines = ended.stdout.decode().split("\n")[:-1]
         return lines if ended.returncode == 0 else lines + ["exit %d" % ended.returncode]
@@ -123,7 +128,7 @@ def system_calls(probe, folder, words):
     """The system calls on the folder and its files, each as its name and its file."""
     trace = os.path.join(folder, "..", "trace")
     calls = "trace=openat,unlink,unlinkat,write,pwrite64,fsync,close,rename,renameat,renameat2"
-    command = ["strace", "-y", "-o", trace, "-e", calls, probe.program, "folder", folder]
+    command = ["strace", "-y", "-o", trace, "-e", calls, probe.program, folder]
     subprocess.run(command, input=commands(words), stdout=subprocess.DEVNULL, timeout=LIMIT, check=True)
     found = []
     with open(trace) as lines:
@@ -146,7 +151,7 @@ def trace_cases(probe, folder):
 def opened_flags(probe, folder):
     """The flags and the permissions with which a scratch file is made."""
     trace = os.path.join(folder, "..", "trace")
-    command = ["strace", "-o", trace, "-e", "trace=openat", probe.program, "folder", folder]
+    command = ["strace", "-o", trace, "-e", "trace=openat", probe.program, folder]
     subprocess.run(command, input=commands("fresh tmp"), stdout=subprocess.DEVNULL, timeout=LIMIT, check=True)
     with open(trace) as lines:
         # (behind the path, whose folders may have digits)
@@ -156,7 +161,7 @@ def opened_flags(probe, folder):
 def injected(probe, folder, call, how, words, on=()):
     """What is answered where a system call has a mishap; `on` names the file whose calls alone count."""
     inject = [*on, "-e", "trace=" + call, "-e", "inject=%s:%s" % (call, how)]
-    command = ["strace", "-qq", "-o", os.devnull] + inject + [probe.program, "folder", folder]
+    command = ["strace", "-qq", "-o", os.devnull] + inject + [probe.program, folder]
     return subprocess.run(command, input=commands(words), stdout=subprocess.PIPE, timeout=LIMIT, check=True).stdout.decode().split("\n")[:-1]
 
 

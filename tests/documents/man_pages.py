@@ -355,7 +355,7 @@ def check_server_words(checks):
     checks.same("tcpserver: synopsis", "tcpserver: usage: " + page.synopsis().replace(" ", " [options] ", 1), usage)
     checks.same("tcpserver: texts of words", {text: page.texts().get(text) for text in word_texts()}, word_texts())
     checks.holds("tcpserver: every exit code of a text stands under EXIT STATUS", set(page.texts().values()) <= page.codes())
-    block_of_names = re.search(r"\[&str; \d+\] = \[(.*?)\];", read("ucspi_env/src/child.rt"), re.S).group(1)
+    block_of_names = re.search(r"\[&str; \d+\] = \[(.*?)\];", read("child_jobs/src/child.rt"), re.S).group(1)
     checks.same("tcpserver: variables", page.variables(), set(re.findall(r'"(\w+)"', block_of_names)) | {"PATH"})
 
 

@@ -133,6 +133,19 @@ UNENDED = [
     ("a name of full length", "install\nask 1.1.1.1 host=" + "a" * 255, [INSTALLED, "default:", ALLOW]),
 ]
 
+# the names of a peer at 1.2.3.4, and its lookup forms in order
+FORMS = [
+    (
+        " info=joe host=A.B.Example",
+        ["joe@1.2.3.4", "joe@=a.b.example", "1.2.3.4", "=a.b.example", "1.2.3.", "1.2.", "1.", "=.b.example", "=.example", "=", ""],
+    ),
+    (" host=.", ["1.2.3.4", "=.", "1.2.3.", "1.2.", "1.", "=", ""]),
+    (" host=.a.b", ["1.2.3.4", "=.a.b", "1.2.3.", "1.2.", "1.", "=.b", "=", ""]),
+    (" host=a.", ["1.2.3.4", "=a.", "1.2.3.", "1.2.", "1.", "=.", "=", ""]),
+    (" info=a=B@C", ["a=b@c@1.2.3.4", "1.2.3.4", "1.2.3.", "1.2.", "1.", ""]),
+    ("", ["1.2.3.4", "1.2.3.", "1.2.", "1.", ""]),
+]
+
 # Lines that are no commands. The first ones each stand as the third line of a script that installs before and asks after.
 BAD_COMMANDS = [
     "install ", " install", "install now", "Install", "ask", "ask ", "ask 01.1.1.1", "ask 1.1.1.256", "ask  1.1.1.1", "ask 1.1.1.1 ",
@@ -207,6 +220,12 @@ def cases():
         yield name, text_of(script), text_of(answers), "", 0
     for name, script, answers in UNENDED:
         yield name, script, text_of(answers), "", 0
+    for names, forms in FORMS:
+        for place, form in enumerate(forms):
+            # the rules of all later forms stand in front of that which decides, and then behind it
+            for rules in (forms[:place:-1] + [form], forms[place:]):
+                script = ["|%s:deny" % rule for rule in rules] + ["install", "ask 1.2.3.4" + names]
+                yield "the form %r of%s" % (form, names), text_of(script), text_of([INSTALLED, "rule %s:" % form, DENY]), "", 0
     for line in BAD_COMMANDS:
         yield "the line %r" % line, "|:deny\ninstall\n%s\nask 1.1.1.1\n" % line, "installed\n", bad_command(3), 100
     for line in BAD_EVENTS:

@@ -33,11 +33,9 @@ def is_tried():
     return TRIED in os.environ
 
 
-def needs_proved(tests, is_about=False):
+def needs_proved(tests):
     """Marks a check of so many tests that is too slow for a program without proofs, or that looks at its memory: there it is left out. Elsewhere it has
-    to have so many, or none where it can't be made. `is_about` is for numbers that hang on how often a program asks for memory: from half to twice."""
-    fewest, most = (tests // 2, tests * 2) if is_about else (tests, tests)
-
+    to have so many, or none where it can't be made."""
     def marked(check):
         @functools.wraps(check)
         def made(*given):
@@ -49,7 +47,7 @@ def needs_proved(tests, is_about=False):
             before, faults = checks.tests, len(checks.failures)
             result = check(*given)
             had = checks.tests - before
-            if had and not fewest <= had <= most and len(checks.failures) == faults:
+            if had not in (0, tests) and len(checks.failures) == faults:
                 checks.fail("%s: its number of tests" % check.__name__, "it had %d, and is marked with %d" % (had, tests))
             return result
         return made

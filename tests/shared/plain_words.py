@@ -1,6 +1,5 @@
 """Second, plain programs for the tests: the words of `tcpserver`, host tables, lookups in compiled files, lists of events and the scripts of
 `rulesim`. They are written from the documents, with nothing of the program in them."""
-import copy
 import itertools
 import os
 import re
@@ -368,23 +367,6 @@ def replayed(limit, per, events):
 def some_events(name):
     """Events of a name with the values that its fields have."""
     return [(name, *fields) for fields in itertools.product(*(field.some for field in EVENTS[name].fields))]
-
-
-def shortest_list(name):
-    """A shortest list of events that may happen in this order and ends with one of this name; of eight it has to have one."""
-    lists = [([], History(2))]
-    for _ in range(8):
-        longer = []
-        for events, history in lists:
-            for event in itertools.chain(some_events(name), *map(some_events, EVENTS)):
-                if history.is_legal(event):
-                    if event[0] == name:
-                        return events + [event]
-                    after = copy.deepcopy(history)
-                    after.add(event)
-                    longer.append((events + [event], after))
-        lists = longer
-    raise ValueError("no list of eight events has " + name)
 
 
 def event_in(words):

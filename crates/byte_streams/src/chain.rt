@@ -9,9 +9,6 @@ use std::alloc::{AllocError, Global};
 use std::mem;
 use thiserror::Error;
 
-/// A line wrapper of any kind.
-pub type BoxedWrapper = Box<dyn LineWrapper + Send + Drop>;
-
 /// Why a chain refuses a piece.
 #[derive(Clone, Copy, Debug, Error)]
 pub enum ChainFault {

@@ -3,8 +3,7 @@
 //! The crates above use `pump` and `pump_counted`: what was written is what the chain makes of what was read, as far as
 //! the end says. By the contract of `LineWrapper` what a wrapper writes doesn't depend on how the input is cut. A chain
 //! is generic over its kind of wrapper. A `Recorder` is the tap of `recordio`. Only tests show that a fault is one of
-//! the reader or the writer, and that a `Patient` stream waits as long as it should. Only tests ask a `Recorder` for
-//! its writer.
+//! the reader or the writer, and that a `Patient` stream waits as long as it should.
 #![tactic(auto)]
 
 pub mod chain;
@@ -17,7 +16,7 @@ pub mod tap;
 pub mod watched;
 pub mod wrappers;
 
-pub use chain::{BoxedWrapper, Chain, ChainFault};
+pub use chain::{Chain, ChainFault};
 pub use patient::Patient;
 pub use pieces::write_out;
 pub use pumping::{PumpEnd, Why, pump, pump_counted};

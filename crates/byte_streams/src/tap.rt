@@ -90,13 +90,6 @@ impl<W: Write> Recorder<W> {
             lines: Vec::new(alloc),
         }
     }
-
-    /// Gives its writer back.
-    pub fn into_writer(self) -> W
-        ensures { result ≡ writer_of self }
-    {
-        self.writer
-    }
 }
 
 impl<W: Write> Tap for Recorder<W> {

@@ -69,10 +69,6 @@ within-remove old new key ip most was updates held q = omega (arith, count_of-re
 pub within-places : (s : Slab (List ℕ)) (most : ℕ) → ((q : List ℕ) → count_of q s ≤ most) → (q : List ℕ) → count_by (λ other. bytes_eq other q) (fin.values (places_of s)) ≤ most
 within-places s most held q = subst (λ n. n ≤ most) (sym (ap (count_by (λ other. bytes_eq other q)) (values-places s))) (held q)
 
--- whether an index is in use, by the slab
-pub used_places : (s : Slab (List ℕ)) (q : ℕ) → is_some (fin.get (places_of s) q) ≡ is_some (get s q)
-used_places s q = ap is_some (get-places s q)
-
 -- what a table's value says, by the slab whose entries its places are
 module _ (s : Slab (List ℕ)) (now : PlacesOut) (placed : places_of s ≡ now.places) where
   pub live_of-placed : live_of now ≡ slab_len s

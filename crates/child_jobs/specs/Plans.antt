@@ -1,6 +1,6 @@
 -- What a server does with each connection that it lets in.
 use Rattle.std.specs.Prelude.{ℕ, List}
-use Rattle.ucspi_env.specs.Variables.{Variables}
+use Rattle.child_jobs.specs.Variables.{Variables}
 use Rattle.child_jobs.specs.Programs.{ProgramText}
 
 pub record PlanText : Type 0 where

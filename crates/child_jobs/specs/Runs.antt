@@ -1,6 +1,6 @@
 -- A child that runs, with its place.
 use Rattle.std.specs.Prelude.{◌≡◌, ℕ}
-use Rattle.ucspi_env.specs.Variables.{Variables}
+use Rattle.child_jobs.specs.Variables.{Variables}
 use Rattle.child_jobs.specs.Programs.{ProgramText}
 use Rattle.child_jobs.specs.declared.running.Running.{Running}
 

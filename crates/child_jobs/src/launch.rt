@@ -1,17 +1,16 @@
 //! Programs, the jobs that run them, and what starts a job.
 ghost use Rattle.std.specs.Prelude.{◌≡◌, true, false, Bool, Result, map, string_bytes, IfOk, IfErr, OnOk};
-ghost use Rattle.connection_facts.specs.declared.outcome.StartFault.{StartFault as Fault};
-ghost use Rattle.connection_facts.specs.declared.outcome.Status.{Status as StatusOf};
+ghost use Rattle.child_jobs.specs.declared.outcome.StartFault.{StartFault as Fault};
+ghost use Rattle.child_jobs.specs.declared.outcome.Status.{Status as StatusOf};
 ghost use Rattle.child_jobs.specs.declared.launch.WaitFault.{WaitFault};
-ghost use Rattle.ucspi_env.specs.Variables.{Variables};
+ghost use Rattle.child_jobs.specs.Variables.{Variables};
 ghost use Rattle.child_jobs.specs.Programs.{ProgramText};
 
-use connection_facts::{StartFault, Status};
+use crate::{Environment, StartFault, Status};
 use std::alloc::Global;
 use std::io::{Read, Write};
 use std::marker::Model;
 use thiserror::Error;
-use ucspi_env::Environment;
 
 /// A program and its arguments.
 ///

@@ -1,9 +1,9 @@
 //! What a server does with each connection.
 ghost use Rattle.std.specs.Prelude.{◌≡◌};
 
+use crate::Environment;
 use crate::launch::Program;
 use std::marker::Model;
-use ucspi_env::Environment;
 
 /// What a server does with each connection that it lets in: the program, the variables that it inherits, and the banner
 /// that is written first.

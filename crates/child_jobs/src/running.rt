@@ -4,11 +4,9 @@ ghost use Rattle.child_jobs.specs.PlacesOut.{is_used};
 ghost use Rattle.child_jobs.specs.Runs.{IsSameRun, job_of, place_of};
 
 use crate::launch::{Job, Launcher, NoEnds, Program, WaitFault};
-use crate::{Place, PlaceTable};
-use connection_facts::{StartFault, Status};
+use crate::{Environment, Place, PlaceTable, StartFault, Status};
 use std::alloc::Global;
 use std::sync::ledger::Ledger;
-use ucspi_env::Environment;
 
 /// A child that runs, and the place that it holds.
 ///

@@ -6,7 +6,7 @@ ghost use Rattle.child_jobs.specs.declared.table.TableFault.TheVariants.{OutOfMe
 ghost use Rattle.child_jobs.specs.PlacesOut.{IsFullFor, IsWithin, OneMoreAt, RefusesLimits, none_out, is_used, live_at, live_of, with_place, without_place};
 
 use crate::place::Place;
-use connection_facts::Peer;
+use rule_lookup::Peer;
 use slab::Slab;
 use std::alloc::{AllocError, Global};
 use std::marker::Model;
@@ -89,21 +89,8 @@ impl<L: Ledger> Model for PlaceTable<L> {
 }
 
 impl<L: Ledger> PlaceTable<L> {
-    /// An empty table, which gives out at most `limit` places. `blank` has as many parts as the limit says.
-    ///
-    /// # Errors
-    /// `ZeroLimit` if the limit is 0.
-    pub fn new(alloc: Global, blank: Blank, limit: u64) -> Result<PlaceTable<L>, TableFault>
-        requires name { blank.name ≡ L.name }
-        requires parts { (blank.parts ≡ L.parts) × (blank.parts ≡ limit) }
-        ensures made { IfOk result (λ table. table ≡ none_out limit limit) }
-        ensures limited { IfOk result (λ _. 0 < limit) }
-        ensures refused { IfErr result (RefusesLimits limit limit) }
-    {
-        PlaceTable::with_address_limit(alloc, blank, limit, limit)
-    }
-
-    /// An empty table, which gives out at most `limit` places, and at most `per_address` for one address.
+    /// An empty table, which gives out at most `limit` places, and at most `per_address` for one address. `blank` has as
+    /// many parts as the limit says.
     ///
     /// # Errors
     /// `ZeroLimit` if the limit is 0; otherwise `ZeroAddressLimit` if the limit per address is 0.
@@ -250,14 +237,4 @@ fn count_at(addresses: &Slab<[u8; 4]>, ip: [u8; 4]) -> u64
         }
     }
     count
-}
-
-impl<L: Ledger> PlaceTable<L> {
-    /// Whether an index is in use. By this a caller tests what `leave` and `retire` require of a place.
-    #[tactic(auto, using(crate::proofs::PlacesOutLemmas::used_places))]
-    pub fn is_used(&self, index: usize) -> bool
-        ensures { IsTrue result ↔ (is_used self.now index ≡ true) }
-    {
-        self.addresses.contains(index)
-    }
 }

@@ -1,6 +1,6 @@
 -- A stop leaves of a directory what it leaves of one in which an unsynced file has other bytes.
 use Rattle.std.proofs.Common.{◌≡◌, ◌⊎◌, inl, inr, ⊎_elim, ℕ, zero, suc, false, List, [], ◌∷◌, length, refl, sym, ◌∙◌, ap}
-use Rattle.std.specs.Prelude.{true, slice_get, Option, Some}
+use Rattle.std.specs.Prelude.{true, slice_get, Some}
 use Rattle.std.specs.Option.{option_map}
 use Rattle.dir_calls.specs.NameTable.{NameTable}
 use Rattle.dir_calls.specs.Directory.{Directory, FileState}

@@ -4,7 +4,7 @@ use Rattle.std.proofs.lemmas.List.{take-append-drop}
 use Rattle.std.proofs.lemmas.List.Sums.{fold-append}
 use Rattle.std.specs.Prelude.{take, drop, Option, None, Some}
 use Rattle.std.specs.FinMap.{get}
-use Rattle.dir_calls.specs.NameTable.{Names, NameTable, NameChange, takes, puts, CanBeLeft, SettlesSome, after_change, after_changes, current, push}
+use Rattle.dir_calls.specs.NameTable.{Names, NameTable, NameChange, takes, puts, SettlesSome, after_change, after_changes, current, push}
 use Rattle.dir_calls.specs.Directory.{Directory, KeepsSynced, number_of}
 use Rattle.dir_calls.specs.Calls.{makes, settles, after, taken_from, without}
 use Rattle.dir_calls.specs.Clearing.{LeavesBefore, SparesOthers, StaysUnder}

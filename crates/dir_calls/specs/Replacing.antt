@@ -1,5 +1,5 @@
 -- What a series of calls leaves under a name.
-use Rattle.std.specs.Prelude.{◌≡◌, ℕ, true, List, ◌∷◌, Option, Some}
+use Rattle.std.specs.Prelude.{◌≡◌, ℕ, true, List, Option, Some}
 use Rattle.dir_calls.specs.Directory.{Directory, file_at}
 use Rattle.dir_calls.specs.Lasting.{LastsAmong, HasAmong}
 use Rattle.dir_calls.specs.Moments.{LeavesOnly}
@@ -15,11 +15,6 @@ pub record Stays {D F : Type 0} (tells : Ghosts D F) (name : List ℕ) (contents
 abbrev pub KeepsWhatLasts : {D F : Type 0} → Ghosts D F → (name : List ℕ) → (old new : D) → Type 0
 KeepsWhatLasts tells name old new =
     (contents : List (Option (List ℕ))) → LastsAmong (tells.state old) name contents → Stays tells name contents old new
-
--- what lasts under the name, or a file with these bytes, lasts there, and stands there whenever the machine stops meanwhile
-abbrev pub KeepsOrPuts : {D F : Type 0} → Ghosts D F → (name bytes : List ℕ) → (old new : D) → Type 0
-KeepsOrPuts tells name bytes old new =
-    (contents : List (Option (List ℕ))) → LastsAmong (tells.state old) name contents → Stays tells name (Some bytes ∷ contents) old new
 
 -- a synced file with these bytes stands under a name
 abbrev pub HasSynced : List ℕ → List ℕ → Directory → Type 0

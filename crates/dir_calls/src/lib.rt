@@ -20,7 +20,6 @@ mod held;
 pub mod laws;
 pub mod mem_dir;
 pub mod name;
-pub mod replace;
 pub mod rules_file;
 mod stored;
 
@@ -32,5 +31,4 @@ pub use folder::Folder;
 pub use fuse_dir::FuseDir;
 pub use mem_dir::MemDir;
 pub use name::{Name, NameFault};
-pub use replace::replace_file;
 pub use rules_file::{DeviceFault, MemFile, RulesFile};

@@ -1,4 +1,4 @@
-//! Folders of a disk, and so of the system. What a directory is stands in `dir_calls`, whose names are passed on.
+//! Folders of a disk, and so of the system. What a directory is stands in `dir_calls`.
 //!
 //! `DiskDir` is an honest directory if its disk keeps the clauses of `Disk`, which say what POSIX and Linux promise of
 //! each call. `MemDisk` keeps them, so they don't contradict one another. `OsDir`, which the tools use, is a `DiskDir`
@@ -19,10 +19,6 @@ mod scratch;
 pub mod system_disk;
 
 pub use claims::{Alone, Claims};
-pub use dir_calls::{
-    Choice, ClearableDir, DeviceFault, Dir, DirFault, FuseDir, MemDir, MemFile, Name, NameFault,
-    RulesFile, replace_file,
-};
 pub use disk::{Disk, DiskFile, Look};
 pub use failure::{DiskFailure, FailedOn};
 pub use lock::{Locked, Waits};

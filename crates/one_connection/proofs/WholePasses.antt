@@ -3,11 +3,11 @@ use mathlib.Core.Logic.{∥∥₁_elim}
 use Rattle.std.proofs.Common.{refl}
 use Rattle.std.proofs.Props.{props}
 use Rattle.std.specs.Prelude.{◌≡◌, ℕ, Bool, IsTrue, true, false, List, Option, None, Some, Result, Ok, Err, IfErr, option_map}
-use Rattle.cdb_read.specs.Reading.{reading}
+use Rattle.cdb_files.specs.Reading.{reading}
 use Rattle.rule_lines.specs.Lookups.{WhereKnown}
 use Rattle.rule_lines.specs.declared.source.FindFault.TheVariants as find
 use Rattle.rule_lookup.specs.Decisions.{DecisionFails, decision_from, decision_in, without_file}
-use Rattle.connection_facts.specs.Peers.{Client}
+use Rattle.rule_lookup.specs.Peers.{Client}
 use Rattle.rule_lookup.specs.declared.decision.Decision.{Decision}
 use Rattle.rule_lookup.specs.declared.decision.DecideFault.{DecideFault}
 use Rattle.rule_lookup.specs.declared.decision.DecideFault.TheVariants.{Find, Code, OutOfMemory}

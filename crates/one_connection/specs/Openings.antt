@@ -1,20 +1,21 @@
 -- What a connection finds when it opens the rules.
-use Rattle.std.specs.Prelude.{◌≡◌, ◌<◌, ◌-◌, ◌^◌, ◌⊎◌, ⊤, ℕ, Bool, IsTrue, List, Option, Some, Result, Ok, option_map}
+use Rattle.std.specs.Prelude.{◌≡◌, ◌⊎◌, ⊤, ℕ, Bool, IsTrue, List, Option, Some, Result, Ok, option_map}
 use Rattle.std.specs.declared.snapshot.Snapshot.{Snapshot}
-use Rattle.cdb_read.specs.Reading.{reading}
+use Rattle.cdb_files.specs.Reading.{reading}
 use Rattle.dir_calls.specs.declared.fault.DirFault.{DirFault}
 use Rattle.dir_calls.specs.declared.fault.DirFault.TheVariants as directory
 use Rattle.rule_lines.specs.Lookups.{WhereKnown}
 use Rattle.rule_lines.specs.declared.source.FindFault.TheVariants as find
 use Rattle.rule_lookup.specs.Decisions.{DecisionFails, decision_from}
-use Rattle.connection_facts.specs.Peers.{Client}
+use Rattle.rule_lookup.specs.Peers.{Client}
 use Rattle.rule_lookup.specs.declared.decision.Decision.{Decision}
 use Rattle.rule_lookup.specs.declared.decision.DecideFault.{DecideFault}
 use Rattle.rule_lookup.specs.declared.decision.DecideFault.TheVariants.{Find, Code}
 use Rattle.rule_lookup.specs.declared.decision.DecideFault.TheVariants as decide
 use Rattle.rule_lookup.specs.declared.decision.WhenMissing.{WhenMissing}
-use Rattle.connection_facts.specs.declared.outcome.DropCause.{DropCause}
-use Rattle.connection_facts.specs.declared.outcome.DropCause.TheVariants as cause
+use Rattle.rules_install.specs.Steps.{HasFailed}
+use Rattle.child_jobs.specs.declared.outcome.DropCause.{DropCause}
+use Rattle.child_jobs.specs.declared.outcome.DropCause.TheVariants as cause
 use Rattle.server_yard.specs.Passes.{pass_bytes, pass_missing, trust_in}
 use Rattle.server_yard.specs.declared.pass.Pass.{Pass}
 
@@ -65,14 +66,10 @@ cause_of_open directory.Device = cause.Directory
 cause_of_open directory.NoScratch = cause.Directory
 cause_of_open directory.NoName = cause.Directory
 
--- a call of the directory failed only if a failure was counted since, or no more can be counted
-abbrev pub CountsFailure : (before now : ℕ) → Type 0
-CountsFailure before now = (before < now) ⊎ (now ≡ 2 ^ 64 - 1)
-
--- the rules may stay unopened for this cause: want of memory, or `Directory` if a call failed or others may make a call
+-- the rules may stay unopened for this cause: want of memory, or `Directory` if the device failed or others may make a call
 -- out of turn
 abbrev pub FailsToOpen : (is_shared : Bool) → (before now : ℕ) → DropCause → Type 0
-FailsToOpen is_shared before now cause.Directory = CountsFailure before now ⊎ IsTrue is_shared
+FailsToOpen is_shared before now cause.Directory = HasFailed before now ⊎ IsTrue is_shared
 FailsToOpen is_shared before now cause.Memory = ⊤
 FailsToOpen is_shared before now other = ⊥
 

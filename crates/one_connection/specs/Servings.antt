@@ -6,22 +6,23 @@ use Rattle.child_jobs.specs.Programs.{ProgramText}
 use Rattle.rule_lines.specs.declared.instr.Verdict.{Verdict}
 use Rattle.rule_lines.specs.declared.instr.Verdict.TheVariants.{Allow, Deny}
 use Rattle.rule_lines.specs.declared.source.FindFault.TheVariants as find
-use Rattle.connection_facts.specs.Peers.{Client}
+use Rattle.rule_lookup.specs.Peers.{Client}
 use Rattle.rule_lookup.specs.declared.decision.Decision.{Decision}
 use Rattle.rule_lookup.specs.declared.decision.DecideFault.{DecideFault}
 use Rattle.rule_lookup.specs.declared.decision.DecideFault.TheVariants.{Find, Code, OutOfMemory}
-use Rattle.connection_facts.specs.declared.outcome.DropCause.{DropCause}
-use Rattle.connection_facts.specs.declared.outcome.DropCause.TheVariants as cause
-use Rattle.connection_facts.specs.declared.outcome.StartFault.{StartFault}
-use Rattle.ucspi_env.specs.Child.{environment_of}
-use Rattle.ucspi_env.specs.Ends.{LocalEnd}
-use Rattle.ucspi_env.specs.Variables.{Variables}
+use Rattle.rules_install.specs.Steps.{HasFailed}
+use Rattle.child_jobs.specs.declared.outcome.DropCause.{DropCause}
+use Rattle.child_jobs.specs.declared.outcome.DropCause.TheVariants as cause
+use Rattle.child_jobs.specs.declared.outcome.StartFault.{StartFault}
+use Rattle.child_jobs.specs.Child.{environment_of}
+use Rattle.child_jobs.specs.Ends.{LocalEnd}
+use Rattle.child_jobs.specs.Variables.{Variables}
 use Rattle.child_jobs.specs.declared.running.Running.{Running}
 use Rattle.server_events.specs.declared.event.Event.{Event}
 use Rattle.server_events.specs.declared.event.Event.TheVariants.{Opened, Decided, Started, StartFailed, Dropped}
 use Rattle.server_events.specs.declared.event.Stage.{Stage}
 use Rattle.server_events.specs.declared.event.Stage.TheVariants as stage
-use Rattle.one_connection.specs.Openings.{CountsFailure, Decides, FailsToDecide, Opening}
+use Rattle.one_connection.specs.Openings.{Decides, FailsToDecide, Opening}
 use Rattle.one_connection.specs.declared.serving.Served.{Served}
 use Rattle.one_connection.specs.Unstarted.{IsUndenied}
 
@@ -80,7 +81,7 @@ pub record FailsFor (finds : Opening → Type 0) (honest sound : Bool) (peer : C
 abbrev pub Drops : (decides : DropCause → Type 0) → (is_shared : Bool) → (before now : ℕ) → (banner : List ℕ) → DropCause → Type 0
 Drops fails is_shared before now banner cause.Denied = ⊥
 Drops fails is_shared before now banner cause.Banner = banner ≢ []
-Drops fails is_shared before now banner cause.Directory = CountsFailure before now ⊎ IsTrue is_shared
+Drops fails is_shared before now banner cause.Directory = HasFailed before now ⊎ IsTrue is_shared
 Drops fails is_shared before now banner cause.ReadFault = fails cause.ReadFault
 Drops fails is_shared before now banner cause.Damaged = fails cause.Damaged
 Drops fails is_shared before now banner cause.Memory = ⊤

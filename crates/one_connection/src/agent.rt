@@ -2,7 +2,7 @@
 ghost use Rattle.std.specs.Prelude.{◌≡◌, ℕ, Bool, Option, Some, true, false, is_some, IfOk, IfErr, OnOk, OnErr};
 ghost use Rattle.child_jobs.specs.Runs.{place_of};
 ghost use Rattle.rule_lines.specs.declared.instr.Verdict.TheVariants.{Allow};
-ghost use Rattle.connection_facts.specs.Peers.{Client};
+ghost use Rattle.rule_lookup.specs.Peers.{Client};
 ghost use Rattle.rule_lookup.specs.declared.decision.WhenMissing.{WhenMissing as MissingFile};
 ghost use Rattle.server_events.specs.declared.event.Event.{Event as EventOf};
 ghost use Rattle.server_events.specs.declared.event.Event.TheVariants.{Opened, Decided, Started, StartFailed, Dropped};
@@ -11,10 +11,9 @@ ghost use Rattle.server_events.specs.declared.event.Stage.TheVariants as stage;
 ghost use Rattle.one_connection.specs.Openings.{Decides, FailsToDecide, FailsToOpen, RefusesDecision, Opening, cause_of_open};
 ghost use Rattle.one_connection.specs.Unstarted.{IsUnstarted};
 
-use child_jobs::{Job, Place, Running};
-use connection_facts::{DropCause, Peer, StartFault};
+use child_jobs::{DropCause, Job, Place, Running, StartFault};
 use dir_calls::DirFault;
-use rule_lookup::{DecideFault, Decision};
+use rule_lookup::{DecideFault, Decision, Peer};
 use server_yard::Assumptions;
 use std::alloc::Global;
 

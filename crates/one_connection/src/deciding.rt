@@ -2,9 +2,8 @@
 ghost use Rattle.std.specs.Prelude.{IfOk, IfErr, IsTrue};
 ghost use Rattle.one_connection.specs.Openings.{Decides, FailsToDecide, IsUndamaged, opening_of};
 
-use connection_facts::Peer;
 use dir_calls::RulesFile;
-use rule_lookup::{DecideFault, Decision, decide};
+use rule_lookup::{DecideFault, Decision, Peer, decide};
 use server_yard::{Assumptions, Pass};
 use std::alloc::Global;
 

@@ -2,7 +2,7 @@
 ghost use Rattle.std.specs.Prelude.{◌≡◌, ◌≢◌, ℕ, [], false, IfOk, IfErr, OnErr, is_err};
 ghost use Rattle.child_jobs.specs.Runs.{job_of, place_of};
 ghost use Rattle.rule_lines.specs.declared.instr.Verdict.TheVariants.{Allow, Deny};
-ghost use Rattle.connection_facts.specs.declared.outcome.DropCause.TheVariants as cause;
+ghost use Rattle.child_jobs.specs.declared.outcome.DropCause.TheVariants as cause;
 ghost use Rattle.server_events.specs.declared.event.Event.TheVariants.{Dropped, StartFailed};
 ghost use Rattle.server_events.specs.declared.event.Stage.TheVariants as stage;
 ghost use Rattle.one_connection.specs.Openings.{WasFound};
@@ -11,15 +11,15 @@ ghost use Rattle.one_connection.specs.Unstarted.{IsUnstarted, StandsUndenied};
 
 use crate::agent::Agent;
 use byte_streams::write_out;
-use child_jobs::{Job, Launcher, Place, Plan, Running, start};
-use connection_facts::{DropCause, Peer, StartFault};
+use child_jobs::{
+    DropCause, Environment, Job, Launcher, Local, Place, Plan, Running, StartFault, build, start,
+};
 use rule_lines::{FindFault, Verdict};
-use rule_lookup::DecideFault;
+use rule_lookup::{DecideFault, Peer};
 use server_yard::Assumptions;
 use std::alloc::Global;
 use std::io::Write;
 use std::sync::ledger::Ledger;
-use ucspi_env::{Environment, Local, build};
 
 /// How a connection was served.
 pub enum Served<L: Ledger, C: Job> {

@@ -84,13 +84,6 @@ impl Settings {
         }
     }
 
-    /// Whether a setting may have this name and this value.
-    pub fn may_have(name: &str, value: &str) -> bool
-        ensures { result ≡ is_setting (record { name = name.now; value = value.now }) }
-    {
-        is_name(name.as_bytes()) && is_value(value.as_bytes())
-    }
-
     /// Adds a setting at the end. For want of memory nothing is added.
     pub fn push(&mut self, alloc: Global, name: &str, value: &str) -> Result<(), AllocError>
         requires { IsTrue (is_setting (record { name = name.now; value = value.now })) }

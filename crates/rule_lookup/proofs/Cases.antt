@@ -15,7 +15,7 @@ use Rattle.rule_lookup.specs.declared.decision.Found.TheVariants as found
 use Rattle.rule_lookup.specs.Addresses.{ipv4_in}
 use Rattle.rule_lookup.specs.Decisions.{asked, by_default, decision_by, decision_of}
 use Rattle.rule_lookup.specs.Forms.{forms_of}
-use Rattle.connection_facts.specs.Peers.{Client}
+use Rattle.rule_lookup.specs.Peers.{Client}
 
 from : List ℕ → Option (List ℕ) → Option (List ℕ) → Client
 from ip host info = record { ip = ip; port = 0; host = host; info = info }

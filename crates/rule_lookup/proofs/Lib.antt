@@ -5,3 +5,4 @@ pub mod DecisionLemmas
 pub mod FormLemmas
 pub mod ListedLemmas
 pub mod AppendLemmas
+pub mod PeerLemmas

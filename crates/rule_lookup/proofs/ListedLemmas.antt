@@ -8,7 +8,7 @@ use Rattle.rule_lines.specs.Pairs.{Rule}
 use Rattle.rule_lines.specs.Rows.{AreRules}
 use Rattle.rule_lookup.specs.Decisions.{is_there, is_for, rule_for, by_first, by_first_listed, by_finding, by_rule_found, by_code, decision_by, decision_in}
 use Rattle.rule_lookup.specs.Forms.{forms_of}
-use Rattle.connection_facts.specs.Peers.{Client}
+use Rattle.rule_lookup.specs.Peers.{Client}
 
 -- a list has something under a form exactly where one of its rules is for it
 there : (o : Option Rule) → is_there (code_under o) ≡ is_some o

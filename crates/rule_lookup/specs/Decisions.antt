@@ -19,7 +19,7 @@ use Rattle.rule_lookup.specs.declared.decision.Found.TheVariants as found
 use Rattle.rule_lookup.specs.declared.decision.WhenMissing.{WhenMissing}
 use Rattle.rule_lookup.specs.declared.decision.WhenMissing.TheVariants as missing
 use Rattle.rule_lookup.specs.Forms.{forms_of}
-use Rattle.connection_facts.specs.Peers.{Client}
+use Rattle.rule_lookup.specs.Peers.{Client}
 
 -- the verdict if there is no rules file
 abbrev pub verdict_without : WhenMissing → Verdict

@@ -1,4 +1,5 @@
--- The lookup forms of peers, and the decision that the first form with a rule makes.
+-- Peers, their lookup forms, and the decision that the first form with a rule makes.
+pub mod Peers
 pub mod Addresses
 pub mod Decisions
 pub mod Forms

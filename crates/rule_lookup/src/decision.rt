@@ -4,9 +4,9 @@ ghost use Rattle.rule_lines.specs.Lookups.{WhereKnown};
 ghost use Rattle.rule_lookup.specs.Decisions.{decision_by, decision_from, finds_of, trust_of, by_default, without_file, by_rule, DecisionFails, MayFail, MayFailFrom, of_look_up, of_code};
 ghost use Rattle.rule_lookup.specs.declared.decision.DecideFault.TheVariants.{OutOfMemory};
 
+use crate::Peer;
 use crate::form::forms;
 use crate::source::RuleSource;
-use connection_facts::Peer;
 use rule_lines::{CodeFault, DecodeFault, FindFault, Instr, Settings, Verdict};
 use std::alloc::{AllocError, AllocFailed, Global};
 use std::marker::Model;

@@ -3,7 +3,7 @@ ghost use Rattle.std.specs.Prelude.{◌≡◌, ◌++◌, ◌∷◌, [], map, str
 ghost use Rattle.rule_lines.specs.Spread.{folded};
 ghost use Rattle.rule_lookup.specs.Forms.{AddsForms, forms_of, dotted_fronts, user_at_address, user_at_host, host_alone, host_ends, any_host};
 
-use connection_facts::Peer;
+use crate::Peer;
 use std::alloc::{AllocError, Global};
 use std::net::Ipv4Addr;
 

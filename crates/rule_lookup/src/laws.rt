@@ -6,7 +6,7 @@ ghost use Rattle.rule_lines.specs.Pairs.{Rule, pairs_of};
 ghost use Rattle.rule_lines.specs.Rows.{AreRules};
 ghost use Rattle.rule_lines.specs.declared.limits.Limits.{Limits};
 ghost use Rattle.rule_lookup.specs.Decisions.{decision_by, decision_in, decision_of};
-ghost use Rattle.connection_facts.specs.Peers.{Client};
+ghost use Rattle.rule_lookup.specs.Peers.{Client};
 
 /// Over a list of rules a decision is that of the first form that a rule has, by the first rule that has it.
 pub fn listed()

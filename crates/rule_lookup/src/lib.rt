@@ -1,9 +1,10 @@
-//! Which rule decides a connection: the forms under which a peer is looked up, and decisions (the `tcprules` page of
-//! ucspi-tcp; `docs/RULES.md`).
+//! Who connects, and which rule decides: peers, the forms under which a peer is looked up, and decisions (the
+//! `tcprules` page of ucspi-tcp; `docs/RULES.md`).
 //!
+//! `Peer::new` refuses exactly the names that a peer can't have, the host's name first. The host is kept in lower case.
 //! The crates above use `decide`, over any source of pairs. What it promises depends on what is known of the source
 //! (`Trust`): if nothing is known, only safety is proved. By `laws::listed` the decision over a list is that of the
-//! first form with a rule, and of the first rule with that form. `cdb_read` has a source for files, whose honest reads
+//! first form with a rule, and of the first rule with that form. `cdb_files` has a source for files, whose honest reads
 //! are a premise.
 #![tactic(auto)]
 
@@ -12,10 +13,12 @@ mod answer;
 pub mod decision;
 pub mod form;
 pub mod laws;
+pub mod peer;
 pub mod source;
 
 pub use address::parse_address;
 pub use answer::append_answer;
 pub use decision::{Address, DecideFault, Decision, Found, WhenMissing, decide};
 pub use form::forms;
+pub use peer::{Peer, PeerFault};
 pub use source::{RuleSource, find_and_decode};

@@ -13,7 +13,7 @@ use Rattle.rule_lines.proofs.FoldLemmas.{length-folded}
 use Rattle.rule_lines.specs.Lines.{has_byte}
 use Rattle.rule_lines.specs.Spread.{folded}
 use Rattle.rule_lookup.specs.Forms.{any_host, dotted_ends, dotted_fronts, forms_of, host_alone, host_ends, plain_forms, user_at_address, user_at_host}
-use Rattle.connection_facts.specs.Peers.{Client, HasNames, fits, is_peer_name}
+use Rattle.rule_lookup.specs.Peers.{Client, HasNames, fits, is_peer_name}
 use Rattle.rule_warnings.proofs.CaseLemmas.{IsLow, behind_equals, folded-append, folded-low, folded_from_no_capitals, has_capitals, has_capitals-folded, has_zero-folded, low-cons, low_from_no_capitals}
 use Rattle.rule_warnings.proofs.FrontLemmas.{Contains-map, EndsWithDot, IsTame, IsTameEnd, IsTameFront, ends_of, ends_with_dot, front_of, fronts_of, one, tame-drop, tame_whole}
 use Rattle.rule_warnings.proofs.WholeLemmas.{Dotted-is_whole, is_whole-IsDotted}

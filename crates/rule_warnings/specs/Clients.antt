@@ -5,7 +5,7 @@ use Rattle.std.specs.Char.{is_ascii_uppercase}
 use Rattle.rule_lines.specs.Lines.{has_byte}
 use Rattle.rule_lookup.specs.Addresses.{ipv4_in}
 use Rattle.rule_lookup.specs.Forms.{forms_of}
-use Rattle.connection_facts.specs.Peers.{Client, HasNames}
+use Rattle.rule_lookup.specs.Peers.{Client, HasNames}
 
 -- a peer that there may be: an address of four numbers below 256, and names that may be names
 pub record IsPeer (peer : Client) : Type 0 where

@@ -1,7 +1,7 @@
 //! Laws over the definitions alone.
 ghost use Rattle.std.specs.Prelude.{◌≡◌, ℕ, List, true, false, Contains};
 ghost use Rattle.rule_lookup.specs.Forms.{forms_of};
-ghost use Rattle.connection_facts.specs.Peers.{Client};
+ghost use Rattle.rule_lookup.specs.Peers.{Client};
 ghost use Rattle.rule_warnings.specs.Clients.{is_form, IsPeer, IsSomePeers};
 
 /// Exactly those addresses are told to be a form which are a lookup form of some peer.

@@ -5,11 +5,11 @@ use Rattle.std.proofs.lemmas.List.{drop-append-le, drop_all}
 use Rattle.std.proofs.lemmas.List.FromFn.{length-map-range_with_len}
 use Rattle.std.specs.Prelude.{replicate, if◌then◌else◌}
 use Rattle.std.specs.List.{range_with_len}
-use Rattle.cdb_write.specs.Format.{Pair, records_of}
-use Rattle.cdb_write.specs.Image.{finished_length, header_bytes, pointer_of, pointers_of, tables_of}
-use Rattle.cdb_write.proofs.Positions.{length-file}
-use Rattle.cdb_write.proofs.Reading.{length-two_numbers}
-use Rattle.cdb_read.specs.Compiled.{stored}
+use Rattle.cdb_files.specs.Format.{Pair, records_of}
+use Rattle.cdb_files.specs.Image.{finished_length, header_bytes, pointer_of, pointers_of, tables_of}
+use Rattle.cdb_files.proofs.Positions.{length-file}
+use Rattle.cdb_files.proofs.Reading.{length-two_numbers}
+use Rattle.cdb_files.specs.Compiled.{stored}
 use Rattle.rule_lines.specs.Pairs.{Rule}
 use Rattle.rules_install.specs.Filled.{blank_file, filled_file, fillings_left, whole_file}
 

@@ -14,8 +14,8 @@ use Rattle.dir_calls.specs.declared.dir.Dir.{Ghosts}
 use Rattle.dir_calls.proofs.Counting.{counts_later, counts_device}
 use Rattle.dir_calls.proofs.Lasting.{CallKeeps, image_has, left_has, does_lasts}
 use Rattle.dir_calls.proofs.Moments.{one_call, started}
-use Rattle.cdb_write.specs.Image.{finished_length, header_bytes, pointers_of}
-use Rattle.cdb_read.specs.Compiled.{stored}
+use Rattle.cdb_files.specs.Image.{finished_length, header_bytes, pointers_of}
+use Rattle.cdb_files.specs.Compiled.{stored}
 use Rattle.rules_install.specs.declared.Phase.{Phase}
 use Rattle.rules_install.specs.declared.Phase.TheVariants.{Fresh, Filling, Synced, Named, Done}
 use Rattle.rules_install.specs.declared.fault.InstallFault.{InstallFault}

@@ -7,11 +7,11 @@ use Rattle.std.proofs.lemmas.Option.{get_or_from_slice_get, slice_get_within}
 use Rattle.rule_lines.specs.Codes.{code_of}
 use Rattle.rule_lines.specs.Pairs.{Rule}
 use Rattle.rule_lines.specs.Rows.{rule_length, stored_length}
-use Rattle.cdb_write.specs.Format.{Pair, entries_of, hash_of, record_of, records_of}
-use Rattle.cdb_write.specs.Image.{finished_length, records_length}
-use Rattle.cdb_write.specs.Tables.{AddsEntry, AreTablesOf, HoldsByTable}
-use Rattle.cdb_write.proofs.RecordLemmas.{entries_from-push, finished_length-push, length-record_bytes, records_of-push}
-use Rattle.cdb_read.specs.Compiled.{pair_of, stored}
+use Rattle.cdb_files.specs.Format.{Pair, entries_of, hash_of, record_of, records_of}
+use Rattle.cdb_files.specs.Image.{finished_length, records_length}
+use Rattle.cdb_files.specs.Tables.{AddsEntry, AreTablesOf, HoldsByTable}
+use Rattle.cdb_files.proofs.RecordLemmas.{entries_from-push, finished_length-push, length-record_bytes, records_of-push}
+use Rattle.cdb_files.specs.Compiled.{pair_of, stored}
 use Rattle.rules_install.specs.Layout.{ArePlaced, first_stored}
 use Rattle.rules_install.specs.declared.layout.Layout.{Layout}
 

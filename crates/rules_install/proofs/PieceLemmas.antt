@@ -8,10 +8,10 @@ use Rattle.std.proofs.lemmas.Option.{get_or_from_slice_get, none-some, slice_get
 use Rattle.rule_lines.specs.Codes.{code_of}
 use Rattle.rule_lines.specs.Kept.{IsStored}
 use Rattle.rule_lines.specs.Pairs.{Rule}
-use Rattle.cdb_write.specs.Format.{Pair, record_of, records_of, two_numbers}
-use Rattle.cdb_write.specs.Image.{finished_length, free_slot, records_length, slots_of, table_bytes, with_entry}
-use Rattle.cdb_write.proofs.RecordLemmas.{length-record_bytes}
-use Rattle.cdb_read.specs.Compiled.{pair_of, stored}
+use Rattle.cdb_files.specs.Format.{Pair, record_of, records_of, two_numbers}
+use Rattle.cdb_files.specs.Image.{finished_length, free_slot, records_length, slots_of, table_bytes, with_entry}
+use Rattle.cdb_files.proofs.RecordLemmas.{length-record_bytes}
+use Rattle.cdb_files.specs.Compiled.{pair_of, stored}
 
 -- past the last rule there is none
 pub past_from_none : (rules : List Rule) (i : ℕ) → slice_get rules i ≡ None → length rules ≤ i

@@ -1,9 +1,9 @@
 -- The file that an installation makes, and how it is filled.
 use Rattle.std.specs.Prelude.{ℕ, ◌+◌, ◌-◌, Bool, List, ◌++◌, length, take, replicate, if◌then◌else◌}
-use Rattle.cdb_write.specs.Format.{records_of}
-use Rattle.cdb_write.specs.Image.{image_of, tables_of}
-use Rattle.cdb_write.specs.Written.{Written}
-use Rattle.cdb_read.specs.Compiled.{stored}
+use Rattle.cdb_files.specs.Format.{records_of}
+use Rattle.cdb_files.specs.Image.{image_of, tables_of}
+use Rattle.cdb_files.specs.Written.{Written}
+use Rattle.cdb_files.specs.Compiled.{stored}
 use Rattle.rule_lines.specs.Pairs.{Rule}
 
 -- the compiled file of some rules

@@ -1,9 +1,9 @@
 -- The layout of records, as they are made.
 use Rattle.std.specs.Prelude.{◌≡◌, ◌+◌, ◌^◌, ◌<◌, ◌≤◌, ℕ, List, length, take}
-use Rattle.cdb_write.specs.Format.{Pair, entries_of}
-use Rattle.cdb_write.specs.Image.{finished_length, records_length}
-use Rattle.cdb_write.specs.Tables.{HoldsByTable}
-use Rattle.cdb_read.specs.Compiled.{stored}
+use Rattle.cdb_files.specs.Format.{Pair, entries_of}
+use Rattle.cdb_files.specs.Image.{finished_length, records_length}
+use Rattle.cdb_files.specs.Tables.{HoldsByTable}
+use Rattle.cdb_files.specs.Compiled.{stored}
 use Rattle.rule_lines.specs.Pairs.{Rule}
 use Rattle.rules_install.specs.declared.layout.Layout.{Layout}
 

@@ -1,10 +1,10 @@
 -- The pieces of which a file is made.
 use Rattle.std.specs.Prelude.{◌≡◌, ◌-◌, ◌<◌, ℕ, List, [], ◌++◌, drop, length, flat_map, Option, MatchOption}
 use Rattle.std.specs.List.{range_with_len}
-use Rattle.cdb_write.specs.Format.{records_of}
-use Rattle.cdb_write.specs.Image.{table_bytes, tables_of}
-use Rattle.cdb_write.specs.Slots.{table_entries}
-use Rattle.cdb_read.specs.Compiled.{stored}
+use Rattle.cdb_files.specs.Format.{records_of}
+use Rattle.cdb_files.specs.Image.{table_bytes, tables_of}
+use Rattle.cdb_files.specs.Slots.{table_entries}
+use Rattle.cdb_files.specs.Compiled.{stored}
 use Rattle.rule_lines.specs.Pairs.{Rule}
 use Rattle.rules_install.specs.Filled.{blank_file}
 use Rattle.rules_install.specs.declared.pieces.Piece.{Piece}

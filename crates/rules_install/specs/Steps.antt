@@ -84,9 +84,13 @@ abbrev pub IsOfDevice : Result Phase InstallFault → Type 0
 IsOfDevice (Err (Disk fault phase)) = fault ≡ Device
 IsOfDevice result = ⊤
 
--- the device is blamed only if a failure was counted, or no more can be
+-- a failure of the device was counted, or no more can be
+abbrev pub HasFailed : ℕ → ℕ → Type 0
+HasFailed before now = (before < now) ⊎ (now ≡ 2 ^ 64 - 1)
+
+-- the device is blamed only if it failed
 abbrev pub BlamesFault : ℕ → ℕ → InstallFault → Type 0
-BlamesFault before now (Disk Device phase) = (before < now) ⊎ (now ≡ 2 ^ 64 - 1)
+BlamesFault before now (Disk Device phase) = HasFailed before now
 BlamesFault before now fault = ⊤
 
 abbrev pub BlamesDevice : ℕ → ℕ → Result Phase InstallFault → Type 0

@@ -5,14 +5,14 @@ use Rattle.dir_calls.specs.Lasting.{HasAmong, LastsAmong}
 use Rattle.dir_calls.specs.Moments.{LeavesOnly}
 use Rattle.dir_calls.specs.declared.fault.DirFault.TheVariants.{Device}
 use Rattle.dir_calls.specs.declared.dir.Dir.{Ghosts}
-use Rattle.cdb_write.specs.Image.{finished_length}
-use Rattle.cdb_write.specs.Making.{limit_of}
-use Rattle.cdb_read.specs.Compiled.{stored}
-use Rattle.cdb_read.specs.Reading.{reading}
+use Rattle.cdb_files.specs.Image.{finished_length}
+use Rattle.cdb_files.specs.Making.{limit_of}
+use Rattle.cdb_files.specs.Compiled.{stored}
+use Rattle.cdb_files.specs.Reading.{reading}
 use Rattle.rule_lines.specs.Faults.{IsAccepted, Refuses}
 use Rattle.rule_lines.specs.Pairs.{pairs_of}
 use Rattle.rule_lookup.specs.Decisions.{decision_by, decision_of}
-use Rattle.connection_facts.specs.Peers.{Client}
+use Rattle.rule_lookup.specs.Peers.{Client}
 use Rattle.rule_lines.specs.declared.limits.Limits.{Limits}
 use Rattle.rule_lines.specs.declared.fault.ParseFault.TheVariants.{Line as LineOf}
 use Rattle.rules_install.specs.Filled.{whole_file}

@@ -4,8 +4,8 @@ ghost use Rattle.dir_calls.specs.Directory.{Directory, content};
 ghost use Rattle.dir_calls.specs.Images.{IsImage};
 ghost use Rattle.dir_calls.specs.Lasting.{LastsAmong};
 ghost use Rattle.dir_calls.specs.Torn.{StoodThere};
-ghost use Rattle.cdb_read.specs.Compiled.{Compiled};
-ghost use Rattle.cdb_read.specs.Reading.{reading};
+ghost use Rattle.cdb_files.specs.Compiled.{Compiled};
+ghost use Rattle.cdb_files.specs.Reading.{reading};
 ghost use Rattle.rule_lines.specs.Faults.{IsAccepted};
 ghost use Rattle.rule_lines.specs.Pairs.{pairs_of};
 ghost use Rattle.rule_lines.specs.declared.limits.Limits.{Limits};
@@ -15,7 +15,7 @@ ghost use Rattle.rules_install.specs.Installing.{Fits, Installing};
 ghost use Rattle.rules_install.specs.Series.{MakesStep};
 ghost use Rattle.rules_install.specs.declared.Phase.{Phase};
 ghost use Rattle.rules_install.specs.declared.fault.InstallFault.{InstallFault};
-ghost use Rattle.connection_facts.specs.Peers.{Client};
+ghost use Rattle.rule_lookup.specs.Peers.{Client};
 
 /// A file that is compiled of an accepted rule text decides each peer as the text does: nothing in it is damaged, and
 /// each value that is found is the code of an instruction.

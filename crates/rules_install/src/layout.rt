@@ -1,11 +1,11 @@
 //! The layout of records, as they are made.
 ghost use Rattle.std.specs.Prelude.{◌≡◌, ◌+◌, ◌^◌, ◌<◌, length, OnErr, OnOk};
-ghost use Rattle.cdb_write.specs.Format.{hash_of};
-ghost use Rattle.cdb_write.specs.Tables.{AddsEntry};
+ghost use Rattle.cdb_files.specs.Format.{hash_of};
+ghost use Rattle.cdb_files.specs.Tables.{AddsEntry};
 ghost use Rattle.rules_install.specs.Layout.{ArePlaced};
 
-use cdb_write::layout::LENGTHS_LENGTH;
-use cdb_write::{Tables, hash};
+use cdb_files::layout::LENGTHS_LENGTH;
+use cdb_files::{Tables, hash};
 use rule_lines::{RuleList, StoredRule};
 use std::alloc::AllocError;
 

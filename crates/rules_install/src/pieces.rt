@@ -1,17 +1,17 @@
 //! The pieces of which a compiled file is made.
 ghost use Rattle.std.specs.Prelude.{◌≡◌, ◌⊎◌, ◌↔◌, ◌<◌, ◌≤◌, List, [], IsTrue, IfOk, IfErr, OnErr, OnOk};
-ghost use Rattle.cdb_write.specs.Format.{entries_of};
-ghost use Rattle.cdb_write.specs.Image.{finished_length, pointers_of, header_bytes};
-ghost use Rattle.cdb_write.specs.Making.{limit_of};
-ghost use Rattle.cdb_write.specs.Tables.{HoldsByTable};
-ghost use Rattle.cdb_read.specs.Compiled.{stored};
+ghost use Rattle.cdb_files.specs.Format.{entries_of};
+ghost use Rattle.cdb_files.specs.Image.{finished_length, pointers_of, header_bytes};
+ghost use Rattle.cdb_files.specs.Making.{limit_of};
+ghost use Rattle.cdb_files.specs.Tables.{HoldsByTable};
+ghost use Rattle.cdb_files.specs.Compiled.{stored};
 ghost use Rattle.rule_lines.specs.Pairs.{Rule};
 ghost use Rattle.rules_install.specs.Pieces.{Continues};
 
 use crate::InstallFault;
 use crate::layout::{Layout, place_all, place_record};
-use cdb_write::layout::{HEADER_LENGTH, LENGTHS_LENGTH, SLOTS_LENGTH, TABLE_COUNT, file_limit};
-use cdb_write::{Tables, append_record, header, table_piece};
+use cdb_files::layout::{HEADER_LENGTH, LENGTHS_LENGTH, SLOTS_LENGTH, TABLE_COUNT, file_limit};
+use cdb_files::{Tables, append_record, header, table_piece};
 use rule_lines::{RuleList, StoredRule};
 use std::alloc::{AllocError, Global};
 use std::marker::Model;
@@ -182,6 +182,6 @@ impl Pieces {
     {
         // the call tells the proof that the file has fewer than 2^32 bytes
         let _ = &self.list;
-        cdb_write::laws::pieces();
+        cdb_files::laws::pieces();
     }
 }

@@ -1,7 +1,7 @@
 //! A whole installation.
 ghost use Rattle.std.specs.Prelude.{◌≡◌, IsTrue, false, OnOk, IfOk, IfErr};
 ghost use Rattle.dir_calls.specs.Directory.{content};
-ghost use Rattle.cdb_read.specs.Compiled.{Compiled};
+ghost use Rattle.cdb_files.specs.Compiled.{Compiled};
 ghost use Rattle.rule_lines.specs.Pairs.{pairs_of};
 ghost use Rattle.rules_install.specs.Filled.{IsWritten, whole_file};
 ghost use Rattle.rules_install.specs.Installing.{begun, Fits, HasForGood};

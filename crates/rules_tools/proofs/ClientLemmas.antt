@@ -6,7 +6,7 @@ use Rattle.std.specs.Borrow.{Bor}
 use Rattle.std.specs.Char.{to_ascii_lowercase}
 use Rattle.dir_calls.specs.Directory.{Directory}
 use Rattle.rule_lookup.specs.Addresses.{ipv4_in}
-use Rattle.connection_facts.specs.Peers.{Client, fits, given, lowered, may_be_name}
+use Rattle.rule_lookup.specs.Peers.{Client, fits, given, lowered, may_be_name}
 use Rattle.rules_tools.specs.Clients.{ClientFails, address_told, client_by, client_of, known}
 use Rattle.rules_tools.specs.Told.{FailsToTell}
 use Rattle.rules_tools.specs.declared.tcprulescheck.CheckFault.{CheckFault}

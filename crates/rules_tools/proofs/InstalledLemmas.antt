@@ -7,10 +7,10 @@ use Rattle.dir_calls.specs.Lasting.{LastsAmong}
 use Rattle.dir_calls.specs.Names.{name_fault}
 use Rattle.dir_calls.specs.declared.fault.DirFault.{DirFault}
 use Rattle.dir_calls.specs.declared.fault.DirFault.TheVariants as dir
-use Rattle.cdb_write.specs.Image.{finished_length}
-use Rattle.cdb_write.specs.Making.{limit_of}
-use Rattle.cdb_read.specs.Compiled.{Compiled, stored}
-use Rattle.cdb_read.specs.Reading.{reading}
+use Rattle.cdb_files.specs.Image.{finished_length}
+use Rattle.cdb_files.specs.Making.{limit_of}
+use Rattle.cdb_files.specs.Compiled.{Compiled, stored}
+use Rattle.cdb_files.specs.Reading.{reading}
 use Rattle.rule_lines.specs.Faults.{IsAccepted, Refuses, fault_of}
 use Rattle.rule_lines.specs.Pairs.{pairs_of}
 use Rattle.rule_lines.specs.declared.fault.LineFault.{LineFault}
@@ -20,7 +20,7 @@ use Rattle.rule_lines.specs.declared.fault.ParseFault.{ParseFault}
 use Rattle.rule_lines.specs.declared.fault.ParseFault.TheVariants as parse
 use Rattle.rule_lines.specs.declared.limits.Limits.{Limits}
 use Rattle.rule_lookup.specs.Decisions.{decision_by, decision_in}
-use Rattle.connection_facts.specs.Peers.{Client}
+use Rattle.rule_lookup.specs.Peers.{Client}
 use Rattle.rules_install.specs.Filled.{IsWritten, whole_file}
 use Rattle.rules_install.specs.Installing.{Installing, HasForGood}
 use Rattle.rules_install.specs.NamePair.{NamePair}

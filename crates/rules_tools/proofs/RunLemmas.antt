@@ -1,5 +1,5 @@
 -- What stands under the name of the rules file, from the first step on to the scratch file that is taken away.
-use Rattle.std.proofs.Common.{◌≡◌, ◌⊎◌, inl, inr, ⊎_elim, ℕ, ◌<◌, ◌≤◌, ◌-◌, ◌^◌, List, [], ◌∷◌, refl, sym, subst, arith}
+use Rattle.std.proofs.Common.{◌≡◌, inl, inr, ⊎_elim, ℕ, ◌≤◌, List, [], ◌∷◌, refl, sym, subst, arith}
 use Rattle.std.specs.Prelude.{true, false, Option, None, Some, Result, Ok, Err, IfErr, OnOk}
 use Rattle.dir_calls.specs.Clearing.{SparesOthers}
 use Rattle.dir_calls.specs.Directory.{Directory, content}
@@ -16,13 +16,13 @@ use Rattle.rules_install.specs.Filled.{whole_file}
 use Rattle.rules_install.specs.Installing.{HasForGood, Installing}
 use Rattle.rules_install.specs.NamePair.{NamePair}
 use Rattle.rules_install.specs.Series.{ComesTo, IsSeries, further, none}
-use Rattle.rules_install.specs.Steps.{BlamesFault, IsSame}
+use Rattle.rules_install.specs.Steps.{BlamesFault, HasFailed, IsSame}
 use Rattle.rules_install.proofs.StepFits.{fresh_next}
 use Rattle.rules_install.specs.Whole.{EndsRun, IsDeviceFault, RunKeeps, RunLasts, may_have}
 use Rattle.rules_install.specs.declared.Phase.TheVariants.{Fresh, Filling, Synced, Named, Done}
 use Rattle.rules_install.specs.declared.fault.InstallFault.{InstallFault}
 use Rattle.rules_install.specs.declared.fault.InstallFault.TheVariants.{Line, TooLarge, Disk, Over, OutOfMemory}
-use Rattle.rules_tools.specs.Disks.{BlamesDisk, EndsOnDisk, HasFailed, IsAtFresh, fails_on_disk}
+use Rattle.rules_tools.specs.Disks.{BlamesDisk, EndsOnDisk, HasFailedSince, IsAtFresh, fails_on_disk}
 use Rattle.rules_tools.specs.Scratch.{AfterFault, HasFailedTwice, IsTakenAway}
 use Rattle.rules_tools.specs.Series.{Begins, IsBegun, MakesSeries, MakesSteps}
 
@@ -151,11 +151,10 @@ no_fault fact (Err Over) fine = tt
 no_fault fact (Err OutOfMemory) fine = tt
 
 -- a failure after one that was counted is a second one
-second : (before mid now : ℕ) → (before < mid) ⊎ (mid ≡ 2 ^ 64 - 1) → HasFailed mid now → HasFailedTwice before now
-second before mid now first failed = ⊎_elim
-    (λ more. ⊎_elim (λ less. inl (omega arith)) (λ most. inr (omega arith)) first) (λ most. inr most) failed
+second : (before mid now : ℕ) → HasFailed before mid → HasFailed mid now → HasFailedTwice before now
+second before mid now first failed = (mid, first, failed)
 
-removed_by : (name : List ℕ) (d : Directory) (before mid now : ℕ) (left : Option DirFault) → (before < mid) ⊎ (mid ≡ 2 ^ 64 - 1)
+removed_by : (name : List ℕ) (d : Directory) (before mid now : ℕ) (left : Option DirFault) → HasFailed before mid
     → IsTakenAway name d (HasFailed mid now) left → IsTakenAway name d (HasFailedTwice before now) left
 removed_by name d before mid now None first gone = gone
 removed_by name d before mid now (Some dir.Device) first gone = second before mid now first gone
@@ -176,8 +175,8 @@ removed_after name d before mid now left (Err Over) device blames gone = tt
 removed_after name d before mid now left (Err OutOfMemory) device blames gone = tt
 
 -- a failure that was counted is counted later
-later : (before mid now : ℕ) → mid ≤ now → (before < mid) ⊎ (mid ≡ 2 ^ 64 - 1) → HasFailed before now
-later before mid now le failed = ⊎_elim (λ less. inl (omega arith)) (λ most. inr (omega arith)) failed
+later : (before mid now : ℕ) → mid ≤ now → HasFailed before mid → HasFailedSince before now
+later before mid now le failed = (mid, failed, le)
 
 pub blames_disk : (before mid now : ℕ) (result : Result (Unit {0}) InstallFault) → mid ≤ now → IfErr result (BlamesFault before mid) → IfErr result (BlamesDisk before now)
 blames_disk before mid now (Ok done) le blames = tt

@@ -1,7 +1,7 @@
 -- Where a decision says that there is no file, and where not.
 use Rattle.std.proofs.Common.{◌≡◌, ℕ, List, refl, sym, ap}
 use Rattle.std.specs.Prelude.{Option, None, Some, Result, Ok, find}
-use Rattle.cdb_read.specs.Reading.{reading}
+use Rattle.cdb_files.specs.Reading.{reading}
 use Rattle.rule_lines.specs.Codes.{decoded}
 use Rattle.rule_lines.specs.Lookups.{Finding, Has, Absent, Broken}
 use Rattle.rule_lines.specs.declared.instr.Instr.{Instr}
@@ -11,7 +11,7 @@ use Rattle.rule_lookup.specs.declared.decision.WhenMissing.TheVariants.{Deny as 
 use Rattle.rule_lookup.specs.declared.decision.Found.TheVariants as found
 use Rattle.rule_lookup.specs.Decisions.{by_code, by_default, by_finding, by_first, by_rule, is_there, without_file}
 use Rattle.rule_lookup.specs.Forms.{forms_of}
-use Rattle.connection_facts.specs.Peers.{Client}
+use Rattle.rule_lookup.specs.Peers.{Client}
 use Rattle.rules_tools.specs.Checks.{DecidesBy}
 use Rattle.rules_tools.specs.Told.{DecidesThere}
 

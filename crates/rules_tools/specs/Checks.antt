@@ -1,13 +1,14 @@
 -- What `tcprulescheck` tells of a compiled file.
-use Rattle.std.specs.Prelude.{◌≡◌, ◌⊎◌, ◌<◌, ◌^◌, ◌-◌, ⊤, ℕ, Bool, IsTrue, List, Option, option_map, Ok, Err}
-use Rattle.cdb_read.specs.Reading.{reading}
+use Rattle.std.specs.Prelude.{◌≡◌, ◌⊎◌, ⊤, ℕ, Bool, IsTrue, List, Option, option_map, Ok, Err}
+use Rattle.cdb_files.specs.Reading.{reading}
 use Rattle.rule_lines.specs.declared.code.CodeFault.TheVariants.{NotCode}
 use Rattle.rule_lines.specs.declared.source.FindFault.TheVariants.{Short}
 use Rattle.rule_lookup.specs.declared.decision.DecideFault.TheVariants.{Find, Code}
 use Rattle.rule_lookup.specs.declared.decision.Decision.{Decision}
 use Rattle.rule_lookup.specs.declared.decision.WhenMissing.TheVariants.{Deny as DenyMissing}
 use Rattle.rule_lookup.specs.Decisions.{decision_from}
-use Rattle.connection_facts.specs.Peers.{Client}
+use Rattle.rule_lookup.specs.Peers.{Client}
+use Rattle.rules_install.specs.Steps.{HasFailed}
 use Rattle.rules_tools.specs.declared.tcprulescheck.CheckFault.{CheckFault}
 use Rattle.rules_tools.specs.declared.tcprulescheck.CheckFault.TheVariants.{Damaged, Device, ReadFault, OutOfMemory}
 
@@ -25,8 +26,8 @@ FailsBy file peer ReadFault = ⊤
 FailsBy file peer OutOfMemory = ⊤
 FailsBy file peer fault = ⊥
 
--- the device is blamed for an opening only where a failure was counted, or no more can be, and for a read only where the file is not sound
+-- the device is blamed for an opening only where it failed, and for a read only where the file is not sound
 abbrev pub Blames : ℕ → ℕ → Bool → CheckFault → Type 0
-Blames before now sound Device = (before < now) ⊎ (now ≡ 2 ^ 64 - 1)
+Blames before now sound Device = HasFailed before now
 Blames before now sound ReadFault = ¬ IsTrue sound
 Blames before now sound fault = ⊤

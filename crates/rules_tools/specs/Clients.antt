@@ -3,7 +3,7 @@ use Rattle.std.specs.Prelude.{◌≡◌, ⊤, ℕ, List, [], ◌∷◌, map, not
 use Rattle.std.specs.Char.{to_ascii_lowercase}
 use Rattle.std.specs.Str.{is_utf8}
 use Rattle.rule_lookup.specs.Addresses.{ipv4_in}
-use Rattle.connection_facts.specs.Peers.{Client, fits}
+use Rattle.rule_lookup.specs.Peers.{Client, fits}
 use Rattle.rules_tools.specs.declared.tcprulescheck.CheckFault.{CheckFault}
 use Rattle.rules_tools.specs.declared.tcprulescheck.CheckFault.TheVariants.{BadIp, BadHost, BadInfo, OutOfMemory}
 

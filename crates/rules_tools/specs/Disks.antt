@@ -1,17 +1,18 @@
 -- How an installation ends on the disk.
-use Rattle.std.specs.Prelude.{◌≡◌, ◌⊎◌, ◌<◌, ◌≤◌, ◌^◌, ◌-◌, ⊤, ℕ, Bool, true, false, Result, Ok, Err}
+use Rattle.std.specs.Prelude.{◌≡◌, ◌≤◌, ⊤, ℕ, Bool, true, false, Result, Ok, Err}
 use Rattle.dir_calls.specs.declared.fault.DirFault.TheVariants.{Device}
+use Rattle.rules_install.specs.Steps.{HasFailed}
 use Rattle.rules_install.specs.declared.Phase.TheVariants.{Fresh}
 use Rattle.rules_install.specs.declared.fault.InstallFault.{InstallFault}
 use Rattle.rules_install.specs.declared.fault.InstallFault.TheVariants.{Disk, OutOfMemory}
 
--- a failure of the device was counted, or no more can be
-abbrev pub HasFailed : ℕ → ℕ → Type 0
-HasFailed before now = (before < now) ⊎ (2 ^ 64 - 1 ≤ now)
+-- by some time since then, the device had failed
+abbrev pub HasFailedSince : ℕ → ℕ → Type 0
+HasFailedSince before now = (mid : ℕ) × HasFailed before mid × (mid ≤ now)
 
 -- the device is blamed only where it failed
 abbrev pub BlamesDisk : ℕ → ℕ → InstallFault → Type 0
-BlamesDisk before now (Disk Device phase) = HasFailed before now
+BlamesDisk before now (Disk Device phase) = HasFailedSince before now
 BlamesDisk before now fault = ⊤
 
 -- an installation is not begun: the directory failed on the way to the first phase, or there was no memory

@@ -4,9 +4,9 @@ use Rattle.dir_calls.specs.Directory.{Directory, content}
 use Rattle.dir_calls.specs.declared.fault.DirFault.{DirFault}
 use Rattle.dir_calls.specs.declared.fault.DirFault.TheVariants.{Device as DeviceFault}
 use Rattle.dir_calls.specs.declared.dir.Dir.{Ghosts}
-use Rattle.cdb_write.specs.Image.{finished_length}
-use Rattle.cdb_write.specs.Making.{limit_of}
-use Rattle.cdb_read.specs.Compiled.{Compiled, stored}
+use Rattle.cdb_files.specs.Image.{finished_length}
+use Rattle.cdb_files.specs.Making.{limit_of}
+use Rattle.cdb_files.specs.Compiled.{Compiled, stored}
 use Rattle.rule_lines.specs.Faults.{IsAccepted, fault_of}
 use Rattle.rule_lines.specs.Pairs.{pairs_of}
 use Rattle.rule_lines.specs.declared.fault.LineKind.TheVariants.{LongText as TextIsLong}
@@ -16,7 +16,7 @@ use Rattle.rules_install.specs.NamePair.{NamePair}
 use Rattle.rules_install.specs.Whole.{DecidesAs, MayBeInstalled, RunKeeps, RunLasts, begun_of}
 use Rattle.rules_install.specs.declared.fault.InstallFault.{InstallFault}
 use Rattle.rules_install.specs.declared.fault.InstallFault.TheVariants.{Disk, OutOfMemory as NoMemory}
-use Rattle.rules_tools.specs.Disks.{HasFailed}
+use Rattle.rules_tools.specs.Disks.{HasFailedSince}
 use Rattle.rules_tools.specs.Paths.{IsSplit, paths_fault}
 use Rattle.rules_tools.specs.Reviews.{profile}
 use Rattle.rules_tools.specs.Scratch.{HasFailedTwice, IsTakenAway, AfterFaultTold}
@@ -62,7 +62,7 @@ LastsAfter s old new result = RunLasts s old new (ended result)
 
 -- the device is blamed only where it failed
 abbrev pub Blames : ℕ → ℕ → TcprulesFault → Type 0
-Blames before now (Device phase) = HasFailed before now
+Blames before now (Device phase) = HasFailedSince before now
 Blames before now fault = ⊤
 
 -- A run of `tcprules` over directories of a type, and what is known of them.

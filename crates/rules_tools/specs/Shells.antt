@@ -1,5 +1,5 @@
 -- What a run of `tcprules` does, from its two paths on.
-use Rattle.std.specs.Prelude.{◌≡◌, ◌⊎◌, ⊤, ℤ, ℕ, Bool, true, false, IsTrue, List, Option, Some, None, Result, Ok, Err, bytes_eq, unwrap_or}
+use Rattle.std.specs.Prelude.{◌≡◌, ◌⊎◌, ℤ, ℕ, Bool, true, false, IsTrue, List, Option, Some, None, Result, Err, bytes_eq, unwrap_or}
 use Rattle.dir_calls.specs.declared.fault.DirFault.{DirFault}
 use Rattle.dir_calls.specs.declared.dir.Dir.{Ghosts}
 use Rattle.rules_tools.specs.Causes.{failure_of, without_cause}

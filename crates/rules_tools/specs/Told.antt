@@ -5,7 +5,7 @@ use Rattle.dir_calls.specs.Directory.{Directory, content}
 use Rattle.dir_calls.specs.Names.{name_fault}
 use Rattle.rule_lookup.specs.Answers.{answer_lines}
 use Rattle.rule_lookup.specs.declared.decision.Decision.{Decision}
-use Rattle.connection_facts.specs.Peers.{Client}
+use Rattle.rule_lookup.specs.Peers.{Client}
 use Rattle.rules_tools.specs.Causes.{check_failure_of}
 use Rattle.rules_tools.specs.Checks.{DecidesBy, FailsBy}
 use Rattle.rules_tools.specs.Clients.{client_of}

@@ -5,9 +5,9 @@ ghost use Rattle.dir_calls.specs.Replacing.{KeepsWhatLasts};
 ghost use Rattle.rules_install.specs.Filled.{IsWritten};
 ghost use Rattle.rules_install.specs.Installing.{HasForGood};
 ghost use Rattle.rules_install.specs.Installs.{installing};
-ghost use Rattle.rules_install.specs.Steps.{BlamesFault};
+ghost use Rattle.rules_install.specs.Steps.{BlamesFault, HasFailed};
 ghost use Rattle.rules_install.specs.Whole.{IsDeviceFault, RunKeeps, RunLasts};
-ghost use Rattle.rules_tools.specs.Disks.{EndsOnDisk, HasFailed};
+ghost use Rattle.rules_tools.specs.Disks.{EndsOnDisk};
 ghost use Rattle.rules_tools.specs.Scratch.{IsTakenAway};
 ghost use Rattle.rules_tools.specs.Series.{MakesSeries};
 

@@ -1,12 +1,11 @@
 //! Variables, and what they tell of a client.
 ghost use Rattle.std.specs.Prelude.{◌≡◌, ◌⊎◌, ℕ, Bool, List, Option, Some, None, Err, Ok, IsTrue, IfOk, IfErr, false, option_map, string_bytes, codes};
-ghost use Rattle.connection_facts.specs.Peers.{given};
+ghost use Rattle.rule_lookup.specs.Peers.{given};
 ghost use Rattle.rules_tools.specs.Clients.{ClientFails, address_told, client_by, client_of, known, text_in};
 ghost use Rattle.rules_tools.specs.declared.tcprulescheck.CheckFault.TheVariants.{BadIp, OutOfMemory};
 
 use crate::tcprulescheck::CheckFault;
-use connection_facts::{Peer, PeerFault};
-use rule_lookup::parse_address;
+use rule_lookup::{Peer, PeerFault, parse_address};
 use std::alloc::{AllocError, Global};
 use std::env::{self, VarError};
 use std::rt::Env;

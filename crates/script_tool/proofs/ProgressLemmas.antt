@@ -1,9 +1,9 @@
 -- How an installation in a directory in memory goes on from step to step.
 use Rattle.std.proofs.Common.{◌≡◌, ◌≢◌, inl, inr, Bool, true, false, ℕ, ◌+◌, ◌-◌, ◌<◌, ◌≤◌, List, refl, sym, ◌∙◌, ap, subst, arith}
 use Rattle.std.specs.Prelude.{Option, None, Some, Result, Ok, Err}
-use Rattle.cdb_write.specs.IsCdb.{IsCdb}
-use Rattle.cdb_write.specs.Written.{Written}
-use Rattle.cdb_read.specs.Compiled.{stored}
+use Rattle.cdb_files.specs.IsCdb.{IsCdb}
+use Rattle.cdb_files.specs.Written.{Written}
+use Rattle.cdb_files.specs.Compiled.{stored}
 use Rattle.dir_calls.specs.Directory.{Directory}
 use Rattle.dir_calls.specs.declared.fault.DirFault.TheVariants.{NoScratch, NoName, Device, OutOfMemory as NoMemory}
 use Rattle.rules_install.specs.Filled.{fillings_left, whole_file}

@@ -14,7 +14,7 @@ use Rattle.script_tool.specs.Kept.{IsFileOf, Reads, Shows, sim_names}
 use Rattle.rule_lines.specs.Settings.{Assignment}
 use Rattle.rule_lines.specs.declared.instr.Verdict.TheVariants.{Deny}
 use Rattle.rule_lookup.specs.declared.decision.Found.TheVariants.{NoFile}
-use Rattle.connection_facts.specs.Peers.{Client}
+use Rattle.rule_lookup.specs.Peers.{Client}
 use Rattle.script_tool.specs.Logs.{decided_now}
 use Rattle.script_tool.specs.Sim.{with_reader}
 

@@ -7,7 +7,7 @@ use Rattle.dir_calls.specs.Directory.{Directory, FileState, names_of}
 use Rattle.dir_calls.specs.MemDir.{mem_state}
 use Rattle.dir_calls.specs.NameTable.{Names, after_changes}
 use Rattle.dir_calls.specs.Stop.{chosen_changes}
-use Rattle.cdb_read.specs.Compiled.{Compiled}
+use Rattle.cdb_files.specs.Compiled.{Compiled}
 use Rattle.rule_lines.specs.Faults.{IsAccepted}
 use Rattle.rule_lines.specs.Pairs.{pairs_of}
 use Rattle.rules_install.specs.Filled.{fillings_left}

@@ -9,7 +9,7 @@ use Rattle.rule_lookup.specs.declared.decision.Found.{Found}
 use Rattle.rule_lookup.specs.declared.decision.Found.TheVariants.{Address, Default, NoFile}
 use Rattle.rule_lookup.specs.declared.decision.WhenMissing.TheVariants.{Deny as DenyMissing}
 use Rattle.rule_lookup.specs.Decisions.{decision_of, without_file}
-use Rattle.connection_facts.specs.Peers.{Client}
+use Rattle.rule_lookup.specs.Peers.{Client}
 use Rattle.script_tool.specs.declared.verdicts.Sums.{Sums}
 use Rattle.script_words.specs.Scripts.{peer_at}
 use Rattle.script_words.specs.LogLines.{Told, Reading, Other, Unread, Tells, reading}

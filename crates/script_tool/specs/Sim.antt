@@ -1,14 +1,14 @@
 -- What `rulesim` prints for a script.
 use Rattle.std.specs.Prelude.{◌≡◌, ℕ, ◌+◌, Bool, true, false, nat_lt, List, [], ◌∷◌, ◌++◌, Option, Some, None, Result, Ok, Err, option_map, option_and_then, is_some, codes, bytes_eq, if◌then◌else◌}
 use Rattle.std.specs.Io.KnownBytes.{Appends}
-use Rattle.cdb_write.specs.Image.{finished_length}
-use Rattle.cdb_read.specs.Compiled.{stored}
+use Rattle.cdb_files.specs.Image.{finished_length}
+use Rattle.cdb_files.specs.Compiled.{stored}
 use Rattle.rule_lines.specs.declared.fault.LineFault.{LineFault}
 use Rattle.rule_lines.specs.Faults.{fault_of}
 use Rattle.rule_lines.specs.Lines.{Line, lines_of}
 use Rattle.rule_lines.specs.Pairs.{pairs_of}
 use Rattle.rule_lookup.specs.Decisions.{decision_of}
-use Rattle.connection_facts.specs.Peers.{Client}
+use Rattle.rule_lookup.specs.Peers.{Client}
 use Rattle.rules_install.specs.declared.Phase.{Phase}
 use Rattle.rules_install.specs.declared.Phase.TheVariants.{Done}
 use Rattle.server_events.specs.declared.event.Event.{Event}

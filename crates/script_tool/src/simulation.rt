@@ -18,11 +18,10 @@ ghost use Rattle.script_tool.specs.Sim.{BegunInstall, State, start, after, is_in
 ghost use Rattle.script_tool.specs.Texts.{Texts, at_phase, position_of};
 
 use crate::replies::{append_fault, append_illegal, append_reached, append_report};
-use cdb_read::CdbFile;
-use connection_facts::Peer;
+use cdb_files::CdbFile;
 use dir_calls::{Choice, Dir, DirFault, MemDir, MemFile, Name, NameFault};
 use rule_lines::{Limits, Settings, Verdict};
-use rule_lookup::{DecideFault, Decision, Found, WhenMissing, append_answer, decide};
+use rule_lookup::{DecideFault, Decision, Found, Peer, WhenMissing, append_answer, decide};
 use rules_install::laws::decides;
 use rules_install::whole::prepare;
 use rules_install::{FileNames, Install, InstallFault, Phase, SameName};

@@ -1,7 +1,7 @@
 //! What `rulesim` prints for the log of a server: the verdicts that would be others under the rules that stand.
 ghost use Rattle.std.specs.Prelude.{◌≡◌, ◌++◌, ℕ, List, Option, Some, None, true, OnOk, IfOk, IfSome};
 ghost use Rattle.rule_lines.specs.Lines.{lines_of};
-ghost use Rattle.connection_facts.specs.Peers.{fits, given};
+ghost use Rattle.rule_lookup.specs.Peers.{fits, given};
 ghost use Rattle.script_tool.specs.Judging.{HasRoom, Judges};
 ghost use Rattle.script_tool.specs.Kept.{Reads};
 ghost use Rattle.script_tool.specs.Logs.{asked, change_line, decided_now, differs, found_text, host_text, log_printed, now_text, sums_text, unread_line, verdict_name, was_text};
@@ -12,9 +12,8 @@ ghost use Rattle.script_words.specs.Meanings.{client_of, told_of};
 use crate::sim::{MOST_LINES, SimFault, read_fault, without_feed};
 use crate::simulation::Standing;
 use byte_text::{push_address, push_number, push_text};
-use connection_facts::{Peer, PeerFault};
 use rule_lines::Verdict;
-use rule_lookup::{Decision, Found};
+use rule_lookup::{Decision, Found, Peer, PeerFault};
 use script_words::{End, LogLine, VerdictLine, read_line};
 use std::alloc::{AllocError, Global};
 use std::io::{BufRead, Write};

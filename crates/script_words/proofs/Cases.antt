@@ -4,8 +4,8 @@ use Rattle.std.specs.Prelude.{codes}
 use Rattle.std.specs.Fmt.{digits}
 use Rattle.rule_lines.specs.declared.instr.Verdict.TheVariants.{Allow, Deny}
 use Rattle.rule_lookup.specs.Addresses.{ipv4_in}
-use Rattle.connection_facts.specs.Peers.{Client}
-use Rattle.ucspi_env.specs.Ends.{LocalEnd}
+use Rattle.rule_lookup.specs.Peers.{Client}
+use Rattle.child_jobs.specs.Ends.{LocalEnd}
 use Rattle.script_words.specs.LogLines.{Other, Unread, Tells, reading}
 
 here : LocalEnd

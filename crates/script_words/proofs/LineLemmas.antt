@@ -13,9 +13,9 @@ use Rattle.std.proofs.NetLemmas.Options.{map_some}
 use Rattle.rule_lines.specs.declared.instr.Verdict.{Verdict}
 use Rattle.rule_lines.specs.declared.instr.Verdict.TheVariants.{Allow, Deny}
 use Rattle.rule_lookup.specs.Addresses.{ipv4_in}
-use Rattle.connection_facts.specs.Peers.{Client}
+use Rattle.rule_lookup.specs.Peers.{Client}
 use Rattle.server_log.specs.Lines.{field, local_text, remote_text}
-use Rattle.ucspi_env.specs.Ends.{LocalEnd}
+use Rattle.child_jobs.specs.Ends.{LocalEnd}
 use Rattle.script_words.specs.LogLines.{Told, Tells, IsEnd, IsLineOf, IsToldWhole, behind, end_at, end_in, fields_of, front_of, is_whole, local_in, number_written, peer_in, peer_with, reading, reading_by, tells_or_not, told_in, told_with, words_of}
 use Rattle.script_words.proofs.FieldLemmas.{IsFieldByte, IsFieldOf, address-is, address_bytes, decimal_bytes, field-name_in, field_of, ipv4_in-text, name_in-told, number_written-decimal, number_written-is}
 use Rattle.script_words.proofs.FrontLemmas.{behind_front-append, behind_front-is}

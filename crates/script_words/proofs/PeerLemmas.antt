@@ -5,7 +5,7 @@ use Rattle.std.proofs.lemmas.Bool.{and_parts, le-leb, lt-ltb, ltb-true}
 use Rattle.std.proofs.lemmas.Bool.Decides.{nat_tests}
 use Rattle.rule_lines.specs.Lines.{has_byte}
 use Rattle.rule_lines.specs.declared.instr.Verdict.{Verdict}
-use Rattle.connection_facts.specs.Peers.{fits}
+use Rattle.rule_lookup.specs.Peers.{fits}
 use Rattle.script_words.specs.LogLines.{IsToldWhole, Reading, TellsPeer, Told, is_plain, tells_or_not, told_in, words_of}
 use Rattle.script_words.proofs.LineLemmas.{told-read}
 

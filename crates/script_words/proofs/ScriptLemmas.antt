@@ -5,7 +5,7 @@ use Rattle.std.specs.List.{starts_with}
 use Rattle.std.specs.Option.{option_map}
 use Rattle.std.specs.Char.{to_ascii_lowercase}
 use Rattle.std.proofs.lemmas.Bool.{eq-eqb, eqb-true, false≢true}
-use Rattle.connection_facts.specs.Peers.{Client, given, lowered, may_be_name}
+use Rattle.rule_lookup.specs.Peers.{Client, given, lowered, may_be_name}
 use Rattle.rule_lookup.specs.Addresses.{ipv4_in}
 use Rattle.std.specs.Str.{is_utf8}
 use Rattle.std.specs.Prelude.{IsUtf8, IfOk, IfErr, Result, Ok, Err, not}

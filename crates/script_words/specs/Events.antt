@@ -3,13 +3,13 @@ use Rattle.std.specs.Prelude.{ℕ, Bool, true, false, List, [], ◌∷◌, Optio
 use Rattle.rule_lines.specs.declared.instr.Verdict.{Verdict}
 use Rattle.rule_lines.specs.declared.instr.Verdict.TheVariants.{Allow, Deny}
 use Rattle.rule_lookup.specs.Addresses.{ipv4_in}
-use Rattle.connection_facts.specs.Peers.{Client}
+use Rattle.rule_lookup.specs.Peers.{Client}
 use Rattle.rule_lookup.specs.declared.decision.Decision.{Decision}
 use Rattle.rule_lookup.specs.declared.decision.Found.TheVariants as found
-use Rattle.connection_facts.specs.declared.outcome.DropCause.TheVariants as cause
-use Rattle.connection_facts.specs.declared.outcome.StartFault.TheVariants as fault
-use Rattle.connection_facts.specs.declared.outcome.Status.{Status}
-use Rattle.connection_facts.specs.declared.outcome.Status.TheVariants as status
+use Rattle.child_jobs.specs.declared.outcome.DropCause.TheVariants as cause
+use Rattle.child_jobs.specs.declared.outcome.StartFault.TheVariants as fault
+use Rattle.child_jobs.specs.declared.outcome.Status.{Status}
+use Rattle.child_jobs.specs.declared.outcome.Status.TheVariants as status
 use Rattle.rules_install.specs.declared.Phase.{Phase}
 use Rattle.rules_install.specs.declared.Phase.TheVariants.{Fresh, Filling, Synced, Named, Done}
 use Rattle.server_events.specs.declared.event.Event.{Event}

@@ -6,10 +6,10 @@ use Rattle.std.specs.Net.Text.{ipv4_text}
 use Rattle.rule_lines.specs.declared.instr.Verdict.{Verdict}
 use Rattle.rule_lines.specs.declared.instr.Verdict.TheVariants.{Allow, Deny}
 use Rattle.rule_lookup.specs.Addresses.{ipv4_in}
-use Rattle.connection_facts.specs.Peers.{Client, fits}
+use Rattle.rule_lookup.specs.Peers.{Client, fits}
 use Rattle.byte_text.specs.Fields.{is_marked}
 use Rattle.server_log.specs.Lines.{verdict_text, verdict_word}
-use Rattle.ucspi_env.specs.Ends.{LocalEnd}
+use Rattle.child_jobs.specs.Ends.{LocalEnd}
 use Rattle.server_words.specs.Numbers.{number_in}
 
 -- what the line of a verdict tells

@@ -1,8 +1,8 @@
 -- What a line that was read tells.
 use Rattle.std.specs.Prelude.{List, ℕ, Option}
 use Rattle.std.specs.Borrow.{Bor}
-use Rattle.connection_facts.specs.Peers.{Client, given}
-use Rattle.ucspi_env.specs.Ends.{LocalEnd}
+use Rattle.rule_lookup.specs.Peers.{Client, given}
+use Rattle.child_jobs.specs.Ends.{LocalEnd}
 use Rattle.script_words.specs.LogLines.{Told, Reading, Other, Unread, Tells}
 use Rattle.script_words.specs.declared.log_line.End.{End}
 use Rattle.script_words.specs.declared.log_line.LogLine.{LogLine}

@@ -6,9 +6,9 @@ ghost use Rattle.script_words.specs.Readings.{RefusesAs, texts};
 ghost use Rattle.script_words.specs.Events.{alone, decided_as, decision_with, dropped_by_directory, event_in, event_named, limit_in, only_phase, only_serial, other_event, phase_in, serial_and, serial_and_word, serial_in, start_failed_otherwise, status_in, there_in, verdict_in};
 
 use crate::script::LineEnd;
-use connection_facts::{DropCause, Peer, PeerFault, StartFault, Status};
+use child_jobs::{DropCause, StartFault, Status};
 use rule_lines::{Settings, Verdict};
-use rule_lookup::{Decision, Found, parse_address};
+use rule_lookup::{Decision, Found, Peer, PeerFault, parse_address};
 use rules_install::Phase;
 use server_events::Event;
 use server_words::number_in;

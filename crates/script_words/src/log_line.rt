@@ -1,6 +1,6 @@
 //! The lines of a log that tell verdicts.
 ghost use Rattle.std.specs.Prelude.{◌≡◌, option_map};
-ghost use Rattle.connection_facts.specs.Peers.{given};
+ghost use Rattle.rule_lookup.specs.Peers.{given};
 ghost use Rattle.script_words.specs.LogLines.{TellsPeer, behind, end_in, fields_of, is_plain, is_whole, local_in, name_in, number_written, peer_in, reading, tells_or_not, told_in, words_of};
 ghost use Rattle.script_words.specs.Meanings.{client_of, end_of, meaning, told_of};
 

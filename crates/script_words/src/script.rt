@@ -1,15 +1,14 @@
 //! The lines of a script of `rulesim`.
 ghost use Rattle.std.specs.Prelude.{◌≡◌, ◌==◌, Some, IfOk, IfErr, option_map};
-ghost use Rattle.connection_facts.specs.Peers.{given};
+ghost use Rattle.rule_lookup.specs.Peers.{given};
 ghost use Rattle.script_words.specs.Readings.{meaning, RefusesAs, RefusesLine, texts};
 ghost use Rattle.script_words.specs.Events.{alone, event_in, limits_in, only_phase};
 ghost use Rattle.script_words.specs.Scripts.{AddEvent, Ask, Open, Stop, To, events_under, command_of, command_in, command_named, words_of, option_in, peer_of, peer_in, peer_with, peer_with_both, choice_in, only_choice, reader_in, only_reader, question_in};
 ghost use Rattle.script_words.specs.declared.script.LineEnd.TheVariants.{OutOfMemory};
 
 use crate::event_words::{limit_in, only_phase, read_event};
-use connection_facts::{Peer, PeerFault};
 use dir_calls::Choice;
-use rule_lookup::parse_address;
+use rule_lookup::{Peer, PeerFault, parse_address};
 use rules_install::Phase;
 use server_events::Event;
 use std::alloc::{AllocError, Global};

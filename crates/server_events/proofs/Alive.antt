@@ -2,7 +2,7 @@
 use Rattle.std.proofs.Common.{◌≡◌, ℕ, List, [], ◌∷◌, ◌++◌, true, false, ◌&&◌, ◌==◌, not, cond, Option, None, refl, sym, ap, ◌∙◌, append-nil}
 use Rattle.std.specs.List.{cons_option, filter, filter_map, list_any}
 use Rattle.std.proofs.lemmas.List.Elements.{filter-append, filter_agree, filter_map-append}
-use Rattle.connection_facts.specs.Peers.{Client}
+use Rattle.rule_lookup.specs.Peers.{Client}
 use Rattle.server_events.specs.declared.event.Event.{Event}
 use Rattle.server_events.specs.declared.event.Event.TheVariants.{Admitted}
 use Rattle.server_events.specs.Live.{Life, admission, ends}

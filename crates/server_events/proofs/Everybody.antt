@@ -2,9 +2,9 @@
 use Rattle.std.proofs.Common.{◌≡◌, ◌<◌, ◌^◌, ℕ, List, [], ◌∷◌, refl, arith}
 use Rattle.std.specs.Str.{is_utf8, chars}
 use lib.Utf8.{encode}
-use Rattle.cdb_read.specs.Compiled.{stored}
-use Rattle.cdb_write.specs.Image.{finished_length, image_of}
-use Rattle.cdb_write.proofs.Joined.{written}
+use Rattle.cdb_files.specs.Compiled.{stored}
+use Rattle.cdb_files.specs.Image.{finished_length, image_of}
+use Rattle.cdb_files.proofs.Joined.{written}
 use Rattle.rule_lines.specs.Faults.{IsAccepted}
 use Rattle.rule_lines.specs.Pairs.{Rule, pairs_of}
 use Rattle.rule_lines.specs.Texts.{AreOfText}

@@ -2,10 +2,10 @@
 use Rattle.std.proofs.Common.{◌≡◌, ◌≢◌, inl, inr, true, false, ℕ, List, [], ◌∷◌, ◌++◌, length, refl, ◌∙◌, ap}
 use Rattle.std.specs.Prelude.{slice_get, Option, None, Some, max, Ok, option_and_then}
 use Rattle.std.specs.Option.{option_map}
-use Rattle.cdb_read.specs.Compiled.{stored}
-use Rattle.cdb_read.specs.Reading.{reading}
-use Rattle.cdb_read.proofs.AnyKey.{reading_is}
-use Rattle.cdb_read.proofs.StoredRules.{first_value-stored}
+use Rattle.cdb_files.specs.Compiled.{stored}
+use Rattle.cdb_files.specs.Reading.{reading}
+use Rattle.cdb_files.proofs.AnyKey.{reading_is}
+use Rattle.cdb_files.proofs.StoredRules.{first_value-stored}
 use Rattle.dir_calls.specs.Directory.{Directory, FileState, content, number_of}
 use Rattle.dir_calls.specs.Calls.{makes, appends, syncs, renames, settles, after}
 use Rattle.dir_calls.specs.Images.{IsImage}
@@ -13,12 +13,12 @@ use Rattle.dir_calls.specs.Lasting.{StandsFor}
 use Rattle.dir_calls.specs.Replacing.{HasSynced}
 use Rattle.dir_calls.proofs.Lasting.{image_has, settled_lasts}
 use Rattle.dir_calls.proofs.Renames.{moved_file}
-use Rattle.dir_calls.proofs.Replacing.{written}
+use Rattle.dir_calls.proofs.Scratches.{written}
 use Rattle.dir_calls.proofs.Scratches.{appended_is}
 use Rattle.rule_lines.specs.Pairs.{Rule}
 use Rattle.rule_lines.proofs.KnownLemmas.{AreRules-of_text}
 use Rattle.rule_lookup.specs.Decisions.{decision_by, decision_in}
-use Rattle.connection_facts.specs.Peers.{Client}
+use Rattle.rule_lookup.specs.Peers.{Client}
 use Rattle.rule_lookup.proofs.ListedLemmas.{decision_by-listed}
 use Rattle.rules_install.specs.declared.Phase.{Phase}
 use Rattle.rules_install.specs.declared.Phase.TheVariants.{Fresh, Filling, Synced, Named, Done}

@@ -1,7 +1,7 @@
 pub mod AfterStops
 pub mod Alive
 pub mod Allowed
-pub mod Counts
+pub mod Tallies
 pub mod Done
 pub mod Effects
 pub mod Entries
@@ -32,3 +32,5 @@ pub mod Meeting
 pub mod Leading
 pub mod Stopping
 pub mod Along
+pub mod Countings
+pub mod ReportSteps

@@ -5,7 +5,7 @@ use Rattle.std.specs.List.{AllByRecursion, count_by, filter, list_any, range_wit
 use Rattle.std.proofs.lemmas.Bool.Decides.{nat_tests}
 use Rattle.std.proofs.lemmas.List.FromFn.{map-range_with_len_more}
 use Rattle.std.proofs.lemmas.List.Recursion.{is_count_by}
-use Rattle.connection_facts.specs.Peers.{Client}
+use Rattle.rule_lookup.specs.Peers.{Client}
 use Rattle.rules_install.specs.declared.Phase.{Phase}
 use Rattle.server_events.specs.declared.event.Stage.{Stage}
 use Rattle.server_events.specs.declared.event.Stage.TheVariants as stage

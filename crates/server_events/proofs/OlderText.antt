@@ -5,7 +5,7 @@ use Rattle.std.specs.Prelude.{slice_get, Option, None, Some, Ok, is_some, option
 use Rattle.std.specs.Option.{option_map}
 use Rattle.std.specs.FinMap.{empty, get, insert}
 use Rattle.std.specs.Fmt.{digits}
-use Rattle.cdb_read.specs.Reading.{reading}
+use Rattle.cdb_files.specs.Reading.{reading}
 use Rattle.dir_calls.specs.declared.choice.Choice.TheVariants.{Empty}
 use Rattle.dir_calls.specs.NameTable.{Names, moves, push}
 use Rattle.dir_calls.specs.Directory.{Directory, FileState, KeepsSynced, content, number_of}
@@ -20,7 +20,7 @@ use Rattle.rule_lines.specs.declared.instr.Verdict.TheVariants.{Allow, Deny}
 use Rattle.rule_lookup.specs.Decisions.{by_rule, decision_from, decision_in}
 use Rattle.rule_lookup.specs.declared.decision.Decision.{Decision}
 use Rattle.rule_lookup.specs.declared.decision.WhenMissing.TheVariants.{Deny as DenyMissing}
-use Rattle.connection_facts.specs.declared.outcome.DropCause.TheVariants.{Denied}
+use Rattle.child_jobs.specs.declared.outcome.DropCause.TheVariants.{Denied}
 use Rattle.rules_install.specs.declared.Phase.TheVariants.{Fresh, Filling, Named, Done}
 use Rattle.server_events.specs.declared.event.Event.TheVariants.{Admitted, Opened, Decided, Started, Dropped, Stepped, StepFailed, Stop}
 use Rattle.server_events.specs.Headline.{Reaches}

@@ -5,7 +5,7 @@ use Rattle.std.specs.Cmp.Lexicographic.{slice_cmp}
 use Rattle.std.specs.FinMap.{empty, get-empty}
 use Rattle.std.specs.Fmt.{digits}
 use Rattle.std.specs.Ordering.{nat_cmp}
-use Rattle.cdb_read.specs.Reading.{reading}
+use Rattle.cdb_files.specs.Reading.{reading}
 use Rattle.dir_calls.specs.declared.choice.Choice.TheVariants.{Kept as AllKept}
 use Rattle.dir_calls.specs.Directory.{Directory, content}
 use Rattle.dir_calls.specs.Calls.{settles, after}
@@ -17,7 +17,7 @@ use Rattle.rule_lines.specs.declared.instr.Verdict.TheVariants.{Allow, Deny}
 use Rattle.rule_lookup.specs.Decisions.{by_rule, decision_from, decision_in}
 use Rattle.rule_lookup.specs.declared.decision.Decision.{Decision}
 use Rattle.rule_lookup.specs.declared.decision.WhenMissing.TheVariants.{Deny as DenyMissing}
-use Rattle.connection_facts.specs.declared.outcome.DropCause.TheVariants.{Denied}
+use Rattle.child_jobs.specs.declared.outcome.DropCause.TheVariants.{Denied}
 use Rattle.rules_install.specs.declared.Phase.TheVariants.{Named, Done}
 use Rattle.server_events.specs.declared.event.Event.TheVariants.{Admitted, Opened, Decided, Started, Retired, Dropped, Stop}
 use Rattle.server_events.specs.Headline.{Reaches}

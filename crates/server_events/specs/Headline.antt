@@ -3,12 +3,12 @@ use Rattle.std.specs.Prelude.{◌≡◌, ◌++◌, ◌∷◌, ℕ, Bool, List, O
 use Rattle.dir_calls.specs.Directory.{Directory, content, number_of}
 use Rattle.rule_lines.specs.Pairs.{Rule}
 use Rattle.rule_lookup.specs.Decisions.{decision_in, without_file}
-use Rattle.connection_facts.specs.Peers.{Client}
+use Rattle.rule_lookup.specs.Peers.{Client}
 use Rattle.rule_lookup.specs.declared.decision.Decision.{Decision}
 use Rattle.rules_install.specs.declared.Phase.TheVariants.{Done}
-use Rattle.ucspi_env.specs.Child.{environment_of}
-use Rattle.ucspi_env.specs.Ends.{LocalEnd}
-use Rattle.ucspi_env.specs.Variables.{Variables}
+use Rattle.child_jobs.specs.Child.{environment_of}
+use Rattle.child_jobs.specs.Ends.{LocalEnd}
+use Rattle.child_jobs.specs.Variables.{Variables}
 use Rattle.server_events.specs.declared.event.Event.{Event}
 use Rattle.server_events.specs.declared.event.Event.TheVariants.{Opened, Decided, Stepped}
 use Rattle.server_events.specs.Live.{KeepsLimit}

@@ -1,4 +1,5 @@
 -- The state that events lead to and what its fields keep, the table of events that may happen, who is alive, reports, and worlds.
+-- What a journal tells of the events that it noted, and stores of them.
 pub mod Again
 pub mod ServerState
 pub mod Addresses
@@ -15,5 +16,8 @@ pub mod Within
 pub mod Witness
 pub mod UnderWay
 pub mod Series
+pub mod Counts
+pub mod Full
+pub mod Journals
 pub use Rattle.rule_lookup.specs.Decisions
-pub use Rattle.connection_facts.specs.Peers
+pub use Rattle.rule_lookup.specs.Peers

@@ -1,7 +1,7 @@
 -- Who is alive after a list of events, told from the events alone.
 use Rattle.std.specs.Prelude.{◌≤◌, ℕ, length, take, List, Bool, true, false, ◌==◌, not, map, Option, Some, None, bytes_eq}
 use Rattle.std.specs.List.{after_last, filter, filter_map, list_any}
-use Rattle.connection_facts.specs.Peers.{Client}
+use Rattle.rule_lookup.specs.Peers.{Client}
 use Rattle.server_events.specs.declared.event.Event.{Event}
 use Rattle.server_events.specs.declared.event.Event.TheVariants.{StartFailed, Ended, Retired, Dropped}
 use Rattle.server_events.specs.declared.state.Connection.{Connection}

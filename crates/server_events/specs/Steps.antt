@@ -6,11 +6,11 @@ use Rattle.dir_calls.specs.Directory.{Directory, FileState, number_of, scratch_o
 use Rattle.dir_calls.specs.Calls.{Call, makes, renews, appends, patches, syncs, renames, settles, after}
 use Rattle.dir_calls.specs.Outcomes.{Passes, Fails}
 use Rattle.dir_calls.specs.Images.{IsImage}
-use Rattle.cdb_read.specs.Reading.{reading}
+use Rattle.cdb_files.specs.Reading.{reading}
 use Rattle.rule_lines.specs.Pairs.{Rule}
 use Rattle.rule_lines.specs.Texts.{AreOfText}
 use Rattle.rule_lookup.specs.Decisions.{decision_from}
-use Rattle.connection_facts.specs.Peers.{Client}
+use Rattle.rule_lookup.specs.Peers.{Client}
 use Rattle.rules_install.specs.declared.Phase.{Phase}
 use Rattle.rules_install.specs.declared.Phase.TheVariants.{Fresh, Filling, Synced, Named, Done}
 use Rattle.server_events.specs.declared.event.Event.{Event}

@@ -4,8 +4,8 @@ use Rattle.rule_lines.specs.Pairs.{Rule}
 use Rattle.rule_lines.specs.declared.instr.Verdict.{Verdict}
 use Rattle.rule_lines.specs.declared.instr.Verdict.TheVariants.{Allow, Deny}
 use Rattle.rule_lookup.specs.Decisions.{by_rule}
-use Rattle.connection_facts.specs.Peers.{Client}
-use Rattle.connection_facts.specs.declared.outcome.DropCause.TheVariants.{Denied}
+use Rattle.rule_lookup.specs.Peers.{Client}
+use Rattle.child_jobs.specs.declared.outcome.DropCause.TheVariants.{Denied}
 use Rattle.rules_install.specs.declared.Phase.TheVariants.{Fresh, Filling, Synced, Named, Done}
 use Rattle.server_events.specs.declared.event.Event.{Event}
 use Rattle.server_events.specs.declared.event.Event.TheVariants.{Admitted, Opened, Decided, Started, Retired, Dropped, Stepped, StepFailed, Stop}

@@ -3,11 +3,11 @@ use Rattle.std.specs.Prelude.{◌≡◌, ◌==◌, ◌≤◌, ℕ, true, List, [
 use Rattle.std.specs.FinMap.{get}
 use Rattle.dir_calls.specs.NameTable.{CanBeLeft, Names}
 use Rattle.dir_calls.specs.Directory.{Directory, FileState, content}
-use Rattle.cdb_read.specs.Compiled.{stored}
-use Rattle.cdb_write.specs.IsCdb.{IsCdb}
+use Rattle.cdb_files.specs.Compiled.{stored}
+use Rattle.cdb_files.specs.IsCdb.{IsCdb}
 use Rattle.rule_lines.specs.Pairs.{Rule}
 use Rattle.rule_lines.specs.Texts.{AreOfText}
-use Rattle.connection_facts.specs.Peers.{Client}
+use Rattle.rule_lookup.specs.Peers.{Client}
 use Rattle.rule_lookup.specs.declared.decision.WhenMissing.{WhenMissing}
 use Rattle.rule_lookup.specs.declared.decision.WhenMissing.TheVariants.{Allow as AllowMissing}
 use Rattle.server_events.specs.ServerState.{ServerState, start}

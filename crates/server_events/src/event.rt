@@ -1,7 +1,7 @@
 //! Events, and the stages of a connection.
-use connection_facts::{DropCause, Peer, StartFault, Status};
+use child_jobs::{DropCause, StartFault, Status};
 use rule_lines::Verdict;
-use rule_lookup::Decision;
+use rule_lookup::{Decision, Peer};
 use rules_install::Phase;
 
 /// How far a connection has come.

@@ -5,7 +5,7 @@ ghost use Rattle.dir_calls.specs.Directory.{Directory, FileState};
 ghost use Rattle.dir_calls.specs.Calls.{settles, without};
 ghost use Rattle.dir_calls.specs.Calls as call;
 ghost use Rattle.dir_calls.specs.Images.{IsImage};
-ghost use Rattle.connection_facts.specs.Peers.{Client};
+ghost use Rattle.rule_lookup.specs.Peers.{Client};
 ghost use Rattle.rule_lookup.specs.declared.decision.Decision.{Decision};
 ghost use Rattle.rules_install.specs.declared.Phase.{Phase};
 ghost use Rattle.rules_install.specs.declared.Phase.TheVariants.{Fresh, Synced, Named, Done};

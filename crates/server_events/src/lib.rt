@@ -1,21 +1,34 @@
-//! The events of a server: which lists of them may happen, what they lead to, and the headline, which speaks of them.
+//! The events of a server: which lists of them may happen, what they lead to, the headline, which speaks of them, and
+//! journals, where events are kept or only counted.
 //!
 //! `laws::headline` is of definitions alone; `docs/internals/HEADLINE.md` reads it phrase by phrase. Two calls tie code
 //! to it: `make_step` for each step of an installation here, and each call of a yard in `server_yard`. `rulesim` uses
 //! `replay`, which reports a legal list or names its first illegal event. What all events have in common is said of
 //! their eight effects (`specs/ServerState.antt`). `laws::taken`, `witness`, `older` and `refusals` show that the
 //! headline is not about nothing.
+//!
+//! The crates above use the trait `Journal`: its report and its number stay those of the history (`goes_on`).
+//! `tcpserver` uses `Counts`, which takes no memory. `Full` stores each event with its caller, and only tests and
+//! audits use it. Room is taken before an event is noted, so noting can't fail.
 #![tactic(auto)]
 
 mod addresses;
+pub mod counts;
 pub mod event;
+pub mod full;
 pub mod install_laws;
+pub mod journal;
 pub mod laws;
 pub mod report;
+pub mod same;
 pub mod state;
 pub mod step;
 
+pub use counts::Counts;
 pub use event::{Event, Stage};
+pub use full::Full;
+pub use journal::{Journal, Noted};
 pub use report::{ReplayFault, Report, replay};
+pub use same::is_same_event;
 pub use state::{Connection, State};
 pub use step::make_step;

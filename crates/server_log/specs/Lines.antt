@@ -4,14 +4,14 @@ use Rattle.std.specs.Net.Text.{ipv4_text}
 use Rattle.byte_text.specs.Fields.{field_text}
 use Rattle.rule_lines.specs.declared.instr.Verdict.{Verdict}
 use Rattle.rule_lines.specs.declared.instr.Verdict.TheVariants.{Allow, Deny}
-use Rattle.connection_facts.specs.Peers.{Client}
-use Rattle.connection_facts.specs.declared.outcome.DropCause.{DropCause}
-use Rattle.connection_facts.specs.declared.outcome.DropCause.TheVariants.{Denied, Banner, Directory, ReadFault, Damaged, Memory, NoThread}
-use Rattle.connection_facts.specs.declared.outcome.StartFault.{StartFault}
-use Rattle.connection_facts.specs.declared.outcome.StartFault.TheVariants.{NotFound, Refused, Other, OutOfMemory}
-use Rattle.connection_facts.specs.declared.outcome.Status.{Status}
-use Rattle.connection_facts.specs.declared.outcome.Status.TheVariants.{Code, Signal}
-use Rattle.ucspi_env.specs.Ends.{LocalEnd}
+use Rattle.rule_lookup.specs.Peers.{Client}
+use Rattle.child_jobs.specs.declared.outcome.DropCause.{DropCause}
+use Rattle.child_jobs.specs.declared.outcome.DropCause.TheVariants.{Denied, Banner, Directory, ReadFault, Damaged, Memory, NoThread}
+use Rattle.child_jobs.specs.declared.outcome.StartFault.{StartFault}
+use Rattle.child_jobs.specs.declared.outcome.StartFault.TheVariants.{NotFound, Refused, Other, OutOfMemory}
+use Rattle.child_jobs.specs.declared.outcome.Status.{Status}
+use Rattle.child_jobs.specs.declared.outcome.Status.TheVariants.{Code, Signal}
+use Rattle.child_jobs.specs.Ends.{LocalEnd}
 use Rattle.byte_text.specs.Causes.{cause_text as os_cause_text}
 use Rattle.fault_hints.specs.declared.voice.Detail.{Detail}
 use Rattle.fault_hints.specs.declared.voice.Detail.TheVariants.{Line, Cause, Hint}

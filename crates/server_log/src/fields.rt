@@ -1,14 +1,14 @@
 //! The parts of lines. After an `Err` some of a part may stand at the end.
 ghost use Rattle.std.specs.Prelude.{◌++◌, codes};
 ghost use Rattle.std.specs.Net.Text.{ipv4_text};
-ghost use Rattle.connection_facts.specs.Peers.{given};
+ghost use Rattle.rule_lookup.specs.Peers.{given};
 ghost use Rattle.byte_text.specs.Outcomes.{AppendsPart};
 ghost use Rattle.server_log.specs.Lines.{field, local_text, remote_text, status_text};
 
 use byte_text::{push_address, push_marked, push_number, push_text};
-use connection_facts::{Peer, Status};
+use child_jobs::{Local, Status};
+use rule_lookup::Peer;
 use std::alloc::AllocError;
-use ucspi_env::Local;
 
 /// Adds a field, or nothing if it is absent.
 pub fn push_field(out: &mut Vec<u8>, name: Option<&str>) -> Result<(), AllocError>

@@ -1,7 +1,7 @@
 //! The lines of the log, and those of each event at each level. After an `Err` there was no memory for a line, and it
 //! was not added.
 ghost use Rattle.std.specs.Prelude.{◌≡◌, Some, ◌++◌, List, ℕ, codes, decimal};
-ghost use Rattle.connection_facts.specs.Peers.{given};
+ghost use Rattle.rule_lookup.specs.Peers.{given};
 ghost use Rattle.byte_text.specs.Outcomes.{AppendsLine, AppendsPart};
 ghost use Rattle.fault_hints.specs.Voices.{detail_of};
 ghost use Rattle.server_log.specs.Lines.{cause_line, cause_lines, cause_text, drop_text, end_text, error, event_lines, fault_text, full_text, hint_lines, listening_text, person, pid_line, progress, retired_text, runs_lines, runs_text, signal_lines, signal_text, start_text, status_line, status_lines, verdict_text, verdict_word};
@@ -11,12 +11,12 @@ use crate::cause::Cause;
 use crate::fields::{push_local, push_remote, push_status};
 use crate::told::Told;
 use byte_text::{append_cause, push_address, push_number, push_text, whole_or_none};
-use connection_facts::{DropCause, Peer, StartFault, Status};
+use child_jobs::{DropCause, Local, StartFault, Status};
 use fault_hints::{Detail, Voice};
 use rule_lines::Verdict;
+use rule_lookup::Peer;
 use server_words::Level;
 use std::alloc::AllocError;
-use ucspi_env::Local;
 
 /// Adds the lines of an event, after which `live` connections are alive.
 pub(crate) fn add_event(

@@ -1,8 +1,8 @@
 //! What a log is told of events.
 use crate::cause::Cause;
-use connection_facts::{DropCause, Peer, StartFault, Status};
+use child_jobs::{DropCause, Local, StartFault, Status};
 use rule_lines::Verdict;
-use ucspi_env::Local;
+use rule_lookup::Peer;
 
 /// An event of a connection, with what its lines need. Other events have no lines.
 #[derive(Drop)]

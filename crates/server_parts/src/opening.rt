@@ -7,7 +7,7 @@ ghost use Rattle.server_words.specs.OptionWords.{text_of};
 ghost use Rattle.stream_tools.specs.Entries.{with_entries};
 
 use crate::fault::{ServerFailure, ServerFault};
-use child_jobs::{Plan, Program};
+use child_jobs::{HostFault, HostTable, Plan, Program};
 use dir_calls::{Name, NameFault};
 use dir_disk::{FolderError, FolderFault, find_folder};
 use rule_lookup::WhenMissing;
@@ -21,7 +21,6 @@ use std::os::fd::AsRawFd;
 use std::{fs, io};
 use stream_tools::started::{Given, inherited_variables};
 use tcp_connections::HostNames;
-use ucspi_env::{HostFault, HostTable};
 
 /// The descriptor of standard error, the last of the standard ones.
 const STANDARD_ERROR: i32 = 2;

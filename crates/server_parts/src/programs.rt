@@ -2,8 +2,7 @@
 ghost use Rattle.std.specs.Prelude.{◌≡◌, ⊤, IfOk};
 
 use crate::sockets::Holder;
-use child_jobs::{Job, NoEnds, Program, WaitFault};
-use connection_facts::{StartFault, Status};
+use child_jobs::{Environment, Job, NoEnds, Program, StartFault, Status, WaitFault};
 use libc::net::POLLOUT;
 use libc::types::pollfd;
 use server_words::Mode;
@@ -18,7 +17,6 @@ use std::time::{Clock, Duration};
 use std::{io, thread};
 use stream_tools::{NotStarted, OsJob, OsLauncher, SearchPath};
 use tcp_connections::{Process, Reserve, SignalNote, Starter};
-use ucspi_env::Environment;
 
 /// After so many milliseconds a write that waits looks whether its program is over.
 const PAUSE: i32 = 100;

@@ -3,6 +3,7 @@ ghost use Rattle.std.specs.Prelude.{◌≡◌, ◌⊎◌, Some, true, IsErr};
 ghost use Rattle.std.specs.Fn.{FnOnceReturnsAt};
 
 use crate::client::ClientWriter;
+use child_jobs::Local;
 use server_words::Mode;
 use std::alloc::Global;
 use std::io;
@@ -12,7 +13,6 @@ use std::os::fd::OwnedFd;
 use std::sync::{Arc, Mutex, Wait};
 use std::time::Clock;
 use tcp_connections::{AcceptFault, Accepted, Acceptor, Shut};
-use ucspi_env::Local;
 
 /// The system's faults of a process, and of the whole system, that has too many open files.
 const TOO_MANY_FILES: i32 = 24;

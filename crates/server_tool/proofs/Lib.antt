@@ -1,1 +1,2 @@
+pub mod RefusedWords
 pub mod Renewed

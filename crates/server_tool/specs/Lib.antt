@@ -2,3 +2,4 @@
 pub mod Asked
 pub mod Ends
 pub mod Opened
+pub mod Words

@@ -3,14 +3,16 @@
 //! `System` has what it uses of the system, and `OnSystem` is the host of its service. `parts_of`, `yard_of`, `log_of`,
 //! `open_socket` and `Wrappers` are proved to make what the words ask for (`specs/Asked.antt`), and the calls behind
 //! them take nothing else. That `serve_on` lends it to `serve`, and what is printed and exited with, is read here and
-//! tested with real clients. Of `run_tcpserver` only safety is proved.
+//! tested with real clients. `run_tcpserver` refuses words with a fault, and ends well only by a `Finished`.
 #![tactic(auto)]
 
 mod causes;
+pub mod ends;
 mod no_folder;
 mod rules;
 mod system;
 pub mod tool;
 mod wrappers;
 
+pub use ends::Finished;
 pub use tool::run_tcpserver;

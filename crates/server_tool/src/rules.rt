@@ -3,11 +3,10 @@ ghost use Rattle.std.specs.Prelude.{◌≡◌, false, IfOk};
 ghost use Rattle.dir_disk.specs.OsParts.{os_disk, os_state, system_folder};
 ghost use Rattle.server_tool.specs.Opened.{IsFolderOfPath, IsThere};
 
-use cdb_read::CdbFile;
-use connection_facts::Peer;
+use cdb_files::CdbFile;
 use dir_calls::{Dir, DirFault, Name, RulesFile};
 use dir_disk::{Disk, DiskDir, OsDir, OsFile, SystemDisk, SystemFile};
-use rule_lookup::{DecideFault, RuleSource, forms};
+use rule_lookup::{DecideFault, Peer, RuleSource, forms};
 use rules_tools::path::{folder_path, split_path};
 use server_parts::has_named_rule;
 use server_yard::{Assumptions, Finding};

@@ -6,7 +6,7 @@ use crate::no_folder::NoFolder;
 use crate::rules::{FolderHandle, FolderRules, RulesOnDisk};
 use crate::wrappers::Wrappers;
 use dir_disk::SystemDisk;
-use event_journals::Counts;
+use server_events::Counts;
 use server_parts::client::ClientWriter;
 use server_parts::opening::listen;
 use server_parts::programs::{ProgramInput, ServiceJob};

@@ -1,24 +1,29 @@
 //! The tool: its words, what it opens, and the server.
-ghost use Rattle.std.specs.Prelude.{◌≡◌, ◌⊎◌, true, false, Err, None, IfOk, IfErr, OnErr, vec_len};
+ghost use Rattle.std.specs.Prelude.{◌≡◌, ◌⊎◌, false, map, IfOk, IfErr, vec_len};
+ghost use Rattle.fault_hints.specs.Voices.{mode_by_name};
 ghost use Rattle.server_parts.specs.Asked.{FailsNames, starts_in};
 ghost use Rattle.server_parts.specs.Services.{AreRulesOf};
-ghost use Rattle.server_parts.specs.declared.fault.ServerFault.TheVariants.{CannotListen, LostConnection, OutOfMemory, WriteFault};
+ghost use Rattle.server_parts.specs.declared.fault.ServerFault.TheVariants.{CannotListen, OutOfMemory, WriteFault};
 ghost use Rattle.server_tool.specs.Asked.{AcceptsAsAsked, AreAsked, AreAskedLimits, IsAskedLog, IsAskedService};
-ghost use Rattle.server_tool.specs.Ends.{told_of};
+ghost use Rattle.server_tool.specs.Words.{RefusesWords};
+ghost use Rattle.server_words.specs.Operands.{texts};
+ghost use Rattle.server_words.specs.Plans.{plan_of as plan_by_words};
 ghost use Rattle.server_yard.specs.Kept.{rules_of};
-ghost use Rattle.server_yard.specs.Yards.{HasRun, yard_books, yard_rules, yard_server};
+ghost use Rattle.server_yard.specs.Yards.{yard_books, yard_rules, yard_server};
 ghost use Rattle.shared_site.specs.Callers.{total_share};
+ghost use Rattle.stream_tools.specs.Programs.{text_in, texts_of};
 
 use crate::causes::{tell_failure, tell_words};
+use crate::ends::{Finished, end_of};
 use crate::no_folder::NoFolder;
 use crate::rules::{FolderRules, RulesPath};
 use crate::system::{OnSystem, System, SystemOf};
 use crate::wrappers::Wrappers;
 use child_jobs::Plan;
 use dir_calls::Name;
-use event_journals::Counts;
 use fault_hints::Voice;
 use rule_lookup::WhenMissing;
+use server_events::Counts;
 use server_parts::limits::supply_for;
 use server_parts::opening::{end_of_listener, find_rules, names_of, plan_of, print_port, stand_in};
 use server_parts::signals::forgets_programs;
@@ -39,9 +44,7 @@ use std::thread::Threads;
 use std::time::{Clock, Duration};
 use stream_tools::SearchPath;
 use stream_tools::started::{SystemGiven, texts_of};
-use tcp_service::{
-    Acceptor, Closed, Host, Log, Patience, Reserve, ServeEnd, Service, Unfinished, serve,
-};
+use tcp_service::{Log, Patience, Reserve, Service, serve};
 
 /// For so many seconds in succession a client whose connection is pumped may take nothing of what its program left for
 /// it.
@@ -58,15 +61,15 @@ const CALLERS: u64 = 2;
 /// connections were served as it was to serve, and all of them are over.
 ///
 /// # Errors
-/// In the order of `ServerFault`. What the voice tells behind its line is left in `causes`, where there is memory for
-/// it.
+/// In the order of `ServerFault`. Words with a fault run nothing, and their first fault is told. What the voice tells
+/// behind its line is left in `causes`, where there is memory for it.
 pub fn run_tcpserver<R, E>(
     rt: &R,
     errors: E,
     words: &[Vec<u8>],
     voice: Voice,
     causes: &mut Vec<u8>,
-) -> Result<(), ServerFault>
+) -> Result<Finished, ServerFault>
 where
     R: Env + Print + AllocGlobal + Files<File = File> + Processes + Threads + Wait + Clock + Sync,
     R: Net<Stream = TcpStream>,
@@ -76,6 +79,8 @@ where
     <R::Started as OpenProcess>::Stdout: Send,
     <R::Started as OpenProcess>::Stderr: Send,
     E: Write + Send + Drop,
+    ensures refused { IfErr (plan_by_words (mode_by_name voice) (map text_in (texts_of words.now)))
+        (RefusesWords result) }
 {
     let alloc = rt.alloc();
     let _held = [stand_in(rt), stand_in(rt), stand_in(rt)];
@@ -100,7 +105,9 @@ fn run_words<P: System + Send + Sync>(
     words: &[String],
     voice: Voice,
     causes: &mut Vec<u8>,
-) -> Result<(), ServerFault> {
+) -> Result<Finished, ServerFault>
+    ensures refused { IfErr (plan_by_words (mode_by_name voice) (texts words.now)) (RefusesWords result) }
+{
     let words = match read_server_words(rt.alloc(), words, voice.mode()) {
         Ok(words) => words,
         Err(fault) => {
@@ -108,11 +115,13 @@ fn run_words<P: System + Send + Sync>(
             return Err(ServerFault::Words(fault));
         }
     };
-    let Err(failure) = run_server::<P>(rt, errors, &words, voice) else {
-        return Ok(());
-    };
-    tell_failure(rt.alloc(), voice, &words, failure, causes);
-    Err(failure.fault)
+    match run_server::<P>(rt, errors, &words, voice) {
+        Ok(finished) => Ok(finished),
+        Err(failure) => {
+            tell_failure(rt.alloc(), voice, &words, failure, causes);
+            Err(failure.fault)
+        }
+    }
 }
 
 // Runs the tool as its words ask for.
@@ -121,7 +130,7 @@ fn run_server<P: System + Send + Sync>(
     errors: P::Errors,
     words: &ServerWords<'_>,
     voice: Voice,
-) -> Result<(), ServerFailure> {
+) -> Result<Finished, ServerFailure> {
     if forgets_programs(rt) {
         return Err(ServerFailure::from(ServerFault::CannotWait));
     }
@@ -191,7 +200,7 @@ fn open_and_run<P: System + Send + Sync>(
     rt: &P::Runtime,
     server: &ServerParts<P>,
     words: &ServerWords<'_>,
-) -> Result<(), ServerFailure>
+) -> Result<Finished, ServerFailure>
     requires asked { AreAsked words.now server.now.plan server.now.service }
 {
     let alloc = rt.alloc();
@@ -241,7 +250,7 @@ fn run_site<'a, L: Assumptions + Send + Sync, N: Callers + Send + Sync, P: Syste
     words: &'a ServerWords<'_>,
     places: Blank,
     parts: Blank,
-) -> Result<(), ServerFailure>
+) -> Result<Finished, ServerFailure>
     requires places { (places.name ≡ L.name) × (places.parts ≡ L.parts)
         × (places.parts ≡ words.now.limits.connections) }
     requires met { L.met ≡ false }
@@ -298,7 +307,7 @@ fn serve_on<'a, L: Assumptions + Send + Sync, N: Callers + Send + Sync, P: Syste
     at: RulesPath<'a, P::Runtime>,
     starter: &ProgramStarter<'a, P::Runtime>,
     words: &'a ServerWords<'_>,
-) -> Result<(), ServerFailure>
+) -> Result<Finished, ServerFailure>
     requires met { L.met ≡ false }
     requires callers { (N.all ≡ 2) × (N.parts ≡ 2) × (N.before ≡ 0)
         × (vec_len callers ≡ 2) × (total_share callers.items ≡ 0) }
@@ -321,37 +330,4 @@ fn serve_on<'a, L: Assumptions + Send + Sync, N: Callers + Send + Sync, P: Syste
         &server.log,
     );
     end_of(served)
-}
-
-// How the tool ends, by how its server did and the system's last error of accepting. The events of its site were a run.
-fn end_of<H: Host>(served: Result<Closed<H>, Unfinished<H>>) -> Result<(), ServerFailure>
-    requires servers { H.is_servers ≡ true }
-    requires new { H.Callers.before ≡ 0 }
-    ensures ran { IfOk served (λ closed. HasRun closed.yard) }
-    ensures ran_too { IfErr served (λ unfinished. HasRun unfinished.yard) }
-    ensures closed { IfOk served (λ closed.
-        result ≡ told_of closed.end (H.Acceptor.last_error closed.acceptor)) }
-    ensures lost { OnErr served (result ≡ Err (record { fault = LostConnection; error = None })) }
-{
-    let Ok(closed) = served else {
-        return Err(ServerFailure::from(ServerFault::LostConnection));
-    };
-    let (end, error) = (closed.end, closed.acceptor.error());
-    drop(closed);
-    failure_of(end, error)
-}
-
-// How the tool ends, by how its server did and this error.
-fn failure_of(end: ServeEnd, error: Option<i32>) -> Result<(), ServerFailure>
-    ensures { result ≡ told_of end error }
-{
-    match end {
-        ServeEnd::Count | ServeEnd::Spent => Ok(()),
-        ServeEnd::NoPlaces => Err(ServerFailure::from(ServerFault::NoPlaces)),
-        ServeEnd::AcceptFaults => Err(ServerFailure {
-            fault: ServerFault::AcceptFault,
-            error,
-        }),
-        ServeEnd::OutOfMemory => Err(ServerFailure::from(ServerFault::OutOfMemory)),
-    }
 }

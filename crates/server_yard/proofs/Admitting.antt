@@ -5,8 +5,8 @@ use Rattle.std.proofs.lemmas.Slice.Eq.{bytes_eq-Decides}
 use Rattle.std.proofs.lemmas.Bool.{true≢false}
 use mathlib.Core.Logic.{∥∥₁_elim}
 use Rattle.child_jobs.specs.PlacesOut.{OneMoreAt, PlacesOut, live_at}
-use Rattle.event_journals.specs.Journals.{Books}
-use Rattle.connection_facts.specs.Peers.{Client}
+use Rattle.server_events.specs.Journals.{Books}
+use Rattle.rule_lookup.specs.Peers.{Client}
 use Rattle.server_events.specs.ServerState.{ServerState, count_from, newcomer, start}
 use Rattle.server_events.specs.declared.event.Event.{Event}
 use Rattle.server_events.proofs.Limits.{WithinLimits, count_from-push, within}

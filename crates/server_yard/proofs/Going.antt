@@ -3,7 +3,7 @@ use Rattle.std.proofs.Common.{◌≡◌, ◌≢◌, ℕ, List, [], ◌∷◌, �
 use Rattle.std.specs.Prelude.{◌<◌, ◌^◌, IfSome, Result, Ok, Err, option_map, if◌then◌else◌}
 use Rattle.dir_calls.specs.Directory.{Directory}
 use Rattle.dir_calls.specs.declared.fault.DirFault.TheVariants.{NoScratch, NoName, Device, OutOfMemory as NoMemory}
-use Rattle.event_journals.specs.Journals.{Books}
+use Rattle.server_events.specs.Journals.{Books}
 use Rattle.server_events.specs.UnderWay as way
 use Rattle.server_events.specs.UnderWay.{IsUnderWay}
 use Rattle.rule_lines.specs.Pairs.{Rule}

@@ -3,9 +3,9 @@ use Rattle.std.proofs.Common.{◌≡◌, ℕ, ◌<◌, ◌^◌, List, [], ◌∷
 use Rattle.std.specs.Prelude.{Err, IfSome, Ok, OnErr, OnOk, Result, is_some, option_map}
 use Rattle.std.proofs.Props.{props}
 use mathlib.Core.Logic.{∥∥₁_map, ∥∥₁_elim}
-use Rattle.event_journals.specs.Journals.{Books, FitsSerial, TellsOf, next_report, one_more}
-use Rattle.event_journals.specs.declared.journal.Noted.{Noted}
-use Rattle.event_journals.proofs.ReportSteps.{goes_on as told_on}
+use Rattle.server_events.specs.Journals.{Books, FitsSerial, TellsOf, next_report, one_more}
+use Rattle.server_events.specs.declared.journal.Noted.{Noted}
+use Rattle.server_events.proofs.ReportSteps.{goes_on as told_on}
 use Rattle.rule_lines.specs.Pairs.{Rule}
 use Rattle.server_events.specs.declared.event.Event.{Event}
 use Rattle.server_events.specs.declared.event.Stage.{Stage}

@@ -4,10 +4,10 @@ use Rattle.std.specs.Prelude.{◌⊎◌, ◌||◌, IfOk, IsTrue, OnErr, Result, 
 use Rattle.std.proofs.lemmas.Bool.{true≢false}
 use Rattle.rules_install.specs.declared.Phase.{Phase}
 use Rattle.dir_calls.specs.Directory.{Directory, content}
-use Rattle.event_journals.specs.Journals.{Books, FitsSerial}
+use Rattle.server_events.specs.Journals.{Books, FitsSerial}
 use Rattle.rule_lines.specs.Pairs.{Rule}
 use Rattle.rule_lines.specs.Lookups.{WhereKnown}
-use Rattle.connection_facts.specs.Peers.{Client}
+use Rattle.rule_lookup.specs.Peers.{Client}
 use Rattle.server_events.specs.Processes.{of_connections, of_installations, is_connections, is_installations}
 use Rattle.server_events.specs.ServerState.{Effect, ServerState, lets_in, opens, decides, brings, lets_go, comes_to, fails_at, ends_all, effect}
 use Rattle.server_events.specs.Worlds.{RulesName, StandsFor}

@@ -3,7 +3,7 @@ use Rattle.std.proofs.Common.{◌≡◌, ◌≢◌, ℕ, ◌+◌, ◌-◌, List,
 use Rattle.std.proofs.lemmas.Slice.Eq.{bytes_eq-Decides}
 use Rattle.std.proofs.lemmas.Bool.{true≢false}
 use Rattle.child_jobs.specs.PlacesOut.{OneMoreAt, PlacesOut, live_at}
-use Rattle.connection_facts.specs.Peers.{Client}
+use Rattle.rule_lookup.specs.Peers.{Client}
 use Rattle.server_events.specs.ServerState.{ServerState, count_from, stage_of, without}
 use Rattle.server_events.specs.Worlds.{peer_of}
 use Rattle.server_events.specs.declared.event.Stage.{Stage}

@@ -4,8 +4,8 @@ use Rattle.std.specs.Prelude.{IfSome, min}
 use Rattle.std.proofs.Props.{props}
 use Rattle.std.proofs.lemmas.List.{length-map}
 use mathlib.Core.Logic.{∥∥₁_elim, ∥∥₁_map}
-use Rattle.event_journals.specs.Journals.{Books}
-use Rattle.event_journals.specs.declared.journal.Noted.{Noted}
+use Rattle.server_events.specs.Journals.{Books}
+use Rattle.server_events.specs.declared.journal.Noted.{Noted}
 use Rattle.server_events.specs.ServerState.{ServerState}
 use Rattle.server_events.specs.declared.event.Event.{Event}
 use Rattle.server_events.proofs.Allowed.{alive_within, from_one_within}

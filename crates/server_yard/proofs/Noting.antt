@@ -2,8 +2,8 @@
 use Rattle.std.proofs.Common.{◌≡◌, ◌≢◌, ℕ, ◌-◌, List, [], ◌∷◌, ◌++◌, length, take, Bool, true, false, Option, None, Some, refl, sym, ap, ◌∙◌, arith, length-append}
 use Rattle.std.specs.Prelude.{Err, option_map}
 use Rattle.dir_calls.specs.Directory.{Directory}
-use Rattle.event_journals.specs.Journals.{next_report, one_more, without_last}
-use Rattle.event_journals.specs.declared.journal.Noted.{Noted}
+use Rattle.server_events.specs.Journals.{next_report, one_more, without_last}
+use Rattle.server_events.specs.declared.journal.Noted.{Noted}
 use Rattle.rule_lines.specs.Pairs.{Rule}
 use Rattle.rules_install.specs.Installing.{Installing, IsConsistent, next_of, next_phase}
 use Rattle.rules_install.specs.Steps.{Changes, Goes}

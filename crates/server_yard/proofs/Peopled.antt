@@ -3,7 +3,7 @@ use Rattle.std.proofs.Common.{◌≡◌, ℕ, ◌+◌, ◌<◌, ◌≤◌, List,
 use Rattle.std.specs.Prelude.{if◌then◌else◌, is_some}
 use Rattle.std.proofs.lemmas.Bool.{not-true}
 use Rattle.std.proofs.lemmas.Bool.Decides.{nat_tests}
-use Rattle.connection_facts.specs.Peers.{Client}
+use Rattle.rule_lookup.specs.Peers.{Client}
 use Rattle.server_events.specs.declared.event.Event.{Event}
 use Rattle.server_events.specs.declared.event.Event.TheVariants.{Retired}
 use Rattle.server_events.specs.declared.event.Stage.{Stage}
@@ -16,8 +16,8 @@ use Rattle.server_events.proofs.Effects.{Sound, sound}
 use Rattle.server_events.proofs.Limits.{count_from-cons, count_from-with_stage, length-with_stage, one_from}
 use Rattle.server_events.proofs.Peers.{peer_of-with_stage}
 use Rattle.server_events.proofs.Serials.{Rise, Rise-le}
-use Rattle.event_journals.specs.Journals.{FitsBy, FitsSerial}
-use Rattle.event_journals.proofs.Countings.{moves_with, retired_in, weight}
+use Rattle.server_events.specs.Journals.{FitsBy, FitsSerial}
+use Rattle.server_events.proofs.Countings.{moves_with, retired_in, weight}
 use Rattle.server_yard.specs.Rooms.{events_left}
 use Rattle.server_yard.specs.Seating.{goes_on, goes_on_by, leaver, leaver_by}
 

@@ -7,7 +7,7 @@ use Rattle.std.proofs.lemmas.List.Sums.{sum_by-cons}
 use mathlib.Core.Logic.{∥∥₁_map}
 use Rattle.dir_calls.specs.Directory.{Directory}
 use Rattle.dir_calls.specs.NameTable.{CanBeLeft, Names}
-use Rattle.event_journals.specs.Journals.{Books}
+use Rattle.server_events.specs.Journals.{Books}
 use Rattle.rule_lines.specs.Pairs.{Rule}
 use Rattle.rules_install.specs.declared.Phase.{Phase}
 use Rattle.rules_install.specs.declared.Phase.TheVariants.{Fresh, Filling, Synced, Named, Done}

@@ -2,8 +2,8 @@
 use Rattle.std.proofs.Common.{◌≡◌, ◌∙◌, ◌-◌, ◌^◌, ◌++◌, true, ℕ, List, [], ◌∷◌, Option, length, length-append, refl, sym, ap, subst, arith}
 use Rattle.std.specs.Prelude.{IfSome, map, min}
 use mathlib.Core.Logic.{∥∥₁_map}
-use Rattle.event_journals.specs.Journals.{Books}
-use Rattle.event_journals.specs.declared.journal.Noted.{Noted}
+use Rattle.server_events.specs.Journals.{Books}
+use Rattle.server_events.specs.declared.journal.Noted.{Noted}
 use Rattle.server_events.specs.Processes.{is_connections}
 use Rattle.server_events.specs.ServerState.{ServerState, after, is_legal, may_happen, start, state_after}
 use Rattle.server_events.specs.declared.event.Event.{Event}

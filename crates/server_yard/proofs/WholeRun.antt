@@ -1,10 +1,10 @@
 -- A run of a server, beside other processes, is a history of the headline.
 use Rattle.std.proofs.Common.{◌≡◌, ◌∙◌, true, ℕ, List, [], ◌∷◌, ◌++◌, Bool, None, Option, Some, inl, inr, refl, sym, ap, subst}
 use Rattle.std.specs.Prelude.{is_some, option_and_then, option_map}
-use Rattle.cdb_read.specs.Reading.{reading}
-use Rattle.connection_facts.specs.Peers.{Client}
+use Rattle.cdb_files.specs.Reading.{reading}
+use Rattle.rule_lookup.specs.Peers.{Client}
 use Rattle.dir_calls.specs.Directory.{content}
-use Rattle.event_journals.specs.Journals.{Books}
+use Rattle.server_events.specs.Journals.{Books}
 use Rattle.rule_lookup.specs.Decisions.{decision_from}
 use Rattle.rule_lookup.specs.declared.decision.Decision.{Decision}
 use Rattle.rule_lookup.specs.declared.decision.WhenMissing.{WhenMissing}

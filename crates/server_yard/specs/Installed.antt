@@ -1,7 +1,7 @@
 -- What the installations of a yard left in its directory.
 use Rattle.std.specs.Prelude.{◌≡◌, ◌++◌, ⊤, ℕ, List, Option, None, Some, IfSome, map}
 use Rattle.std.specs.List.{filter}
-use Rattle.event_journals.specs.Journals.{Books}
+use Rattle.server_events.specs.Journals.{Books}
 use Rattle.rule_lines.specs.Pairs.{Rule}
 use Rattle.server_events.specs.Steps.{Legal}
 use Rattle.server_events.specs.Worlds.{IsOf, IsStart, World}

@@ -2,7 +2,7 @@
 use Rattle.std.specs.Prelude.{◌≡◌, ◌≢◌, ℕ, Bool, IsTrue, List, [], Option, IfSome, None, Some, true, false, option_map}
 use Rattle.std.proofs.Props.{props}
 use Rattle.dir_calls.specs.Directory.{Directory}
-use Rattle.event_journals.specs.Journals.{Books, TellsOf}
+use Rattle.server_events.specs.Journals.{Books, TellsOf}
 use Rattle.rule_lookup.specs.declared.decision.WhenMissing.{WhenMissing}
 use Rattle.rules_install.specs.Installing.{Fits, FitsPhase, Installing}
 use Rattle.rules_install.specs.Installs.{installing}

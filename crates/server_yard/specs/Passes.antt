@@ -1,10 +1,10 @@
 -- What a pass has.
 use Rattle.std.specs.Prelude.{◌≡◌, ℕ, Bool, List, Option, Some, None, Ok, option_map}
-use Rattle.cdb_read.specs.Reading.{reading}
-use Rattle.cdb_read.specs.Sources.{trust_of}
+use Rattle.cdb_files.specs.Reading.{reading}
+use Rattle.cdb_files.specs.Sources.{trust_of}
 use Rattle.rule_lines.specs.Lookups.{Trust, Sound, WhereKnown}
 use Rattle.rule_lookup.specs.Decisions.{decision_from}
-use Rattle.connection_facts.specs.Peers.{Client}
+use Rattle.rule_lookup.specs.Peers.{Client}
 use Rattle.rule_lookup.specs.declared.decision.Decision.{Decision}
 use Rattle.rule_lookup.specs.declared.decision.WhenMissing.{WhenMissing}
 use Rattle.server_yard.specs.declared.finding.Finding.{Finding}

@@ -4,7 +4,7 @@ use Rattle.std.specs.List.{count_by}
 use Rattle.std.specs.FinMap.{get}
 use Rattle.dir_calls.specs.Directory.{Directory}
 use Rattle.dir_calls.specs.NameTable.{CanBeLeft, Names}
-use Rattle.event_journals.specs.Journals.{Books}
+use Rattle.server_events.specs.Journals.{Books}
 use Rattle.rule_lines.specs.Pairs.{Rule}
 use Rattle.rules_install.specs.declared.Phase.TheVariants.{Fresh, Done}
 use Rattle.server_events.specs.ServerState.{Effect, comes_to, effect}

@@ -2,7 +2,7 @@
 use Rattle.std.specs.Prelude.{ℕ, Option}
 use Rattle.std.specs.BTreeMap.{get}
 use Rattle.std.specs.Ordering.{nat_cmp}
-use Rattle.event_journals.specs.Journals.{Books}
+use Rattle.server_events.specs.Journals.{Books}
 use Rattle.server_yard.specs.Rolls.{Roll}
 use Rattle.server_yard.specs.declared.register.Register.{Register}
 

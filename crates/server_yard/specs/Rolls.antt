@@ -5,8 +5,8 @@ use Rattle.server_events.specs.Live.{KeepsAddressLimit, KeepsLimit}
 use Rattle.server_events.specs.ServerState.{ServerState, after, is_legal, may_happen, stage_of, start, state_after}
 use Rattle.server_events.specs.declared.event.Event.{Event}
 use Rattle.server_events.specs.declared.event.Stage.{Stage}
-use Rattle.event_journals.specs.Journals.{Books, TellsOf, next_report, one_more}
-use Rattle.event_journals.specs.declared.journal.Noted.{Noted}
+use Rattle.server_events.specs.Journals.{Books, TellsOf, next_report, one_more}
+use Rattle.server_events.specs.declared.journal.Noted.{Noted}
 
 -- the state that the events led to; what the journal that noted them tells, and whether it has room for a number of
 -- events more; and the speaker

@@ -1,9 +1,9 @@
 -- A run of a server: all its events since no connection had come, beside other processes over the same directory.
 use Rattle.std.specs.Prelude.{◌≡◌, ◌-◌, ◌^◌, ◌==◌, ⊤, ℕ, Bool, true, false, List, [], ◌∷◌, ◌++◌, length, map, min, Ok, Option, Some, IfSome, is_some, option_map}
-use Rattle.cdb_read.specs.Reading.{reading}
-use Rattle.connection_facts.specs.Peers.{Client}
-use Rattle.event_journals.specs.Journals.{Books}
-use Rattle.event_journals.specs.declared.journal.Noted.{Noted}
+use Rattle.cdb_files.specs.Reading.{reading}
+use Rattle.rule_lookup.specs.Peers.{Client}
+use Rattle.server_events.specs.Journals.{Books}
+use Rattle.server_events.specs.declared.journal.Noted.{Noted}
 use Rattle.rule_lookup.specs.Decisions.{decision_from}
 use Rattle.rule_lookup.specs.declared.decision.WhenMissing.{WhenMissing}
 use Rattle.server_events.specs.Headline.{IsKeptBy, Reaches}

@@ -2,7 +2,7 @@
 use Rattle.std.specs.Prelude.{◌≡◌, ◌<◌, ◌≤◌, ◌+◌, ◌-◌, ◌^◌, ◌==◌, ◌⊎◌, ℕ, Bool, true, false, not, List, Option, Some, None, length, if◌then◌else◌}
 use Rattle.std.specs.FinMap as map
 use Rattle.child_jobs.specs.PlacesOut.{PlacesOut, is_used}
-use Rattle.connection_facts.specs.Peers.{Client}
+use Rattle.rule_lookup.specs.Peers.{Client}
 use Rattle.server_events.specs.ServerState.{Effect, ServerState, opens, decides, brings, lets_go, count_from, effect, is_retired}
 use Rattle.server_events.specs.Worlds.{peer_of}
 use Rattle.server_events.specs.declared.event.Event.{Event}

@@ -4,8 +4,8 @@ use Rattle.dir_calls.specs.Directory.{Directory}
 use Rattle.dir_calls.specs.Images.{IsImage}
 use Rattle.dir_calls.specs.declared.dir.Dir as dir
 use Rattle.dir_calls.specs.declared.rules_file.RulesFile as file
-use Rattle.event_journals.specs.Journals.{Books}
-use Rattle.event_journals.specs.declared.journal.Journal as journal
+use Rattle.server_events.specs.Journals.{Books}
+use Rattle.server_events.specs.declared.journal.Journal as journal
 use Rattle.rules_install.specs.Installing.{Installing}
 use Rattle.server_events.specs.ServerState.{ServerState, start}
 use Rattle.server_events.specs.Steps.{MayLeave}

@@ -3,7 +3,7 @@ ghost use Rattle.std.specs.Prelude.{◌≡◌, IsTrue, option_copied, option_map
 ghost use Rattle.server_yard.specs.Installed.{IsWholeFile};
 
 use crate::assumptions::Assumptions;
-use cdb_read::CdbFile;
+use cdb_files::CdbFile;
 use dir_calls::RulesFile;
 use rule_lookup::WhenMissing;
 use std::marker::PhantomData;

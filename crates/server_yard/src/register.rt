@@ -6,7 +6,7 @@ ghost use Rattle.std.specs.Ordering.{nat_cmp};
 ghost use Rattle.child_jobs.specs.Runs.{place_of};
 ghost use Rattle.child_jobs.specs.PlacesOut.{is_used, live_at, live_of, OneMoreAt, RefusesLimits, with_place};
 ghost use Rattle.child_jobs.specs.declared.table.TableFault.{TableFault};
-ghost use Rattle.event_journals.specs.Journals.{HasOneMore, HasSameRoom, TellsOf, without_last};
+ghost use Rattle.server_events.specs.Journals.{HasOneMore, HasSameRoom, TellsOf, without_last};
 ghost use Rattle.server_events.specs.Processes.{is_installations};
 ghost use Rattle.server_events.specs.ServerState.{after, count_from, is_retired, may_admit, may_happen, stage_of, start};
 ghost use Rattle.server_events.specs.declared.event.Event.TheVariants.{Admitted, Retired};
@@ -17,10 +17,9 @@ ghost use Rattle.server_yard.specs.Seating.{GivesSeat, HasSeats, HasSpareRoom, I
 ghost use Rattle.server_yard.specs.declared.register.AdmitFault.TheVariants.{Full, FullForAddress, OutOfMemory, Spent};
 
 use child_jobs::{Job, Place, PlaceTable, Running, TableFault};
-use connection_facts::Peer;
-use event_journals::Journal;
 use rule_lines::RuleList;
-use server_events::{Event, Stage, State};
+use rule_lookup::Peer;
+use server_events::{Event, Journal, Stage, State};
 use std::alloc::{AllocError, Global};
 use std::collections::BTreeMap;
 use std::sync::ledger::{Blank, Ledger};

@@ -1,6 +1,6 @@
 //! Steps of installations, each noted as the event that it was.
 ghost use Rattle.std.specs.Prelude.{◌≡◌, ◌≢◌, ◌++◌, ◌∷◌, [], None, IsTrue, OnOk, OnErr, option_map};
-ghost use Rattle.event_journals.specs.Journals.{HasOneMore, HasSameRoom};
+ghost use Rattle.server_events.specs.Journals.{HasOneMore, HasSameRoom};
 ghost use Rattle.server_events.specs.UnderWay.{StepLeads, Leaves};
 ghost use Rattle.rules_install.specs.Installing.{Fits};
 ghost use Rattle.rules_install.specs.Installs.{installing, IsOpen, IsUndone, StepGoes};
@@ -12,9 +12,8 @@ ghost use Rattle.server_yard.specs.Stepping.{MayFail, fault_event, step_event};
 
 use crate::register::Register;
 use dir_calls::Dir;
-use event_journals::Journal;
 use rules_install::{Install, InstallFault, Phase};
-use server_events::{Event, make_step};
+use server_events::{Event, Journal, make_step};
 use std::alloc::Global;
 use std::sync::ledger::Ledger;
 

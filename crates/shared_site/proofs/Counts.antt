@@ -1,6 +1,6 @@
 -- What a turn makes of the number of events, after its caller spoke: one more or none.
 use Rattle.std.proofs.Common.{◌≡◌, ℕ, ap, inl, inr, ◌∙◌}
-use Rattle.event_journals.specs.Journals.{one_more}
+use Rattle.server_events.specs.Journals.{one_more}
 use Rattle.server_events.specs.declared.event.Event.{Event}
 use Rattle.server_yard.specs.Rolls.{IsQuiet, Notes, Roll}
 use Rattle.shared_site.specs.Receipts.{CountsAtMostOne}

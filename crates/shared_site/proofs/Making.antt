@@ -4,8 +4,8 @@ use Rattle.std.specs.Prelude.{⊤, IsTrue, None, Option, Some}
 use Rattle.dir_calls.specs.Directory.{Directory}
 use Rattle.dir_calls.specs.declared.dir.Dir as dir
 use Rattle.dir_calls.specs.declared.rules_file.RulesFile as file
-use Rattle.event_journals.specs.Journals.{one_more}
-use Rattle.event_journals.specs.declared.journal.Journal as journal
+use Rattle.server_events.specs.Journals.{one_more}
+use Rattle.server_events.specs.declared.journal.Journal as journal
 use Rattle.rule_lines.specs.declared.instr.Verdict.TheVariants as verdict
 use Rattle.server_events.specs.ServerState.{is_allowed, is_started}
 use Rattle.server_events.specs.declared.event.Event.{Event}

@@ -1,8 +1,8 @@
 -- What a caller gets for an event: evidence that it made it, or that it was out of turn, or why a client was not let in;
 -- and the receipt.
 use Rattle.std.specs.Prelude.{⊤, ◌≡◌, ◌⊎◌, ℕ, List, Option, None, Some, Result, Ok, Err, IfOk, OnErr, length}
-use Rattle.connection_facts.specs.Peers.{Client}
-use Rattle.event_journals.specs.Journals.{one_more}
+use Rattle.rule_lookup.specs.Peers.{Client}
+use Rattle.server_events.specs.Journals.{one_more}
 use Rattle.server_events.specs.ServerState.{ServerState}
 use Rattle.server_events.specs.declared.event.Event.{Event}
 use Rattle.server_events.specs.declared.event.Event.TheVariants.{Admitted, Decided}

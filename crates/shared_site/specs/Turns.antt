@@ -4,9 +4,9 @@ use Rattle.std.specs.Bool.{OnFalse, OnTrue}
 use Rattle.dir_calls.specs.Directory.{Directory}
 use Rattle.dir_calls.specs.declared.dir.Dir as dir
 use Rattle.dir_calls.specs.declared.rules_file.RulesFile as file
-use Rattle.event_journals.specs.Journals.{one_more}
-use Rattle.event_journals.specs.declared.journal.Journal as journal
-use Rattle.connection_facts.specs.Peers.{Client}
+use Rattle.server_events.specs.Journals.{one_more}
+use Rattle.server_events.specs.declared.journal.Journal as journal
+use Rattle.rule_lookup.specs.Peers.{Client}
 use Rattle.server_events.specs.Processes.{is_connections}
 use Rattle.server_events.specs.ServerState.{stage_of}
 use Rattle.server_events.specs.Worlds.{missing_by, peer_of}

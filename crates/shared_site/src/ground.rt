@@ -3,7 +3,7 @@ ghost use Rattle.std.specs.Prelude.{Bool};
 
 use crate::caller::{Caller, Callers};
 use dir_calls::{Dir, RulesFile};
-use event_journals::Journal;
+use server_events::Journal;
 use server_yard::{Assumptions, Yard};
 
 /// What a site stands on: a type for each thing that its yard has, and for its callers. A ground is a name for these

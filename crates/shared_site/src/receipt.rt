@@ -2,8 +2,7 @@
 ghost use Rattle.std.specs.Prelude.{◌≡◌};
 
 use crate::ground::{Ground, YardOf};
-use connection_facts::Peer;
-use rule_lookup::Decision;
+use rule_lookup::{Decision, Peer};
 use server_events::Event;
 use server_yard::AdmitFault;
 use std::snapshot::Snapshot;

@@ -24,10 +24,9 @@ ghost use Rattle.shared_site.specs.Turns.{Answers, IsAt, IsPassedOver, LeadsFoun
 use crate::ground::{Ground, YardOf};
 use crate::receipt::{EventSnapshot, Made, OutOfTurn, Refusal};
 use crate::turn::{Turn, made};
-use child_jobs::{Job, Place, Running};
-use connection_facts::{DropCause, Peer, StartFault, Status};
+use child_jobs::{DropCause, Job, Place, Running, StartFault, Status};
 use rule_lines::Verdict;
-use rule_lookup::Decision;
+use rule_lookup::{Decision, Peer};
 use server_events::{Event, Stage};
 use server_yard::{Finding, Pass};
 use std::snapshot::Snapshot;

@@ -16,7 +16,7 @@ use Rattle.stream_tools.specs.Programs.{texts_of}
 use Rattle.stream_tools.specs.Entries.{is_empty, is_equals, variable_in, variable_of, with_entries, with_found}
 use Rattle.stream_tools.proofs.SearchLemmas.{texts_of-more}
 use Rattle.stream_tools.proofs.WordLemmas.{is_utf8-no_text}
-use Rattle.ucspi_env.specs.Variables.{Variable, Variables}
+use Rattle.child_jobs.specs.Variables.{Variable, Variables}
 
 -- what stands at a position is the first of what stands from there on
 drop_found : (all : List (List ℕ)) (i : ℕ) (text : List ℕ) → slice_get all i ≡ Some text → drop i all ≡ text ∷ drop (i + 1) all

@@ -4,7 +4,7 @@ use Rattle.std.specs.Borrow.{Bor}
 use Rattle.std.specs.declared.alloc.Global.{Global}
 use Rattle.std.specs.List.{fold, list_any, before_first, after_first}
 use Rattle.std.specs.Str.{is_utf8}
-use Rattle.ucspi_env.specs.Variables.{Variable, Variables, with_value}
+use Rattle.child_jobs.specs.Variables.{Variable, Variables, with_value}
 
 -- what was found at a position, as the bytes that it is
 abbrev pub bytes_found : Option (Vec ℕ Global) → Option (List ℕ)

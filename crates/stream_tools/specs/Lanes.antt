@@ -14,9 +14,9 @@ use Rattle.child_jobs.specs.Programs.{ProgramText}
 use Rattle.byte_streams.specs.Watches.{left_under, reader_of, watch_of}
 use Rattle.byte_streams.specs.declared.watched.Watch.{Watch}
 use Rattle.byte_streams.specs.declared.watched.Watched.{Watched}
-use Rattle.connection_facts.specs.declared.outcome.StartFault.{StartFault}
-use Rattle.connection_facts.specs.declared.outcome.StartFault.TheVariants as fault
-use Rattle.ucspi_env.specs.Variables.{Variables}
+use Rattle.child_jobs.specs.declared.outcome.StartFault.{StartFault}
+use Rattle.child_jobs.specs.declared.outcome.StartFault.TheVariants as fault
+use Rattle.child_jobs.specs.Variables.{Variables}
 use Rattle.byte_streams.specs.Chains.{has_failed, wrappers_of}
 use Rattle.byte_streams.specs.Wrappers.{Writing, fixed_from, through}
 use Rattle.byte_streams.specs.Wrapped.{fixed}

@@ -1,6 +1,6 @@
 -- What is told of a program that the system did not start.
-use Rattle.connection_facts.specs.declared.outcome.StartFault.{StartFault}
-use Rattle.connection_facts.specs.declared.outcome.StartFault.TheVariants as fault
+use Rattle.child_jobs.specs.declared.outcome.StartFault.{StartFault}
+use Rattle.child_jobs.specs.declared.outcome.StartFault.TheVariants as fault
 use Rattle.std.specs.declared.io.ErrorKind.{ErrorKind}
 use Rattle.std.specs.declared.io.ErrorKind.TheVariants.{NotFound, PermissionDenied, OutOfMemory}
 

@@ -11,8 +11,7 @@ use crate::filter::MOST_READS;
 use byte_streams::{
     Chain, LineWrapper, PumpEnd, ReadCount, Tap, Watch, Watched, Why, pump_counted,
 };
-use child_jobs::{Job, Launcher, Program, WaitFault};
-use connection_facts::{StartFault, Status};
+use child_jobs::{Environment, Job, Launcher, Program, StartFault, Status, WaitFault};
 use std::alloc::{AllocError, Global};
 use std::io::{Read, Write};
 use std::marker::Brand;
@@ -22,7 +21,6 @@ use std::sync::ledger::{Blank, Ledger};
 use std::thread;
 use std::thread::{Promise, Threads};
 use thiserror::Error;
-use ucspi_env::Environment;
 
 /// Why a program could not be run between pumps.
 #[derive(Clone, Copy, Debug, Error)]

@@ -9,12 +9,11 @@ ghost use Rattle.stream_tools.specs.declared.between.Lane.{Lane};
 use crate::between::{Between, BetweenFault, Lane, RunEnd, run_between};
 use crate::filter::chain_of;
 use byte_streams::{FixCr, LineWrapper, NoTap, Tap, Watch};
-use child_jobs::{Job, Launcher, Program};
+use child_jobs::{Environment, Job, Launcher, Program};
 use std::alloc::{AllocError, Global};
 use std::io::{Read, Write};
 use std::sync::Wait;
 use std::thread::Threads;
-use ucspi_env::Environment;
 
 /// `fixcrio`: runs a program between two streams, each of whose lines gets a carriage return where it has none.
 ///

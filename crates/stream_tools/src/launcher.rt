@@ -3,8 +3,7 @@ ghost use Rattle.std.specs.Prelude.{◌≡◌, false, is_some, ⊤, IfErr, IfOk}
 
 use crate::process::{ChildProcess, NotStarted, start_process};
 use crate::search::SearchPath;
-use child_jobs::{Job, Launcher, NoEnds, Program, WaitFault};
-use connection_facts::{StartFault, Status};
+use child_jobs::{Environment, Job, Launcher, NoEnds, Program, StartFault, Status, WaitFault};
 use std::alloc::Global;
 use std::cell::Cell;
 use std::fs::Files;
@@ -12,7 +11,6 @@ use std::io;
 use std::os::fd::{AsRawFd, OwnedFd, RawFd};
 use std::process::{ChildStdin, ChildStdout, Processes};
 use std::snapshot::Snapshot;
-use ucspi_env::Environment;
 
 /// Stands for this process's own descriptor, which a program is given as it is.
 const INHERITED: RawFd = -1;

@@ -2,18 +2,16 @@
 ghost use Rattle.std.specs.Prelude.{◌≡◌, ◌↔◌, ◌⊎◌, ℕ, pos, IsSome, Some};
 ghost use Rattle.std.specs.Process.{exit_code, exit_signal};
 ghost use Rattle.std.specs.IoError.{error_kind, raw_os_error};
-ghost use Rattle.connection_facts.specs.declared.outcome.Status.TheVariants.{Code, Signal};
+ghost use Rattle.child_jobs.specs.declared.outcome.Status.TheVariants.{Code, Signal};
 ghost use Rattle.stream_tools.specs.Starts.{told_of};
 
 use crate::search::{SearchPath, put_path};
-use child_jobs::{Program, WaitFault};
-use connection_facts::{StartFault, Status};
+use child_jobs::{Environment, Program, StartFault, Status, WaitFault};
 use std::alloc::{AllocError, Global};
 use std::io::{Error, ErrorKind};
 use std::os::fd::RawFd;
 use std::os::unix::process::ExitStatusExt;
 use std::process::ExitStatus;
-use ucspi_env::Environment;
 
 /// A child of this process. It is neither waited for nor killed when it is let go.
 #[derive(Drop)]

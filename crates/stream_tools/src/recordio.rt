@@ -1,8 +1,8 @@
 //! `recordio`: a program both of whose streams are recorded.
 ghost use Rattle.std.specs.Prelude.{◌≡◌, ◌⊎◌, IfErr, IfOk, codes};
 ghost use Rattle.byte_streams.specs.declared.tap.Recorder.{Recorder};
-ghost use Rattle.connection_facts.specs.Peers.{given};
-ghost use Rattle.ucspi_env.specs.Variables.{value_of};
+ghost use Rattle.rule_lookup.specs.Peers.{given};
+ghost use Rattle.child_jobs.specs.Variables.{value_of};
 ghost use Rattle.byte_streams.specs.declared.wrappers.FixCr.{FixCr};
 ghost use Rattle.byte_streams.specs.declared.recording.Way.TheVariants.{Input, Output};
 ghost use Rattle.stream_tools.specs.Lanes.{Drained, Fed, IsNotStarted, IsRecording, IsRunOf};
@@ -11,13 +11,12 @@ ghost use Rattle.stream_tools.specs.declared.between.Lane.{Lane};
 
 use crate::between::{Between, BetweenFault, Lane, RunEnd, run_between};
 use byte_streams::{Chain, FixCr, LineWrapper, Recorder, Tap, Watch, Way};
-use child_jobs::{Job, Launcher, Program};
+use child_jobs::{Environment, Job, Launcher, Program};
 use server_words::number_in;
 use std::alloc::Global;
 use std::io::{Read, Write};
 use std::sync::Wait;
 use std::thread::Threads;
-use ucspi_env::Environment;
 
 /// `recordio`: runs a program between two streams, and records what goes by on two writers, with the number that is the peer's port among
 /// the variables.

@@ -3,11 +3,10 @@ ghost use Rattle.std.specs.Prelude.{◌≡◌, ℕ, Bool, List, [], false, drop,
 ghost use Rattle.stream_tools.specs.Entries.{bytes_found, path_among, texts_around, variable_in, variable_of, with_entries, with_found};
 ghost use Rattle.stream_tools.specs.Programs.{program_by, text_in, texts_of};
 
-use child_jobs::Program;
+use child_jobs::{Environment, Program};
 use std::alloc::{AllocError, Global};
 use std::env::FillError;
 use std::rt::Env;
-use ucspi_env::Environment;
 
 /// What a process is given when it is started.
 pub trait Given {

@@ -7,8 +7,7 @@ use crate::search::SearchPath;
 use crate::shared::SharedWriter;
 use crate::started::{SystemGiven, inherited_variables, program_of};
 use byte_streams::{Patient, Watch};
-use child_jobs::Program;
-use connection_facts::Status;
+use child_jobs::{Environment, Program, Status};
 use std::alloc::{AllocError, Global};
 use std::cell::Cell;
 use std::fs::Files;
@@ -22,7 +21,6 @@ use std::rt::Env;
 use std::sync::{Mutex, Wait};
 use std::thread::Threads;
 use std::time::Clock;
-use ucspi_env::Environment;
 
 /// The descriptor of standard input.
 const STANDARD_INPUT: RawFd = 0;

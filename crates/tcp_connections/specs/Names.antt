@@ -1,6 +1,6 @@
 -- Which names the ends of a connection have.
 use Rattle.std.specs.Prelude.{ℕ, Bool, not, ◌&&◌, List, Option, Some, None, option_map, string_bytes, if◌then◌else◌}
-use Rattle.ucspi_env.specs.Hosts.{Hosts, name_of, confirms}
+use Rattle.child_jobs.specs.Hosts.{Hosts, name_of, confirms}
 use Rattle.tcp_connections.specs.declared.names.HostNames.{HostNames}
 
 -- the name that a table has for an address, if there is a table

@@ -1,6 +1,6 @@
 -- Why a program was not started.
 use Rattle.std.specs.Prelude.{◌≡◌}
-use Rattle.connection_facts.specs.declared.outcome.StartFault.{StartFault}
+use Rattle.child_jobs.specs.declared.outcome.StartFault.{StartFault}
 use Rattle.stream_tools.specs.declared.process.NotStarted.{NotStarted}
 
 -- the fault that a launcher answers if its starter refused the program in some way

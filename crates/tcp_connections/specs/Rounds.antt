@@ -1,7 +1,7 @@
 -- How a child is waited for.
 use Rattle.std.specs.Prelude.{◌≡◌, ◌⊎◌, ◌∷◌, [], Bool, true, false, List, Result}
 use Rattle.child_jobs.specs.declared.launch.WaitFault.{WaitFault}
-use Rattle.connection_facts.specs.declared.outcome.Status.{Status}
+use Rattle.child_jobs.specs.declared.outcome.Status.{Status}
 
 -- what a job says of a kill, of a wait that failed, and of how its program ended
 abbrev pub Kills : Type 0 → Type 1

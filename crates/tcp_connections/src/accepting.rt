@@ -1,10 +1,10 @@
 //! Where connections come from.
 ghost use Rattle.std.specs.Prelude.{◌≡◌, ◌+◌, ℕ, ℤ, Option, OnErr, Bool, IsTrue};
 
+use child_jobs::Local;
 use std::io::{Read, Write};
 use std::time::Duration;
 use thiserror::Error;
-use ucspi_env::Local;
 
 /// Why no connection was given.
 #[derive(Clone, Copy, PartialEq, Eq, Debug, Error)]

@@ -1,12 +1,12 @@
 //! The names of the two ends of a connection.
 ghost use Rattle.std.specs.Prelude.{◌≡◌, None, IfOk, map, option_map};
 ghost use Rattle.std.specs.Char.{to_ascii_lowercase};
-ghost use Rattle.connection_facts.specs.Peers.{given};
+ghost use Rattle.rule_lookup.specs.Peers.{given};
 ghost use Rattle.tcp_connections.specs.Names.{client_name, local_name};
 
-use connection_facts::Peer;
+use child_jobs::{HostTable, Local};
+use rule_lookup::Peer;
 use std::alloc::{AllocError, Global};
-use ucspi_env::{HostTable, Local};
 
 /// How the ends of a connection get their names (the page of `tcpserver`: `-h`, `-H`, `-l`, `-p`, `-P`).
 #[derive(Drop)]

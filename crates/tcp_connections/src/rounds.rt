@@ -3,8 +3,7 @@ ghost use Rattle.std.specs.Prelude.{◌≡◌, IfOk, IfErr, OnErr, true};
 ghost use Rattle.child_jobs.specs.Runs.{IsSameRun, job_of, place_of};
 ghost use Rattle.tcp_connections.specs.Rounds.{AllFail, IsReady, OneEnds, RoundEnds, RoundFails, rounds};
 
-use child_jobs::{Job, Place, Running, finish};
-use connection_facts::Status;
+use child_jobs::{Job, Place, Running, Status, finish};
 use std::sync::ledger::Ledger;
 
 /// Waits for a child in up to three rounds. It is killed before the second and the third, and under `by_force` before

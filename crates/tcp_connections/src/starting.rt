@@ -2,14 +2,12 @@
 ghost use Rattle.std.specs.Prelude.{◌≡◌, IfOk, IfErr};
 ghost use Rattle.child_jobs.specs.Programs.{ProgramText};
 ghost use Rattle.stream_tools.specs.declared.process.NotStarted.{NotStarted as Refusal};
-ghost use Rattle.ucspi_env.specs.Variables.{Variables};
+ghost use Rattle.child_jobs.specs.Variables.{Variables};
 
-use child_jobs::{Job, Launcher, Program};
-use connection_facts::StartFault;
+use child_jobs::{Environment, Job, Launcher, Program, StartFault};
 use std::alloc::Global;
 use std::sync::{Arc, Mutex, Wait};
 use stream_tools::NotStarted;
-use ucspi_env::Environment;
 
 /// Where the wait for a program notes the signal that ended it.
 pub type SignalNote = Arc<Mutex<Option<u32>>, Global>;

@@ -31,16 +31,6 @@ pub struct Memory {
 }
 
 impl Supply {
-    /// Without limits.
-    pub fn unlimited() -> Supply {
-        Supply {
-            descriptors: u64::MAX,
-            to_begin: 0,
-            to_go_on: 0,
-            memory: None,
-        }
-    }
-
     // How many connections may be at once whose child does not run yet.
     pub(crate) fn at_once(&self) -> u64 {
         match self.memory {

@@ -1,7 +1,7 @@
 -- What the two callers of a site made.
 use Rattle.std.proofs.Common.{◌≡◌, ◌≢◌, ◌+◌, ◌-◌, ◌^◌, ◌++◌, ◌∷◌, [], ℕ, List, ap, ◌∙◌, arith}
 use Rattle.std.proofs.lemmas.List.Sums.{sum_by-append}
-use Rattle.event_journals.specs.Journals.{one_more}
+use Rattle.server_events.specs.Journals.{one_more}
 use Rattle.server_events.specs.declared.event.Event.{Event}
 use Rattle.shared_site.specs.Receipts.{made_event, receipt_after, receipt_of}
 use Rattle.shared_site.specs.declared.receipt.Made.{Made}

@@ -5,21 +5,21 @@ use mathlib.Core.Logic.{∥∥₁_map}
 use Rattle.child_jobs.specs.Plans.{PlanText}
 use Rattle.child_jobs.specs.Programs.{ProgramText}
 use Rattle.child_jobs.specs.Runs.{IsSameChild}
-use Rattle.connection_facts.specs.Peers.{Client}
-use Rattle.connection_facts.specs.declared.outcome.DropCause.{DropCause}
-use Rattle.connection_facts.specs.declared.outcome.DropCause.TheVariants as cause
-use Rattle.connection_facts.specs.declared.outcome.StartFault.{StartFault}
-use Rattle.connection_facts.specs.declared.outcome.Status.{Status}
+use Rattle.rule_lookup.specs.Peers.{Client}
+use Rattle.child_jobs.specs.declared.outcome.DropCause.{DropCause}
+use Rattle.child_jobs.specs.declared.outcome.DropCause.TheVariants as cause
+use Rattle.child_jobs.specs.declared.outcome.StartFault.{StartFault}
+use Rattle.child_jobs.specs.declared.outcome.Status.{Status}
 use Rattle.server_events.specs.declared.event.Event.{Event}
 use Rattle.server_events.specs.declared.event.Event.TheVariants.{Dropped, Ended, Retired, StartFailed}
 use Rattle.one_connection.specs.Openings.{Opening, WasFound}
 use Rattle.one_connection.specs.Servings.{Drops, FailsFor, IfDropped, IfStartFailed, IsChild, IsDecidedAs, IsRefused, OnDenied, last_event}
 use Rattle.one_connection.specs.declared.serving.Served.{Served}
 use Rattle.rule_lines.specs.declared.instr.Verdict.TheVariants.{Deny}
-use Rattle.ucspi_env.specs.Ends.{LocalEnd}
+use Rattle.child_jobs.specs.Ends.{LocalEnd}
 use Rattle.tcp_connections.specs.Rounds.{AllFail, EndsAs, FailsToWait, Kills, OneEnds, rounds}
 use Rattle.tcp_service.specs.Lives.{EndsWithReason, IsDecidedChild, IsEndOfChild, IsEndedByForce, IsOwnChild, OfSameChild, Refuses}
-use Rattle.ucspi_env.specs.Variables.{Variables}
+use Rattle.child_jobs.specs.Variables.{Variables}
 
 -- by how the waits for it went, and what was told of that to an agent of the same connection
 pub end_told : {P C J : Type 0} (waited : Result (P × Status) C) (kills : Kills J) (fails : FailsToWait J) (ends : EndsAs J)

@@ -3,10 +3,10 @@ use Rattle.std.specs.Prelude.{◌≡◌, ◌⊎◌, ◌-◌, ◌^◌, ℕ, Bool,
 use Rattle.child_jobs.specs.Plans.{PlanText}
 use Rattle.child_jobs.specs.Programs.{ProgramText}
 use Rattle.child_jobs.specs.Runs.{IsSameChild}
-use Rattle.connection_facts.specs.Peers.{Client}
-use Rattle.connection_facts.specs.declared.outcome.DropCause.TheVariants as cause
-use Rattle.connection_facts.specs.declared.outcome.StartFault.{StartFault}
-use Rattle.connection_facts.specs.declared.outcome.Status.{Status}
+use Rattle.rule_lookup.specs.Peers.{Client}
+use Rattle.child_jobs.specs.declared.outcome.DropCause.TheVariants as cause
+use Rattle.child_jobs.specs.declared.outcome.StartFault.{StartFault}
+use Rattle.child_jobs.specs.declared.outcome.Status.{Status}
 use Rattle.one_connection.specs.Openings.{Opening, WasFound}
 use Rattle.one_connection.specs.Servings.{Drops, FailsFor, IsChild, IsDecidedAs, IsRefused}
 use Rattle.rule_lines.specs.declared.instr.Verdict.TheVariants.{Deny}
@@ -20,8 +20,8 @@ use Rattle.tcp_connections.specs.declared.admission.AdmitOutcome.TheVariants.{In
 use Rattle.stream_tools.specs.declared.process.NotStarted.{NotStarted}
 use Rattle.tcp_connections.specs.Refusals.{RefusesBy}
 use Rattle.tcp_connections.specs.Rounds.{AllFail, EndsAs, FailsToWait, Kills, OneEnds, rounds}
-use Rattle.ucspi_env.specs.Ends.{LocalEnd}
-use Rattle.ucspi_env.specs.Variables.{Variables}
+use Rattle.child_jobs.specs.Ends.{LocalEnd}
+use Rattle.child_jobs.specs.Variables.{Variables}
 
 -- where a client is let in, the event that was made is the admission of it, by the serial that it has
 abbrev pub AdmitsOwn : {P E : Type 0} → AdmitOutcome (ℕ × P × Made) E → Client → Type 0

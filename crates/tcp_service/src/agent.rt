@@ -8,10 +8,9 @@ use crate::reasons::{Reason, cause_of_absence, cause_of_damage};
 use crate::server::Server;
 use crate::telling::Telling;
 use byte_text::words_of_error;
-use child_jobs::{Job, Place, Running};
-use connection_facts::{DropCause, Peer, StartFault, Status};
+use child_jobs::{DropCause, Job, Local, Place, Running, StartFault, Status};
 use one_connection::{Agent, cause_of_open, decide_by_pass};
-use rule_lookup::{DecideFault, Decision};
+use rule_lookup::{DecideFault, Decision, Peer};
 use server_log::{Cause, Told};
 use server_yard::{Finding, Pass};
 use shared_site::turns::{Decided, Dropped, Ended, Opened, Retired, StartFailed, Started};
@@ -19,7 +18,6 @@ use shared_site::{Ground, Made, OutOfTurn, Turn};
 use std::alloc::Global;
 use std::snapshot::Snapshot;
 use tcp_connections::Notes;
-use ucspi_env::Local;
 
 /// What a connection found when it opened the rules, if it came to that.
 pub(crate) type FoundBy<H> = Option<Snapshot<Pass<<H as Ground>::Places, <H as Ground>::File>>>;
@@ -355,5 +353,6 @@ impl<H: Host> Agent<H::Places> for LoggedAgent<'_, H> {
             cause,
         };
         self.last = Some(self.tell(turn, told));
+        drop(reason);
     }
 }

@@ -13,14 +13,14 @@ use crate::life::Admitted;
 use crate::pumping::ClientStreams;
 use crate::server::Server;
 use crate::telling::{AdmittedBy, TellingAdmission};
-use connection_facts::{DropCause, Peer};
+use child_jobs::{DropCause, Local};
+use rule_lookup::Peer;
 use server_yard::{AdmitFault, Assumptions};
 use shared_site::turns::Dropped;
 use shared_site::{AllRetired, CallerOf, Made, Refusal};
 use std::alloc::AllocError;
 use std::snapshot::Snapshot;
 use tcp_connections::{AcceptFault, Acceptor, Admission, AdmitOutcome};
-use ucspi_env::Local;
 
 /// Why a connection was refused.
 #[derive(Drop)]

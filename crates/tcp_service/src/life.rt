@@ -14,13 +14,12 @@ use crate::over::Over;
 use crate::pumping::{ClientStreams, Downward, Upward};
 use crate::server::Server;
 use crate::service::Chains;
-use child_jobs::{Place, Running};
-use connection_facts::{DropCause, Peer};
+use child_jobs::{DropCause, Local, Place, Running};
 use one_connection::{Agent, Served, serve_one};
+use rule_lookup::Peer;
 use shared_site::{Ground, Made};
 use std::snapshot::Snapshot;
 use tcp_connections::{ConnectionLauncher, Notes, Process, Shut, wait_in_rounds};
-use ucspi_env::Local;
 
 /// A connection that was let in and whose program was not started yet: the right to what comes next. It is made of what
 /// its admission gave, whose event was of its serial number and its client (`own`). It is served, or given up.
@@ -210,7 +209,9 @@ impl<'a, H: Host> Admitted<'a, H> {
             made: _,
         } = self;
         let over = server.give_up(serial, place, &peer, &local, cause);
-        streams.shut.shut();
+        streams.end();
+        drop(local);
+        drop(peer);
         over
     }
 
@@ -218,9 +219,10 @@ impl<'a, H: Host> Admitted<'a, H> {
     fn serve(self) -> Result<(Started<'a, H>, ClientStreams<H>), Over>
         ensures own { IfOk result (λ started. (started.0.alive.serial ≡ self.entry.serial)
             × (place_of started.0.alive.running ≡ self.entry.place)) }
-        ensures ends { IfOk result (λ started. (started.0.peer.value ≡ self.entry.peer)
-            × (started.0.alive.local ≡ self.entry.local)) }
-        ensures server { IfOk result (λ started. started.0.alive.server ≡ self.entry.server) }
+        ensures child { IfOk result (λ started. IsDecidedChild
+            (IsFoundFor H.Places.met (H.Rules.gives self.entry.server.now.rules.now) H.Handle.opened self.entry.serial)
+            H.File.honest H.File.sound self.entry.peer self.entry.local self.entry.server.now.plan.now
+            (H.Job.program (job_of started.0.alive.running)) (H.Job.environment (job_of started.0.alive.running))) }
         ensures over { IfErr result (λ over. over.serial ≡ self.entry.serial) }
         ensures reason { IfErr result (λ over. EndsWithReason
             (IsFoundFor H.Places.met (H.Rules.gives self.entry.server.now.rules.now) H.Handle.opened self.entry.serial)
@@ -247,11 +249,15 @@ impl<'a, H: Host> Admitted<'a, H> {
                     process,
                     downward: None,
                 };
-                let peer = Snapshot::of(&peer);
+                let kept = Snapshot::of(&peer);
+                drop(peer);
+                let peer = kept;
                 Ok((Started { alive, peer, found }, streams))
             }
             Err(over) => {
-                streams.shut.shut();
+                streams.end();
+                drop(local);
+                drop(peer);
                 Err(over)
             }
         }

@@ -3,8 +3,8 @@ ghost use Rattle.std.specs.Prelude.{ℕ, List, Option, IfOk};
 ghost use Rattle.std.specs.Option.{option_map};
 ghost use Rattle.server_yard.specs.Passes.{finding_file};
 
-use connection_facts::Peer;
 use dir_calls::{DirFault, RulesFile};
+use rule_lookup::Peer;
 use server_yard::{Assumptions, Finding};
 use std::alloc::{AllocError, Global};
 

@@ -6,7 +6,7 @@ use byte_streams::{Chain, NoTap, Recorder, Tap, Way, pump};
 use server_log::Log;
 use std::alloc::Global;
 use stream_tools::SharedWriter;
-use tcp_connections::{Follow, Patience};
+use tcp_connections::{Follow, Patience, Shut};
 
 /// How many reads a pump makes at most.
 const MOST_READS: u64 = 1 << 40;
@@ -33,6 +33,19 @@ impl<H: Host> ClientStreams<H> {
             writer: accepted.writer,
             shut: accepted.shut,
         }
+    }
+
+    /// Ends the connection both ways, and lets its streams go.
+    pub(crate) fn end(self) {
+        let ClientStreams {
+            port: _,
+            reader,
+            writer,
+            shut,
+        } = self;
+        shut.shut();
+        drop(reader);
+        drop(writer);
     }
 
     /// Both ways between the client and the pipe ends of its program, through these line wrappers.

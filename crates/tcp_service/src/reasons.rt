@@ -1,5 +1,5 @@
 //! What the log tells of why a connection was denied or given up.
-use connection_facts::DropCause;
+use child_jobs::DropCause;
 use rule_lines::Verdict;
 use rule_lookup::{Decision, Found};
 use server_log::Cause;

@@ -10,7 +10,7 @@ use crate::host::Host;
 use crate::server::Server;
 use crate::service::Service;
 use child_jobs::Plan;
-use event_journals::Journal;
+use server_events::Journal;
 use server_log::Log;
 use shared_site::{Caller, CallerOf, Callers, Site, YardOf};
 use std::alloc::Global;

@@ -5,7 +5,7 @@ ghost use Rattle.shared_site.specs.Turns.{told_if_admitted};
 
 use crate::host::Host;
 use child_jobs::Place;
-use connection_facts::Peer;
+use rule_lookup::Peer;
 use server_log::{Log, Told};
 use server_yard::AdmitFault;
 use shared_site::turns::Admit;

@@ -1,9 +1,25 @@
-//! The small programs of the tests, as one program.
+//! The small programs of the tests, as one program. The name by which it is called says which one runs. By any other
+//! name it does nothing.
 //!
-//! Each program of its own would be proved, linked and compiled with all that stands below it. The name by which this
-//! one is called says which crate makes the calls. By any other name it does nothing.
+//! - `test_folders` takes the path of a folder, and makes the calls of it that the standard input asks for
+//! - `test_installs` takes the number of a call, and installs rules in a directory in memory where that call fails
+//! - `test_pairs` takes a limit, and makes a compiled file of the pairs on the standard input
+//! - `test_server` serves connections of its own, or tells a log, as its words say
+//! - `test_sites` runs eight callers of one site, and says what their receipts come to
 #![tactic(auto)]
 
+mod calls;
+mod children;
+mod eight_threads;
+mod folder;
+mod installs;
+mod pairs;
+mod sites;
+
+use eight_threads::eight_callers_in_threads;
+use folder::run_folder;
+use installs::run_installs;
+use pairs::run_pairs;
 use std::fs::Files;
 use std::io::Read;
 use std::os::unix::fs::FileExt;
@@ -12,7 +28,7 @@ use std::sync::Wait;
 use std::thread::Threads;
 use std::time::Clock;
 use std::{env, io};
-use test_parts::Answer;
+use test_server::Answer;
 
 /// What stands behind the last slash of a path, or all of a path without one.
 fn last_part(path: &str) -> &str {
@@ -22,7 +38,20 @@ fn last_part(path: &str) -> &str {
     }
 }
 
-/// Makes the calls of the crate with this name that the words and the standard input ask for.
+/// Adds what the report of eight callers says, if their receipts are the whole history.
+fn run_sites<R: AllocGlobal + Threads + Wait + Sync>(rt: &R, out: &mut Answer) {
+    match eight_callers_in_threads(rt) {
+        Ok(report) => {
+            out.text("admitted ");
+            out.show(&report.admitted);
+            out.text(" live ");
+            out.show_line(&report.live);
+        }
+        Err(_) => out.fail(),
+    }
+}
+
+/// Runs the program with this name, with its words and its standard input.
 fn call<R: AllocGlobal + Files + Threads + Wait + Clock + Sync>(
     rt: &R,
     name: &str,
@@ -33,18 +62,21 @@ fn call<R: AllocGlobal + Files + Threads + Wait + Clock + Sync>(
 where
     R::File: FileExt,
 {
-    let alloc = rt.alloc();
+    let word = match words.first() {
+        Some(word) => word.as_str(),
+        None => "",
+    };
     match name {
-        "test_calls" => test_calls::run(alloc, words, given, out),
-        "test_disks" => test_disks::run(rt, alloc, words, given, out),
-        "test_server" => test_server::run(rt, alloc, words, out),
-        "test_texts" => test_texts::run(alloc, words, given, out),
-        "test_yards" => test_yards::run(alloc, words, given, out),
+        "test_folders" => run_folder(rt, rt.alloc(), word, given, out),
+        "test_installs" => run_installs(rt.alloc(), word, out),
+        "test_pairs" => run_pairs(rt.alloc(), word, given, out),
+        "test_server" => test_server::run(rt, rt.alloc(), words, out),
+        "test_sites" => run_sites(rt, out),
         _ => {}
     }
 }
 
-/// Makes the calls, and prints what they answer.
+/// Runs a program, and prints what it answers.
 fn run<R: Input + Print + AllocGlobal + Files + Threads + Wait + Clock + Sync>(
     rt: &R,
     path: &str,

@@ -1,8 +1,8 @@
 //! A program between two pumps.
+use crate::answer::Answer;
 use crate::scripts::{ScriptedJob, Scripts, ServedTally};
 use byte_streams::{Chain, FixCr, NoTap};
-use child_jobs::Program;
-use connection_facts::Status;
+use child_jobs::{Environment, Program, Status};
 use std::alloc::Global;
 use std::marker::PhantomData;
 use std::sync::atomic::Ordering;
@@ -10,8 +10,6 @@ use std::sync::{Mutex, Wait};
 use std::thread::Threads;
 use std::time::Clock;
 use stream_tools::{Between, BetweenFault, Lane, SharedWriter, run_between};
-use test_parts::Answer;
-use ucspi_env::Environment;
 
 /// What the program is sent.
 const SENT: &[u8] = b"down\n.\n";

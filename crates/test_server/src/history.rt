@@ -1,6 +1,7 @@
 //! The history of a server, a line for each event.
-use event_journals::Full;
-use test_parts::{Answer, add_event};
+use crate::answer::Answer;
+use crate::events::add_event;
+use server_events::Full;
 
 /// A journal that lists its events.
 pub trait Lists {

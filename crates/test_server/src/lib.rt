@@ -1,4 +1,6 @@
-//! Serves connections by clients and jobs of its own, runs such a job between two pumps, or tells a log of events, and
+//! A server with clients and jobs of its own, and what the small programs of the tests print.
+//!
+//! It serves connections by clients and jobs of its own, runs such a job between two pumps, or tells a log of events, and
 //! adds what came of it. Without words it does nothing.
 //!
 //! - `serve` takes a limit, how many connections find no memory, how many come then, how many are let in before the
@@ -8,12 +10,15 @@
 //! - `log` takes a level, how many bytes can be written, and a voice
 #![tactic(auto)]
 
+pub mod answer;
 mod between;
+mod events;
 mod history;
 mod log_lines;
 mod scripts;
 mod served;
 
+pub use answer::Answer;
 use between::add_between;
 use log_lines::add_log;
 use served::{Asked, add_served};
@@ -21,7 +26,6 @@ use std::alloc::Global;
 use std::sync::Wait;
 use std::thread::Threads;
 use std::time::Clock;
-use test_parts::Answer;
 
 /// The greatest limit.
 const MOST: u64 = 10_000;

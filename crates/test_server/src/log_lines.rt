@@ -1,13 +1,13 @@
 //! The lines of the log of each event.
-use connection_facts::{DropCause, Peer, PeerFault, StartFault, Status};
+use crate::answer::Answer;
+use child_jobs::{DropCause, Local, StartFault, Status};
 use fault_hints::Voice;
 use rule_lines::Verdict;
+use rule_lookup::{Peer, PeerFault};
 use server_log::{Cause, Log, LogFault, Told};
 use server_words::Level;
 use std::alloc::Global;
 use std::io::Write;
-use test_parts::Answer;
-use ucspi_env::Local;
 
 /// The level with a name; silence has none.
 fn level_of(name: &str) -> Level {

@@ -1,8 +1,9 @@
 //! Connections and jobs that answer as they are told.
 ghost use Rattle.std.specs.Prelude.{None, is_some, true, ⊤};
 
-use child_jobs::{Job, Launcher, NoEnds, Program, WaitFault};
-use connection_facts::{StartFault, Status};
+use child_jobs::{
+    Environment, Job, Launcher, Local, NoEnds, Program, StartFault, Status, WaitFault,
+};
 use std::alloc::Global;
 use std::io::{Empty, Write};
 use std::snapshot::Snapshot;
@@ -12,7 +13,6 @@ use std::time::{Clock, Duration};
 use std::{io, thread};
 use stream_tools::SharedWriter;
 use tcp_service::{AcceptFault, Accepted, Acceptor, Follow, NotStarted, Patience, Shut, Starter};
-use ucspi_env::{Environment, Local};
 
 /// How many milliseconds a job waits at most for another one's start.
 const PATIENCE: u64 = 10_000;

@@ -2,14 +2,15 @@
 ghost use Rattle.std.specs.Prelude.{◌≡◌, ◌<◌, true, false, IfOk, None, ⊤, vec_len};
 ghost use Rattle.shared_site.specs.Callers.{total_share};
 
+use crate::answer::Answer;
 use crate::history::Lists;
 use crate::scripts::{Clients, ScriptedJob, Scripts, ServedTally, Silent};
 use byte_streams::{Chain, FixCr};
-use child_jobs::{Plan, Program};
-use connection_facts::Peer;
+use child_jobs::{Environment, Plan, Program};
 use dir_calls::{Dir, DirFault, MemDir, MemFile};
-use event_journals::{Full, Journal};
 use fault_hints::Voice;
+use rule_lookup::Peer;
+use server_events::{Full, Journal};
 use server_words::Level;
 use server_yard::{Assumptions, Finding, Yard};
 use shared_site::{CallerOf, Callers, Ground, Site};
@@ -27,8 +28,6 @@ use tcp_service::{
     ChainSource, Chains, ConnectionLimits, Host, HostNames, Log, Mode, Patience, Reserve, Rules,
     RulesHandle, ServeEnd, Service, Supply, serve,
 };
-use test_parts::Answer;
-use ucspi_env::Environment;
 
 /// What is asked of a server: its limits, and which connections come.
 #[derive(Clone, Copy)]
@@ -310,7 +309,12 @@ fn service(asked: Asked) -> Service {
             all: Duration::from_secs(600),
         },
         recording: false,
-        supply: Supply::unlimited(),
+        supply: Supply {
+            descriptors: u64::MAX,
+            to_begin: 0,
+            to_go_on: 0,
+            memory: None,
+        },
         reserve: Reserve::new(),
     }
 }

@@ -16,7 +16,11 @@ use system::run_system;
 
 fn main(rt: HostRuntime) -> ExitCode {
     let serve = |voice: Voice, words: &[Vec<u8>], causes: &mut Vec<u8>| {
-        run_tcpserver(&rt, Patient::new(&rt, rt.stderr()), words, voice, causes)
+        let errors = Patient::new(&rt, rt.stderr());
+        match run_tcpserver(&rt, errors, words, voice, causes) {
+            Ok(_finished) => Ok(()),
+            Err(fault) => Err(fault),
+        }
     };
     let pass = |recorded: bool, words: &[Vec<u8>], error: &mut Option<i32>| {
         if recorded {

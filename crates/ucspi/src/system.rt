@@ -3,7 +3,7 @@ ghost use Rattle.ucspi_tools.specs.Runs.{IsWritten, telling};
 
 use byte_streams::Patient;
 use byte_text::NotingStream;
-use connection_facts::Status;
+use child_jobs::Status;
 use fault_hints::{KeepingReader, Voice};
 use rules_tools::{
     CheckFailure, ReviewFault, RulesFailure, SystemFolders, SystemVariables, TcprulesFault,

@@ -1,7 +1,7 @@
 -- With which code a run of a tool exits.
 use Rattle.std.specs.Prelude.{ℕ, Bool, ◌&&◌, Result, Ok, Err, if◌then◌else◌}
-use Rattle.connection_facts.specs.declared.outcome.Status.{Status}
-use Rattle.connection_facts.specs.declared.outcome.Status.TheVariants.{Code, Signal}
+use Rattle.child_jobs.specs.declared.outcome.Status.{Status}
+use Rattle.child_jobs.specs.declared.outcome.Status.TheVariants.{Code, Signal}
 use Rattle.rules_tools.specs.declared.review.ReviewFault.{ReviewFault}
 use Rattle.rules_tools.specs.declared.review.ReviewFault.TheVariants as review
 use Rattle.rules_tools.specs.declared.tcprules.TcprulesFault.{TcprulesFault}

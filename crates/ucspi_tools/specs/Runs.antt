@@ -3,7 +3,7 @@ use Rattle.std.specs.Prelude.{◌≡◌, ◌⊎◌, ℕ, ℤ, Bool, List, [], Op
 use Rattle.std.specs.Io.KnownBytes.{Appends}
 use Rattle.std.specs.declared.io.Error.{Error}
 use Rattle.byte_streams.specs.Wrapped.{added, deleted}
-use Rattle.connection_facts.specs.declared.outcome.Status.{Status}
+use Rattle.child_jobs.specs.declared.outcome.Status.{Status}
 use Rattle.fault_hints.specs.declared.voice.Detail.{Detail}
 use Rattle.fault_hints.specs.declared.voice.Voice.{Voice}
 use Rattle.rules_tools.specs.declared.review.ReviewFault.{ReviewFault}

@@ -3,7 +3,7 @@ ghost use Rattle.stream_tools.specs.Programs.{texts_of};
 ghost use Rattle.ucspi_tools.specs.Runs.{Lent};
 
 use crate::fault::ToolFault;
-use connection_facts::Status;
+use child_jobs::Status;
 use fault_hints::Voice;
 use rules_tools::{CheckFailure, ReviewFault, RulesFailure};
 use script_tool::SimFault;

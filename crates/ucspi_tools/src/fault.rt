@@ -5,7 +5,7 @@ ghost use Rattle.ucspi_tools.specs.Causes.{TellsLines, hint_of};
 ghost use Rattle.ucspi_tools.specs.Exits.{check_exit, end_code, exit_of, review_exit, rules_exit, script_exit, server_exit, status_exit, warned_exit};
 
 use crate::tool::Tool;
-use connection_facts::Status;
+use child_jobs::Status;
 use fault_hints::Detail;
 use rules_tools::{CheckFault, ReviewFault, TcprulesFault};
 use script_tool::SimFault;

@@ -6,7 +6,7 @@ use Rattle.std.proofs.lemmas.Bool.{cases_order}
 use Rattle.std.proofs.lemmas.Bool.Decides.{nat_tests}
 use Rattle.std.proofs.lemmas.List.{length-take-le, take-take}
 use Rattle.std.proofs.lemmas.Option.{get_or_from_slice_get, none-some, same_Some, slice_get-get_or, slice_get_within}
-use Rattle.event_journals.specs.declared.journal.Noted.{Noted}
+use Rattle.server_events.specs.declared.journal.Noted.{Noted}
 use Rattle.whole_yard.specs.Audits.{AreOthersUpTo, AreRight, AreRightBefore, IsAbove, Rise, StandsAtItsPosition, note_at, note_of}
 use Rattle.shared_site.specs.declared.receipt.Receipt.{Receipt}
 use Rattle.whole_yard.proofs.Placed.{all_placed, placed_from}

@@ -1,7 +1,7 @@
 -- What a call of a yard keeps and makes, after its caller spoke.
 use Rattle.std.proofs.Common.{◌≡◌, ◌<◌, ◌-◌, ◌^◌, ◌==◌, ℕ, refl, ap, subst, sym, ◌∙◌}
 use Rattle.std.specs.Prelude.{IfSome, None, Option, Result, Some, if◌then◌else◌, is_some, option_map}
-use Rattle.event_journals.specs.Journals.{one_more}
+use Rattle.server_events.specs.Journals.{one_more}
 use Rattle.rules_install.specs.Installing.{Installing}
 use Rattle.rules_install.specs.declared.Phase.{Phase}
 use Rattle.rules_install.specs.declared.fault.InstallFault.{InstallFault}

@@ -1,7 +1,7 @@
 -- Where a connection stands after it went on.
 use Rattle.std.proofs.Common.{ap, refl, ◌∙◌}
 use Rattle.std.specs.Prelude.{◌≡◌, ℕ, Option, Some, None, is_some, option_map}
-use Rattle.connection_facts.specs.Peers.{Client}
+use Rattle.rule_lookup.specs.Peers.{Client}
 use Rattle.server_events.specs.ServerState.{ServerState, stage_of, with_stage}
 use Rattle.server_events.specs.Worlds.{peer_of}
 use Rattle.server_events.specs.declared.event.Stage.{Stage}

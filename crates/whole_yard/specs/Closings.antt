@@ -1,6 +1,6 @@
 -- Receipts that are not the whole history.
 use Rattle.std.specs.Prelude.{◌≢◌, List, length}
-use Rattle.event_journals.specs.declared.journal.Noted.{Noted}
+use Rattle.server_events.specs.declared.journal.Noted.{Noted}
 use Rattle.whole_yard.specs.declared.closing.NotWhole.{NotWhole}
 use Rattle.whole_yard.specs.Audits.{AreRight, IsFirstWrong}
 use Rattle.shared_site.specs.declared.receipt.Receipt.{Receipt}

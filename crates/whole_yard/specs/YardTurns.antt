@@ -1,6 +1,6 @@
 -- What turns answer by which a yard itself opens the rules, or makes a step of an installation.
 use Rattle.std.specs.Prelude.{◌≡◌, ◌+◌, ◌-◌, ◌^◌, ◌⊎◌, ℕ, Option, None, Some, Result, Err, IfErr, IfOk, IfSome, OnErr, option_map}
-use Rattle.event_journals.specs.Journals.{one_more}
+use Rattle.server_events.specs.Journals.{one_more}
 use Rattle.rules_install.specs.Installing.{Installing}
 use Rattle.rules_install.specs.Installs.{installing}
 use Rattle.rules_install.specs.declared.Phase.{Phase}

@@ -1,11 +1,11 @@
 //! The audit: receipts compared with the history.
 ghost use Rattle.std.specs.Prelude.{◌≡◌, ◌↔◌, ◌<◌, IsTrue, IfErr, OnOk, length};
-ghost use Rattle.event_journals.specs.Full.{full_events, full_notes};
+ghost use Rattle.server_events.specs.Full.{full_events, full_notes};
 ghost use Rattle.server_yard.specs.Yards.{yard_journal};
 ghost use Rattle.whole_yard.specs.Audits.{AreRight, AreRightBefore, IsAbove, IsFirstWrong, IsRight, Rise, StandsAtItsPosition};
 
 use dir_calls::Dir;
-use event_journals::{Full, is_same_event};
+use server_events::{Full, is_same_event};
 use server_yard::{Assumptions, Yard};
 use shared_site::Receipt;
 use thiserror::Error;

@@ -1,6 +1,6 @@
 //! The end of a site: its receipts are its whole history.
 ghost use Rattle.std.specs.Prelude.{◌≡◌, ◌≢◌, ◌+◌, ◌↔◌, Err, IsOk, IfOk, IfErr, IsPermutation, OnOk, length, map, vec_len};
-ghost use Rattle.event_journals.specs.Full.{full_notes};
+ghost use Rattle.server_events.specs.Full.{full_notes};
 ghost use Rattle.server_yard.specs.Yards.{yard_journal};
 ghost use Rattle.shared_site.specs.Callers.{total_share};
 ghost use Rattle.whole_yard.specs.Closings.{IsNotWhole};
@@ -10,7 +10,7 @@ ghost use Rattle.whole_yard.specs.Audits.{note_of};
 use crate::audit::{Mismatch, audit};
 use crate::laws::whole;
 use dir_calls::Dir;
-use event_journals::{Full, Journal};
+use server_events::{Full, Journal};
 use server_yard::{Assumptions, Yard};
 use shared_site::{CallerOf, Ground, Receipt, Site, YardOf};
 use thiserror::Error;

@@ -1,18 +1,13 @@
-//! Laws of receipts, and of the programs of a run.
-ghost use Rattle.std.specs.Prelude.{◌≡◌, ◌+◌, ℕ, Bool, List, Some, IsPermutation, drop, length, map, true};
-ghost use Rattle.child_jobs.specs.Plans.{PlanText};
-ghost use Rattle.child_jobs.specs.Programs.{ProgramText};
-ghost use Rattle.connection_facts.specs.Peers.{Client};
-ghost use Rattle.event_journals.specs.declared.journal.Noted.{Noted};
-ghost use Rattle.one_connection.specs.Servings.{IsChild};
-ghost use Rattle.rule_lookup.specs.declared.decision.Decision.{Decision as TheDecision};
+//! Laws of receipts, and of a run of the service.
+ghost use Rattle.std.specs.Prelude.{◌≡◌, ◌+◌, ℕ, List, IsPermutation, drop, length, map};
+ghost use Rattle.server_events.specs.Journals.{Books};
+ghost use Rattle.server_events.specs.declared.event.Event.{Event as TheEvent};
+ghost use Rattle.server_events.specs.declared.journal.Noted.{Noted};
 ghost use Rattle.rule_lookup.specs.declared.decision.WhenMissing.{WhenMissing as MissingFile};
-ghost use Rattle.server_events.specs.ServerState.{ServerState, decides};
-ghost use Rattle.server_events.specs.Worlds.{peer_of};
-ghost use Rattle.server_yard.specs.Runs.{Found, IsByFound};
-ghost use Rattle.ucspi_env.specs.Ends.{LocalEnd};
-ghost use Rattle.ucspi_env.specs.Variables.{Variables};
-ghost use Rattle.whole_yard.specs.Programs.{IsOfDecision, IsWhatWasFound};
+ghost use Rattle.server_events.specs.ServerState.{ServerState, start};
+ghost use Rattle.server_events.specs.Worlds.{World};
+ghost use Rattle.server_yard.specs.Runs.{AreByFound, BeginsRun, Found, InOrderOfFinding, IsRun};
+ghost use Rattle.whole_yard.specs.Programs.{KeepsHeadline};
 ghost use Rattle.whole_yard.specs.Audits.{AreOthersUpTo, AreRight, note_of};
 ghost use Rattle.shared_site.specs.declared.receipt.Receipt.{Receipt as TheReceipt};
 
@@ -24,15 +19,19 @@ pub fn whole()
         → IsPermutation (map note_of receipts) (drop before notes) }
 {}
 
-/// The program of a connection is the plan's, with the environment of that connection's decision in a run.
+/// A run of a server, beside installers in other processes and others, keeps the headline.
 ///
-/// By its type a program is that of a decision by what may be found (`IsChild`; in the server `IsDecidedChild`). If that
-/// is what this connection's opening found, and files are honest, it is the decision that the run has of the connection
-/// (`server_yard::laws::whole_run`), and it is to allow.
-pub fn decided_program()
-    ensures { (found : Found) (missing : MissingFile) (s : ServerState) (n : ℕ) (decision : TheDecision) (sound : Bool)
-        (peer : Client) (local : LocalEnd) (plan : PlanText) (program : ProgramText) (environment : Variables)
-        → IsByFound found missing s (decides n decision) → peer_of n s.connections ≡ Some peer
-        → IsChild (IsWhatWasFound found missing n) true sound peer local plan program environment
-        → IsOfDecision plan local peer decision program environment }
+/// What the turns of a server's site tell, one after another, is a run (`shared_site`: `Guarded::turn`: `runs_on`). By
+/// `server_yard::laws::whole_run` it is a history of the headline at each time, and each decision is by the text that
+/// stood there when its connection opened the rules. By its type a program that goes on is that of a decision by what
+/// may be found (`IsChild`; in the server `IsDecidedChild`). If that is what this connection's opening found, and files
+/// are honest, it is the plan's program with the environment of the decision that the run has, and that is to allow.
+///
+/// The premises are those of `whole_run`.
+pub fn service_run()
+    ensures { (books : Books) (server : ServerState) (events order : List TheEvent) (found : Found) (missing : MissingFile)
+        (w : World) → IsRun books server events
+        → AreByFound found missing (start server.limit server.per_address) events → InOrderOfFinding events order
+        → BeginsRun missing server.limit server.per_address w
+        → KeepsHeadline found missing server.limit server.per_address events order w }
 {}

@@ -2,8 +2,8 @@
 //!
 //! `YardAgent` is a yard as the agent of a connection. `serve_by_yard` ties the calls of `serve_one` over it to the
 //! headline. The turns `Open`, `InstallBegin` and `InstallStep` are a yard's calls that a server leaves to handles and
-//! other processes. `audit`, `audit_whole` and `close_and_audit` compare receipts with a history. `test_yards` and
-//! `test_sites` run all of these.
+//! other processes. `audit`, `audit_whole` and `close_and_audit` compare receipts with a history. `test_sites` runs the
+//! turns and an audit.
 #![tactic(auto)]
 
 pub mod audit;

@@ -4,13 +4,11 @@ ghost use Rattle.server_events.specs.declared.event.Stage.TheVariants as stage;
 ghost use Rattle.server_yard.specs.Yards.{serial_of};
 ghost use Rattle.whole_yard.specs.YardAgents.{StandsAt};
 
-use child_jobs::{Job, Place, Running};
-use connection_facts::{DropCause, Peer, StartFault};
+use child_jobs::{DropCause, Job, Place, Running, StartFault};
 use dir_calls::Dir;
-use event_journals::Journal;
 use one_connection::{Agent, cause_of_open, decide_by_pass};
-use rule_lookup::{DecideFault, Decision};
-use server_events::Stage;
+use rule_lookup::{DecideFault, Decision, Peer};
+use server_events::{Journal, Stage};
 use server_yard::{Assumptions, Pass, Yard};
 use std::alloc::Global;
 use std::snapshot::Snapshot;

@@ -10,15 +10,14 @@ ghost use Rattle.one_connection.specs.Servings.{IfRunning, UnlessRunning, last_e
 ghost use Rattle.whole_yard.specs.YardAgents.{GoesOnTo, IsGoneFrom, ServesTo, StandsAt};
 
 use crate::yard_agent::YardAgent;
-use child_jobs::{Launcher, Place, Plan};
-use connection_facts::Peer;
+use child_jobs::{Launcher, Local, Place, Plan};
 use dir_calls::Dir;
-use event_journals::Journal;
 use one_connection::{Served, serve_one};
+use rule_lookup::Peer;
+use server_events::Journal;
 use server_yard::Assumptions;
 use std::alloc::Global;
 use std::io::Write;
-use ucspi_env::Local;
 
 /// Serves a connection that a yard let in, up to the start of its child, as `serve_one` does. Over an honest directory
 /// its calls are those that serve one connection (`server_yard::laws::served`), and the last of them is the answer. So

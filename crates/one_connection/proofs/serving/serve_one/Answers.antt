@@ -2,8 +2,8 @@
 use Rattle.std.specs.Prelude.{ℕ, Bool, List, [], Option}
 use Rattle.std.specs.Io.KnownBytes.{Appends}
 use Rattle.std.proofs.Common.{inl, refl, rules, subst}
-use Rattle.connection_facts.specs.declared.outcome.DropCause.{DropCause}
-use Rattle.connection_facts.specs.declared.outcome.DropCause.TheVariants as cause
+use Rattle.child_jobs.specs.declared.outcome.DropCause.{DropCause}
+use Rattle.child_jobs.specs.declared.outcome.DropCause.TheVariants as cause
 use Rattle.server_events.specs.declared.event.Stage.TheVariants as stage
 use Rattle.one_connection.specs.Openings.{WasFound}
 use Rattle.one_connection.specs.Servings.{Drops, FailsFor, Greets, is_banner}

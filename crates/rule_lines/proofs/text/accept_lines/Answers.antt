@@ -1,8 +1,8 @@
 -- Line after line has no fault, or the first one that has is named.
-use Rattle.std.proofs.Common.{◌≡◌, ◌∙◌, ◌+◌, None, [], length, refl, sym, ap, subst, arith}
+use Rattle.std.proofs.Common.{◌≡◌, ◌∙◌, ◌+◌, [], sym, ap, subst, arith}
 use Rattle.std.proofs.lemmas.List.{nil_from_length}
 use Rattle.rule_lines.specs.Faults.{fault_in, first_faulty}
-use Rattle.rule_lines.specs.Lines.{has_byte, lines_of, trimmed}
+use Rattle.rule_lines.specs.Lines.{has_byte, lines_of}
 use Rattle.rule_lines.specs.RuleFaults.{IsPlain}
 use Rattle.rule_lines.proofs.KeepLemmas.{trimmed-part}
 use Rattle.rule_lines.proofs.ParseLemmas.{IsReadUpTo-more, IsReadUpTo-none, fault-read, trimmed-plain}

@@ -3,9 +3,9 @@ use Rattle.rule_lines.specs.Pairs.{pairs_of}
 use Rattle.rule_lines.proofs.KnownLemmas.{AreRules-accepted}
 use Rattle.rule_lookup.specs.Decisions.{decision_by}
 use Rattle.rule_lookup.proofs.ListedLemmas.{decision_by-listed}
-use Rattle.cdb_read.specs.Compiled.{stored}
-use Rattle.cdb_read.proofs.AnyKey.{reading_is}
-use Rattle.cdb_read.proofs.StoredRules.{first_value-stored}
+use Rattle.cdb_files.specs.Compiled.{stored}
+use Rattle.cdb_files.proofs.AnyKey.{reading_is}
+use Rattle.cdb_files.proofs.StoredRules.{first_value-stored}
 use Rattle.rules_install.proofs.laws.decides.Goals as goal
 
 pub returns : goal.returns

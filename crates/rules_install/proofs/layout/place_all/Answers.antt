@@ -2,8 +2,8 @@
 use Rattle.std.proofs.Common.{◌∙◌, List, length, slice_get, sym, ap, subst, arith}
 use Rattle.std.proofs.lemmas.Option.{slice_get_within}
 use Rattle.rule_lines.specs.Pairs.{Rule}
-use Rattle.cdb_write.specs.Format.{hash_of}
-use Rattle.cdb_write.specs.Tables.{AddsEntry}
+use Rattle.cdb_files.specs.Format.{hash_of}
+use Rattle.cdb_files.specs.Tables.{AddsEntry}
 use Rattle.rules_install.proofs.PieceLemmas.{past_from_none, stored-here, stored-none}
 use Rattle.rules_install.proofs.LayoutLemmas.{ArePlaced-more, placed-le, room-next}
 use Rattle.rules_install.proofs.layout.place_all.Goals as goal

@@ -1,7 +1,7 @@
 -- The entry is the hash of the rule's address, and the next position.
 use Rattle.std.proofs.Common.{ℕ, [], ◌∷◌, ◌++◌, ◌∙◌, ap, subst}
-use Rattle.cdb_write.specs.Format.{hash_of}
-use Rattle.cdb_write.specs.Tables.{HoldsByTable}
+use Rattle.cdb_files.specs.Format.{hash_of}
+use Rattle.cdb_files.specs.Tables.{HoldsByTable}
 use Rattle.rules_install.proofs.layout.place_record.Goals as goal
 
 pub returns-clause-tables : goal.returns-clause-tables

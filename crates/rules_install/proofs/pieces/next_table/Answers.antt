@@ -1,10 +1,10 @@
 use Rattle.std.proofs.Common.{◌≡◌, ◌≢◌, ℕ, ◌-◌, ◌+◌, List, [], ◌++◌, flat_map, length, refl, sym, ap, ◌∙◌, arith}
 use Rattle.std.specs.List.{range_with_len}
 use Rattle.std.proofs.lemmas.Bool.{eqb-false, eqb-true}
-use Rattle.cdb_write.specs.Format.{entries_of}
-use Rattle.cdb_write.specs.Image.{table_bytes}
-use Rattle.cdb_write.specs.Slots.{table_entries}
-use Rattle.cdb_read.specs.Compiled.{stored}
+use Rattle.cdb_files.specs.Format.{entries_of}
+use Rattle.cdb_files.specs.Image.{table_bytes}
+use Rattle.cdb_files.specs.Slots.{table_entries}
+use Rattle.cdb_files.specs.Compiled.{stored}
 use Rattle.rules_install.proofs.PieceLemmas.{parts-more, parts-past, table_bytes-none, table_bytes-some}
 use Rattle.rules_install.proofs.pieces.next_table.Goals as goal
 

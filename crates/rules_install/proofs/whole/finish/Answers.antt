@@ -2,8 +2,8 @@ use Rattle.std.proofs.Common.{◌≡◌, IsTrue, refl, sym, ◌∙◌, subst, ar
 use Rattle.std.proofs.lemmas.Result.{err_from_is_err_and}
 use Rattle.std.specs.Prelude.{Some}
 use denote.Enum.Bare.{differs_true, differs_false}
-use Rattle.cdb_write.specs.Written.{Written}
-use Rattle.cdb_read.specs.Compiled.{stored}
+use Rattle.cdb_files.specs.Written.{Written}
+use Rattle.cdb_files.specs.Compiled.{stored}
 use Rattle.dir_calls.specs.Lasting.{LastsAmong}
 use Rattle.rules_install.specs.Filled.{whole_file}
 use Rattle.rules_install.specs.Installing.{next_phase}

@@ -1,4 +1,4 @@
-use Rattle.std.proofs.Common.{◌≡◌, ℕ, List, refl, subst, inr}
+use Rattle.std.proofs.Common.{ℕ, List, subst, inr}
 use Rattle.rules_tools.specs.Paths.{folder_path}
 use Rattle.rules_tools.proofs.spelling.respelled.Goals as goal
 

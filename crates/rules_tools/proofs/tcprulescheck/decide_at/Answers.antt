@@ -2,8 +2,8 @@ use Rattle.std.proofs.Common.{◌≡◌, inl, inr, IsTrue, MatchOption, ℕ, Boo
 use Rattle.std.specs.Borrow.{Bor}
 use Rattle.std.specs.Option.{option_map, option_copied, IsSomeAnd}
 use Rattle.std.proofs.lemmas.Bool.{false≢true}
-use Rattle.cdb_read.specs.Reading.{reading}
-use Rattle.cdb_read.specs.Sources as cdb
+use Rattle.cdb_files.specs.Reading.{reading}
+use Rattle.cdb_files.specs.Sources as cdb
 use Rattle.rule_lines.specs.declared.code.CodeFault.{CodeFault}
 use Rattle.rule_lines.specs.declared.code.CodeFault.TheVariants.{NotCode}
 use Rattle.rule_lines.specs.declared.source.FindFault.{FindFault}
@@ -14,7 +14,7 @@ use Rattle.rule_lookup.specs.declared.decision.DecideFault.TheVariants.{Find, Co
 use Rattle.rule_lookup.specs.declared.decision.Decision.{Decision}
 use Rattle.rule_lookup.specs.declared.decision.WhenMissing.TheVariants.{Deny as DenyMissing}
 use Rattle.rule_lookup.specs.Decisions.{decision_from, finds_of, trust_of, DecisionFails}
-use Rattle.connection_facts.specs.Peers.{Client}
+use Rattle.rule_lookup.specs.Peers.{Client}
 use Rattle.rules_tools.specs.declared.tcprulescheck.CheckFault.TheVariants.{Damaged}
 use Rattle.rules_tools.specs.Checks.{FailsBy}
 use Rattle.rules_tools.proofs.tcprulescheck.decide_at.Goals as goal

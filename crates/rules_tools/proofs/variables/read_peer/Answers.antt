@@ -1,6 +1,6 @@
 use Rattle.std.proofs.Common.{codes, ◌∙◌}
 use Rattle.std.specs.Prelude.{Some}
-use Rattle.connection_facts.specs.Peers.{given}
+use Rattle.rule_lookup.specs.Peers.{given}
 use Rattle.rules_tools.specs.Clients.{address_told, client_by, known}
 use Rattle.rules_tools.proofs.ClientLemmas.{refused_peer, same_client, told_peer}
 use Rattle.rules_tools.proofs.variables.read_peer.Goals as goal

@@ -1,5 +1,5 @@
 use Rattle.std.proofs.Common.{◌≡◌, true, Some, is_some, sym, ap, ◌∙◌}
-use Rattle.connection_facts.specs.Peers.{may_be_name}
+use Rattle.rule_lookup.specs.Peers.{may_be_name}
 use Rattle.script_words.proofs.ScriptLemmas.{peer_of-made, peer_of-no_address}
 use Rattle.script_words.proofs.script.make_peer.Goals as goal
 

@@ -1,6 +1,6 @@
 use Rattle.std.proofs.Common.{◌≡◌, ◌++◌, codes, decimal}
 use Rattle.std.specs.Net.Text.{ipv4_text}
-use Rattle.connection_facts.specs.Peers.{given}
+use Rattle.rule_lookup.specs.Peers.{given}
 use Rattle.server_log.specs.Lines.{field, remote_text}
 use Rattle.byte_text.proofs.Appends.{first, next, last, renamed}
 use Rattle.byte_text.proofs.CutParts.{cut_first, cut_later}

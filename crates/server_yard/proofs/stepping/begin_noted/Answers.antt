@@ -2,7 +2,7 @@ use Rattle.std.proofs.Common.{◌++◌, ◌∷◌, [], Option, Some, inr, refl, 
 use Rattle.std.proofs.lemmas.Option.{none-some}
 use Rattle.std.proofs.lemmas.Result.{err_from_is_err_and}
 use Rattle.std.specs.Prelude.{option_map}
-use Rattle.event_journals.specs.Journals.{without_last}
+use Rattle.server_events.specs.Journals.{without_last}
 use Rattle.rules_install.specs.Installing.{FitsPhase}
 use Rattle.rules_install.specs.Installs.{installing}
 use Rattle.rules_install.specs.declared.Phase.{Phase}

@@ -1,4 +1,4 @@
-use Rattle.event_journals.specs.Full.{full_notes}
+use Rattle.server_events.specs.Full.{full_notes}
 use Rattle.server_yard.specs.Yards.{yard_journal}
 use Rattle.whole_yard.specs.Audits.{AreRightBefore}
 use Rattle.whole_yard.proofs.audit.audit.Given as goal

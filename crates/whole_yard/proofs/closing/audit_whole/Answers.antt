@@ -1,7 +1,7 @@
 -- As many right receipts as events are all of them.
 use Rattle.std.proofs.Common.{arith, ap, ◌∙◌}
 use Rattle.std.specs.Prelude.{◌≡◌, ◌+◌, length}
-use Rattle.event_journals.specs.Full.{full_events, full_notes}
+use Rattle.server_events.specs.Full.{full_events, full_notes}
 use Rattle.server_yard.specs.Yards.{yard_journal}
 use Rattle.whole_yard.proofs.closing.audit_whole.Goals as goal
 

@@ -1,6 +1,6 @@
 use Rattle.std.proofs.Common.{List, ℕ, ◌<◌, ◌^◌, ◌++◌, drop, zero-le, refl, ap, sym, subst, arith}
-use Rattle.cdb_write.specs.Image.{finished_length}
-use Rattle.cdb_read.specs.Compiled.{stored}
+use Rattle.cdb_files.specs.Image.{finished_length}
+use Rattle.cdb_files.specs.Compiled.{stored}
 use Rattle.rule_lines.specs.Pairs.{Rule}
 use Rattle.rules_install.specs.declared.pieces.Piece.TheVariants.{Unset}
 use Rattle.rules_install.specs.Pieces.{from_piece}

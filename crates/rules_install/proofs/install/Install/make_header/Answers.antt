@@ -1,7 +1,7 @@
 use Rattle.std.proofs.Common.{List, ◌≡◌, ◌^◌, ◌<◌, ◌≤◌, true, length, sym, subst}
 use Rattle.rule_lines.specs.Pairs.{Rule}
-use Rattle.cdb_write.specs.Image.{finished_length}
-use Rattle.cdb_read.specs.Compiled.{stored}
+use Rattle.cdb_files.specs.Image.{finished_length}
+use Rattle.cdb_files.specs.Compiled.{stored}
 use Rattle.rules_install.specs.Filled.{blank_file}
 use Rattle.rules_install.specs.Pieces.{IsLeft}
 use Rattle.rules_install.proofs.install.Install.make_header.Goals as goal

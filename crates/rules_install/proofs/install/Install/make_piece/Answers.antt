@@ -1,7 +1,7 @@
 use Rattle.std.proofs.Common.{List, ℕ, ◌≡◌, ◌++◌, ◌^◌, ◌<◌, ◌≤◌, true, [], length, drop, refl, sym, subst, arith}
 use Rattle.rule_lines.specs.Pairs.{Rule}
-use Rattle.cdb_write.specs.Image.{finished_length}
-use Rattle.cdb_read.specs.Compiled.{stored}
+use Rattle.cdb_files.specs.Image.{finished_length}
+use Rattle.cdb_files.specs.Compiled.{stored}
 use Rattle.rules_install.specs.Filled.{blank_file}
 use Rattle.rules_install.specs.Pieces.{IsLeft, from_piece}
 use Rattle.rules_install.proofs.FillBytes.{next_left, none_left}

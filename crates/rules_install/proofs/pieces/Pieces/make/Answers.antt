@@ -2,11 +2,11 @@ use Rattle.std.proofs.Common.{◌≡◌, ℕ, ◌+◌, ◌<◌, List, [], ◌++�
 use Rattle.std.proofs.lemmas.List.{length-replicate}
 use Rattle.rule_lines.specs.Codes.{code_of}
 use Rattle.rule_lines.specs.Pairs.{Rule}
-use Rattle.cdb_write.specs.Format.{hash_of, record_bytes, record_of, records_of}
-use Rattle.cdb_write.specs.Image.{tables_of}
-use Rattle.cdb_write.specs.Tables.{AddsEntry}
-use Rattle.cdb_write.proofs.RecordLemmas.{length-record_bytes}
-use Rattle.cdb_read.specs.Compiled.{pair_of, stored}
+use Rattle.cdb_files.specs.Format.{hash_of, record_bytes, record_of, records_of}
+use Rattle.cdb_files.specs.Image.{tables_of}
+use Rattle.cdb_files.specs.Tables.{AddsEntry}
+use Rattle.cdb_files.proofs.RecordLemmas.{length-record_bytes}
+use Rattle.cdb_files.specs.Compiled.{pair_of, stored}
 use Rattle.rules_install.specs.Pieces.{from_piece}
 use Rattle.rules_install.specs.Layout.{ArePlaced}
 use Rattle.rules_install.specs.declared.pieces.Piece.TheVariants.{Unset, Record, Table}

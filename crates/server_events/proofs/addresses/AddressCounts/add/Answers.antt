@@ -2,7 +2,7 @@ use Rattle.std.proofs.Common.{ap, Some, ◌+◌}
 use Rattle.std.specs.BTreeMap.{get}
 use Rattle.std.specs.Cmp.Lexicographic.{slice_cmp}
 use Rattle.std.specs.Ordering.{nat_cmp}
-use Rattle.server_events.proofs.Counts.{one_more}
+use Rattle.server_events.proofs.Tallies.{one_more}
 use Rattle.server_events.proofs.addresses.AddressCounts.add.Goals as goal
 
 pub returns-clause-added : goal.returns-clause-added

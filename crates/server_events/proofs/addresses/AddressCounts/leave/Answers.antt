@@ -2,7 +2,7 @@ use Rattle.std.proofs.Common.{Some, None, ◌-◌, arith, rules, ap, unwrap_or}
 use Rattle.std.specs.BTreeMap.{get}
 use Rattle.std.specs.Cmp.Lexicographic.{slice_cmp}
 use Rattle.std.specs.Ordering.{nat_cmp}
-use Rattle.server_events.proofs.Counts.{one_less}
+use Rattle.server_events.proofs.Tallies.{one_less}
 use Rattle.server_events.proofs.addresses.AddressCounts.leave.Goals as goal
 
 pub returns-then-count-eq1-clause-left : goal.returns-then-count-eq1-clause-left

@@ -2,7 +2,7 @@ use Rattle.std.proofs.Common.{◌≡◌, ◌+◌, List, [], ◌∷◌, ◌++◌,
 use Rattle.server_events.specs.ServerState.{ServerState, newcomer}
 use Rattle.server_events.specs.contracts.state.State.{the_view}
 use Rattle.server_events.specs.declared.state.Connection.{Connection}
-use Rattle.server_events.proofs.Counts.{count_same}
+use Rattle.server_events.proofs.Tallies.{count_same}
 use Rattle.server_events.proofs.History.{room_for}
 use Rattle.server_events.proofs.KeptLemmas.{kept_same, kept_admitted, values_admitted}
 use Rattle.server_events.proofs.state.State.admit.Goals as goal

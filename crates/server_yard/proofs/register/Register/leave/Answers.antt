@@ -3,8 +3,8 @@ use Rattle.std.specs.Prelude.{is_some}
 use Rattle.std.specs.BTreeMap.{get}
 use Rattle.std.specs.Ordering.{nat_cmp}
 use Rattle.child_jobs.specs.PlacesOut.{PlacesOut, without_place}
-use Rattle.event_journals.specs.Journals.{Books}
-use Rattle.event_journals.proofs.Countings.{length-without-some, retired_in, retired_in-without}
+use Rattle.server_events.specs.Journals.{Books}
+use Rattle.server_events.proofs.Countings.{length-without-some, retired_in, retired_in-without}
 use Rattle.server_events.specs.ServerState.{ServerState, count_from, stage_of, without}
 use Rattle.server_events.proofs.Peers.{stage_of-peer_of}
 use Rattle.server_yard.specs.Rooms.{room_needed}

@@ -7,7 +7,7 @@ use Rattle.child_jobs.specs.PlacesOut.{PlacesOut, live_at, live_of}
 use Rattle.child_jobs.proofs.PlacesOutLemmas.{live_at-le-live_of}
 use Rattle.server_events.specs.ServerState.{ServerState, count_from}
 use Rattle.server_events.specs.declared.state.Connection.{Connection}
-use Rattle.event_journals.proofs.Countings.{retired_in}
+use Rattle.server_events.proofs.Countings.{retired_in}
 use Rattle.server_yard.specs.Rooms.{room_needed}
 use Rattle.server_yard.proofs.Histories.{has_history_same, none_yet}
 use Rattle.server_yard.proofs.register.Register.new.Goals as goal

@@ -4,7 +4,7 @@ use Rattle.std.specs.BTreeMap.{get}
 use Rattle.std.specs.Ordering.{nat_cmp}
 use Rattle.child_jobs.specs.Runs.{place_of}
 use Rattle.child_jobs.specs.PlacesOut.{PlacesOut, live_at, live_of}
-use Rattle.event_journals.proofs.Countings.{moves, retired_in}
+use Rattle.server_events.proofs.Countings.{moves, retired_in}
 use Rattle.server_events.specs.ServerState.{ServerState, is_started, stage_of}
 use Rattle.server_events.specs.declared.event.Event.TheVariants as event
 use Rattle.server_events.proofs.Peers.{stage_of-peer_of}

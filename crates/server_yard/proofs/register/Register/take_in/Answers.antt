@@ -3,9 +3,9 @@ use Rattle.std.specs.BTreeMap.{get}
 use Rattle.std.specs.Ordering.{nat_cmp}
 use Rattle.child_jobs.specs.PlacesOut.{PlacesOut, live_at, live_of, with_place}
 use Rattle.std.specs.Prelude.{option_map}
-use Rattle.event_journals.specs.Journals.{Books, next_report, one_more}
-use Rattle.event_journals.proofs.Countings.{moves, retired_in}
-use Rattle.connection_facts.specs.Peers.{Client}
+use Rattle.server_events.specs.Journals.{Books, next_report, one_more}
+use Rattle.server_events.proofs.Countings.{moves, retired_in}
+use Rattle.rule_lookup.specs.Peers.{Client}
 use Rattle.server_events.specs.ServerState.{ServerState, after, count_from, may_admit, newcomer}
 use Rattle.server_events.specs.declared.event.Event.TheVariants as event
 use Rattle.server_events.proofs.History.{room_for}

@@ -3,7 +3,7 @@ use Rattle.server_events.specs.declared.event.Event.TheVariants as event
 use Rattle.server_yard.proofs.Keeping.{goes_over, goes_to, known_of}
 use Rattle.server_yard.proofs.Matching.{decided_leads}
 use Rattle.std.specs.Prelude.{option_map}
-use Rattle.cdb_read.specs.Reading.{reading}
+use Rattle.cdb_files.specs.Reading.{reading}
 use Rattle.rule_lookup.specs.Decisions.{decision_from}
 use Rattle.server_yard.specs.Passes.{pass_bytes}
 use Rattle.server_yard.proofs.yard.Yard.decided.Goals as goal

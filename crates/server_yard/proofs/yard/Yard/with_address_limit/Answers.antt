@@ -1,5 +1,5 @@
 use Rattle.std.proofs.Common.{[], refl, sym, ap}
-use Rattle.event_journals.specs.Journals.{Books}
+use Rattle.server_events.specs.Journals.{Books}
 use Rattle.server_events.specs.ServerState.{ServerState}
 use Rattle.server_yard.specs.Kept.{rules_of}
 use Rattle.server_yard.proofs.Histories.{history_same, none_yet}

@@ -1,0 +1,6 @@
+use Rattle.cdb_files.proofs.FaultLemmas.{CodeFails-code}
+use Rattle.cdb_files.proofs.cdb_file.CdbFile.decode.Goals as goal
+
+pub returns-clause-refused : goal.returns-clause-refused
+returns-clause-refused g c =
+    rw c.of_code.ensures (CodeFails-code g.F.RulesFile.honest g.F.RulesFile.sound _ c.in-Ok.code.items c.in-Err-decode_instr.fault c.in-Ok.ensures.value (rw c.deref.ensures.value at c.in-Err-decode_instr.ensures.refused))

@@ -1,6 +1,0 @@
-use Rattle.std.proofs.Common.{◌≡◌, drop}
-use Rattle.cdb_read.specs.Stages.{stage_from}
-use Rattle.cdb_read.proofs.stage.Stage.from.Given as goal
-
-abbrev pub invariant-loop-byte : goal.invariant-loop-byte
-invariant-loop-byte l = stage_from l.stage (drop l.byte-index l.bytes) ≡ stage_from l.fn.self l.bytes

@@ -1,7 +1,0 @@
-use Rattle.std.proofs.Common.{refl}
-use Rattle.cdb_write.proofs.Joined.{written}
-use Rattle.cdb_write.proofs.laws.pieces.Goals as goal
-
--- src/laws.rt:8:1
-pub returns : goal.returns
-returns c pairs fits = written pairs 256 refl fits

@@ -1,5 +1,0 @@
-use Rattle.cdb_write.proofs.SameBytes.{same_file}
-use Rattle.cdb_write.proofs.laws.same_file.Goals as goal
-
-pub returns : goal.returns
-returns c a b pairs bytes bytes' wa wb = same_file pairs a b bytes bytes' wa wb

@@ -1,2 +1,0 @@
--- The other ends of connections.
-pub mod Peers

@@ -1,2 +1,0 @@
-pub mod Countings
-pub mod ReportSteps

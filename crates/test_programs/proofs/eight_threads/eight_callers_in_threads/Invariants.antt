@@ -1,0 +1,14 @@
+use Rattle.std.specs.Prelude.{false}
+use Rattle.test_programs.proofs.eight_threads.eight_callers_in_threads.Given as goal
+
+abbrev pub ghosts-eight-L-Ledger : goal.ghosts-eight-L-Ledger
+ghosts-eight-L-Ledger g a = record { name = a.places.name; parts = a.places.parts }
+
+abbrev pub ghosts-eight-L-Assumptions : goal.ghosts-eight-L-Assumptions
+ghosts-eight-L-Assumptions g a = record { met = false }
+
+abbrev pub ghosts-eight-N-Ledger : goal.ghosts-eight-N-Ledger
+ghosts-eight-N-Ledger g a = record { name = a.parts.name; parts = a.parts.parts }
+
+abbrev pub ghosts-eight-N-Callers : goal.ghosts-eight-N-Callers
+ghosts-eight-N-Callers g a = record { all = 8; before = 0 }

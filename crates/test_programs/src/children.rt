@@ -1,0 +1,111 @@
+//! Children that do nothing, and end by themselves.
+ghost use Rattle.std.specs.Prelude.{◌≡◌, false, ⊤, IfOk};
+ghost use Rattle.child_jobs.specs.declared.outcome.Status.TheVariants.{Code};
+ghost use Rattle.child_jobs.specs.Runs.{place_of};
+
+use crate::calls::wrong;
+use child_jobs::{
+    Environment, Job, Launcher, NoEnds, Place, Program, Running, StartFault, Status, WaitFault,
+    finish, start,
+};
+use server_yard::Assumptions;
+use std::alloc::Global;
+use std::io;
+use std::io::{Empty, Sink};
+use std::snapshot::Snapshot;
+
+/// A job that has ended as soon as it is waited for.
+pub(crate) struct Idle {
+    program: Snapshot<Program>,
+    environment: Snapshot<Environment>,
+}
+
+impl Job for Idle {
+    type Input = Sink;
+
+    type Output = Empty;
+
+    ghost program = { λ job. job.program.value };
+
+    ghost environment = { λ job. job.environment.value };
+
+    ghost has_ends = { λ _. false };
+
+    ghost killed = { λ _ _ _. ⊤ };
+
+    ghost ended = { λ _ status. status ≡ Code 7 };
+
+    ghost refused_wait = { λ _ _ _. ⊤ };
+
+    fn ends(&mut self) -> Result<(Sink, Empty), NoEnds> {
+        Err(NoEnds)
+    }
+
+    fn kill(&mut self) -> Result<(), WaitFault> {
+        Ok(())
+    }
+
+    fn wait(self) -> Result<Status, (Idle, WaitFault)> {
+        self.abandon();
+        Ok(Status::Code(7))
+    }
+
+    fn abandon(self) {
+        let Idle {
+            program: _,
+            environment: _,
+        } = self;
+    }
+}
+
+/// A launcher of such jobs.
+#[derive(Drop)]
+struct Starts;
+
+impl Launcher for Starts {
+    type Job = Idle;
+
+    ghost refuses = { λ _ _ _ _. ⊥ };
+
+    fn start(
+        self,
+        _alloc: Global,
+        program: &Program,
+        environment: &Environment,
+    ) -> Result<Idle, StartFault> {
+        Ok(Idle {
+            program: Snapshot::of(program),
+            environment: Snapshot::of(environment),
+        })
+    }
+}
+
+/// Starts such a child at a place.
+pub(crate) fn start_child<L: Assumptions>(
+    alloc: Global,
+    place: Place<L>,
+) -> io::Result<Running<L, Idle>>
+    ensures { IfOk result (λ running. place_of running ≡ place) }
+{
+    let program = Program::new(String::new(alloc), Vec::new(alloc));
+    match start(alloc, place, Starts, &program, &Environment::new(alloc)) {
+        Ok(running) => Ok(running),
+        Err((place, _)) => {
+            place.strand();
+            Err(wrong())
+        }
+    }
+}
+
+/// Waits until such a child has ended.
+pub(crate) fn end_child<L: Assumptions>(
+    running: Running<L, Idle>,
+) -> io::Result<(Place<L>, Status)> {
+    match finish(running) {
+        Ok(ended) => Ok(ended),
+        Err((running, _)) => {
+            running.strand();
+            Err(wrong())
+        }
+    }
+}

@@ -1,0 +1,78 @@
+//! Sites over a directory in memory, from the start to the audit.
+ghost use Rattle.std.specs.Prelude.{◌≡◌, false, ◌<◌, IfOk, IsPermutation, IsTrue, map};
+ghost use Rattle.dir_calls.specs.MemDir.{mem_state};
+ghost use Rattle.server_events.specs.Full.{full_notes};
+ghost use Rattle.server_yard.specs.Kept.{rules_of};
+ghost use Rattle.server_yard.specs.Standing.{Begins};
+ghost use Rattle.server_yard.specs.Yards.{yard_journal};
+ghost use Rattle.whole_yard.specs.Audits.{note_of};
+
+use crate::calls::wrong;
+use dir_calls::{MemDir, MemFile, Name};
+use rule_lookup::WhenMissing;
+use server_events::Full;
+use server_yard::{Assumptions, Yard};
+use shared_site::{Caller, Callers, Ground, Receipt, Site};
+use std::alloc::Global;
+use std::io;
+use std::marker::PhantomData;
+use std::sync::ledger::Blank;
+use whole_yard::close_and_audit;
+
+/// What these sites stand on: a directory in memory, with these ledgers of places and of callers.
+pub(crate) struct InMemory<L, N>(PhantomData<(L, N)>);
+
+impl<L: Assumptions, N: Callers> Ground for InMemory<L, N> {
+    type Places = L;
+
+    type Callers = N;
+
+    type File = MemFile;
+
+    type Folder = MemDir;
+
+    type Journal = Full;
+
+    ghost is_servers = { false };
+}
+
+/// A site over a directory, and its callers.
+pub(crate) fn new_site<L: Assumptions, N: Callers>(
+    alloc: Global,
+    places: Blank,
+    parts: Blank,
+    dir: MemDir,
+    rules: Option<(Name, WhenMissing)>,
+    limit: u64,
+    callers: u64,
+) -> io::Result<(Site<InMemory<L, N>>, Vec<Caller<N>>)>
+    requires places { (places.name ≡ L.name) × (places.parts ≡ L.parts) × (places.parts ≡ limit) }
+    requires begins { IsTrue L.met → Begins (mem_state dir) (rules_of rules) }
+    requires parts { (parts.name ≡ N.name) × (parts.parts ≡ N.parts) × (parts.parts ≡ callers) }
+    requires callers { (N.all ≡ callers) × (N.before ≡ 0) × (0 < callers) }
+{
+    let journal = Full::new(alloc);
+    let Ok(yard) = Yard::<L, MemDir, Full>::new(alloc, places, dir, rules, limit, journal) else {
+        return Err(wrong());
+    };
+    match Site::<InMemory<L, N>>::new(alloc, parts, yard, callers) {
+        Ok(made) => Ok(made),
+        Err(_) => Err(wrong()),
+    }
+}
+
+/// The yard of a site whose callers are all back. Their receipts are its whole history.
+pub(crate) fn close<L: Assumptions, N: Callers>(
+    site: Site<InMemory<L, N>>,
+    callers: Vec<Caller<N>>,
+    receipts: &[Receipt],
+) -> io::Result<Yard<L, MemDir, Full>>
+    requires { N.all ≡ N.parts }
+    ensures { IfOk result (λ yard. IsPermutation (map note_of receipts.now) (full_notes (yard_journal yard))) }
+{
+    match close_and_audit(site, callers, receipts) {
+        Ok((yard, Ok(()))) => Ok(yard),
+        Ok((_, Err(_))) => Err(wrong()),
+        Err(_) => Err(wrong()),
+    }
+}

@@ -1,9 +1,0 @@
-use Rattle.std.proofs.Common.{◌≡◌, map, drop, Bor, List, ℕ}
-use Rattle.std.specs.List.{fold}
-use Rattle.ucspi_env.specs.Child.{without_own}
-use Rattle.ucspi_env.specs.Variables.{without_value}
-use Rattle.ucspi_env.proofs.child.inherit.Given as goal
-
-abbrev pub invariant-loop-name : goal.invariant-loop-name
-invariant-loop-name l =
-    fold without_value l.variables (map (λ (name : Bor (List ℕ)). name.now) (drop l.name-index l.name-items)) ≡ without_own l.inherited

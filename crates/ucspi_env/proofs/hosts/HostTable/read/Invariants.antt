@@ -1,9 +1,0 @@
-use Rattle.std.proofs.Common.{length}
-use Rattle.ucspi_env.proofs.RowLemmas.{SaysSoFar}
-use Rattle.ucspi_env.proofs.hosts.HostTable.read.Given as goal
-
-abbrev pub invariant-loop-rest : goal.invariant-loop-rest
-invariant-loop-rest l = SaysSoFar l.table l.text l.rest l.number
-
-abbrev pub decreases-loop-rest : goal.decreases-loop-rest
-decreases-loop-rest l = length l.rest

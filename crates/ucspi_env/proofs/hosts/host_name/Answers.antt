@@ -1,8 +1,0 @@
-use Rattle.std.proofs.Common.{◌∙◌, ap}
-use Rattle.connection_facts.specs.Peers.{given}
-use Rattle.ucspi_env.proofs.WordLemmas.{host_name_read}
-use Rattle.ucspi_env.proofs.hosts.host_name.Goals as goal
-
-pub returns-then-is_host_name : goal.returns-then-is_host_name
-returns-then-is_host_name c =
-    ap given c.ok.ensures.value ∙ host_name_read c.args.bytes.now _ c.from_utf8.result c.if-is_host_name.ensures c.from_utf8.ensures.cases
