@@ -9,6 +9,7 @@ import shutil
 import socket
 import time
 
+from server import server_rules
 from shared import failed_calls, log_forms, server_runs
 
 # how long a client waits that a wrong server leaves alone, in seconds
@@ -17,6 +18,8 @@ PATIENCE = 120
 FAULTS, CLIENTS = 60, 4
 # programs at once, more than a thousand
 MANY = 1200
+# and connections that begin at once
+BEGIN = 1100
 GREETS = ["sh", "-c", "echo hi; read a"]
 
 
@@ -172,6 +175,23 @@ def twelve_hundred(suite):
     resource.setrlimit(resource.RLIMIT_NOFILE, before)
 
 
+def eleven_hundred_begin(suite):
+    """Eleven hundred connections that begin at once: each waits for its rules until all of them do."""
+    descriptors = 8 * MANY
+    if not lets_many(descriptors):
+        print("%s: eleven hundred: this machine lets nobody have so many processes or descriptors" % suite.group)
+        return
+    path, before = suite.install(":allow\n", "many.cdb"), resource.getrlimit(resource.RLIMIT_NOFILE)
+    resource.setrlimit(resource.RLIMIT_NOFILE, (descriptors, before[1]))
+    how = server_rules.held_opens(suite, path=path, mark=suite.path("begun"), until=BEGIN)
+    with suite.start(["-N", "/dev/null", "-c", str(MANY), "-x", path], ["echo", "hi"], **how) as server:
+        clients = [server.connect("127.3.%d.%d" % (number // 200, number % 200 + 1)) for number in range(BEGIN)]
+        for client in clients:
+            client.settimeout(PATIENCE)
+        suite.expect("eleven hundred that begin at once", server_runs.finish(clients), [b"hi\n"] * BEGIN)
+    resource.setrlimit(resource.RLIMIT_NOFILE, before)
+
+
 def waits_for_a_process(suite):
     """A program for which the system has no process waits for one for about a minute, and is given up then; a hundred times as fast."""
     for refused, answer, line in ((60, b"hi\n", log_forms.end(1)), (200, b"", log_forms.start(1, "failed"))):
@@ -209,5 +229,6 @@ CHECKS = [
 ]
 COMMON = []
 HANDED = [
-    faults_counted_anew, wants_of_room, room_while_some_are_alive, unread_banners, many_variables, twelve_hundred, waits_for_a_process, no_signals,
+    faults_counted_anew, wants_of_room, room_while_some_are_alive, unread_banners, many_variables, twelve_hundred, eleven_hundred_begin,
+    waits_for_a_process, no_signals,
 ]
