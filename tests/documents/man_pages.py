@@ -247,7 +247,7 @@ def server_texts():
     found = word_texts()
     codes = {}
     for path in ("ucspi_tools/src/fault.rt", SERVER_FAULT):
-        for function in re.findall(r"fn (\w+)\((?:self|\w+: ServerFault)\) -> u8", read(path)):
+        for function in re.findall(r"fn (\w+)\(\w+: TcpserverFault\) -> u8", read(path)):
             codes.update({key: code for key, code in codes_of(read(path), function, "ServerFault", texts).items() if code})
     for variant, text in texts.items():
         if "Fault" not in text:

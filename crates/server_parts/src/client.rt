@@ -12,18 +12,9 @@ use tcp_connections::{Follow, Patience};
 /// A write to a client looks after so many milliseconds whether anybody still holds what it comes from.
 const LOOK: u64 = 1_000;
 
-/// What is sent to a client. While somebody holds the program's output a write waits as long as the client does; once
-/// nobody does, what is left is still written, until the client has taken nothing for too long: then writes fail with
-/// `TimedOut`.
+/// What is written comes from this descriptor, and what is left of it is bounded.
 #[derive(Drop)]
-pub struct ClientWriter<'a, R> {
-    holder: Holder<'a, R>,
-    followed: Option<Followed>,
-}
-
-// What is written comes from this descriptor, and what is left of it is bounded.
-#[derive(Drop)]
-struct Followed {
+pub(crate) struct Followed {
     source: RawFd,
     patience: Patience,
     // since when nobody is known to hold the other end, and when the client took something last
@@ -32,10 +23,10 @@ struct Followed {
 }
 
 /// A write that waits looks each second whether anybody holds the other end of the source.
-impl<R: Wait, F: AsRawFd> Follow<F> for ClientWriter<'_, R> {
+impl<R: Wait, F: AsRawFd> Follow<F> for Holder<'_, R> {
     fn follow(&mut self, source: &F, patience: Patience) {
         let look = Some(Duration::from_millis(LOOK));
-        let _ = self.holder.call(|stream| stream.set_write_timeout(look));
+        let _ = self.call(|stream| stream.set_write_timeout(look));
         self.followed = Some(Followed {
             source: source.as_raw_fd(),
             patience,
@@ -45,22 +36,14 @@ impl<R: Wait, F: AsRawFd> Follow<F> for ClientWriter<'_, R> {
     }
 }
 
-impl<'a, R: Wait + Clock> ClientWriter<'a, R> {
-    /// What is sent over this connection; nothing is bounded as long as it follows no source.
-    pub fn new(holder: Holder<'a, R>) -> ClientWriter<'a, R> {
-        ClientWriter {
-            holder,
-            followed: None,
-        }
-    }
-
+impl<R: Wait + Clock> Holder<'_, R> {
     // A write has waited, and took something or nothing. The client's time runs only where nobody holds the other end
     // of the source.
     fn look(&mut self, took: bool) {
         let Some(followed) = &mut self.followed else {
             return;
         };
-        let Ok(now) = Instant::now(self.holder.rt) else {
+        let Ok(now) = Instant::now(self.rt) else {
             return;
         };
         if followed.left.is_none() && is_held(followed.source) {
@@ -74,13 +57,15 @@ impl<'a, R: Wait + Clock> ClientWriter<'a, R> {
     }
 }
 
-impl<R: Wait + Clock> Write for ClientWriter<'_, R> {
+/// While somebody holds the program's output a write waits as long as the client does. Once nobody does, what is left is
+/// still written, until the client has taken nothing for too long: then writes fail with `TimedOut`.
+impl<R: Wait + Clock> Write for Holder<'_, R> {
     fn write(&mut self, buf: &[u8]) -> io::Result<usize> {
         for _ in 0..u64::MAX {
             if matches!(&self.followed, Some(followed) if followed.is_over) {
                 return Err(Error::from(ErrorKind::TimedOut));
             }
-            match self.holder.call(|mut stream| stream.write(buf)) {
+            match self.call(|mut stream| stream.write(buf)) {
                 Err(error) if error.kind() == ErrorKind::WouldBlock => self.look(false),
                 Ok(count) => {
                     if count < buf.len() {

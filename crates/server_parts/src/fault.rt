@@ -1,18 +1,27 @@
 //! How a server ends other than by its count.
 ghost use Rattle.std.specs.Prelude.{◌≡◌, None};
-ghost use Rattle.server_parts.specs.declared.fault.ServerFault.TheVariants.{OutOfMemory, Words};
+ghost use Rattle.server_parts.specs.declared.fault.ServerFault.TheVariants.{OutOfMemory};
+ghost use Rattle.server_parts.specs.declared.fault.TcpserverFault.TheVariants.{Server};
 
 use server_words::ServerWordsFault;
 use std::alloc::AllocError;
 use std::io::Error;
 use thiserror::Error;
 
-/// Why `tcpserver` ends, in the order of its checks. It prints as what stands behind the tool's name.
+/// Why `tcpserver` ends. It prints as what stands behind the tool's name.
+#[derive(Clone, Copy, PartialEq, Eq, Debug, Error)]
+pub enum TcpserverFault {
+    /// Its words are wrong, or there was no memory to read them.
+    #[error("{0}")]
+    Words(ServerWordsFault),
+    /// Its words are right, and its server ends. Or there was no memory for its words as texts.
+    #[error("{0}")]
+    Server(ServerFault),
+}
+
+/// Why a server ends whose words are right, in the order of its checks. It prints as what stands behind the tool's name.
 #[derive(Clone, Copy, PartialEq, Eq, Debug, Error)]
 pub enum ServerFault {
-    /// Its words are wrong.
-    #[error("{0}")]
-    Words(#[from] ServerWordsFault),
     /// SIGCHLD is ignored, so that the system forgets how programs end.
     #[error("cannot wait for programs")]
     CannotWait,
@@ -85,5 +94,13 @@ impl From<AllocError> for ServerFault {
 
     fn from(_error: AllocError) -> ServerFault {
         ServerFault::OutOfMemory
+    }
+}
+
+impl From<AllocError> for TcpserverFault {
+    ghost from_gives = { λ _ fault. fault ≡ Server OutOfMemory };
+
+    fn from(_error: AllocError) -> TcpserverFault {
+        TcpserverFault::Server(ServerFault::OutOfMemory)
     }
 }

@@ -3,12 +3,11 @@
 //!
 //! In either mode one `SocketAcceptor` accepts connections, and one `ProgramStarter` starts their programs: it hands a
 //! program the connection, or gives it pipes. It is proved that a job has the program and the variables that were asked
-//! for. `chain_of` makes the wrappers of `-w` in order. Tested only: descriptors 0 and 1 are the connection or the
-//! pipes, a write to a program waits no longer than the program runs, and the bounds on clients that take nothing
-//! (`ClientWriter`).
+//! for. Tested only: descriptors 0 and 1 are the connection or the pipes, a write to a program waits no longer than the
+//! program runs, and the bounds on clients that take nothing (`client`).
 #![tactic(auto)]
 
-pub mod client;
+mod client;
 pub mod fault;
 pub mod limits;
 pub mod named_rules;
@@ -16,11 +15,8 @@ pub mod opening;
 pub mod programs;
 pub mod signals;
 pub mod sockets;
-pub mod wrappers;
 
-pub use client::ClientWriter;
-pub use fault::{ServerFailure, ServerFault};
+pub use fault::{ServerFailure, ServerFault, TcpserverFault};
 pub use named_rules::has_named_rule;
 pub use programs::ProgramStarter;
 pub use sockets::SocketAcceptor;
-pub use wrappers::{Wrapper, chain_of};

@@ -2,7 +2,7 @@
 ghost use Rattle.std.specs.Prelude.{◌≡◌, ◌⊎◌, Some, true, IsErr};
 ghost use Rattle.std.specs.Fn.{FnOnceReturnsAt};
 
-use crate::client::ClientWriter;
+use crate::client::Followed;
 use child_jobs::Local;
 use server_words::Mode;
 use std::alloc::Global;
@@ -36,13 +36,18 @@ enum Socket {
 pub struct Holder<'a, R> {
     pub(crate) rt: &'a R,
     socket: Arc<Socket, Global>,
+    // where what is written comes from; while there is nothing such, a write waits as long as the client does
+    pub(crate) followed: Option<Followed>,
 }
 
 impl<'a, R: Wait> Holder<'a, R> {
     // Another of them; none for want of memory.
     fn another(&self) -> Option<Holder<'a, R>> {
-        let (rt, socket) = (self.rt, Arc::try_clone(&self.socket).ok()?);
-        Some(Holder { rt, socket })
+        Some(Holder {
+            rt: self.rt,
+            socket: Arc::try_clone(&self.socket).ok()?,
+            followed: None,
+        })
     }
 
     /// Takes the socket out, to be given to a program. It is there once, and never where it is shared.
@@ -141,8 +146,11 @@ impl<'a, R: Wait, T: OpenListener<Stream = TcpStream>> SocketAcceptor<'a, R, T> 
             Mode::HandedOver => Socket::Given(Mutex::new(Some(stream))),
             Mode::Pumped => Socket::Shared(stream),
         };
-        let (rt, socket) = (self.rt, Arc::new(self.alloc, socket).ok()?);
-        let first = Holder { rt, socket };
+        let first = Holder {
+            rt: self.rt,
+            socket: Arc::new(self.alloc, socket).ok()?,
+            followed: None,
+        };
         Some((first.another()?, first.another()?, first))
     }
 }
@@ -152,17 +160,13 @@ where
     R: Wait + Clock,
     T: OpenListener<Stream = TcpStream> + Drop,
 {
-    type Reader = Holder<'a, R>;
-
-    type Writer = ClientWriter<'a, R>;
-
-    type Shut = Holder<'a, R>;
+    type Stream = Holder<'a, R>;
 
     ghost failed_last = { λ _ _. true };
 
     ghost last_error = { λ acceptor. acceptor.error };
 
-    fn accept(&mut self) -> Result<Accepted<Self::Reader, Self::Writer, Self::Shut>, AcceptFault> {
+    fn accept(&mut self) -> Result<Accepted<Holder<'a, R>>, AcceptFault> {
         let (local, stream, peer) = self.next()?;
         let (Some(local), Some(peer)) = (ipv4(local), ipv4(peer)) else {
             return Err(AcceptFault::Other);
@@ -177,7 +181,7 @@ where
         let (local_ip, local_port) = local;
         Ok(Accepted {
             reader,
-            writer: ClientWriter::new(writer),
+            writer,
             shut,
             ip,
             port,

@@ -11,13 +11,16 @@ use Rattle.server_words.specs.Plans.{ServerPlan}
 use Rattle.tcp_service.specs.declared.service.Service.{Service}
 
 -- what a server does for all connections: the limits of `-c`, `-k` and `-m`; names by `-N`, `-l`, `-h`, `-H` and `-p`; connections are handed over or
--- pumped, with the descriptors that this takes; and what passes is recorded where `-w` begins with `recordio`
+-- pumped, with the descriptors that this takes; and what passes goes through the line wrappers of `-w`, each way in its
+-- order, and is recorded where `-w` begins with `recordio`
 pub record IsAskedService (words : ServerPlan) (service : Service) : Type 0 where
   pub limits : service.limits ≡ words.limits
   pub names : AreNamesOf words service.names
   pub mode : service.mode ≡ words.mode
   pub supply : IsSupplyIn words.mode service.supply
   pub recording : service.recording ≡ words.wrapping.records
+  pub input : service.input.now ≡ words.wrapping.input
+  pub output : service.output.now ≡ words.wrapping.output
 
 -- the same with the plan of each connection
 pub record AreAsked (words : ServerPlan) (plan : PlanText) (service : Service) : Type 0 where

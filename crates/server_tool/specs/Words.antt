@@ -1,11 +1,13 @@
--- What becomes of words with a fault.
-use Rattle.std.specs.Prelude.{◌≡◌, ◌⊎◌, Result, Ok, Err}
-use Rattle.server_parts.specs.declared.fault.ServerFault.{ServerFault}
-use Rattle.server_parts.specs.declared.fault.ServerFault.TheVariants.{Words, OutOfMemory}
+-- What becomes of words, with a fault or without.
+use Rattle.std.specs.Prelude.{◌≡◌, ◌⊎◌, IsOk, Result, Ok, Err}
+use Rattle.server_parts.specs.declared.fault.ServerFault.TheVariants.{OutOfMemory}
+use Rattle.server_parts.specs.declared.fault.TcpserverFault.{TcpserverFault}
+use Rattle.server_parts.specs.declared.fault.TcpserverFault.TheVariants.{Server, Words}
+use Rattle.server_words.specs.Plans.{RefusesPlan, ServerPlan}
 use Rattle.server_words.specs.declared.fault.ServerWordsFault.{ServerWordsFault}
-use Rattle.server_words.specs.declared.fault.ServerWordsFault.TheVariants as words
 
--- words with this fault run nothing: it is told, or that there was no memory
-abbrev pub RefusesWords : {T : Type 0} → Result T ServerFault → ServerWordsFault → Type 0
-RefusesWords (Ok done) fault = ⊥
-RefusesWords (Err told) fault = (told ≡ Words fault) ⊎ ((told ≡ Words words.OutOfMemory) ⊎ (told ≡ OutOfMemory))
+-- a server ran or failed only by words without a fault, and words are blamed only for the fault that they have; or there was no memory
+abbrev pub AnswersWords : {T : Type 0} → Result ServerPlan ServerWordsFault → Result T TcpserverFault → Type 0
+AnswersWords read (Ok done) = IsOk read
+AnswersWords read (Err (Words fault)) = RefusesPlan read fault
+AnswersWords read (Err (Server fault)) = IsOk read ⊎ (fault ≡ OutOfMemory)

@@ -26,14 +26,19 @@ pub(crate) fn end_of<H: Host>(
         told_of closed.end (H.Acceptor.last_error closed.acceptor) ≡ Err failure)) }
     ensures lost { OnErr served (result ≡ Err (record { fault = LostConnection; error = None })) }
 {
-    let Ok(closed) = served else {
-        return Err(ServerFailure::from(ServerFault::LostConnection));
-    };
-    let (end, error) = (closed.end, closed.acceptor.error());
-    drop(closed);
-    match failure_of(end, error) {
-        Ok(()) => Ok(Finished(())),
-        Err(failure) => Err(failure),
+    match served {
+        Ok(closed) => {
+            let (end, error) = (closed.end, closed.acceptor.error());
+            drop(closed);
+            match failure_of(end, error) {
+                Ok(()) => Ok(Finished(())),
+                Err(failure) => Err(failure),
+            }
+        }
+        Err(unfinished) => {
+            drop(unfinished);
+            Err(ServerFailure::from(ServerFault::LostConnection))
+        }
     }
 }
 

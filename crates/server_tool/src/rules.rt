@@ -50,8 +50,11 @@ impl<'a, R: Files<File = File>> RulesPath<'a, R> {
 
     // The file that stands there now, if it can be opened.
     fn look(&self, alloc: Global) -> Option<RulesOnDisk> {
+        let name = self.name?;
         let mut dir = self.folder(alloc).ok()?;
-        dir.open(alloc, self.name?).ok()?
+        let found = dir.open(alloc, name);
+        drop(dir);
+        found.ok()?
     }
 }
 

@@ -4,14 +4,12 @@ ghost use Rattle.server_parts.specs.declared.fault.ServerFault.TheVariants.{Cann
 
 use crate::no_folder::NoFolder;
 use crate::rules::{FolderHandle, FolderRules, RulesOnDisk};
-use crate::wrappers::Wrappers;
 use dir_disk::SystemDisk;
 use server_events::Counts;
-use server_parts::client::ClientWriter;
 use server_parts::opening::listen;
 use server_parts::programs::{ProgramInput, ServiceJob};
 use server_parts::sockets::Holder;
-use server_parts::{ProgramStarter, ServerFailure, SocketAcceptor, Wrapper};
+use server_parts::{ProgramStarter, ServerFailure, SocketAcceptor};
 use server_yard::Assumptions;
 use shared_site::{Callers, Ground};
 use std::fs::{File, Files};
@@ -23,7 +21,7 @@ use std::rt::Env;
 use std::sync::{Mutex, Wait};
 use std::thread::Threads;
 use std::time::Clock;
-use tcp_service::Host;
+use tcp_service::{AgentGround, Host};
 
 /// What the tool has of the system. It is a name for these types together, and has no values.
 pub(crate) trait System {
@@ -127,7 +125,7 @@ impl<'a, P: System, L: Assumptions + Send + Sync, N: Callers + Send + Sync> Grou
     ghost is_servers = { true };
 }
 
-impl<'a, P: System, L: Assumptions + Send + Sync, N: Callers + Send + Sync> Host
+impl<'a, P: System, L: Assumptions + Send + Sync, N: Callers + Send + Sync> AgentGround
     for OnSystem<'a, P, L, N> {
     type Runtime = P::Runtime;
 
@@ -136,14 +134,13 @@ impl<'a, P: System, L: Assumptions + Send + Sync, N: Callers + Send + Sync> Host
     type Rules = FolderRules<'a, L, P::Runtime>;
 
     type Lines = P::Errors;
+}
 
+impl<'a, P: System, L: Assumptions + Send + Sync, N: Callers + Send + Sync> Host
+    for OnSystem<'a, P, L, N> {
     type Acceptor = SocketAcceptor<'a, P::Runtime, P::Listener>;
 
-    type Reader = Holder<'a, P::Runtime>;
-
-    type Writer = ClientWriter<'a, P::Runtime>;
-
-    type Shut = Holder<'a, P::Runtime>;
+    type Stream = Holder<'a, P::Runtime>;
 
     type Starter = ProgramStarter<'a, P::Runtime>;
 
@@ -152,8 +149,4 @@ impl<'a, P: System, L: Assumptions + Send + Sync, N: Callers + Send + Sync> Host
     type Input = ProgramInput<'a, P::Runtime>;
 
     type Output = ChildStdout;
-
-    type Wrapper = Wrapper;
-
-    type Chains = Wrappers<'a>;
 }

@@ -5,7 +5,7 @@ ghost use Rattle.server_parts.specs.Asked.{FailsNames, starts_in};
 ghost use Rattle.server_parts.specs.Services.{AreRulesOf};
 ghost use Rattle.server_parts.specs.declared.fault.ServerFault.TheVariants.{CannotListen, OutOfMemory, WriteFault};
 ghost use Rattle.server_tool.specs.Asked.{AcceptsAsAsked, AreAsked, AreAskedLimits, IsAskedLog, IsAskedService};
-ghost use Rattle.server_tool.specs.Words.{RefusesWords};
+ghost use Rattle.server_tool.specs.Words.{AnswersWords};
 ghost use Rattle.server_words.specs.Operands.{texts};
 ghost use Rattle.server_words.specs.Plans.{plan_of as plan_by_words};
 ghost use Rattle.server_yard.specs.Kept.{rules_of};
@@ -18,7 +18,6 @@ use crate::ends::{Finished, end_of};
 use crate::no_folder::NoFolder;
 use crate::rules::{FolderRules, RulesPath};
 use crate::system::{OnSystem, System, SystemOf};
-use crate::wrappers::Wrappers;
 use child_jobs::Plan;
 use dir_calls::Name;
 use fault_hints::Voice;
@@ -27,7 +26,7 @@ use server_events::Counts;
 use server_parts::limits::supply_for;
 use server_parts::opening::{end_of_listener, find_rules, names_of, plan_of, print_port, stand_in};
 use server_parts::signals::forgets_programs;
-use server_parts::{ProgramStarter, ServerFailure, ServerFault, SocketAcceptor};
+use server_parts::{ProgramStarter, ServerFailure, ServerFault, SocketAcceptor, TcpserverFault};
 use server_words::{Level, ServerWords, read_server_words};
 use server_yard::{Assumptions, Yard};
 use shared_site::{Caller, Callers, Site};
@@ -61,15 +60,16 @@ const CALLERS: u64 = 2;
 /// connections were served as it was to serve, and all of them are over.
 ///
 /// # Errors
-/// In the order of `ServerFault`. Words with a fault run nothing, and their first fault is told. What the voice tells
-/// behind its line is left in `causes`, where there is memory for it.
+/// Words with a fault run nothing, and their first fault is told. Words without one are never blamed. Then come the
+/// faults of the server, in the order of `ServerFault`. What the voice tells behind the line of a fault is left in
+/// `causes`, where there is memory for it.
 pub fn run_tcpserver<R, E>(
     rt: &R,
     errors: E,
     words: &[Vec<u8>],
     voice: Voice,
     causes: &mut Vec<u8>,
-) -> Result<Finished, ServerFault>
+) -> Result<Finished, TcpserverFault>
 where
     R: Env + Print + AllocGlobal + Files<File = File> + Processes + Threads + Wait + Clock + Sync,
     R: Net<Stream = TcpStream>,
@@ -79,8 +79,7 @@ where
     <R::Started as OpenProcess>::Stdout: Send,
     <R::Started as OpenProcess>::Stderr: Send,
     E: Write + Send + Drop,
-    ensures refused { IfErr (plan_by_words (mode_by_name voice) (map text_in (texts_of words.now)))
-        (RefusesWords result) }
+    ensures answers { AnswersWords (plan_by_words (mode_by_name voice) (map text_in (texts_of words.now))) result }
 {
     let alloc = rt.alloc();
     let _held = [stand_in(rt), stand_in(rt), stand_in(rt)];
@@ -90,10 +89,10 @@ where
 
 // What a server has but for its site and its socket.
 #[derive(Drop)]
-struct ServerParts<P: System> {
+struct ServerParts<'a, P: System> {
     plan: Plan,
     search: SearchPath,
-    service: Service,
+    service: Service<'a>,
     log: Mutex<Log<P::Errors>>,
 }
 
@@ -105,21 +104,25 @@ fn run_words<P: System + Send + Sync>(
     words: &[String],
     voice: Voice,
     causes: &mut Vec<u8>,
-) -> Result<Finished, ServerFault>
-    ensures refused { IfErr (plan_by_words (mode_by_name voice) (texts words.now)) (RefusesWords result) }
+) -> Result<Finished, TcpserverFault>
+    ensures answers { AnswersWords (plan_by_words (mode_by_name voice) (texts words.now)) result }
 {
-    let words = match read_server_words(rt.alloc(), words, voice.mode()) {
-        Ok(words) => words,
-        Err(fault) => {
-            tell_words(rt.alloc(), voice, words, fault, causes);
-            return Err(ServerFault::Words(fault));
+    match read_server_words(rt.alloc(), words, voice.mode()) {
+        Ok(words) => {
+            let ended = match run_server::<P>(rt, errors, &words, voice) {
+                Ok(finished) => Ok(finished),
+                Err(failure) => {
+                    tell_failure(rt.alloc(), voice, &words, failure, causes);
+                    Err(TcpserverFault::Server(failure.fault))
+                }
+            };
+            drop(words);
+            ended
         }
-    };
-    match run_server::<P>(rt, errors, &words, voice) {
-        Ok(finished) => Ok(finished),
-        Err(failure) => {
-            tell_failure(rt.alloc(), voice, &words, failure, causes);
-            Err(failure.fault)
+        Err(fault) => {
+            drop(errors);
+            tell_words(rt.alloc(), voice, words, fault, causes);
+            Err(TcpserverFault::Words(fault))
         }
     }
 }
@@ -139,12 +142,12 @@ fn run_server<P: System + Send + Sync>(
 }
 
 // What a server has by its words, but for its site and its socket.
-fn parts_of<P: System>(
+fn parts_of<'a, P: System>(
     rt: &P::Runtime,
     errors: P::Errors,
-    words: &ServerWords<'_>,
+    words: &'a ServerWords<'_>,
     voice: Voice,
-) -> Result<ServerParts<P>, ServerFailure>
+) -> Result<ServerParts<'a, P>, ServerFailure>
     ensures asked { IfOk result (λ server. AreAsked words.now server.plan server.service) }
     ensures refused { IfErr result (λ failure. FailsNames words.now.hosts failure.fault) }
 {
@@ -170,11 +173,11 @@ fn log_of<W: Write>(alloc: Global, errors: W, words: &ServerWords<'_>, voice: Vo
 }
 
 // What a server does for all connections.
-fn service_of<R: AllocGlobal + Files>(
+fn service_of<'a, R: AllocGlobal + Files>(
     rt: &R,
-    words: &ServerWords<'_>,
+    words: &'a ServerWords<'_>,
     plan: &Plan,
-) -> Result<Service, ServerFailure>
+) -> Result<Service<'a>, ServerFailure>
     ensures asked { IfOk result (IsAskedService words.now) }
     ensures refused { IfErr result (λ failure. FailsNames words.now.hosts failure.fault) }
 {
@@ -190,6 +193,8 @@ fn service_of<R: AllocGlobal + Files>(
             all: Duration::from_secs(ALL),
         },
         recording: words.wrapping().records(),
+        input: words.wrapping().input(),
+        output: words.wrapping().output(),
         supply,
         reserve: Reserve::new(),
     })
@@ -198,7 +203,7 @@ fn service_of<R: AllocGlobal + Files>(
 // Looks for the folder of the rules, opens the socket, and runs the server on them.
 fn open_and_run<P: System + Send + Sync>(
     rt: &P::Runtime,
-    server: &ServerParts<P>,
+    server: &ServerParts<'_, P>,
     words: &ServerWords<'_>,
 ) -> Result<Finished, ServerFailure>
     requires asked { AreAsked words.now server.now.plan server.now.service }
@@ -243,7 +248,7 @@ fn open_socket<'a, P: System>(
 // The server over a yard and a site of its own.
 fn run_site<'a, L: Assumptions + Send + Sync, N: Callers + Send + Sync, P: System + Send + Sync>(
     rt: &'a P::Runtime,
-    server: &'a ServerParts<P>,
+    server: &'a ServerParts<'_, P>,
     acceptor: SocketAcceptor<'a, P::Runtime, P::Listener>,
     rules: Option<(Name, WhenMissing)>,
     at: RulesPath<'a, P::Runtime>,
@@ -300,7 +305,7 @@ fn yard_of<L: Assumptions>(
 // Serves the connections of a socket at a site, in the mode of the words.
 fn serve_on<'a, L: Assumptions + Send + Sync, N: Callers + Send + Sync, P: System + Send + Sync>(
     rt: &'a P::Runtime,
-    server: &'a ServerParts<P>,
+    server: &'a ServerParts<'_, P>,
     acceptor: SocketAcceptor<'a, P::Runtime, P::Listener>,
     site: Site<OnSystem<'a, P, L, N>>,
     callers: Vec<Caller<N>>,
@@ -323,7 +328,6 @@ fn serve_on<'a, L: Assumptions + Send + Sync, N: Callers + Send + Sync, P: Syste
         site,
         callers,
         &rules,
-        &Wrappers::new(words.wrapping()),
         starter,
         &server.plan,
         &server.service,

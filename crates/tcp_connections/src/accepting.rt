@@ -42,15 +42,15 @@ pub trait Follow<F> {
     fn follow(&mut self, source: &F, patience: Patience);
 }
 
-/// An accepted connection. It is closed once all three of its parts are let go.
+/// An accepted connection, with three holders of its stream. It is closed once all three are let go.
 #[derive(Drop)]
-pub struct Accepted<R, W, X> {
-    /// What the client sends.
-    pub reader: R,
-    /// What is sent to the client.
-    pub writer: W,
-    /// What ends it both ways.
-    pub shut: X,
+pub struct Accepted<S> {
+    /// By it is read what the client sends.
+    pub reader: S,
+    /// By it is written what is sent to the client.
+    pub writer: S,
+    /// By it the connection is ended both ways.
+    pub shut: S,
     /// The client's IPv4 address.
     pub ip: [u8; 4],
     /// The client's port.
@@ -61,14 +61,8 @@ pub struct Accepted<R, W, X> {
 
 /// Where connections come from.
 pub trait Acceptor {
-    /// What a client sends.
-    type Reader: Read + Drop;
-
-    /// What is sent to a client.
-    type Writer: Write + Drop;
-
-    /// What ends a connection both ways.
-    type Shut: Shut + Drop;
+    /// A holder of a connection's stream.
+    type Stream: Read + Write + Shut + Drop;
 
     /// At least the last so many calls of `accept` failed.
     ghost failed_last: { Self → ℕ → Bool };
@@ -80,7 +74,7 @@ pub trait Acceptor {
     ///
     /// # Errors
     /// There is no connection; the call may be made again.
-    fn accept(&mut self) -> Result<Accepted<Self::Reader, Self::Writer, Self::Shut>, AcceptFault>
+    fn accept(&mut self) -> Result<Accepted<Self::Stream>, AcceptFault>
         ensures once { OnErr result (IsTrue (failed_last self.new 1)) }
         ensures again { OnErr result
             ((n : ℕ) → IsTrue (failed_last self.old n) → IsTrue (failed_last self.new (n + 1))) }

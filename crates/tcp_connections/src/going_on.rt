@@ -1,6 +1,6 @@
 //! What is left of a connection whose program runs.
 use crate::admission::Serving;
-use crate::helpers::{Helper, Helpers};
+use crate::helpers::{AtWork, Helpers};
 use crate::supply::Means;
 use std::sync::Wait;
 
@@ -12,7 +12,7 @@ pub(crate) struct GoingOn<'a, R: Wait, V: Serving<T>, T> {
     pub means: &'a Means,
     pub seconds: &'a Helpers<V::Upward>,
     pub alive: V::Alive,
-    pub second: Option<Helper<V::Upward>>,
+    pub second: Option<AtWork<V::Upward>>,
 }
 
 impl<R: Wait, V: Serving<T>, T> Drop for GoingOn<'_, R, V, T> {
@@ -27,8 +27,7 @@ impl<R: Wait, V: Serving<T>, T> Drop for GoingOn<'_, R, V, T> {
         } = self;
         let _over = server.finish(alive);
         if let Some(second) = second {
-            second.wait_for_finish(rt);
-            seconds.give_back(rt, &second);
+            seconds.give_back(rt, second.wait(rt));
         }
         means.ended(rt);
     }

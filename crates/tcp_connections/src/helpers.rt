@@ -1,15 +1,59 @@
 //! Threads that are kept for later work.
 use crate::mailbox::Mailbox;
-use std::alloc::Global;
+use std::alloc::{AllocError, Global};
 use std::sync::{Arc, Mutex, Wait};
 
-/// A kept thread: the mailbox from which it takes one piece of work after another.
-pub(crate) type Helper<T> = Arc<Mailbox<T>, Global>;
+/// A thread that is done with its last piece of work, so that it can be handed the next one.
+#[derive(Drop)]
+pub(crate) struct Idle<T> {
+    mailbox: Arc<Mailbox<T>, Global>,
+}
+
+impl<T: Drop> Idle<T> {
+    /// Hands it a piece of work.
+    pub fn hand<R: Wait>(self, rt: &R, work: T) -> AtWork<T> {
+        let Idle { mailbox } = self;
+        mailbox.hand(rt, work);
+        AtWork { mailbox }
+    }
+
+    /// Hands it a piece of work that nobody waits for.
+    pub fn hand_over<R: Wait>(self, rt: &R, work: T) {
+        self.mailbox.hand(rt, work);
+    }
+
+    /// Ends it: no more work comes.
+    pub fn end<R: Wait>(self, rt: &R) {
+        self.mailbox.close(rt);
+    }
+}
+
+/// A thread that may be at work. It is idle only for who has waited for it.
+#[derive(Drop)]
+pub(crate) struct AtWork<T> {
+    mailbox: Arc<Mailbox<T>, Global>,
+}
+
+impl<T: Drop> AtWork<T> {
+    /// The thread that takes its work from this mailbox.
+    pub fn of(mailbox: &Arc<Mailbox<T>, Global>) -> Result<AtWork<T>, AllocError> {
+        Ok(AtWork {
+            mailbox: Arc::try_clone(mailbox)?,
+        })
+    }
+
+    /// Waits until it is done with its last piece of work.
+    pub fn wait<R: Wait>(self, rt: &R) -> Idle<T> {
+        let AtWork { mailbox } = self;
+        mailbox.wait_for_finish(rt);
+        Idle { mailbox }
+    }
+}
 
 /// The kept threads that are idle.
 #[derive(Drop)]
 pub(crate) struct Helpers<T> {
-    idle: Mutex<Option<Vec<Helper<T>>>>,
+    idle: Mutex<Option<Vec<Idle<T>>>>,
 }
 
 impl<T: Drop> Helpers<T> {
@@ -21,24 +65,24 @@ impl<T: Drop> Helpers<T> {
     }
 
     /// Takes the thread that was given back last.
-    pub fn take<R: Wait>(&self, rt: &R) -> Option<Helper<T>> {
+    pub fn take<R: Wait>(&self, rt: &R) -> Option<Idle<T>> {
         self.idle.lock(rt).as_mut()?.pop()
     }
 
     /// Gives a thread back. It ends if there is no memory to keep it, or no more are kept.
-    pub fn give_back<R: Wait>(&self, rt: &R, helper: &Helper<T>) {
-        if !self.keeps(rt, helper) {
-            helper.close(rt);
+    pub fn give_back<R: Wait>(&self, rt: &R, helper: Idle<T>) {
+        if !self.keeps(rt, &helper) {
+            helper.end(rt);
         }
     }
 
     // Keeps a thread, if there is memory for that and threads are still kept.
-    fn keeps<R: Wait>(&self, rt: &R, helper: &Helper<T>) -> bool {
-        let Ok(helper) = Arc::try_clone(helper) else {
+    fn keeps<R: Wait>(&self, rt: &R, helper: &Idle<T>) -> bool {
+        let Ok(mailbox) = Arc::try_clone(&helper.mailbox) else {
             return false;
         };
         match self.idle.lock(rt).as_mut() {
-            Some(idle) => idle.push(helper).is_ok(),
+            Some(idle) => idle.push(Idle { mailbox }).is_ok(),
             None => false,
         }
     }
@@ -56,7 +100,7 @@ impl<T: Drop> Helpers<T> {
             return;
         };
         for helper in idle {
-            helper.close(rt);
+            helper.end(rt);
         }
     }
 }

@@ -58,7 +58,7 @@ impl<T: Drop> Mailbox<T> {
         self.changed.notify_all();
     }
 
-    /// Waits until the taker is done with the last value.
+    /// Waits until the taker is done with the last value. Only `AtWork` calls this.
     pub fn wait_for_finish<R: Wait>(&self, rt: &R) {
         drop(
             self.changed

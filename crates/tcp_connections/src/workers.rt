@@ -9,7 +9,7 @@ use crate::admission::{Admission, ServeEnd, Serving};
 use crate::crew::Crew;
 use crate::door::{Door, Pause};
 use crate::going_on::GoingOn;
-use crate::helpers::{Helper, Helpers};
+use crate::helpers::{AtWork, Helpers, Idle};
 use crate::mailbox::Mailbox;
 use crate::supply::{Means, Reserve, Supply};
 use crate::threads::{connection_thread, has_processes, start_reserve};
@@ -318,23 +318,20 @@ where
     fn come_to_work<'s, 'e>(&'s self, scope: &'s Scope<'s, &'e ()>) {
         self.come_up();
         let second = self.second(scope);
-        if let Some(second) = &second {
-            second.wait_for_finish(self.rt);
-        }
         let is_whole = second.is_some() || !self.server.passes_up();
         self.arrived.hand(self.rt, is_whole);
         if is_whole && self.wanted.take(self.rt) == Some(true) {
             self.work(scope, second);
         } else if let Some(second) = second {
-            second.close(self.rt);
+            second.end(self.rt);
         }
     }
 
     // Starts a second thread, if the system has one.
-    fn start_second<'s, 'e>(&'s self, scope: &'s Scope<'s, &'e ()>) -> Option<Helper<V::Upward>> {
+    fn start_second<'s, 'e>(&'s self, scope: &'s Scope<'s, &'e ()>) -> Option<AtWork<V::Upward>> {
         let workers = self;
-        let second = Arc::new(workers.alloc, Mailbox::new()).ok()?;
-        let his = Arc::try_clone(&second).ok()?;
+        let his = Arc::new(workers.alloc, Mailbox::new()).ok()?;
+        let second = AtWork::of(&his).ok()?;
         let started = connection_thread().spawn_scoped(
             scope,
             move ||
@@ -350,7 +347,7 @@ where
     }
 
     // Lets in and serves one connection after another, until no more come, or the worker lacks a second thread.
-    fn work<'s, 'e>(&'s self, scope: &'s Scope<'s, &'e ()>, second: Option<Helper<V::Upward>>) {
+    fn work<'s, 'e>(&'s self, scope: &'s Scope<'s, &'e ()>, second: Option<Idle<V::Upward>>) {
         let mut second = second;
         for _ in self.rt.forever() {
             let Some(work) = self.next_connection() else {
@@ -364,7 +361,7 @@ where
             self.crew.come_back(self.rt);
         }
         if let Some(second) = second {
-            second.close(self.rt);
+            second.end(self.rt);
         }
     }
 
@@ -374,7 +371,7 @@ where
         &'s self,
         scope: &'s Scope<'s, &'e ()>,
         work: Q::Work,
-        second: &mut Option<Helper<V::Upward>>,
+        second: &mut Option<Idle<V::Upward>>,
     ) {
         let (upward, alive) = match self.server.begin(work) {
             Ok(begun) => begun,
@@ -384,30 +381,32 @@ where
             }
         };
         self.means.began(self.rt);
-        let second_of_this = second.take();
-        if let (Some(second), Some(upward)) = (&second_of_this, upward) {
-            second.hand(self.rt, upward);
-        }
+        let at_work = match upward {
+            Some(upward) => second.take().map(|second| second.hand(self.rt, upward)),
+            None => None,
+        };
         let going_on = GoingOn {
             rt: self.rt,
             server: self.server,
             means: self.means,
             seconds: self.seconds,
             alive,
-            second: second_of_this,
+            second: at_work,
         };
         match self.keeper(scope) {
-            Some(keeper) => keeper.hand(self.rt, going_on),
+            Some(keeper) => keeper.hand_over(self.rt, going_on),
             None => drop(going_on),
         }
-        *second = self.second(scope);
+        if second.is_none() {
+            *second = self.second(scope);
+        }
     }
 
     // An idle keeper, or a new one. None if memory is limited, threads were scarce, or the system has no more.
     fn keeper<'s, 'e>(
         &'s self,
         scope: &'s Scope<'s, &'e ()>,
-    ) -> Option<Helper<GoingOn<'a, R, V, Q::Work>>> {
+    ) -> Option<Idle<GoingOn<'a, R, V, Q::Work>>> {
         if !self.has_plenty() {
             self.keepers.end(self.rt);
             return None;
@@ -415,28 +414,28 @@ where
         if let Some(keeper) = self.keepers.take(self.rt) {
             return Some(keeper);
         }
-        self.start_keeper(scope)
+        Some(self.start_keeper(scope)?.wait(self.rt))
     }
 
     // An idle second thread, or a new one. None if what clients send is not passed on, or the system has no more.
-    fn second<'s, 'e>(&'s self, scope: &'s Scope<'s, &'e ()>) -> Option<Helper<V::Upward>> {
+    fn second<'s, 'e>(&'s self, scope: &'s Scope<'s, &'e ()>) -> Option<Idle<V::Upward>> {
         if !self.server.passes_up() {
             return None;
         }
         if let Some(second) = self.seconds.take(self.rt) {
             return Some(second);
         }
-        self.start_second(scope)
+        Some(self.start_second(scope)?.wait(self.rt))
     }
 
     // Starts a keeper, if the system has a thread for it.
     fn start_keeper<'s, 'e>(
         &'s self,
         scope: &'s Scope<'s, &'e ()>,
-    ) -> Option<Helper<GoingOn<'a, R, V, Q::Work>>> {
+    ) -> Option<AtWork<GoingOn<'a, R, V, Q::Work>>> {
         let workers = self;
-        let keeper = Arc::new(workers.alloc, Mailbox::new()).ok()?;
-        let his = Arc::try_clone(&keeper).ok()?;
+        let his = Arc::new(workers.alloc, Mailbox::new()).ok()?;
+        let keeper = AtWork::of(&his).ok()?;
         let started = connection_thread().spawn_scoped(
             scope,
             move ||
@@ -451,13 +450,17 @@ where
     }
 
     // Goes on with one connection after another, until no more come.
-    fn keep_in_turn<'s>(&'s self, keeper: &'s Helper<GoingOn<'a, R, V, Q::Work>>) {
+    fn keep_in_turn<'s>(&'s self, keeper: &'s Arc<Mailbox<GoingOn<'a, R, V, Q::Work>>, Global>) {
         for _ in self.rt.forever() {
             let Some(going_on) = keeper.take(self.rt) else {
                 return;
             };
             drop(going_on);
-            self.keepers.give_back(self.rt, keeper);
+            keeper.finish(self.rt);
+            let Ok(itself) = AtWork::of(keeper) else {
+                return;
+            };
+            self.keepers.give_back(self.rt, itself.wait(self.rt));
         }
     }
 }

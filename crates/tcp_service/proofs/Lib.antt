@@ -2,3 +2,4 @@ pub mod Asked
 pub mod Shares
 pub mod Told
 pub mod FoundLemmas
+pub mod LineWrappers

@@ -1,5 +1,4 @@
--- A caller of a site as the agent of one connection, what was told last of that, and the line wrappers with which it
--- begins.
+-- A caller of a site as the agent of one connection, what was told last of that, and the line wrappers of its streams.
 pub mod Agents
 pub mod Lives
-pub mod Renewals
+pub mod Wrappers

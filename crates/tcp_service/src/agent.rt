@@ -2,10 +2,10 @@
 //! the turn is over.
 ghost use Rattle.std.specs.Prelude.{◌≡◌, None};
 
-use crate::host::Host;
+use crate::host::AgentGround;
 use crate::opening::{Rules, RulesHandle};
 use crate::reasons::{Reason, cause_of_absence, cause_of_damage};
-use crate::server::Server;
+use crate::server::Agents;
 use crate::telling::Telling;
 use byte_text::words_of_error;
 use child_jobs::{DropCause, Job, Local, Place, Running, StartFault, Status};
@@ -20,44 +20,44 @@ use std::snapshot::Snapshot;
 use tcp_connections::Notes;
 
 /// What a connection found when it opened the rules, if it came to that.
-pub(crate) type FoundBy<H> = Option<Snapshot<Pass<<H as Ground>::Places, <H as Ground>::File>>>;
+pub(crate) type FoundBy<G> = Option<Snapshot<Pass<<G as Ground>::Places, <G as Ground>::File>>>;
 
 /// The agent of one connection.
 ///
 /// The rules are opened by a handle of the connection's own, before the site is asked: no other connection waits
 /// meanwhile. If the assumptions are met, the file that was found is compiled of rules.
 #[derive(Drop)]
-pub(crate) struct LoggedAgent<'a, H: Host> {
-    server: &'a Server<'a, H>,
+pub(crate) struct LoggedAgent<'a, G: AgentGround> {
+    agents: &'a Agents<'a, G>,
     serial: u64,
     // the server's end of the connection
     local: &'a Local,
     // what the system told of its program
     notes: &'a Notes,
     // what the connection opened the rules by
-    handle: Option<H::Handle>,
+    handle: Option<G::Handle>,
     // and what it found
-    found: FoundBy<H>,
+    found: FoundBy<G>,
     // what the site answered last, which says how far the connection has come
     pub(crate) last: Option<Result<Made, OutOfTurn>>,
 }
 
-impl<'a, H: Host> Server<'a, H> {
+impl<'a, G: AgentGround> Agents<'a, G> {
     /// The agent of the connection with this serial number. Nothing was asked for it yet.
     pub(crate) fn agent<'b>(
         &'b self,
         serial: u64,
         local: &'b Local,
         notes: &'b Notes,
-    ) -> LoggedAgent<'b, H>
+    ) -> LoggedAgent<'b, G>
     where
         'a: 'b,
         ensures own { result.serial ≡ serial }
-        ensures rules { result.server.now.rules.now ≡ self.now.rules.now }
+        ensures rules { result.agents.now.rules.now ≡ self.now.rules.now }
         ensures unasked { result.last ≡ None }
     {
         LoggedAgent {
-            server: self,
+            agents: self,
             serial,
             local,
             notes,
@@ -68,7 +68,7 @@ impl<'a, H: Host> Server<'a, H> {
     }
 }
 
-impl<H: Host> LoggedAgent<'_, H> {
+impl<G: AgentGround> LoggedAgent<'_, G> {
     ghost use Rattle.std.specs.Prelude.{◌≡◌, ◌-◌, ◌^◌, Some, true, IfErr, IfOk, OnErr, is_some};
     ghost use Rattle.one_connection.specs.Openings.{FailsToOpen, kept_opening, opening_of};
     ghost use Rattle.server_events.specs.declared.event.Event.TheVariants as event;
@@ -76,7 +76,7 @@ impl<H: Host> LoggedAgent<'_, H> {
     ghost use Rattle.tcp_service.specs.Agents.{IsAnswer, asked, made};
 
     /// What the connection found when it opened the rules, if it came to that.
-    pub(crate) fn into_found(self) -> FoundBy<H>
+    pub(crate) fn into_found(self) -> FoundBy<G>
         ensures its { result ≡ self.entry.found }
     {
         let LoggedAgent { found, .. } = self;
@@ -84,24 +84,24 @@ impl<H: Host> LoggedAgent<'_, H> {
     }
 
     // A turn of the caller that makes the events of connections.
-    fn turn<T: Turn<H>>(&self, turn: T) -> T::Answer
+    fn turn<T: Turn<G>>(&self, turn: T) -> T::Answer
         requires may { T.may turn }
         ensures answered { IsAnswer (T.answers turn) result }
     {
-        let server = self.server;
-        let mut teller = server.teller.lock(server.rt);
-        server.site.turn(server.rt, &mut teller, turn)
+        let agents = self.agents;
+        let mut teller = agents.teller.lock(agents.rt);
+        agents.site.turn(agents.rt, &mut teller, turn)
     }
 
     // The same of an event of which the log is told.
     fn tell<T>(&self, turn: T, told: Told<'_>) -> Result<Made, OutOfTurn>
     where
-        T: Turn<H, Answer = Result<Made, OutOfTurn>>,
+        T: Turn<G, Answer = Result<Made, OutOfTurn>>,
         requires may { T.may turn }
         ensures answered { IsAnswer (T.answers turn) result }
     {
-        let (rt, log) = (self.server.rt, self.server.log);
-        self.turn(Telling::<H, T> {
+        let (rt, log) = (self.agents.rt, self.agents.log);
+        self.turn(Telling::<G, T> {
             turn,
             told,
             rt,
@@ -113,19 +113,19 @@ impl<H: Host> LoggedAgent<'_, H> {
     fn opened(
         &mut self,
         serial: u64,
-        finding: Finding<H::Places, H::File>,
-    ) -> Result<Pass<H::Places, H::File>, DropCause>
+        finding: Finding<G::Places, G::File>,
+    ) -> Result<Pass<G::Places, G::File>, DropCause>
         ensures its { IfOk result (λ pass. pass_serial pass ≡ serial) }
         ensures file { IfOk result (λ pass. pass_file pass ≡ finding_file finding) }
         ensures keeps { IfOk result (λ pass.
-            kept_opening H.File.bytes self.new.found ≡ Some (opening_of H.File.bytes pass)) }
+            kept_opening G.File.bytes self.new.found ≡ Some (opening_of G.File.bytes pass)) }
         ensures told { IfOk result (λ pass.
             made self.new.last ≡ Some (event.Opened serial (is_some (pass_file pass)))) }
         ensures refused { OnErr result (self.new.last ≡ self.old.last) }
         ensures own { self.new.serial ≡ self.old.serial }
         ensures cause { IfErr result (FailsToOpen true (2 ^ 64 - 1) (2 ^ 64 - 1)) }
     {
-        let turn = Opened::<H> { serial, finding };
+        let turn = Opened::<G> { serial, finding };
         match self.turn(turn) {
             Some((pass, made)) => {
                 self.found = Some(Snapshot::of(&pass));
@@ -138,7 +138,7 @@ impl<H: Host> LoggedAgent<'_, H> {
 
     // Why the rules could not be opened or read, or which rule is damaged.
     fn reason_of(&self, cause: DropCause, peer: &Peer) -> Option<Reason> {
-        let (alloc, rules) = (self.server.alloc, self.server.rules);
+        let (alloc, rules) = (self.agents.alloc, self.agents.rules);
         match cause {
             DropCause::Directory | DropCause::ReadFault => {
                 let error = rules.error(self.handle.as_ref()?)?;
@@ -151,9 +151,9 @@ impl<H: Host> LoggedAgent<'_, H> {
 
     /// Tells how the program of this connection ended, and gives its place back; or that it could not be waited for.
     #[tactic(auto, using(crate::proofs::Asked::asked_for))]
-    pub(crate) fn tell_end(
+    pub(crate) fn tell_end<C: Job>(
         &mut self,
-        ended: Result<(Place<H::Places>, Status), Running<H::Places, H::Job>>,
+        ended: Result<(Place<G::Places>, Status), Running<G::Places, C>>,
     )
         ensures ended { IfOk ended (λ end. asked self.new.last ≡ Some (event.Ended self.old.serial end.1)) }
         ensures retired { OnErr ended (asked self.new.last ≡ Some (event.Retired self.old.serial)) }
@@ -163,10 +163,10 @@ impl<H: Host> LoggedAgent<'_, H> {
         let answer = match ended {
             Ok((place, status)) => {
                 let signal = match status {
-                    Status::Signal => self.notes.signal(self.server.rt),
+                    Status::Signal => self.notes.signal(self.agents.rt),
                     Status::Code(_) => None,
                 };
-                let turn = Ended::<H> {
+                let turn = Ended::<G> {
                     serial,
                     place,
                     status,
@@ -179,7 +179,7 @@ impl<H: Host> LoggedAgent<'_, H> {
                 self.tell(turn, told)
             }
             Err(running) => {
-                let turn = Retired::<H, H::Job> { serial, running };
+                let turn = Retired::<G, C> { serial, running };
                 self.tell(turn, Told::Retired { serial })
             }
         };
@@ -187,7 +187,7 @@ impl<H: Host> LoggedAgent<'_, H> {
     }
 }
 
-impl<H: Host> Agent<H::Places> for LoggedAgent<'_, H> {
+impl<G: AgentGround> Agent<G::Places> for LoggedAgent<'_, G> {
     ghost use Rattle.std.specs.Prelude.{◌≡◌, ◌-◌, ◌^◌, true, Some, IfOk, IfErr, OnOk, OnErr};
     ghost use Rattle.one_connection.specs.Openings.{Decides, FailsToDecide, RefusesDecision, kept_opening, opening_of};
     ghost use Rattle.server_events.specs.declared.event.Event.TheVariants as event;
@@ -195,28 +195,28 @@ impl<H: Host> Agent<H::Places> for LoggedAgent<'_, H> {
     ghost use Rattle.server_yard.specs.Passes.{IsDecidedBy, pass_missing, pass_serial};
     ghost use Rattle.tcp_service.specs.Agents.{IsFoundFor, IsGoneBy, IsMissingBy, StandsBy, asked};
 
-    type Place = Place<H::Places>;
+    type Place = Place<G::Places>;
 
-    type Pass = Pass<H::Places, H::File>;
+    type Pass = Pass<G::Places, G::File>;
 
     ghost index = { λ place. place };
 
-    ghost opening = { λ pass. opening_of H.File.bytes pass };
+    ghost opening = { λ pass. opening_of G.File.bytes pass };
 
     ghost serial = { λ pass. pass_serial pass };
 
-    ghost honest = { H.File.honest };
+    ghost honest = { G.File.honest };
 
-    ghost sound = { H.File.sound };
+    ghost sound = { G.File.sound };
 
     ghost stands = { λ agent _ serial _ at. StandsBy agent.last agent.serial serial at };
 
     ghost is_gone = { λ agent serial. IsGoneBy agent.last serial };
 
     ghost finds = { λ agent.
-        IsFoundFor H.Places.met (H.Rules.gives agent.server.now.rules.now) H.Handle.opened agent.serial };
+        IsFoundFor G.Places.met (G.Rules.gives agent.agents.now.rules.now) G.Handle.opened agent.serial };
 
-    ghost found = { λ agent. kept_opening H.File.bytes agent.found };
+    ghost found = { λ agent. kept_opening G.File.bytes agent.found };
 
     ghost tells = { λ _ event after. asked after.last ≡ Some event };
 
@@ -224,7 +224,7 @@ impl<H: Host> Agent<H::Places> for LoggedAgent<'_, H> {
 
     ghost still = { λ agent after. after.last ≡ agent.last };
 
-    ghost is_missing = { λ agent missing. IsMissingBy (kept_opening H.File.bytes agent.found) missing };
+    ghost is_missing = { λ agent missing. IsMissingBy (kept_opening G.File.bytes agent.found) missing };
 
     ghost failures = { λ _. 2 ^ 64 - 1 };
 
@@ -234,11 +234,11 @@ impl<H: Host> Agent<H::Places> for LoggedAgent<'_, H> {
     fn open(
         &mut self,
         alloc: Global,
-        _place: &Place<H::Places>,
+        _place: &Place<G::Places>,
         serial: u64,
         _peer: &Peer,
-    ) -> Result<Pass<H::Places, H::File>, DropCause> {
-        let Ok(mut handle) = self.server.rules.handle(alloc) else {
+    ) -> Result<Pass<G::Places, G::File>, DropCause> {
+        let Ok(mut handle) = self.agents.rules.handle(alloc) else {
             return Err(DropCause::Memory);
         };
         let found = handle.open(alloc, self.serial);
@@ -251,13 +251,13 @@ impl<H: Host> Agent<H::Places> for LoggedAgent<'_, H> {
 
     fn decide(
         alloc: Global,
-        pass: &Pass<H::Places, H::File>,
+        pass: &Pass<G::Places, G::File>,
         peer: &Peer,
     ) -> Result<Decision, DecideFault>
         ensures decided { IfOk result
-            (Decides H.File.honest H.File.sound (opening_of H.File.bytes pass.now) peer.now) }
+            (Decides G.File.honest G.File.sound (opening_of G.File.bytes pass.now) peer.now) }
         ensures refused { IfErr result
-            (FailsToDecide H.File.honest H.File.sound (opening_of H.File.bytes pass.now) peer.now) }
+            (FailsToDecide G.File.honest G.File.sound (opening_of G.File.bytes pass.now) peer.now) }
     {
         decide_by_pass(alloc, pass, peer)
     }
@@ -265,21 +265,21 @@ impl<H: Host> Agent<H::Places> for LoggedAgent<'_, H> {
     fn decided(
         &mut self,
         _alloc: Global,
-        _place: &Place<H::Places>,
-        pass: Pass<H::Places, H::File>,
+        _place: &Place<G::Places>,
+        pass: Pass<G::Places, G::File>,
         peer: &Peer,
         decision: Decision,
     ) -> Result<(), DropCause>
         requires stands { StandsBy self.old.last self.old.serial (pass_serial pass) stage.Opened }
-        requires missing { IsMissingBy (kept_opening H.File.bytes self.old.found) (pass_missing pass) }
-        requires decides { IsDecidedBy H.File.honest H.File.sound H.File.bytes pass peer.now decision }
+        requires missing { IsMissingBy (kept_opening G.File.bytes self.old.found) (pass_missing pass) }
+        requires decides { IsDecidedBy G.File.honest G.File.sound G.File.bytes pass peer.now decision }
         ensures decided { OnOk result
             (StandsBy self.new.last self.new.serial (pass_serial pass) (stage.Decided decision.verdict)) }
         ensures told { OnOk result (asked self.new.last ≡ Some (event.Decided (pass_serial pass) decision)) }
         ensures refused { OnErr result (StandsBy self.new.last self.new.serial (pass_serial pass) stage.Opened) }
         ensures quiet { OnErr result (self.new.last ≡ self.old.last) }
         ensures cause { IfErr result (RefusesDecision true) }
-        ensures keeps { kept_opening H.File.bytes self.new.found ≡ kept_opening H.File.bytes self.old.found }
+        ensures keeps { kept_opening G.File.bytes self.new.found ≡ kept_opening G.File.bytes self.old.found }
         ensures failures { 2 ^ 64 - 1 ≡ 2 ^ 64 - 1 }
     {
         let told = Told::Decided {
@@ -287,9 +287,9 @@ impl<H: Host> Agent<H::Places> for LoggedAgent<'_, H> {
             verdict: decision.verdict,
             local: self.local,
             peer,
-            file: cause_of_absence(self.server.rules.path(), &decision),
+            file: cause_of_absence(self.agents.rules.path(), &decision),
         };
-        let turn = Decided::<H> {
+        let turn = Decided::<G> {
             pass,
             peer,
             decision,
@@ -304,30 +304,30 @@ impl<H: Host> Agent<H::Places> for LoggedAgent<'_, H> {
     }
 
     #[tactic(auto, using(crate::proofs::Asked::asked_for))]
-    fn started<C: Job>(&mut self, running: &Running<H::Places, C>, serial: u64, _peer: &Peer) {
-        let process = self.notes.number(self.server.rt);
-        let turn = Started::<H, C> { serial, running };
+    fn started<C: Job>(&mut self, running: &Running<G::Places, C>, serial: u64, _peer: &Peer) {
+        let process = self.notes.number(self.agents.rt);
+        let turn = Started::<G, C> { serial, running };
         self.last = Some(self.tell(turn, Told::Started { serial, process }));
     }
 
     #[tactic(auto, using(crate::proofs::Asked::asked_for))]
     fn start_failed(
         &mut self,
-        place: Place<H::Places>,
+        place: Place<G::Places>,
         serial: u64,
         _peer: &Peer,
         fault: StartFault,
     ) {
-        let error = self.notes.refusal.lock(self.server.rt).take();
-        let why = error.and_then(|error| words_of_error(self.server.alloc, error).ok());
-        let program = self.server.plan.program().path().as_bytes();
+        let error = self.notes.refusal.lock(self.agents.rt).take();
+        let why = error.and_then(|error| words_of_error(self.agents.alloc, error).ok());
+        let program = self.agents.plan.program().path().as_bytes();
         let cause = why.as_ref().map(|why| Cause::new(program, why.as_str()));
         let told = Told::StartFailed {
             serial,
             fault,
             cause,
         };
-        let turn = StartFailed::<H> {
+        let turn = StartFailed::<G> {
             serial,
             place,
             fault,
@@ -336,8 +336,8 @@ impl<H: Host> Agent<H::Places> for LoggedAgent<'_, H> {
     }
 
     #[tactic(auto, using(crate::proofs::Asked::asked_for))]
-    fn dropped(&mut self, place: Place<H::Places>, serial: u64, peer: &Peer, cause: DropCause) {
-        let path = self.server.rules.path();
+    fn dropped(&mut self, place: Place<G::Places>, serial: u64, peer: &Peer, cause: DropCause) {
+        let path = self.agents.rules.path();
         let reason = self.reason_of(cause, peer);
         let why = reason.as_ref().map(|reason| reason.cause(path));
         let file = cause_of_damage(path, cause);
@@ -347,7 +347,7 @@ impl<H: Host> Agent<H::Places> for LoggedAgent<'_, H> {
             file,
             why,
         };
-        let turn = Dropped::<H> {
+        let turn = Dropped::<G> {
             serial,
             place,
             cause,

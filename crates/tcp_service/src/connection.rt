@@ -19,17 +19,13 @@ where
     H::Handle: Send,
     H::Rules: Sync,
     H::Lines: Send,
-    H::Reader: Send,
-    H::Writer: Send,
-    H::Shut: Send,
+    H::Stream: Send,
     H::Starter: Sync,
     H::Job: Send,
     H::Input: Send,
     H::Output: Send,
-    H::Wrapper: Send,
-    H::Chains: Sync,
 {
-    type Upward = Upward<H>;
+    type Upward = Upward<H::Stream, H::Input>;
 
     type Alive = Alive<'b, H>;
 
@@ -49,7 +45,7 @@ where
         admitted.begin()
     }
 
-    fn pass_up(&self, upward: Upward<H>) {
+    fn pass_up(&self, upward: Upward<H::Stream, H::Input>) {
         Server::pass_up(self, upward);
     }
 

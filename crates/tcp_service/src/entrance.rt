@@ -8,19 +8,19 @@ ghost use Rattle.tcp_connections.specs.declared.admission.AdmitOutcome.TheVarian
 ghost use Rattle.tcp_service.specs.declared.entrance.Refused.TheVariants.{OutOfMemory};
 ghost use Rattle.tcp_service.specs.Lives.{AdmitsOwn};
 
-use crate::host::{AcceptedBy, Host};
+use crate::host::{AgentGround, Host};
 use crate::life::Admitted;
 use crate::pumping::ClientStreams;
-use crate::server::Server;
+use crate::server::{Agents, Server};
 use crate::telling::{AdmittedBy, TellingAdmission};
 use child_jobs::{DropCause, Local};
 use rule_lookup::Peer;
 use server_yard::{AdmitFault, Assumptions};
 use shared_site::turns::Dropped;
 use shared_site::{AllRetired, CallerOf, Made, Refusal};
-use std::alloc::AllocError;
+use std::alloc::{AllocError, Global};
 use std::snapshot::Snapshot;
-use tcp_connections::{AcceptFault, Acceptor, Admission, AdmitOutcome};
+use tcp_connections::{AcceptFault, Accepted, Acceptor, Admission, AdmitOutcome, HostNames};
 
 /// Why a connection was refused.
 #[derive(Drop)]
@@ -76,7 +76,7 @@ impl<L: Assumptions> Seen<L> {
 /// What came of a connection, and of its turn at the site.
 type LetIn<'a, H> = AdmitOutcome<Admitted<'a, H>, Refused>;
 
-type Counted<H> = AdmitOutcome<AdmittedBy<H>, Refusal>;
+type Counted<G> = AdmitOutcome<AdmittedBy<G>, Refusal>;
 
 /// Lets the connections of an acceptor in, by a caller of a site that makes no other events: its share is how many were
 /// let in.
@@ -102,7 +102,8 @@ impl<'a, H: Host> Admission for Entrance<'a, H> {
     ghost is_spent = { λ entrance. is_some entrance.seen.spent };
 
     fn wait_for_room(&mut self) -> bool {
-        match self.server.site.room(self.server.rt) {
+        let agents = &self.server.agents;
+        match agents.site.room(agents.rt) {
             Ok(()) => true,
             Err(retired) => {
                 self.seen.retired = Some(retired);
@@ -115,7 +116,7 @@ impl<'a, H: Host> Admission for Entrance<'a, H> {
         let server = self.server;
         match self.acceptor.accept() {
             Ok(accepted) => Ok(let_in(server, &mut self.admitter, &mut self.seen.spent, accepted)),
-            Err(AcceptFault::OutOfMemory) => Ok(lack_memory(server)),
+            Err(AcceptFault::OutOfMemory) => Ok(lack_memory(&server.agents)),
             Err(fault) => Err(fault),
         }
     }
@@ -126,21 +127,21 @@ impl<'a, H: Host> Admission for Entrance<'a, H> {
 }
 
 // The two ends of a connection, with their names.
-fn ends_of<H: Host>(
-    server: &Server<'_, H>,
-    accepted: &AcceptedBy<H>,
+fn ends_of<S>(
+    alloc: Global,
+    names: &HostNames,
+    accepted: &Accepted<S>,
 ) -> Result<(Peer, Local), AllocError> {
-    let (alloc, names) = (server.alloc, &server.service.names);
     let peer = names.peer(alloc, accepted.ip, accepted.port)?;
     let local = names.local(alloc, accepted.local.ip(), accepted.local.port())?;
     Ok((peer, local))
 }
 
 // A connection has found no memory.
-fn lack_memory<'a, H: Host>(server: &'a Server<'a, H>) -> LetIn<'a, H>
+fn lack_memory<G: AgentGround, W>(agents: &Agents<'_, G>) -> AdmitOutcome<W, Refused>
     ensures refused { result ≡ outcome.Refused OutOfMemory }
 {
-    let _ = server.log.lock(server.rt).out_of_memory();
+    let _ = agents.log.lock(agents.rt).out_of_memory();
     AdmitOutcome::Refused(Refused::OutOfMemory)
 }
 
@@ -149,15 +150,17 @@ fn let_in<'a, H: Host>(
     server: &'a Server<'a, H>,
     admitter: &mut CallerOf<H>,
     spent: &mut Option<NoNumbers>,
-    accepted: AcceptedBy<H>,
+    accepted: Accepted<H::Stream>,
 ) -> LetIn<'a, H>
     ensures came { LetsIn result (caller_share admitter.old) (caller_share admitter.new) }
     ensures spent { OnSpent result (IsTrue (is_some spent.new)) }
 {
-    let Ok((peer, local)) = ends_of(server, &accepted) else {
-        return lack_memory(server);
+    let agents = &server.agents;
+    let Ok((peer, local)) = ends_of(agents.alloc, &server.service.names, &accepted) else {
+        drop(accepted);
+        return lack_memory(agents);
     };
-    match admit(server, admitter, spent, &peer) {
+    match admit(agents, admitter, spent, &peer) {
         AdmitOutcome::In((serial, place, made)) => AdmitOutcome::In(Admitted {
             server,
             serial,
@@ -167,29 +170,42 @@ fn let_in<'a, H: Host>(
             streams: ClientStreams::of(accepted),
             made: Snapshot::of(&made),
         }),
-        AdmitOutcome::Refused(refusal) => AdmitOutcome::Refused(Refused::BySite(refusal)),
-        AdmitOutcome::Spent => AdmitOutcome::Spent,
+        AdmitOutcome::Refused(refusal) => {
+            let_go(accepted, peer, local);
+            AdmitOutcome::Refused(Refused::BySite(refusal))
+        }
+        AdmitOutcome::Spent => {
+            let_go(accepted, peer, local);
+            AdmitOutcome::Spent
+        }
     }
+}
+
+// Closes a connection that was not let in.
+fn let_go<S: Drop>(accepted: Accepted<S>, peer: Peer, local: Local) {
+    drop(accepted);
+    drop(peer);
+    drop(local);
 }
 
 // Counts a connection: its serial, and its place. Once the last number of an event is given nobody is let in any more.
 #[tactic(auto, using(crate::proofs::Shares::one_came, crate::proofs::Shares::none_came, crate::proofs::Shares::own_came))]
-fn admit<H: Host>(
-    server: &Server<'_, H>,
-    admitter: &mut CallerOf<H>,
+fn admit<G: AgentGround>(
+    agents: &Agents<'_, G>,
+    admitter: &mut CallerOf<G>,
     spent: &mut Option<NoNumbers>,
     peer: &Peer,
-) -> Counted<H>
+) -> Counted<G>
     ensures came { LetsIn result (caller_share admitter.old) (caller_share admitter.new) }
     ensures spent { OnSpent result (IsTrue (is_some spent.new)) }
     ensures own { AdmitsOwn result peer.now }
 {
-    let (rt, site, log) = (server.rt, server.site, server.log);
-    match site.turn(rt, admitter, TellingAdmission::<H> { peer, rt, log }) {
+    let (rt, site, log) = (agents.rt, agents.site, agents.log);
+    match site.turn(rt, admitter, TellingAdmission::<G> { peer, rt, log }) {
         Ok((serial, place, made)) => {
             if made.at() == u64::MAX {
                 let cause = DropCause::Memory;
-                let turn = Dropped::<H> {
+                let turn = Dropped::<G> {
                     serial,
                     place,
                     cause,

@@ -2,7 +2,7 @@
 //! lines of the log are written. A line that can't be written is left out.
 //!
 //! The server uses `serve`. What it stands on is one type, a `Host`: its types are the ground of its site, the runtime,
-//! the rules, the log, and the streams and programs of connections. At the end both callers are back and as many
+//! the rules, the log, and the streams and programs of connections. An agent stands on the first four (`AgentGround`). At the end both callers are back and as many
 //! connections are alive as are retired; `serve` looks at the last, and answers `Unfinished` if it is not so. The
 //! events of its site are a run, which `server_yard::laws::whole_run` is about. The life of a connection is one value after
 //! another: `Admitted`, `Started`, `Alive`, `Over`. None of the first three can be let go, and an end can't be told
@@ -23,12 +23,13 @@ mod server;
 pub mod service;
 pub mod serving;
 mod telling;
+mod wrappers;
 
-pub use host::Host;
+pub use host::{AgentGround, Host};
 pub use opening::{Rules, RulesHandle};
 pub use server_log::Log;
 pub use server_words::{ConnectionLimits, Level, Mode};
-pub use service::{ChainSource, Chains, Service};
+pub use service::Service;
 pub use serving::{Closed, Unfinished, serve};
 pub use tcp_connections::{
     AcceptFault, Accepted, Acceptor, Follow, HostNames, NotStarted, Patience, Reserve, ServeEnd,

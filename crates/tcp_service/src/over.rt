@@ -4,7 +4,7 @@ ghost use Rattle.tcp_service.specs.Agents.{asked};
 ghost use Rattle.tcp_service.specs.Lives.{IsEndOf};
 
 use crate::agent::LoggedAgent;
-use crate::host::Host;
+use crate::host::AgentGround;
 use shared_site::{Made, OutOfTurn};
 use std::snapshot::Snapshot;
 
@@ -18,7 +18,7 @@ pub(crate) struct Over {
 
 impl Over {
     /// That the connection with this serial number is, by its agent.
-    pub(crate) fn of<H: Host>(agent: &LoggedAgent<'_, H>, serial: u64) -> Over
+    pub(crate) fn of<G: AgentGround>(agent: &LoggedAgent<'_, G>, serial: u64) -> Over
         requires told { IsEndOf (asked agent.now.last) serial }
         ensures own { result.serial ≡ serial }
         ensures last { result.last.value ≡ agent.now.last }

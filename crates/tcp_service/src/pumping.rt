@@ -1,32 +1,33 @@
 //! The streams of a connection whose bytes pass through the server.
-use crate::host::{AcceptedBy, Host};
-use crate::server::Server;
-use crate::service::Chains;
+use crate::host::{AgentGround, Host};
+use crate::server::{Agents, Server};
+use crate::wrappers::{Chains, Wrapper};
 use byte_streams::{Chain, NoTap, Recorder, Tap, Way, pump};
 use server_log::Log;
 use std::alloc::Global;
+use std::io::{Read, Write};
 use stream_tools::SharedWriter;
-use tcp_connections::{Follow, Patience, Shut};
+use tcp_connections::{Accepted, Follow, Patience, Shut};
 
 /// How many reads a pump makes at most.
 const MOST_READS: u64 = 1 << 40;
 
 /// The streams of a connection.
 #[derive(Drop)]
-pub(crate) struct ClientStreams<H: Host> {
+pub(crate) struct ClientStreams<S> {
     /// The client's port.
     pub port: u16,
-    /// What the client sends.
-    pub reader: H::Reader,
-    /// What is sent to the client.
-    pub writer: H::Writer,
-    /// What ends it both ways.
-    pub shut: H::Shut,
+    /// By it is read what the client sends.
+    pub reader: S,
+    /// By it is written what is sent to the client.
+    pub writer: S,
+    /// By it the connection is ended both ways.
+    pub shut: S,
 }
 
-impl<H: Host> ClientStreams<H> {
+impl<S: Shut + Drop> ClientStreams<S> {
     /// Those of a connection that was accepted.
-    pub(crate) fn of(accepted: AcceptedBy<H>) -> ClientStreams<H> {
+    pub(crate) fn of(accepted: Accepted<S>) -> ClientStreams<S> {
         ClientStreams {
             port: accepted.port,
             reader: accepted.reader,
@@ -37,25 +38,33 @@ impl<H: Host> ClientStreams<H> {
 
     /// Ends the connection both ways, and lets its streams go.
     pub(crate) fn end(self) {
+        self.into_shut().shut();
+    }
+
+    /// Lets its streams go but for what ends the connection.
+    pub(crate) fn into_shut(self) -> S {
         let ClientStreams {
             port: _,
             reader,
             writer,
             shut,
         } = self;
-        shut.shut();
         drop(reader);
         drop(writer);
+        shut
     }
 
     /// Both ways between the client and the pipe ends of its program, through these line wrappers.
-    pub(crate) fn passed_on(
+    pub(crate) fn passed_on<I, O>(
         self,
         patience: Patience,
-        to: H::Input,
-        from: H::Output,
-        chains: Chains<H::Wrapper>,
-    ) -> (Upward<H>, Downward<H>) {
+        to: I,
+        from: O,
+        chains: Chains,
+    ) -> (Upward<S, I>, Downward<S, O>)
+    where
+        S: Follow<O>,
+    {
         let ClientStreams {
             port,
             reader,
@@ -83,57 +92,65 @@ impl<H: Host> ClientStreams<H> {
 
 /// The stream from a client to its program, through a chain of line wrappers.
 #[derive(Drop)]
-pub(crate) struct Upward<H: Host> {
+pub(crate) struct Upward<S, I> {
     pub port: u16,
-    pub reader: H::Reader,
-    pub to: H::Input,
-    pub chain: Chain<H::Wrapper>,
+    pub reader: S,
+    pub to: I,
+    pub chain: Chain<Wrapper>,
 }
 
 /// The stream from a program to its client, through a chain of line wrappers.
 #[derive(Drop)]
-pub(crate) struct Downward<H: Host> {
+pub(crate) struct Downward<S, O> {
     pub port: u16,
-    pub from: H::Output,
-    pub writer: H::Writer,
-    pub shut: H::Shut,
-    pub chain: Chain<H::Wrapper>,
+    pub from: O,
+    pub writer: S,
+    pub shut: S,
+    pub chain: Chain<Wrapper>,
 }
 
 impl<H: Host> Server<'_, H> {
     /// Passes on what the client sends, until the client ends its stream or the program reads no more.
-    pub(crate) fn pass_up(&self, upward: Upward<H>) {
+    pub(crate) fn pass_up(&self, upward: Upward<H::Stream, H::Input>) {
+        let agents = &self.agents;
         if self.service.recording {
-            let tap = self.recorder(upward.port, Way::Input);
-            pump_up(self.alloc, upward, tap);
+            let tap = agents.recorder(upward.port, Way::Input);
+            pump_up(agents.alloc, upward, tap);
         } else {
-            pump_up(self.alloc, upward, NoTap);
+            pump_up(agents.alloc, upward, NoTap);
         }
     }
 
     /// Passes on what the program writes until its output ends. The client's end of the connection is left.
-    pub(crate) fn pass_down(&self, downward: Downward<H>) -> H::Shut {
+    pub(crate) fn pass_down(&self, downward: Downward<H::Stream, H::Output>) -> H::Stream {
+        let agents = &self.agents;
         if self.service.recording {
-            let tap = self.recorder(downward.port, Way::Output);
-            pump_down(self.alloc, downward, tap)
+            let tap = agents.recorder(downward.port, Way::Output);
+            pump_down(agents.alloc, downward, tap)
         } else {
-            pump_down(self.alloc, downward, NoTap)
+            pump_down(agents.alloc, downward, NoTap)
         }
     }
+}
 
+impl<G: AgentGround> Agents<'_, G> {
     // The recorder of one way of a connection, which writes to the log.
     fn recorder(
         &self,
         port: u16,
         way: Way,
-    ) -> Recorder<SharedWriter<'_, H::Runtime, Log<H::Lines>>> {
+    ) -> Recorder<SharedWriter<'_, G::Runtime, Log<G::Lines>>> {
         let lines = SharedWriter::new(self.rt, self.log);
         Recorder::new(self.alloc, u64::from(port), way, lines)
     }
 }
 
 // Pumps what a client sends to its program, and lets both ends go.
-fn pump_up<H: Host, T: Tap + Drop>(alloc: Global, upward: Upward<H>, tap: T) {
+fn pump_up<S: Read + Drop, I: Write + Drop, T: Tap + Drop>(
+    alloc: Global,
+    upward: Upward<S, I>,
+    tap: T,
+) {
     let (mut upward, mut tap) = (upward, tap);
     pump(
         alloc,
@@ -146,7 +163,11 @@ fn pump_up<H: Host, T: Tap + Drop>(alloc: Global, upward: Upward<H>, tap: T) {
 }
 
 // Pumps the output of a program to its client, and lets both ends go.
-fn pump_down<H: Host, T: Tap + Drop>(alloc: Global, downward: Downward<H>, tap: T) -> H::Shut {
+fn pump_down<S: Write + Drop, O: Read + Drop, T: Tap + Drop>(
+    alloc: Global,
+    downward: Downward<S, O>,
+    tap: T,
+) -> S {
     let Downward {
         port: _,
         mut from,

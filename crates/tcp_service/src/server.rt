@@ -1,35 +1,29 @@
 //! What all connections of a server share.
-use crate::host::Host;
-use crate::service::{ChainSource, Chains, Service};
+use crate::host::{AgentGround, Host};
+use crate::service::Service;
 use child_jobs::Plan;
 use server_log::Log;
-use server_words::Mode;
 use shared_site::{CallerOf, Site};
-use std::alloc::{AllocError, Global};
+use std::alloc::Global;
 use std::sync::Mutex;
 
-/// What all connections of a server share: the site at which they are told, and what serves them.
+/// What the agents of all connections share: the site at which these are told, the rules, and the log.
 #[derive(Drop)]
-pub(crate) struct Server<'a, H: Host> {
-    pub rt: &'a H::Runtime,
+pub(crate) struct Agents<'a, G: AgentGround> {
+    pub rt: &'a G::Runtime,
     pub alloc: Global,
-    pub site: &'a Site<H>,
+    pub site: &'a Site<G>,
     /// The caller of the site that makes all events but admissions.
-    pub teller: &'a Mutex<CallerOf<H>>,
-    pub rules: &'a H::Rules,
+    pub teller: &'a Mutex<CallerOf<G>>,
+    pub rules: &'a G::Rules,
     pub plan: &'a Plan,
-    pub log: &'a Mutex<Log<H::Lines>>,
-    pub wrapping: &'a H::Chains,
-    pub starter: &'a H::Starter,
-    pub service: &'a Service,
+    pub log: &'a Mutex<Log<G::Lines>>,
 }
 
-impl<H: Host> Server<'_, H> {
-    /// The line wrappers of a connection, if its bytes pass through the server.
-    pub(crate) fn chains(&self) -> Result<Option<Chains<H::Wrapper>>, AllocError> {
-        match self.service.mode {
-            Mode::HandedOver => Ok(None),
-            Mode::Pumped => Ok(Some(self.wrapping.chains(self.alloc)?)),
-        }
-    }
+/// What all connections of a server share: their agents, and what serves them.
+#[derive(Drop)]
+pub(crate) struct Server<'a, H: Host> {
+    pub agents: Agents<'a, H>,
+    pub starter: &'a H::Starter,
+    pub service: &'a Service<'a>,
 }

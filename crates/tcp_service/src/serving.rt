@@ -7,7 +7,7 @@ ghost use Rattle.tcp_connections.specs.declared.admission.ServeEnd.TheVariants.{
 
 use crate::entrance::{Entrance, Seen};
 use crate::host::Host;
-use crate::server::Server;
+use crate::server::{Agents, Server};
 use crate::service::Service;
 use child_jobs::Plan;
 use server_events::Journal;
@@ -62,8 +62,7 @@ pub struct Unfinished<H: Host> {
 /// Serves connections until it comes to an end, waits until all that were let in are over, and closes the site.
 ///
 /// Of the two callers of the site the first lets connections in, and makes no other events; the second makes all
-/// others. `plan` is what each connection is served by. `wrapping` makes the line wrappers of those that are pumped.
-/// `starter` starts programs that have what the service's mode says as their standard input and output. Each connection
+/// others. `plan` is what each connection is served by. `starter` starts programs that have what the service's mode says as their standard input and output. Each connection
 /// opens `rules` for itself. Once no more connections are let in, the acceptor is closed. By faults of accepting the
 /// server ends only if the last hundred calls of the acceptor failed, or if there was too little for one connection.
 ///
@@ -76,10 +75,9 @@ pub fn serve<'a, H>(
     site: Site<H>,
     callers: Vec<CallerOf<H>>,
     rules: &'a H::Rules,
-    wrapping: &H::Chains,
-    starter: &H::Starter,
+    starter: &'a H::Starter,
     plan: &'a Plan,
-    service: &Service,
+    service: &'a Service<'a>,
     log: &'a Mutex<Log<H::Lines>>,
 ) -> Result<Closed<H>, Unfinished<H>>
 where
@@ -94,15 +92,11 @@ where
     H::Rules: Sync,
     H::Lines: Send,
     H::Acceptor: Send,
-    H::Reader: Send,
-    H::Writer: Send,
-    H::Shut: Send,
+    H::Stream: Send,
     H::Starter: Sync,
     H::Job: Send,
     H::Input: Send,
     H::Output: Send,
-    H::Wrapper: Send,
-    H::Chains: Sync,
     requires callers { (H.Callers.all ≡ 2) × (H.Callers.parts ≡ 2)
         × (vec_len callers ≡ 2) × (total_share callers.items ≡ 0) }
     ensures count { IfOk result (λ closed.
@@ -118,14 +112,15 @@ where
     let (teller, admitter) = both(&mut callers);
     let teller = Mutex::new(teller);
     let server = Server::<H> {
-        rt,
-        alloc,
-        site: &site,
-        teller: &teller,
-        rules,
-        plan,
-        log,
-        wrapping,
+        agents: Agents {
+            rt,
+            alloc,
+            site: &site,
+            teller: &teller,
+            rules,
+            plan,
+            log,
+        },
         starter,
         service,
     };

@@ -3,7 +3,7 @@ ghost use Rattle.std.specs.Prelude.{⊤};
 ghost use Rattle.shared_site.specs.Receipts.{AdmitsOrNot};
 ghost use Rattle.shared_site.specs.Turns.{told_if_admitted};
 
-use crate::host::Host;
+use crate::host::AgentGround;
 use child_jobs::Place;
 use rule_lookup::Peer;
 use server_log::{Log, Told};
@@ -13,17 +13,17 @@ use shared_site::{Ground, Made, OutOfTurn, Refusal, Turn, YardOf};
 use std::sync::Mutex;
 
 /// A turn of a connection that was let in, and what the log is told of its event.
-pub(crate) struct Telling<'a, H: Host, T> {
+pub(crate) struct Telling<'a, G: AgentGround, T> {
     pub turn: T,
     pub told: Told<'a>,
-    pub rt: &'a H::Runtime,
-    pub log: &'a Mutex<Log<H::Lines>>,
+    pub rt: &'a G::Runtime,
+    pub log: &'a Mutex<Log<G::Lines>>,
 }
 
-impl<H, T> Turn<H> for Telling<'_, H, T>
+impl<G, T> Turn<G> for Telling<'_, G, T>
 where
-    H: Host,
-    T: Turn<H, Answer = Result<Made, OutOfTurn>>,
+    G: AgentGround,
+    T: Turn<G, Answer = Result<Made, OutOfTurn>>,
 {
     type Answer = Result<Made, OutOfTurn>;
 
@@ -33,7 +33,7 @@ where
 
     ghost tells = { λ telling. T.tells telling.turn };
 
-    fn run(self, yard: &mut YardOf<H>, caller: u64) -> Result<Made, OutOfTurn> {
+    fn run(self, yard: &mut YardOf<G>, caller: u64) -> Result<Made, OutOfTurn> {
         let Telling {
             turn,
             told,
@@ -49,17 +49,17 @@ where
 }
 
 /// Of a connection that was let in: its serial, its place, and the event that its admission made.
-pub(crate) type AdmittedBy<H> = (u64, Place<<H as Ground>::Places>, Made);
+pub(crate) type AdmittedBy<G> = (u64, Place<<G as Ground>::Places>, Made);
 
 /// Lets a connection in, or tells why it is refused.
-pub(crate) struct TellingAdmission<'a, H: Host> {
+pub(crate) struct TellingAdmission<'a, G: AgentGround> {
     pub peer: &'a Peer,
-    pub rt: &'a H::Runtime,
-    pub log: &'a Mutex<Log<H::Lines>>,
+    pub rt: &'a G::Runtime,
+    pub log: &'a Mutex<Log<G::Lines>>,
 }
 
-impl<H: Host> Turn<H> for TellingAdmission<'_, H> {
-    type Answer = Result<AdmittedBy<H>, Refusal>;
+impl<G: AgentGround> Turn<G> for TellingAdmission<'_, G> {
+    type Answer = Result<AdmittedBy<G>, Refusal>;
 
     ghost may = { λ _. ⊤ };
 
@@ -67,21 +67,21 @@ impl<H: Host> Turn<H> for TellingAdmission<'_, H> {
 
     ghost tells = { λ turn. told_if_admitted turn.peer.now };
 
-    fn run(self, yard: &mut YardOf<H>, caller: u64) -> Result<AdmittedBy<H>, Refusal> {
+    fn run(self, yard: &mut YardOf<G>, caller: u64) -> Result<AdmittedBy<G>, Refusal> {
         let TellingAdmission { peer, rt, log } = self;
-        let admitted = Turn::<H>::run(Admit { peer }, yard, caller);
-        tell_admission::<H>(rt, log, peer, yard.live(), &admitted);
+        let admitted = Turn::<G>::run(Admit { peer }, yard, caller);
+        tell_admission::<G>(rt, log, peer, yard.live(), &admitted);
         admitted
     }
 }
 
 // Tells of a connection that was let in, or why it was refused, if that has a line. So many are alive.
-fn tell_admission<H: Host>(
-    rt: &H::Runtime,
-    log: &Mutex<Log<H::Lines>>,
+fn tell_admission<G: AgentGround>(
+    rt: &G::Runtime,
+    log: &Mutex<Log<G::Lines>>,
     peer: &Peer,
     live: u64,
-    admitted: &Result<AdmittedBy<H>, Refusal>,
+    admitted: &Result<AdmittedBy<G>, Refusal>,
 ) {
     let ip = peer.ip();
     let _ = match admitted {

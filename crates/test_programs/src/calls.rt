@@ -17,30 +17,44 @@ use server_events::Event;
 use server_yard::{AdmitFault, Assumptions, Pass};
 use shared_site::turns::{Admit, Decided, Dropped, Ended, Started};
 use shared_site::{Caller, Callers, Made, OutOfTurn, Receipt, Site, Turn};
-use std::alloc::Global;
-use std::io;
+use std::alloc::{AllocError, AllocFailed, Global};
 use std::sync::Wait;
 use whole_yard::{InstallBegin, InstallStep, Open};
 
 /// More steps than an installation of a short text takes.
 const STEPS: u64 = 64;
 
-/// A run that is not as it has to be.
-pub(crate) fn wrong() -> io::Error {
-    io::Error::from(io::ErrorKind::Other)
+/// That a run is not as it has to be.
+#[derive(Clone, Copy)]
+pub(crate) struct Wrong;
+
+impl From<AllocError> for Wrong {
+    fn from(_error: AllocError) -> Wrong {
+        Wrong
+    }
 }
+
+impl<T: Drop> From<AllocFailed<T>> for Wrong {
+    fn from(failed: AllocFailed<T>) -> Wrong {
+        drop(failed);
+        Wrong
+    }
+}
+
+/// What a call gives, or that the run is wrong.
+pub(crate) type OrWrong<T> = Result<T, Wrong>;
 
 /// Keeps the receipt of an event, which has to be made.
 fn keep_made(
     receipts: &mut Vec<Receipt>,
     answer: Result<Made, OutOfTurn>,
     event: Event,
-) -> io::Result<()>
+) -> OrWrong<()>
     requires { IfOk answer (λ made. made_event made ≡ event) }
 {
     match answer {
         Ok(made) => Ok(receipts.push(made.receipt(event))?),
-        Err(_) => Err(wrong()),
+        Err(_) => Err(Wrong),
     }
 }
 
@@ -57,7 +71,7 @@ fn make<
     turn: T,
     event: Event,
     receipts: &mut Vec<Receipt>,
-) -> io::Result<()>
+) -> OrWrong<()>
     requires may { T.may turn }
     requires makes { (who before : ℕ) (answer : _) (after : ℕ) → T.answers turn who before answer after
         → IfOk answer (λ made. made_event made ≡ event) }
@@ -84,10 +98,10 @@ pub(crate) fn let_in<L: Assumptions, N: Callers, R: Wait>(
     caller: &mut Caller<N>,
     peer: &Peer,
     receipts: &mut Vec<Receipt>,
-) -> io::Result<(u64, Place<L>)> {
+) -> OrWrong<(u64, Place<L>)> {
     for _ in rt.forever() {
         if site.room(rt).is_err() {
-            return Err(wrong());
+            return Err(Wrong);
         }
         match site.turn(rt, caller, Admit { peer }) {
             Ok((serial, place, made)) => {
@@ -101,7 +115,7 @@ pub(crate) fn let_in<L: Assumptions, N: Callers, R: Wait>(
             }
             Err(refusal) => {
                 if !matches!(refusal.fault(), AdmitFault::Full) {
-                    return Err(wrong());
+                    return Err(Wrong);
                 }
             }
         }
@@ -110,12 +124,7 @@ pub(crate) fn let_in<L: Assumptions, N: Callers, R: Wait>(
 }
 
 /// Keeps the receipt of an admission.
-fn keep_admitted(
-    receipts: &mut Vec<Receipt>,
-    made: Made,
-    serial: u64,
-    peer: &Peer,
-) -> io::Result<()>
+fn keep_admitted(receipts: &mut Vec<Receipt>, made: Made, serial: u64, peer: &Peer) -> OrWrong<()>
     requires { made_event made ≡ Admitted serial peer.now }
 {
     let peer = peer.copy()?;
@@ -131,14 +140,14 @@ pub(crate) fn decided<L: Assumptions, N: Callers, R: Wait>(
     serial: u64,
     peer: &Peer,
     receipts: &mut Vec<Receipt>,
-) -> io::Result<Verdict> {
+) -> OrWrong<Verdict> {
     match site.turn(rt, caller, Open { alloc, serial }) {
         Ok((pass, made)) => {
             let there = pass.source().is_some();
             receipts.push(made.receipt(Event::Opened { serial, there }))?;
             decided_by(rt, alloc, site, caller, pass, peer, receipts)
         }
-        Err(_) => Err(wrong()),
+        Err(_) => Err(Wrong),
     }
 }
 
@@ -151,9 +160,9 @@ fn decided_by<L: Assumptions, N: Callers, R: Wait>(
     pass: Pass<L, MemFile>,
     peer: &Peer,
     receipts: &mut Vec<Receipt>,
-) -> io::Result<Verdict> {
+) -> OrWrong<Verdict> {
     let Ok(decision) = decide_by(alloc, &pass, peer) else {
-        return Err(wrong());
+        return Err(Wrong);
     };
     let verdict = decision.verdict;
     let told = decision.copy(alloc)?;
@@ -178,7 +187,7 @@ pub(crate) fn run_child<L: Assumptions, N: Callers, R: Wait>(
     caller: &mut Caller<N>,
     (serial, place): (u64, Place<L>),
     receipts: &mut Vec<Receipt>,
-) -> io::Result<()> {
+) -> OrWrong<()> {
     let running = start_child(alloc, place)?;
     let started = Started::<InMemory<L, N>, Idle> {
         serial,
@@ -207,7 +216,7 @@ pub(crate) fn drop_one<L: Assumptions, N: Callers, R: Wait>(
     (serial, place): (u64, Place<L>),
     cause: DropCause,
     receipts: &mut Vec<Receipt>,
-) -> io::Result<()> {
+) -> OrWrong<()> {
     let turn = Dropped::<InMemory<L, N>> {
         serial,
         place,
@@ -218,32 +227,32 @@ pub(crate) fn drop_one<L: Assumptions, N: Callers, R: Wait>(
 }
 
 /// A peer for a caller: 1.1.1.1 for the first one, and so on.
-pub(crate) fn peer_for<N: Callers>(alloc: Global, caller: &Caller<N>) -> io::Result<Peer> {
+pub(crate) fn peer_for<N: Callers>(alloc: Global, caller: &Caller<N>) -> OrWrong<Peer> {
     let Ok(n) = u8::try_from(caller.number()) else {
-        return Err(wrong());
+        return Err(Wrong);
     };
     match Peer::new(alloc, [n, n, n, n], 4000, None, None) {
         Ok(peer) => Ok(peer),
-        Err(_) => Err(wrong()),
+        Err(_) => Err(Wrong),
     }
 }
 
 /// A name of a file.
-pub(crate) fn file_name(alloc: Global, bytes: &[u8]) -> io::Result<Name> {
+pub(crate) fn file_name(alloc: Global, bytes: &[u8]) -> OrWrong<Name> {
     match Name::new(alloc, bytes) {
         Ok(name) => Ok(name),
-        Err(_) => Err(wrong()),
+        Err(_) => Err(Wrong),
     }
 }
 
 /// An installation of a text as `rules`, before its first step.
-pub(crate) fn installation(alloc: Global, text: &[u8]) -> io::Result<Install> {
+pub(crate) fn installation(alloc: Global, text: &[u8]) -> OrWrong<Install> {
     let Ok(names) = FileNames::new(file_name(alloc, b"rules")?, file_name(alloc, b"tmp")?) else {
-        return Err(wrong());
+        return Err(Wrong);
     };
     match prepare(alloc, names, &Limits::profile(), text) {
         Ok(install) => Ok(install),
-        Err(_) => Err(wrong()),
+        Err(_) => Err(Wrong),
     }
 }
 
@@ -255,14 +264,14 @@ pub(crate) fn install<L: Assumptions, N: Callers, R: Wait>(
     caller: &mut Caller<N>,
     install: Install,
     receipts: &mut Vec<Receipt>,
-) -> io::Result<()> {
+) -> OrWrong<()> {
     let begin = InstallBegin { alloc, install };
     let (begun, made) = site.turn(rt, caller, begin);
     let Ok(number) = begun else {
-        return Err(wrong());
+        return Err(Wrong);
     };
     let Some(made) = made else {
-        return Err(wrong());
+        return Err(Wrong);
     };
     let phase = Phase::Fresh;
     receipts.push(made.receipt(Event::Stepped { phase }))?;
@@ -272,12 +281,12 @@ pub(crate) fn install<L: Assumptions, N: Callers, R: Wait>(
             return Ok(());
         };
         let Some(made) = made else {
-            return Err(wrong());
+            return Err(Wrong);
         };
         receipts.push(made.receipt(Event::Stepped { phase }))?;
         if phase == Phase::Done {
             return Ok(());
         }
     }
-    Err(wrong())
+    Err(Wrong)
 }

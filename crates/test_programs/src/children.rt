@@ -3,14 +3,13 @@ ghost use Rattle.std.specs.Prelude.{◌≡◌, false, ⊤, IfOk};
 ghost use Rattle.child_jobs.specs.declared.outcome.Status.TheVariants.{Code};
 ghost use Rattle.child_jobs.specs.Runs.{place_of};
 
-use crate::calls::wrong;
+use crate::calls::{OrWrong, Wrong};
 use child_jobs::{
     Environment, Job, Launcher, NoEnds, Place, Program, Running, StartFault, Status, WaitFault,
     finish, start,
 };
 use server_yard::Assumptions;
 use std::alloc::Global;
-use std::io;
 use std::io::{Empty, Sink};
 use std::snapshot::Snapshot;
 
@@ -84,7 +83,7 @@ impl Launcher for Starts {
 pub(crate) fn start_child<L: Assumptions>(
     alloc: Global,
     place: Place<L>,
-) -> io::Result<Running<L, Idle>>
+) -> OrWrong<Running<L, Idle>>
     ensures { IfOk result (λ running. place_of running ≡ place) }
 {
     let program = Program::new(String::new(alloc), Vec::new(alloc));
@@ -92,20 +91,18 @@ pub(crate) fn start_child<L: Assumptions>(
         Ok(running) => Ok(running),
         Err((place, _)) => {
             place.strand();
-            Err(wrong())
+            Err(Wrong)
         }
     }
 }
 
 /// Waits until such a child has ended.
-pub(crate) fn end_child<L: Assumptions>(
-    running: Running<L, Idle>,
-) -> io::Result<(Place<L>, Status)> {
+pub(crate) fn end_child<L: Assumptions>(running: Running<L, Idle>) -> OrWrong<(Place<L>, Status)> {
     match finish(running) {
         Ok(ended) => Ok(ended),
         Err((running, _)) => {
             running.strand();
-            Err(wrong())
+            Err(Wrong)
         }
     }
 }

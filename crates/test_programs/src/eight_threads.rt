@@ -2,7 +2,8 @@
 ghost use Rattle.std.specs.Prelude.{◌≡◌, false};
 
 use crate::calls::{
-    decided, drop_one, file_name, install, installation, let_in, peer_for, run_child, wrong,
+    OrWrong, Wrong, decided, drop_one, file_name, install, installation, let_in, peer_for,
+    run_child,
 };
 use crate::sites::{InMemory, close, new_site};
 use child_jobs::DropCause;
@@ -16,8 +17,8 @@ use std::alloc::{AllocError, Global};
 use std::marker::Brand;
 use std::sync::Wait;
 use std::sync::ledger::Blank;
+use std::thread;
 use std::thread::Threads;
-use std::{io, thread};
 
 const CALLERS: u64 = 8;
 
@@ -44,7 +45,7 @@ fn serve<L: Assumptions, N: Callers, R: Wait>(
     site: &Site<InMemory<L, N>>,
     caller: &mut Caller<N>,
     receipts: &mut Vec<Receipt>,
-) -> io::Result<()> {
+) -> OrWrong<()> {
     let peer = peer_for(alloc, caller)?;
     let (serial, place) = let_in(rt, site, caller, &peer, receipts)?;
     match decided(rt, alloc, site, caller, serial, &peer, receipts) {
@@ -67,7 +68,7 @@ fn serve_all<L: Assumptions, N: Callers, R: Wait>(
     site: &Site<InMemory<L, N>>,
     caller: &mut Caller<N>,
     receipts: &mut Vec<Receipt>,
-) -> io::Result<()> {
+) -> OrWrong<()> {
     for k in 0..CONNECTIONS {
         if k % BETWEEN == 0 {
             let text: &[u8] = if k % (2 * BETWEEN) == 0 {
@@ -116,10 +117,7 @@ fn run_all<L: Assumptions + Send + Sync, N: Callers + Send + Sync, R: Threads + 
 }
 
 // Gathers the callers, and all their receipts.
-fn gather<N: Callers>(
-    alloc: Global,
-    all: Vec<Left<N>>,
-) -> io::Result<(Vec<Caller<N>>, Vec<Receipt>)> {
+fn gather<N: Callers>(alloc: Global, all: Vec<Left<N>>) -> OrWrong<(Vec<Caller<N>>, Vec<Receipt>)> {
     let mut callers = Vec::new(alloc);
     let mut receipts = Vec::new(alloc);
     for Left {
@@ -128,7 +126,7 @@ fn gather<N: Callers>(
         is_served,
     } in all {
         if !is_served {
-            return Err(wrong());
+            return Err(Wrong);
         }
         callers.push(caller)?;
         receipts.append(&mut more)?;
@@ -151,13 +149,13 @@ fn report_of<L: Assumptions>(
     alloc: Global,
     yard: &Yard<L, MemDir, Full>,
     receipts: Vec<Receipt>,
-) -> io::Result<Report> {
+) -> OrWrong<Report> {
     let report = yard.journal().report();
     let history = in_order(alloc, receipts)?;
     if replay(alloc, LIMIT, LIMIT, &history) == Ok(report) {
         Ok(report)
     } else {
-        Err(wrong())
+        Err(Wrong)
     }
 }
 
@@ -165,7 +163,7 @@ fn eight<
     L: Assumptions + Send + Sync,
     N: Callers + Send + Sync,
     R: Threads + Wait + Sync + AllocGlobal,
->(rt: &R, places: Blank, parts: Blank) -> io::Result<Report>
+>(rt: &R, places: Blank, parts: Blank) -> OrWrong<Report>
     requires places { (places.name ≡ L.name) × (places.parts ≡ L.parts) × (places.parts ≡ LIMIT) }
     requires met { L.met ≡ false }
     requires parts { (parts.name ≡ N.name) × (parts.parts ≡ N.parts) × (parts.parts ≡ CALLERS) }
@@ -193,8 +191,6 @@ fn eight<
 /// # Errors
 /// A call did not succeed, the receipts of all callers are not the whole history, or the yard reports what its history
 /// does not come to.
-pub fn eight_callers_in_threads<R: Threads + Wait + Sync + AllocGlobal>(
-    rt: &R,
-) -> io::Result<Report> {
+pub fn eight_callers_in_threads<R: Threads + Wait + Sync + AllocGlobal>(rt: &R) -> OrWrong<Report> {
     eight::<Brand, Brand, R>(rt, Blank::new(LIMIT), Blank::new(CALLERS))
 }

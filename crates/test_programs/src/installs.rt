@@ -2,7 +2,7 @@
 use cdb_files::CdbFile;
 use dir_calls::{Choice, Dir, FuseDir, MemDir, MemFile, Name};
 use rule_lines::{Limits, Verdict};
-use rule_lookup::{Peer, WhenMissing, decide};
+use rule_lookup::{Peer, RuleSource, WhenMissing, decide};
 use rules_install::whole::install;
 use rules_install::{FileNames, InstallFault};
 use std::alloc::Global;
@@ -84,7 +84,7 @@ fn add_opened<D: Dir<File = MemFile>>(alloc: Global, dir: &mut D, out: &mut Answ
 }
 
 /// What a rules file decides of a client.
-fn decided_by(alloc: Global, file: &CdbFile<MemFile>) -> &'static str {
+fn decided_by<S: RuleSource>(alloc: Global, file: &S) -> &'static str {
     let Ok(peer) = Peer::new(alloc, [10, 0, 0, 1], 4_000, None, None) else {
         return "no memory";
     };

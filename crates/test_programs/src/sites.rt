@@ -7,14 +7,13 @@ ghost use Rattle.server_yard.specs.Standing.{Begins};
 ghost use Rattle.server_yard.specs.Yards.{yard_journal};
 ghost use Rattle.whole_yard.specs.Audits.{note_of};
 
-use crate::calls::wrong;
+use crate::calls::{OrWrong, Wrong};
 use dir_calls::{MemDir, MemFile, Name};
 use rule_lookup::WhenMissing;
 use server_events::Full;
 use server_yard::{Assumptions, Yard};
 use shared_site::{Caller, Callers, Ground, Receipt, Site};
 use std::alloc::Global;
-use std::io;
 use std::marker::PhantomData;
 use std::sync::ledger::Blank;
 use whole_yard::close_and_audit;
@@ -45,7 +44,7 @@ pub(crate) fn new_site<L: Assumptions, N: Callers>(
     rules: Option<(Name, WhenMissing)>,
     limit: u64,
     callers: u64,
-) -> io::Result<(Site<InMemory<L, N>>, Vec<Caller<N>>)>
+) -> OrWrong<(Site<InMemory<L, N>>, Vec<Caller<N>>)>
     requires places { (places.name ≡ L.name) × (places.parts ≡ L.parts) × (places.parts ≡ limit) }
     requires begins { IsTrue L.met → Begins (mem_state dir) (rules_of rules) }
     requires parts { (parts.name ≡ N.name) × (parts.parts ≡ N.parts) × (parts.parts ≡ callers) }
@@ -53,11 +52,11 @@ pub(crate) fn new_site<L: Assumptions, N: Callers>(
 {
     let journal = Full::new(alloc);
     let Ok(yard) = Yard::<L, MemDir, Full>::new(alloc, places, dir, rules, limit, journal) else {
-        return Err(wrong());
+        return Err(Wrong);
     };
     match Site::<InMemory<L, N>>::new(alloc, parts, yard, callers) {
         Ok(made) => Ok(made),
-        Err(_) => Err(wrong()),
+        Err(_) => Err(Wrong),
     }
 }
 
@@ -66,13 +65,13 @@ pub(crate) fn close<L: Assumptions, N: Callers>(
     site: Site<InMemory<L, N>>,
     callers: Vec<Caller<N>>,
     receipts: &[Receipt],
-) -> io::Result<Yard<L, MemDir, Full>>
+) -> OrWrong<Yard<L, MemDir, Full>>
     requires { N.all ≡ N.parts }
     ensures { IfOk result (λ yard. IsPermutation (map note_of receipts.now) (full_notes (yard_journal yard))) }
 {
     match close_and_audit(site, callers, receipts) {
         Ok((yard, Ok(()))) => Ok(yard),
-        Ok((_, Err(_))) => Err(wrong()),
-        Err(_) => Err(wrong()),
+        Ok((_, Err(_))) => Err(Wrong),
+        Err(_) => Err(Wrong),
     }
 }

@@ -5,7 +5,7 @@ use child_jobs::{
     Environment, Job, Launcher, Local, NoEnds, Program, StartFault, Status, WaitFault,
 };
 use std::alloc::Global;
-use std::io::{Empty, Write};
+use std::io::{Read, Write};
 use std::snapshot::Snapshot;
 use std::sync::atomic::{AtomicU64, Ordering};
 use std::sync::{Mutex, Wait};
@@ -17,9 +17,15 @@ use tcp_service::{AcceptFault, Accepted, Acceptor, Follow, NotStarted, Patience,
 /// How many milliseconds a job waits at most for another one's start.
 const PATIENCE: u64 = 10_000;
 
-/// A stream that takes all that is written.
+/// A stream that takes all that is written, and has nothing to read.
 #[derive(Drop)]
 pub struct Silent;
+
+impl Read for Silent {
+    fn read(&mut self, _buf: &mut [u8]) -> io::Result<usize> {
+        Ok(0)
+    }
+}
 
 impl Write for Silent {
     fn write(&mut self, buf: &[u8]) -> io::Result<usize> {
@@ -50,17 +56,13 @@ pub struct Clients {
 }
 
 impl Acceptor for Clients {
-    type Reader = Empty;
-
-    type Writer = Silent;
-
-    type Shut = Silent;
+    type Stream = Silent;
 
     ghost failed_last = { λ _ _. true };
 
     ghost last_error = { λ _. None };
 
-    fn accept(&mut self) -> Result<Accepted<Empty, Silent, Silent>, AcceptFault> {
+    fn accept(&mut self) -> Result<Accepted<Silent>, AcceptFault> {
         if let Some(lost) = self.lost.checked_sub(1) {
             self.lost = lost;
             return Err(AcceptFault::OutOfMemory);
@@ -68,7 +70,7 @@ impl Acceptor for Clients {
         self.left = self.left.checked_sub(1).ok_or(AcceptFault::Other)?;
         let last = (self.left % u64::from(self.addresses.max(1))) as u8;
         Ok(Accepted {
-            reader: io::empty(),
+            reader: Silent,
             writer: Silent,
             shut: Silent,
             ip: [127, 0, 0, last.saturating_add(1)],

@@ -5,7 +5,6 @@ ghost use Rattle.shared_site.specs.Callers.{total_share};
 use crate::answer::Answer;
 use crate::history::Lists;
 use crate::scripts::{Clients, ScriptedJob, Scripts, ServedTally, Silent};
-use byte_streams::{Chain, FixCr};
 use child_jobs::{Environment, Plan, Program};
 use dir_calls::{Dir, DirFault, MemDir, MemFile};
 use fault_hints::Voice;
@@ -16,7 +15,6 @@ use server_yard::{Assumptions, Finding, Yard};
 use shared_site::{CallerOf, Callers, Ground, Site};
 use std::alloc::{AllocError, Global};
 use std::io;
-use std::io::Empty;
 use std::marker::{Brand, PhantomData};
 use std::sync::atomic::Ordering;
 use std::sync::ledger::Blank;
@@ -25,7 +23,7 @@ use std::thread::Threads;
 use std::time::{Clock, Duration};
 use stream_tools::SharedWriter;
 use tcp_service::{
-    ChainSource, Chains, ConnectionLimits, Host, HostNames, Log, Mode, Patience, Reserve, Rules,
+    AgentGround, ConnectionLimits, Host, HostNames, Log, Mode, Patience, Reserve, Rules,
     RulesHandle, ServeEnd, Service, Supply, serve,
 };
 
@@ -107,7 +105,7 @@ where
     ghost is_servers = { true };
 }
 
-impl<'s, 'w, R, L, N> Host for InMemory<'s, 'w, R, L, N>
+impl<'s, 'w, R, L, N> AgentGround for InMemory<'s, 'w, R, L, N>
 where
     R: Threads + Wait + Clock + Sync,
     L: Assumptions + Send + Sync,
@@ -120,14 +118,17 @@ where
     type Rules = NoRules;
 
     type Lines = &'w mut Vec<u8>;
+}
 
+impl<'s, 'w, R, L, N> Host for InMemory<'s, 'w, R, L, N>
+where
+    R: Threads + Wait + Clock + Sync,
+    L: Assumptions + Send + Sync,
+    N: Callers + Send + Sync,
+{
     type Acceptor = Clients;
 
-    type Reader = Empty;
-
-    type Writer = Silent;
-
-    type Shut = Silent;
+    type Stream = Silent;
 
     type Starter = Scripts<'s, R>;
 
@@ -136,10 +137,6 @@ where
     type Input = SharedWriter<'s, R, Vec<u8>>;
 
     type Output = &'static [u8];
-
-    type Wrapper = FixCr;
-
-    type Chains = Unwrapped;
 }
 
 /// Serves connections by jobs of these scripts, under a full log, until the server ends.
@@ -162,18 +159,25 @@ pub fn add_served<R: Threads + Wait + Clock + Sync>(
         tally: &tally,
     };
     let mut lines = Vec::new(alloc);
+    let log = Mutex::new(Log::new(alloc, &mut lines, Level::All, Voice::Plain, asked.limit));
+    let (plan, service) = (plan(alloc), service(asked));
     let (places, parts) = (Blank::new(asked.limit), Blank::new(2));
-    serve_by::<R, Brand, Brand>(rt, alloc, asked, &launcher, &mut lines, places, parts, out);
+    serve_by::<R, Brand, Brand>(
+        rt, alloc, asked, &launcher, &plan, &service, &log, places, parts, out,
+    );
+    drop(log);
     out.raw(&lines);
 }
 
 /// The server, over a yard and a site of its own.
-fn serve_by<R, L: Assumptions + Send + Sync, N: Callers + Send + Sync>(
-    rt: &R,
+fn serve_by<'a, 'w, R, L: Assumptions + Send + Sync, N: Callers + Send + Sync>(
+    rt: &'a R,
     alloc: Global,
     asked: Asked,
-    launcher: &Scripts<'_, R>,
-    lines: &mut Vec<u8>,
+    launcher: &'a Scripts<'a, R>,
+    plan: &'a Plan,
+    service: &'a Service<'a>,
+    log: &'a Mutex<Log<&'w mut Vec<u8>>>,
     places: Blank,
     parts: Blank,
     out: &mut Answer,
@@ -186,28 +190,17 @@ where
     requires parts { (parts.name ≡ N.name) × (parts.parts ≡ N.parts) × (parts.parts ≡ 2) }
     requires callers { (N.all ≡ 2) × (N.before ≡ 0) }
 {
-    let Ok((site, callers)) = site_of::<InMemory<'_, '_, R, L, N>>(alloc, asked, places, parts)
+    let Ok((site, callers)) = site_of::<InMemory<'a, 'w, R, L, N>>(alloc, asked, places, parts)
     else {
         return out.fail();
     };
-    let log = Mutex::new(Log::new(alloc, lines, Level::All, Voice::Plain, asked.limit));
     let acceptor = Clients {
         lost: asked.lost,
         left: asked.clients,
         addresses: asked.addresses,
     };
-    let served = serve::<InMemory<'_, '_, R, L, N>>(
-        rt,
-        alloc,
-        acceptor,
-        site,
-        callers,
-        &NoRules,
-        &Unwrapped,
-        launcher,
-        &plan(alloc),
-        &service(asked),
-        &log,
+    let served = serve::<InMemory<'a, 'w, R, L, N>>(
+        rt, alloc, acceptor, site, callers, &NoRules, launcher, plan, service, log,
     );
     match served {
         Ok(closed) => add_end(&closed.end, &closed.yard, "", launcher.tally, out),
@@ -267,21 +260,6 @@ fn site_of<G: Ground<File = MemFile, Folder = MemDir, Journal = Full>>(
     }
 }
 
-/// A server's chains, which are without line wrappers.
-#[derive(Drop)]
-struct Unwrapped;
-
-impl ChainSource for Unwrapped {
-    type Wrapper = FixCr;
-
-    fn chains(&self, alloc: Global) -> Result<Chains<FixCr>, AllocError> {
-        Ok(Chains {
-            input: Chain::new(alloc, Vec::new(alloc)),
-            output: Chain::new(alloc, Vec::new(alloc)),
-        })
-    }
-}
-
 fn plan(alloc: Global) -> Plan {
     Plan::new(
         Program::new(String::new(alloc), Vec::new(alloc)),
@@ -290,7 +268,7 @@ fn plan(alloc: Global) -> Plan {
     )
 }
 
-fn service(asked: Asked) -> Service {
+fn service(asked: Asked) -> Service<'static> {
     Service {
         limits: ConnectionLimits {
             connections: asked.limit,
@@ -309,6 +287,8 @@ fn service(asked: Asked) -> Service {
             all: Duration::from_secs(600),
         },
         recording: false,
+        input: &[],
+        output: &[],
         supply: Supply {
             descriptors: u64::MAX,
             to_begin: 0,

@@ -10,7 +10,7 @@ use rules_tools::{
     run_review, run_tcprules, run_tcprulescheck,
 };
 use script_tool::{SimFault, run_script};
-use server_parts::ServerFault;
+use server_parts::TcpserverFault;
 use std::alloc::Global;
 use std::fs::{File, Files};
 use std::io;
@@ -29,7 +29,7 @@ pub fn run_system<R, E, S, P>(rt: &R, errors: E, serve: S, pass: P) -> u8
 where
     R: Env + Input + Print + AllocGlobal + Files<File = File> + Clock,
     E: Write + Copy + Drop,
-    S: Fn(Voice, &[Vec<u8>], &mut Vec<u8>) -> Result<(), ServerFault> + Drop,
+    S: Fn(Voice, &[Vec<u8>], &mut Vec<u8>) -> Result<(), TcpserverFault> + Drop,
     P: Fn(bool, &[Vec<u8>], &mut Option<i32>) -> Result<Status, BetweenFault> + Drop,
     requires { S.IsAlwaysCallable serve × P.IsAlwaysCallable pass }
 {
@@ -70,7 +70,7 @@ where
     R: Env + Input + Print + AllocGlobal + Files<File = File> + Clock,
     E: Write + Copy + Drop,
     W: Write,
-    S: Fn(Voice, &[Vec<u8>], &mut Vec<u8>) -> Result<(), ServerFault>,
+    S: Fn(Voice, &[Vec<u8>], &mut Vec<u8>) -> Result<(), TcpserverFault>,
     P: Fn(bool, &[Vec<u8>], &mut Option<i32>) -> Result<Status, BetweenFault>,
 {
     ghost lent = { telling (λ _ fault causes old new.
@@ -83,7 +83,7 @@ where
         voice: Voice,
         words: &[Vec<u8>],
         causes: &mut Vec<u8>,
-    ) -> Result<(), ServerFault> {
+    ) -> Result<(), TcpserverFault> {
         (self.serve)(voice, words, causes)
     }
 

@@ -8,8 +8,9 @@ use Rattle.rules_tools.specs.declared.tcprules.TcprulesFault.{TcprulesFault}
 use Rattle.rules_tools.specs.declared.tcprules.TcprulesFault.TheVariants as rules
 use Rattle.rules_tools.specs.declared.tcprulescheck.CheckFault.{CheckFault}
 use Rattle.rules_tools.specs.declared.tcprulescheck.CheckFault.TheVariants as check
-use Rattle.server_parts.specs.declared.fault.ServerFault.{ServerFault}
-use Rattle.server_parts.specs.declared.fault.ServerFault.TheVariants as server
+use Rattle.server_parts.specs.declared.fault.ServerFault.TheVariants.{BadHosts}
+use Rattle.server_parts.specs.declared.fault.TcpserverFault.{TcpserverFault}
+use Rattle.server_parts.specs.declared.fault.TcpserverFault.TheVariants as server
 use Rattle.server_words.specs.Faults as words
 use Rattle.script_tool.specs.declared.sim.SimFault.{SimFault}
 use Rattle.script_tool.specs.declared.sim.SimFault.TheVariants.{BadCommand, ReadFault, WriteFault, OutOfMemory}
@@ -47,10 +48,10 @@ check_exit check.BadInfo = 100
 check_exit fault = 111
 
 -- that of wrong words; 100 for a line of the host table, and 111 for a fault of the system
-abbrev pub server_exit : ServerFault → ℕ
+abbrev pub server_exit : TcpserverFault → ℕ
 server_exit (server.Words fault) = words.exit_of fault
-server_exit (server.BadHosts line) = 100
-server_exit fault = 111
+server_exit (server.Server (BadHosts line)) = 100
+server_exit (server.Server fault) = 111
 
 -- 100 for wrong words; a stream or standard output that fails, a program that can't be run, and want of memory are faults of the system
 abbrev pub exit_of : ToolFault → ℕ

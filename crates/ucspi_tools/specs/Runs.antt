@@ -10,7 +10,7 @@ use Rattle.rules_tools.specs.declared.review.ReviewFault.{ReviewFault}
 use Rattle.rules_tools.specs.declared.tcprules.RulesFailure.{RulesFailure}
 use Rattle.rules_tools.specs.declared.tcprulescheck.CheckFailure.{CheckFailure}
 use Rattle.script_tool.specs.declared.sim.SimFault.{SimFault}
-use Rattle.server_parts.specs.declared.fault.ServerFault.{ServerFault}
+use Rattle.server_parts.specs.declared.fault.TcpserverFault.{TcpserverFault}
 use Rattle.stream_tools.specs.Entries.{path_among}
 use Rattle.stream_tools.specs.Filters.{Came}
 use Rattle.stream_tools.specs.declared.between.BetweenFault.{BetweenFault}
@@ -31,7 +31,7 @@ Answer = Result ℕ ToolFault
 -- what each of the tools that are lent does, and what telling a fault does: the words that it gets, how all stand before
 -- and after it, what it leaves to be told, and its own answer
 pub record Lent (C : Type 0) : Type 1 where
-  pub serves : Voice → List (List ℕ) → C → C → List ℕ → Result (Unit {0}) ServerFault → Type 0
+  pub serves : Voice → List (List ℕ) → C → C → List ℕ → Result (Unit {0}) TcpserverFault → Type 0
   pub simulates : C → C → Result (Unit {0}) SimFault → Type 0
   pub installs : List ℕ → List ℕ → C → C → Result (Unit {0}) RulesFailure → Type 0
   pub reviews : C → C → Result Bool ReviewFault → Type 0
@@ -135,7 +135,7 @@ KeepsTools old new before causes = (new.calls ≡ old.calls) × (causes ≡ befo
 -- line of a fault before and after it, and its answer. Wrong words run nothing
 abbrev pub Ran : {I O C : Type 0} → Parts I O C → Wanted → Program I O C → Program I O C → List ℕ → List ℕ → Answer → Type 0
 Ran parts (asked.serves voice words) old new before causes answer = KeepsStreams old new
-    × ((own : Result (Unit {0}) ServerFault) × parts.lent.serves voice words old.calls new.calls causes own
+    × ((own : Result (Unit {0}) TcpserverFault) × parts.lent.serves voice words old.calls new.calls causes own
     × (answer ≡ answered kind.Server own))
 Ran parts asked.simulates old new before causes answer = KeepsStreams old new × (causes ≡ before)
     × ((own : Result (Unit {0}) SimFault) × parts.lent.simulates old.calls new.calls own

@@ -7,7 +7,7 @@ use child_jobs::Status;
 use fault_hints::Voice;
 use rules_tools::{CheckFailure, ReviewFault, RulesFailure};
 use script_tool::SimFault;
-use server_parts::ServerFault;
+use server_parts::TcpserverFault;
 use stream_tools::BetweenFault;
 
 /// The tools over the system's files, programs and sockets, and the line of a fault: each is one call.
@@ -27,7 +27,7 @@ pub trait Calls {
         voice: Voice,
         words: &[Vec<u8>],
         causes: &mut Vec<u8>,
-    ) -> Result<(), ServerFault>
+    ) -> Result<(), TcpserverFault>
         requires { ready self.old }
         ensures { lent.serves voice (texts_of words.now) self.old self.new causes.new.items result };
 

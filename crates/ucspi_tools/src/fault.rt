@@ -9,7 +9,7 @@ use child_jobs::Status;
 use fault_hints::Detail;
 use rules_tools::{CheckFault, ReviewFault, TcprulesFault};
 use script_tool::SimFault;
-use server_parts::ServerFault;
+use server_parts::{ServerFault, TcpserverFault};
 use std::fmt::Display;
 use std::io::{Cursor, Write};
 use std::{fmt, io};
@@ -35,7 +35,7 @@ pub enum ToolFault {
     /// The words ask for no tool.
     Usage,
     /// The server could not be started, or it ended by itself.
-    Server(ServerFault),
+    Server(TcpserverFault),
     /// A script was not run to its end.
     Script(SimFault),
     /// Rules were not installed.
@@ -93,13 +93,13 @@ impl ToolFault {
     }
 }
 
-fn server_code(fault: ServerFault) -> u8
+fn server_code(fault: TcpserverFault) -> u8
     ensures { result ≡ server_exit fault }
 {
     match fault {
-        ServerFault::Words(fault) => fault.exit_code(),
-        ServerFault::BadHosts(_) => BAD_INPUT,
-        _ => SYSTEM_FAULT,
+        TcpserverFault::Words(fault) => fault.exit_code(),
+        TcpserverFault::Server(ServerFault::BadHosts(_)) => BAD_INPUT,
+        TcpserverFault::Server(_) => SYSTEM_FAULT,
     }
 }
 

@@ -1,10 +1,10 @@
--- What the wrappers of a server's words do to a text.
-use Rattle.std.specs.Prelude.{◌≡◌, ℕ, List, map}
-use Rattle.server_parts.specs.declared.wrappers.Wrapper.{Wrapper}
-use Rattle.server_parts.specs.declared.wrappers.Wrapper.TheVariants as wrapper
+-- What the line wrappers of a connection's streams do to a text.
+use Rattle.std.specs.Prelude.{◌≡◌, ℕ, List, false, map}
+use Rattle.tcp_service.specs.declared.wrappers.Wrapper.{Wrapper}
+use Rattle.tcp_service.specs.declared.wrappers.Wrapper.TheVariants as wrapper
 use Rattle.server_words.specs.declared.wrapping.LineWrapperName.{LineWrapperName}
 use Rattle.server_words.specs.declared.wrapping.LineWrapperName.TheVariants.{AddCr, DelCr, FixCr}
-use Rattle.byte_streams.specs.Chains.{wrappers_of}
+use Rattle.byte_streams.specs.Chains.{has_failed, wrappers_of}
 use Rattle.byte_streams.specs.Wrapped.{added, deleted, fixed}
 use Rattle.byte_streams.specs.declared.chain.Chain.{Chain}
 use Rattle.byte_streams.specs.declared.wrappers.AddCr.{AddCr as AddsCr}
@@ -26,3 +26,9 @@ abbrev pub told_by : {T : Type 0} → (AddsCr → T) → (DeletesCr → T) → (
 told_by adds deletes fixes (wrapper.AddCr inner) = adds inner
 told_by adds deletes fixes (wrapper.DelCr inner) = deletes inner
 told_by adds deletes fixes (wrapper.FixCr inner) = fixes inner
+
+-- a chain is of the wrappers of these names and is new: nothing of a text has passed it, and it takes pieces
+pub record IsNewChain (rest whole : Wrapper → List ℕ → List ℕ) (names : List LineWrapperName) (chain : Chain Wrapper) : Type 0 where
+  pub of_names : WrapsBy whole names chain
+  pub at_begin : WrapsBy rest names chain
+  pub takes : has_failed chain ≡ false

@@ -1,7 +1,7 @@
 use Rattle.std.proofs.Common.{◌≡◌, map, take}
-use Rattle.server_parts.specs.Wrappers.{changed_by}
-use Rattle.server_parts.proofs.LineWrappers.{rest_of, whole_of}
-use Rattle.server_parts.proofs.wrappers.chain_of.Given as goal
+use Rattle.tcp_service.specs.Wrappers.{changed_by}
+use Rattle.tcp_service.proofs.LineWrappers.{rest_of, whole_of}
+use Rattle.tcp_service.proofs.wrappers.chain_of.Given as goal
 
 abbrev pub invariant-loop-name : goal.invariant-loop-name
 invariant-loop-name l = record {

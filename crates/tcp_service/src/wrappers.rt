@@ -1,15 +1,16 @@
-//! The line wrappers that a server's words name.
-ghost use Rattle.std.specs.Prelude.{◌≡◌, IfOk, false};
-ghost use Rattle.server_parts.specs.Wrappers.{WrapsBy, changed_by, told_by};
+//! The line wrappers of a connection whose bytes are passed on.
+ghost use Rattle.std.specs.Prelude.{◌≡◌, IfOk, IfSome, false};
+ghost use Rattle.tcp_service.specs.Wrappers.{IsNewChain, WrapsBy, changed_by, told_by};
 ghost use Rattle.byte_streams.specs.Chains.{has_failed};
 
+use crate::service::Service;
 use byte_streams::{AddCr, Chain, DelCr, FixCr, LineWrapper};
-use server_words::LineWrapperName;
+use server_words::{LineWrapperName, Mode};
 use std::alloc::{AllocError, Global};
 
 /// A line wrapper of one of the kinds that change a text.
 #[derive(Drop)]
-pub enum Wrapper {
+pub(crate) enum Wrapper {
     /// Puts a carriage return before each line feed.
     AddCr(AddCr),
     /// Takes a carriage return away at the end of each line.
@@ -50,7 +51,7 @@ impl LineWrapper for Wrapper {
 
 impl Wrapper {
     /// The wrapper of this name, at the begin of a text. It takes no memory.
-    pub fn new(name: LineWrapperName) -> Wrapper
+    pub(crate) fn new(name: LineWrapperName) -> Wrapper
         ensures rest { ⟦<Wrapper as LineWrapper>⟧.rest result ≡ changed_by name }
         ensures whole { ⟦<Wrapper as LineWrapper>⟧.whole result ≡ changed_by name }
     {
@@ -62,14 +63,39 @@ impl Wrapper {
     }
 }
 
-/// A chain of the wrappers of these names, the first one first, at the begin of a text.
+/// The line wrappers of a connection, for what its client sends and for what it is sent.
+#[derive(Drop)]
+pub(crate) struct Chains {
+    /// For what the client sends.
+    pub input: Chain<Wrapper>,
+    /// For what it is sent.
+    pub output: Chain<Wrapper>,
+}
+
+/// Those of one connection of a service, which are new: nothing of another connection's text has passed them. None where
+/// its program holds the connection itself.
 ///
 /// # Errors
 /// There was no memory.
-pub fn chain_of(alloc: Global, names: &[LineWrapperName]) -> Result<Chain<Wrapper>, AllocError>
-    ensures rest { IfOk result (WrapsBy ⟦<Wrapper as LineWrapper>⟧.rest names.now) }
-    ensures whole { IfOk result (WrapsBy ⟦<Wrapper as LineWrapper>⟧.whole names.now) }
-    ensures failed { IfOk result (λ chain. has_failed chain ≡ false) }
+pub(crate) fn chains_of(alloc: Global, service: &Service<'_>) -> Result<Option<Chains>, AllocError>
+    ensures input { IfOk result (λ chains. IfSome chains (λ both. IsNewChain
+        ⟦<Wrapper as LineWrapper>⟧.rest ⟦<Wrapper as LineWrapper>⟧.whole service.now.input.now both.input)) }
+    ensures output { IfOk result (λ chains. IfSome chains (λ both. IsNewChain
+        ⟦<Wrapper as LineWrapper>⟧.rest ⟦<Wrapper as LineWrapper>⟧.whole service.now.output.now both.output)) }
+{
+    match service.mode {
+        Mode::HandedOver => Ok(None),
+        Mode::Pumped => Ok(Some(Chains {
+            input: chain_of(alloc, service.input)?,
+            output: chain_of(alloc, service.output)?,
+        })),
+    }
+}
+
+// A chain of the wrappers of these names, the first one first, at the begin of a text.
+fn chain_of(alloc: Global, names: &[LineWrapperName]) -> Result<Chain<Wrapper>, AllocError>
+    ensures new { IfOk result
+        (IsNewChain ⟦<Wrapper as LineWrapper>⟧.rest ⟦<Wrapper as LineWrapper>⟧.whole names.now) }
 {
     let mut wrappers = Vec::new(alloc);
     for name in names {

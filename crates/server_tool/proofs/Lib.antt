@@ -1,2 +1,0 @@
-pub mod RefusedWords
-pub mod Renewed
