@@ -197,7 +197,8 @@ def codes_of(source, function, enum, variants):
         named = re.findall(enum + r"::(\w+)", pattern)
         for variant in named:
             codes[variant] = code_of(value)
-        if not named and pattern.strip() == "_":
+        # (all other faults of a server are one arm of the faults of its tool)
+        if not named and pattern.strip() in ("_", "TcpserverFault::Server(_)"):
             rest = code_of(value)
     return {variant: codes.get(variant, rest) for variant in variants}
 

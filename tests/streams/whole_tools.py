@@ -12,7 +12,7 @@ import threading
 
 from shared import compiled_files, failed_calls
 from shared.checks import Checks, needs_proved
-from shared.server_runs import free_port, listens, read_all, wait_until
+from shared.server_runs import read_all
 
 # how long what ends within seconds is waited for, in seconds
 LIMIT = 600
@@ -78,21 +78,21 @@ def check_words_of_streams(checks, program):
 
 
 class Served:
-    """A server that serves one client and ends."""
+    """A server that serves one client and ends, on a port that it chose itself."""
 
     def __init__(self, program, options, words, **how):
-        self.port = free_port()
-        command = [program, "tcpserver", "-k", "1"] + options + ["127.0.0.1", str(self.port)] + words
-        self.process = subprocess.Popen(command, stdin=subprocess.DEVNULL, stdout=subprocess.DEVNULL, stderr=subprocess.DEVNULL, **how)
+        command = [program, "tcpserver", "-1", "-k", "1"] + options + ["127.0.0.1", "0"] + words
+        self.process = subprocess.Popen(command, stdin=subprocess.DEVNULL, stdout=subprocess.PIPE, stderr=subprocess.DEVNULL, **how)
+        self.port = int(self.process.stdout.readline() or 0)
 
     def __enter__(self):
-        wait_until("a server", lambda: listens(self.port), LIMIT)
         return self
 
     def __exit__(self, fault, *_):
         if fault:
             self.process.kill()
         self.process.wait(LIMIT)
+        self.process.stdout.close()
 
     def connect(self):
         return socket.create_connection(("127.0.0.1", self.port), LIMIT)

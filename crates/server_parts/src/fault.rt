@@ -1,7 +1,8 @@
 //! How a server ends other than by its count.
 ghost use Rattle.std.specs.Prelude.{◌≡◌, None};
 ghost use Rattle.server_parts.specs.declared.fault.ServerFault.TheVariants.{OutOfMemory};
-ghost use Rattle.server_parts.specs.declared.fault.TcpserverFault.TheVariants.{Server};
+ghost use Rattle.server_parts.specs.declared.fault.TcpserverFault.TheVariants.{Words};
+ghost use Rattle.server_words.specs.declared.fault.ServerWordsFault.TheVariants as words;
 
 use server_words::ServerWordsFault;
 use std::alloc::AllocError;
@@ -13,10 +14,10 @@ use thiserror::Error;
 pub enum TcpserverFault {
     /// Its words are wrong, or there was no memory to read them.
     #[error("{0}")]
-    Words(ServerWordsFault),
-    /// Its words are right, and its server ends. Or there was no memory for its words as texts.
+    Words(#[from] ServerWordsFault),
+    /// Its words are right, and its server ends.
     #[error("{0}")]
-    Server(ServerFault),
+    Server(#[from] ServerFault),
 }
 
 /// Why a server ends whose words are right, in the order of its checks. It prints as what stands behind the tool's name.
@@ -98,9 +99,9 @@ impl From<AllocError> for ServerFault {
 }
 
 impl From<AllocError> for TcpserverFault {
-    ghost from_gives = { λ _ fault. fault ≡ Server OutOfMemory };
+    ghost from_gives = { λ _ fault. fault ≡ Words words.OutOfMemory };
 
     fn from(_error: AllocError) -> TcpserverFault {
-        TcpserverFault::Server(ServerFault::OutOfMemory)
+        TcpserverFault::Words(ServerWordsFault::OutOfMemory)
     }
 }

@@ -4,11 +4,11 @@
 //! In either mode one `SocketAcceptor` accepts connections, and one `ProgramStarter` starts their programs: it hands a
 //! program the connection, or gives it pipes. It is proved that a job has the program and the variables that were asked
 //! for. Tested only: descriptors 0 and 1 are the connection or the pipes, a write to a program waits no longer than the
-//! program runs, and the bounds on clients that take nothing (`client`).
+//! program runs, and the bounds on clients that take nothing (`Holder`).
 #![tactic(auto)]
 
-mod client;
 pub mod fault;
+mod following;
 pub mod limits;
 pub mod named_rules;
 pub mod opening;

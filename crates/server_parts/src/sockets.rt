@@ -2,7 +2,7 @@
 ghost use Rattle.std.specs.Prelude.{◌≡◌, ◌⊎◌, Some, true, IsErr};
 ghost use Rattle.std.specs.Fn.{FnOnceReturnsAt};
 
-use crate::client::Followed;
+use crate::following::Followed;
 use child_jobs::Local;
 use server_words::Mode;
 use std::alloc::Global;
@@ -36,7 +36,7 @@ enum Socket {
 pub struct Holder<'a, R> {
     pub(crate) rt: &'a R,
     socket: Arc<Socket, Global>,
-    // where what is written comes from; while there is nothing such, a write waits as long as the client does
+    // the source of what is written, if it is followed; while none is, a write waits as long as the client does
     pub(crate) followed: Option<Followed>,
 }
 
@@ -160,7 +160,7 @@ where
     R: Wait + Clock,
     T: OpenListener<Stream = TcpStream> + Drop,
 {
-    type Stream = Holder<'a, R>;
+    type Holder = Holder<'a, R>;
 
     ghost failed_last = { λ _ _. true };
 

@@ -140,7 +140,7 @@ impl<'a, P: System, L: Assumptions + Send + Sync, N: Callers + Send + Sync> Host
     for OnSystem<'a, P, L, N> {
     type Acceptor = SocketAcceptor<'a, P::Runtime, P::Listener>;
 
-    type Stream = Holder<'a, P::Runtime>;
+    type Holder = Holder<'a, P::Runtime>;
 
     type Starter = ProgramStarter<'a, P::Runtime>;
 

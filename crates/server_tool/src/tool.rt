@@ -60,7 +60,8 @@ const CALLERS: u64 = 2;
 /// connections were served as it was to serve, and all of them are over.
 ///
 /// # Errors
-/// Words with a fault run nothing, and their first fault is told. Words without one are never blamed. Then come the
+/// Words with a fault run nothing, and their first fault is told. Words without one are blamed for nothing but want of
+/// memory. Then come the
 /// faults of the server, in the order of `ServerFault`. What the voice tells behind the line of a fault is left in
 /// `causes`, where there is memory for it.
 pub fn run_tcpserver<R, E>(

@@ -45,11 +45,11 @@ pub trait Follow<F> {
 /// An accepted connection, with three holders of its stream. It is closed once all three are let go.
 #[derive(Drop)]
 pub struct Accepted<S> {
-    /// By it is read what the client sends.
+    /// Reads what the client sends.
     pub reader: S,
-    /// By it is written what is sent to the client.
+    /// Writes what the client is sent.
     pub writer: S,
-    /// By it the connection is ended both ways.
+    /// Ends the connection both ways.
     pub shut: S,
     /// The client's IPv4 address.
     pub ip: [u8; 4],
@@ -61,8 +61,8 @@ pub struct Accepted<S> {
 
 /// Where connections come from.
 pub trait Acceptor {
-    /// A holder of a connection's stream.
-    type Stream: Read + Write + Shut + Drop;
+    /// One of those who hold the stream of a connection.
+    type Holder: Read + Write + Shut + Drop;
 
     /// At least the last so many calls of `accept` failed.
     ghost failed_last: { Self → ℕ → Bool };
@@ -74,7 +74,7 @@ pub trait Acceptor {
     ///
     /// # Errors
     /// There is no connection; the call may be made again.
-    fn accept(&mut self) -> Result<Accepted<Self::Stream>, AcceptFault>
+    fn accept(&mut self) -> Result<Accepted<Self::Holder>, AcceptFault>
         ensures once { OnErr result (IsTrue (failed_last self.new 1)) }
         ensures again { OnErr result
             ((n : ℕ) → IsTrue (failed_last self.old n) → IsTrue (failed_last self.new (n + 1))) }

@@ -3,23 +3,31 @@ use crate::mailbox::Mailbox;
 use std::alloc::{AllocError, Global};
 use std::sync::{Arc, Mutex, Wait};
 
-/// A thread that is done with its last piece of work, so that it can be handed the next one.
+/// A thread without work, so that it can be given some. For whoever has given it work, it is one again only once they
+/// have waited for it.
 #[derive(Drop)]
 pub(crate) struct Idle<T> {
     mailbox: Arc<Mailbox<T>, Global>,
 }
 
 impl<T: Drop> Idle<T> {
-    /// Hands it a piece of work.
-    pub fn hand<R: Wait>(self, rt: &R, work: T) -> AtWork<T> {
+    /// The thread that takes its work from this mailbox, and has none.
+    pub fn of(mailbox: &Arc<Mailbox<T>, Global>) -> Result<Idle<T>, AllocError> {
+        Ok(Idle {
+            mailbox: Arc::try_clone(mailbox)?,
+        })
+    }
+
+    /// Gives it work, and lets it go.
+    pub fn give<R: Wait>(self, rt: &R, work: T) {
+        self.mailbox.hand(rt, work);
+    }
+
+    /// Gives it work that somebody waits for.
+    pub fn lend<R: Wait>(self, rt: &R, work: T) -> AtWork<T> {
         let Idle { mailbox } = self;
         mailbox.hand(rt, work);
         AtWork { mailbox }
-    }
-
-    /// Hands it a piece of work that nobody waits for.
-    pub fn hand_over<R: Wait>(self, rt: &R, work: T) {
-        self.mailbox.hand(rt, work);
     }
 
     /// Ends it: no more work comes.
@@ -28,21 +36,21 @@ impl<T: Drop> Idle<T> {
     }
 }
 
-/// A thread that may be at work. It is idle only for who has waited for it.
+/// A thread that may be at work.
 #[derive(Drop)]
 pub(crate) struct AtWork<T> {
     mailbox: Arc<Mailbox<T>, Global>,
 }
 
 impl<T: Drop> AtWork<T> {
-    /// The thread that takes its work from this mailbox.
-    pub fn of(mailbox: &Arc<Mailbox<T>, Global>) -> Result<AtWork<T>, AllocError> {
+    /// The thread that takes its work from this mailbox. It is being started.
+    pub fn starting(mailbox: &Arc<Mailbox<T>, Global>) -> Result<AtWork<T>, AllocError> {
         Ok(AtWork {
             mailbox: Arc::try_clone(mailbox)?,
         })
     }
 
-    /// Waits until it is done with its last piece of work.
+    /// Waits until it is there, and done with its last work.
     pub fn wait<R: Wait>(self, rt: &R) -> Idle<T> {
         let AtWork { mailbox } = self;
         mailbox.wait_for_finish(rt);
@@ -71,19 +79,16 @@ impl<T: Drop> Helpers<T> {
 
     /// Gives a thread back. It ends if there is no memory to keep it, or no more are kept.
     pub fn give_back<R: Wait>(&self, rt: &R, helper: Idle<T>) {
-        if !self.keeps(rt, &helper) {
+        if let Err(helper) = self.keep(rt, helper) {
             helper.end(rt);
         }
     }
 
-    // Keeps a thread, if there is memory for that and threads are still kept.
-    fn keeps<R: Wait>(&self, rt: &R, helper: &Idle<T>) -> bool {
-        let Ok(mailbox) = Arc::try_clone(&helper.mailbox) else {
-            return false;
-        };
+    // Keeps a thread, or gives it to the caller again if it can't be kept.
+    fn keep<R: Wait>(&self, rt: &R, helper: Idle<T>) -> Result<(), Idle<T>> {
         match self.idle.lock(rt).as_mut() {
-            Some(idle) => idle.push(Idle { mailbox }).is_ok(),
-            None => false,
+            Some(idle) => idle.push(helper).map_err(|failed| failed.value),
+            None => Err(helper),
         }
     }
 

@@ -3,7 +3,7 @@
 //!
 //! The server uses `serve_through`: if it ends by its count, it let in exactly that many. It alone starts threads. A
 //! connection is a value that each call of `Serving` passes on, or answers as over. Dropping a `GoingOn` ends the
-//! connection too. A kept thread is lent again only as an `Idle`, and who has handed it work gets one only by waiting
+//! connection too. A kept thread is lent only as an `Idle`: whoever has lent one work and wants it back waits for it
 //! (`AtWork`). `wait_in_rounds` gives a place back only after a wait that succeeded. Only tests show that one more
 //! worker is made if none waits for the socket, that what a connection takes is there before it is taken, and that a
 //! hundred faults of accepting in succession end the server.

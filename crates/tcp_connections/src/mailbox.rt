@@ -53,7 +53,7 @@ impl<T: Drop> Mailbox<T> {
     /// The taker is there, and done with its last value.
     pub fn finish<R: Wait>(&self, rt: &R) {
         let mut state = self.state.lock(rt);
-        state.is_busy = state.waiting.is_some();
+        state.is_busy = false;
         drop(state);
         self.changed.notify_all();
     }

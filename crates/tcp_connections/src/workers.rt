@@ -331,7 +331,7 @@ where
     fn start_second<'s, 'e>(&'s self, scope: &'s Scope<'s, &'e ()>) -> Option<AtWork<V::Upward>> {
         let workers = self;
         let his = Arc::new(workers.alloc, Mailbox::new()).ok()?;
-        let second = AtWork::of(&his).ok()?;
+        let second = AtWork::starting(&his).ok()?;
         let started = connection_thread().spawn_scoped(
             scope,
             move ||
@@ -382,7 +382,7 @@ where
         };
         self.means.began(self.rt);
         let at_work = match upward {
-            Some(upward) => second.take().map(|second| second.hand(self.rt, upward)),
+            Some(upward) => second.take().map(|second| second.lend(self.rt, upward)),
             None => None,
         };
         let going_on = GoingOn {
@@ -394,7 +394,7 @@ where
             second: at_work,
         };
         match self.keeper(scope) {
-            Some(keeper) => keeper.hand_over(self.rt, going_on),
+            Some(keeper) => keeper.give(self.rt, going_on),
             None => drop(going_on),
         }
         if second.is_none() {
@@ -414,7 +414,7 @@ where
         if let Some(keeper) = self.keepers.take(self.rt) {
             return Some(keeper);
         }
-        Some(self.start_keeper(scope)?.wait(self.rt))
+        self.start_keeper(scope)
     }
 
     // An idle second thread, or a new one. None if what clients send is not passed on, or the system has no more.
@@ -432,18 +432,15 @@ where
     fn start_keeper<'s, 'e>(
         &'s self,
         scope: &'s Scope<'s, &'e ()>,
-    ) -> Option<AtWork<GoingOn<'a, R, V, Q::Work>>> {
+    ) -> Option<Idle<GoingOn<'a, R, V, Q::Work>>> {
         let workers = self;
         let his = Arc::new(workers.alloc, Mailbox::new()).ok()?;
-        let keeper = AtWork::of(&his).ok()?;
+        let keeper = Idle::of(&his).ok()?;
         let started = connection_thread().spawn_scoped(
             scope,
             move ||
                 requires { IsSync R.row × IsSync V.row × IsSend Q.row × IsSend V.Upward.row × IsSend V.Alive.row }
-            {
-                his.finish(workers.rt);
-                workers.keep_in_turn(&his);
-            },
+            { workers.keep_in_turn(&his) },
         );
         started.ok()?;
         Some(keeper)
@@ -456,11 +453,10 @@ where
                 return;
             };
             drop(going_on);
-            keeper.finish(self.rt);
-            let Ok(itself) = AtWork::of(keeper) else {
+            let Ok(idle) = Idle::of(keeper) else {
                 return;
             };
-            self.keepers.give_back(self.rt, itself.wait(self.rt));
+            self.keepers.give_back(self.rt, idle);
         }
     }
 }

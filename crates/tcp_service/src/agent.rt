@@ -5,7 +5,7 @@ ghost use Rattle.std.specs.Prelude.{◌≡◌, None};
 use crate::host::AgentGround;
 use crate::opening::{Rules, RulesHandle};
 use crate::reasons::{Reason, cause_of_absence, cause_of_damage};
-use crate::server::Agents;
+use crate::server::AgentContext;
 use crate::telling::Telling;
 use byte_text::words_of_error;
 use child_jobs::{DropCause, Job, Local, Place, Running, StartFault, Status};
@@ -28,7 +28,7 @@ pub(crate) type FoundBy<G> = Option<Snapshot<Pass<<G as Ground>::Places, <G as G
 /// meanwhile. If the assumptions are met, the file that was found is compiled of rules.
 #[derive(Drop)]
 pub(crate) struct LoggedAgent<'a, G: AgentGround> {
-    agents: &'a Agents<'a, G>,
+    context: &'a AgentContext<'a, G>,
     serial: u64,
     // the server's end of the connection
     local: &'a Local,
@@ -42,7 +42,7 @@ pub(crate) struct LoggedAgent<'a, G: AgentGround> {
     pub(crate) last: Option<Result<Made, OutOfTurn>>,
 }
 
-impl<'a, G: AgentGround> Agents<'a, G> {
+impl<'a, G: AgentGround> AgentContext<'a, G> {
     /// The agent of the connection with this serial number. Nothing was asked for it yet.
     pub(crate) fn agent<'b>(
         &'b self,
@@ -53,11 +53,11 @@ impl<'a, G: AgentGround> Agents<'a, G> {
     where
         'a: 'b,
         ensures own { result.serial ≡ serial }
-        ensures rules { result.agents.now.rules.now ≡ self.now.rules.now }
+        ensures rules { result.context.now.rules.now ≡ self.now.rules.now }
         ensures unasked { result.last ≡ None }
     {
         LoggedAgent {
-            agents: self,
+            context: self,
             serial,
             local,
             notes,
@@ -88,9 +88,9 @@ impl<G: AgentGround> LoggedAgent<'_, G> {
         requires may { T.may turn }
         ensures answered { IsAnswer (T.answers turn) result }
     {
-        let agents = self.agents;
-        let mut teller = agents.teller.lock(agents.rt);
-        agents.site.turn(agents.rt, &mut teller, turn)
+        let context = self.context;
+        let mut teller = context.teller.lock(context.rt);
+        context.site.turn(context.rt, &mut teller, turn)
     }
 
     // The same of an event of which the log is told.
@@ -100,7 +100,7 @@ impl<G: AgentGround> LoggedAgent<'_, G> {
         requires may { T.may turn }
         ensures answered { IsAnswer (T.answers turn) result }
     {
-        let (rt, log) = (self.agents.rt, self.agents.log);
+        let (rt, log) = (self.context.rt, self.context.log);
         self.turn(Telling::<G, T> {
             turn,
             told,
@@ -138,7 +138,7 @@ impl<G: AgentGround> LoggedAgent<'_, G> {
 
     // Why the rules could not be opened or read, or which rule is damaged.
     fn reason_of(&self, cause: DropCause, peer: &Peer) -> Option<Reason> {
-        let (alloc, rules) = (self.agents.alloc, self.agents.rules);
+        let (alloc, rules) = (self.context.alloc, self.context.rules);
         match cause {
             DropCause::Directory | DropCause::ReadFault => {
                 let error = rules.error(self.handle.as_ref()?)?;
@@ -163,7 +163,7 @@ impl<G: AgentGround> LoggedAgent<'_, G> {
         let answer = match ended {
             Ok((place, status)) => {
                 let signal = match status {
-                    Status::Signal => self.notes.signal(self.agents.rt),
+                    Status::Signal => self.notes.signal(self.context.rt),
                     Status::Code(_) => None,
                 };
                 let turn = Ended::<G> {
@@ -214,7 +214,7 @@ impl<G: AgentGround> Agent<G::Places> for LoggedAgent<'_, G> {
     ghost is_gone = { λ agent serial. IsGoneBy agent.last serial };
 
     ghost finds = { λ agent.
-        IsFoundFor G.Places.met (G.Rules.gives agent.agents.now.rules.now) G.Handle.opened agent.serial };
+        IsFoundFor G.Places.met (G.Rules.gives agent.context.now.rules.now) G.Handle.opened agent.serial };
 
     ghost found = { λ agent. kept_opening G.File.bytes agent.found };
 
@@ -238,7 +238,7 @@ impl<G: AgentGround> Agent<G::Places> for LoggedAgent<'_, G> {
         serial: u64,
         _peer: &Peer,
     ) -> Result<Pass<G::Places, G::File>, DropCause> {
-        let Ok(mut handle) = self.agents.rules.handle(alloc) else {
+        let Ok(mut handle) = self.context.rules.handle(alloc) else {
             return Err(DropCause::Memory);
         };
         let found = handle.open(alloc, self.serial);
@@ -287,7 +287,7 @@ impl<G: AgentGround> Agent<G::Places> for LoggedAgent<'_, G> {
             verdict: decision.verdict,
             local: self.local,
             peer,
-            file: cause_of_absence(self.agents.rules.path(), &decision),
+            file: cause_of_absence(self.context.rules.path(), &decision),
         };
         let turn = Decided::<G> {
             pass,
@@ -305,7 +305,7 @@ impl<G: AgentGround> Agent<G::Places> for LoggedAgent<'_, G> {
 
     #[tactic(auto, using(crate::proofs::Asked::asked_for))]
     fn started<C: Job>(&mut self, running: &Running<G::Places, C>, serial: u64, _peer: &Peer) {
-        let process = self.notes.number(self.agents.rt);
+        let process = self.notes.number(self.context.rt);
         let turn = Started::<G, C> { serial, running };
         self.last = Some(self.tell(turn, Told::Started { serial, process }));
     }
@@ -318,9 +318,9 @@ impl<G: AgentGround> Agent<G::Places> for LoggedAgent<'_, G> {
         _peer: &Peer,
         fault: StartFault,
     ) {
-        let error = self.notes.refusal.lock(self.agents.rt).take();
-        let why = error.and_then(|error| words_of_error(self.agents.alloc, error).ok());
-        let program = self.agents.plan.program().path().as_bytes();
+        let error = self.notes.refusal.lock(self.context.rt).take();
+        let why = error.and_then(|error| words_of_error(self.context.alloc, error).ok());
+        let program = self.context.plan.program().path().as_bytes();
         let cause = why.as_ref().map(|why| Cause::new(program, why.as_str()));
         let told = Told::StartFailed {
             serial,
@@ -337,7 +337,7 @@ impl<G: AgentGround> Agent<G::Places> for LoggedAgent<'_, G> {
 
     #[tactic(auto, using(crate::proofs::Asked::asked_for))]
     fn dropped(&mut self, place: Place<G::Places>, serial: u64, peer: &Peer, cause: DropCause) {
-        let path = self.agents.rules.path();
+        let path = self.context.rules.path();
         let reason = self.reason_of(cause, peer);
         let why = reason.as_ref().map(|reason| reason.cause(path));
         let file = cause_of_damage(path, cause);

@@ -19,13 +19,13 @@ where
     H::Handle: Send,
     H::Rules: Sync,
     H::Lines: Send,
-    H::Stream: Send,
+    H::Holder: Send,
     H::Starter: Sync,
     H::Job: Send,
     H::Input: Send,
     H::Output: Send,
 {
-    type Upward = Upward<H::Stream, H::Input>;
+    type Upward = Upward<H::Holder, H::Input>;
 
     type Alive = Alive<'b, H>;
 
@@ -45,7 +45,7 @@ where
         admitted.begin()
     }
 
-    fn pass_up(&self, upward: Upward<H::Stream, H::Input>) {
+    fn pass_up(&self, upward: Upward<H::Holder, H::Input>) {
         Server::pass_up(self, upward);
     }
 

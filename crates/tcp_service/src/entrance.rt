@@ -11,7 +11,7 @@ ghost use Rattle.tcp_service.specs.Lives.{AdmitsOwn};
 use crate::host::{AgentGround, Host};
 use crate::life::Admitted;
 use crate::pumping::ClientStreams;
-use crate::server::{Agents, Server};
+use crate::server::{AgentContext, Server};
 use crate::telling::{AdmittedBy, TellingAdmission};
 use child_jobs::{DropCause, Local};
 use rule_lookup::Peer;
@@ -102,8 +102,8 @@ impl<'a, H: Host> Admission for Entrance<'a, H> {
     ghost is_spent = { λ entrance. is_some entrance.seen.spent };
 
     fn wait_for_room(&mut self) -> bool {
-        let agents = &self.server.agents;
-        match agents.site.room(agents.rt) {
+        let context = &self.server.context;
+        match context.site.room(context.rt) {
             Ok(()) => true,
             Err(retired) => {
                 self.seen.retired = Some(retired);
@@ -116,7 +116,7 @@ impl<'a, H: Host> Admission for Entrance<'a, H> {
         let server = self.server;
         match self.acceptor.accept() {
             Ok(accepted) => Ok(let_in(server, &mut self.admitter, &mut self.seen.spent, accepted)),
-            Err(AcceptFault::OutOfMemory) => Ok(lack_memory(&server.agents)),
+            Err(AcceptFault::OutOfMemory) => Ok(lack_memory(&server.context)),
             Err(fault) => Err(fault),
         }
     }
@@ -138,10 +138,10 @@ fn ends_of<S>(
 }
 
 // A connection has found no memory.
-fn lack_memory<G: AgentGround, W>(agents: &Agents<'_, G>) -> AdmitOutcome<W, Refused>
+fn lack_memory<G: AgentGround, W>(context: &AgentContext<'_, G>) -> AdmitOutcome<W, Refused>
     ensures refused { result ≡ outcome.Refused OutOfMemory }
 {
-    let _ = agents.log.lock(agents.rt).out_of_memory();
+    let _ = context.log.lock(context.rt).out_of_memory();
     AdmitOutcome::Refused(Refused::OutOfMemory)
 }
 
@@ -150,17 +150,17 @@ fn let_in<'a, H: Host>(
     server: &'a Server<'a, H>,
     admitter: &mut CallerOf<H>,
     spent: &mut Option<NoNumbers>,
-    accepted: Accepted<H::Stream>,
+    accepted: Accepted<H::Holder>,
 ) -> LetIn<'a, H>
     ensures came { LetsIn result (caller_share admitter.old) (caller_share admitter.new) }
     ensures spent { OnSpent result (IsTrue (is_some spent.new)) }
 {
-    let agents = &server.agents;
-    let Ok((peer, local)) = ends_of(agents.alloc, &server.service.names, &accepted) else {
+    let context = &server.context;
+    let Ok((peer, local)) = ends_of(context.alloc, &server.service.names, &accepted) else {
         drop(accepted);
-        return lack_memory(agents);
+        return lack_memory(context);
     };
-    match admit(agents, admitter, spent, &peer) {
+    match admit(context, admitter, spent, &peer) {
         AdmitOutcome::In((serial, place, made)) => AdmitOutcome::In(Admitted {
             server,
             serial,
@@ -191,7 +191,7 @@ fn let_go<S: Drop>(accepted: Accepted<S>, peer: Peer, local: Local) {
 // Counts a connection: its serial, and its place. Once the last number of an event is given nobody is let in any more.
 #[tactic(auto, using(crate::proofs::Shares::one_came, crate::proofs::Shares::none_came, crate::proofs::Shares::own_came))]
 fn admit<G: AgentGround>(
-    agents: &Agents<'_, G>,
+    context: &AgentContext<'_, G>,
     admitter: &mut CallerOf<G>,
     spent: &mut Option<NoNumbers>,
     peer: &Peer,
@@ -200,7 +200,7 @@ fn admit<G: AgentGround>(
     ensures spent { OnSpent result (IsTrue (is_some spent.new)) }
     ensures own { AdmitsOwn result peer.now }
 {
-    let (rt, site, log) = (agents.rt, agents.site, agents.log);
+    let (rt, site, log) = (context.rt, context.site, context.log);
     match site.turn(rt, admitter, TellingAdmission::<G> { peer, rt, log }) {
         Ok((serial, place, made)) => {
             if made.at() == u64::MAX {

@@ -25,19 +25,19 @@ pub trait AgentGround: Ground {
 /// What a server stands on: a type for each thing that it is lent, beside what the agents of its connections stand on.
 /// A host is a name for these types together, and has no values.
 ///
-/// Each type costs the check of each function over a host some time. So what only an agent needs is apart.
+/// Each type costs the check of each function over a host some time. So what agents need is a trait of its own.
 ///
 /// Which of these things threads share (`Sync`) and give one another (`Send`) is said where threads are started, and
 /// not here: the check does not take a call in a method of a trait where what is called says so in its bounds.
 pub trait Host: AgentGround {
     /// Where connections come from.
-    type Acceptor: Acceptor<Stream = Self::Stream> + Drop;
+    type Acceptor: Acceptor<Holder = Self::Holder> + Drop;
 
-    /// A holder of a connection's stream.
-    type Stream: Read + Write + Follow<Self::Output> + Shut + Drop;
+    /// One of those who hold the stream of a connection.
+    type Holder: Read + Write + Follow<Self::Output> + Shut + Drop;
 
     /// What starts the programs of connections.
-    type Starter: Starter<Self::Stream, Job = Self::Job>;
+    type Starter: Starter<Self::Holder, Job = Self::Job>;
 
     /// The program of a connection while it runs.
     type Job: Job<Input = Self::Input, Output = Self::Output>;

@@ -2,12 +2,12 @@
 //! lines of the log are written. A line that can't be written is left out.
 //!
 //! The server uses `serve`. What it stands on is one type, a `Host`: its types are the ground of its site, the runtime,
-//! the rules, the log, and the streams and programs of connections. An agent stands on the first four (`AgentGround`). At the end both callers are back and as many
-//! connections are alive as are retired; `serve` looks at the last, and answers `Unfinished` if it is not so. The
-//! events of its site are a run, which `server_yard::laws::whole_run` is about. The life of a connection is one value after
-//! another: `Admitted`, `Started`, `Alive`, `Over`. None of the first three can be let go, and an end can't be told
-//! twice. `LoggedAgent` is the agent over which `serve_one` runs. Tested only: bytes pass through the two pumps of
-//! their connection, and no event comes out of turn.
+//! the rules, the log, and the streams and programs of connections. An agent stands on the first four (`AgentGround`).
+//! At the end both callers are back and as many connections are alive as are retired; `serve` looks at the last, and
+//! answers `Unfinished` if it is not so. The events of its site are a run, which `whole_yard::laws::service_run` is
+//! about. The life of a connection is one value after another: `Admitted`, `Started`, `Alive`, `Over`. None of the first
+//! three can be let go, and an end can't be told twice. `LoggedAgent` is the agent over which `serve_one` runs. Tested
+//! only: bytes pass through the two pumps of their connection, and no event comes out of turn.
 #![tactic(auto)]
 
 mod agent;

@@ -12,7 +12,7 @@ use crate::agent::FoundBy;
 use crate::host::{AgentGround, Host};
 use crate::over::Over;
 use crate::pumping::{ClientStreams, Downward, Upward};
-use crate::server::{Agents, Server};
+use crate::server::{AgentContext, Server};
 use crate::wrappers::{Chains, chains_of};
 use child_jobs::{DropCause, Local, Place, Running};
 use one_connection::{Agent, Served, serve_one};
@@ -29,7 +29,7 @@ pub(crate) struct Admitted<'a, H: Host> {
     pub(crate) place: Place<H::Places>,
     pub(crate) peer: Peer,
     pub(crate) local: Local,
-    pub(crate) streams: ClientStreams<H::Stream>,
+    pub(crate) streams: ClientStreams<H::Holder>,
     pub(crate) made: Snapshot<Made>,
     pub(crate) ghost own: { made_event made.value ≡ AdmittedEvent serial peer },
 }
@@ -42,8 +42,8 @@ pub(crate) struct Started<'a, H: Host> {
     peer: Snapshot<Peer>,
     found: FoundBy<H>,
     ghost child: { IsOwnChild (kept_opening H.File.bytes found)
-        (IsFoundFor H.Places.met (H.Rules.gives alive.server.now.agents.rules.now) H.Handle.opened alive.serial)
-        H.File.honest H.File.sound peer.value alive.local alive.server.now.agents.plan.now
+        (IsFoundFor H.Places.met (H.Rules.gives alive.server.now.context.rules.now) H.Handle.opened alive.serial)
+        H.File.honest H.File.sound peer.value alive.local alive.server.now.context.plan.now
         (H.Job.program (job_of alive.running)) (H.Job.environment (job_of alive.running)) },
 }
 
@@ -55,12 +55,12 @@ pub(crate) struct Alive<'a, H: Host> {
     pub(crate) local: Local,
     pub(crate) process: Option<Process>,
     // what its program says, if that is passed on; otherwise the program holds the connection itself
-    pub(crate) downward: Option<Downward<H::Stream, H::Output>>,
+    pub(crate) downward: Option<Downward<H::Holder, H::Output>>,
 }
 
 /// What the client of a connection sends, if that is passed on; and the connection.
 pub(crate) type Beginning<'a, H> = (
-    Option<Upward<<H as Host>::Stream, <H as Host>::Input>>,
+    Option<Upward<<H as Host>::Holder, <H as Host>::Input>>,
     Alive<'a, H>,
 );
 
@@ -71,7 +71,7 @@ type Ran<H> = (
     Option<Process>,
 );
 
-impl<G: AgentGround> Agents<'_, G> {
+impl<G: AgentGround> AgentContext<'_, G> {
     // A connection is given up before its program was started.
     fn give_up(
         &self,
@@ -101,34 +101,34 @@ impl<H: Host> Server<'_, H> {
         place: Place<H::Places>,
         peer: &Peer,
         local: &Local,
-        streams: &mut ClientStreams<H::Stream>,
+        streams: &mut ClientStreams<H::Holder>,
     ) -> Result<Ran<H>, Over>
         ensures own { IfOk result (λ ran. place_of ran.0 ≡ place) }
         ensures child { IfOk result (λ ran. IsOwnChild (kept_opening H.File.bytes ran.1)
-            (IsFoundFor H.Places.met (H.Rules.gives self.now.agents.rules.now) H.Handle.opened serial)
-            H.File.honest H.File.sound peer.now local.now self.now.agents.plan.now
+            (IsFoundFor H.Places.met (H.Rules.gives self.now.context.rules.now) H.Handle.opened serial)
+            H.File.honest H.File.sound peer.now local.now self.now.context.plan.now
             (H.Job.program (job_of ran.0)) (H.Job.environment (job_of ran.0))) }
         ensures over { IfErr result (λ over. over.serial ≡ serial) }
         ensures reason { IfErr result (λ over. EndsWithReason
-            (IsFoundFor H.Places.met (H.Rules.gives self.now.agents.rules.now) H.Handle.opened serial)
-            H.File.honest H.File.sound peer.now local.now self.now.agents.plan.now
+            (IsFoundFor H.Places.met (H.Rules.gives self.now.context.rules.now) H.Handle.opened serial)
+            H.File.honest H.File.sound peer.now local.now self.now.context.plan.now
             (MayRefuse (H.Starter.refuses self.now.starter.now streams.old.shut)) serial (asked over.last.value)) }
     {
         let notes = Notes::of(None);
-        let mut agent = self.agents.agent(serial, local, &notes);
+        let mut agent = self.context.agent(serial, local, &notes);
         let launcher = ConnectionLauncher {
-            rt: self.agents.rt,
+            rt: self.context.rt,
             starter: self.starter,
             connection: &streams.shut,
             notes: &notes,
         };
-        let (alloc, plan) = (self.agents.alloc, self.agents.plan);
+        let (alloc, plan) = (self.context.alloc, self.context.plan);
         let writer = &mut streams.writer;
         match serve_one(
             alloc, &mut agent, place, serial, peer, local, plan, launcher, writer,
         ) {
             Served::Running(running) => {
-                let process = notes.take(self.agents.rt);
+                let process = notes.take(self.context.rt);
                 Ok((running, agent.into_found(), process))
             }
             Served::Denied | Served::StartFailed(_) | Served::Dropped(_) => {
@@ -148,7 +148,7 @@ impl<H: Host> Server<'_, H> {
         local: &Local,
         process: Option<Process>,
         by_force: bool,
-        shut: Option<H::Stream>,
+        shut: Option<H::Holder>,
     ) -> Over
         ensures own { result.serial ≡ serial }
         ensures ended { IsEndOfChild H.Job.killed H.Job.refused_wait H.Job.ended by_force (job_of running)
@@ -159,7 +159,7 @@ impl<H: Host> Server<'_, H> {
             shut.shut();
         }
         let notes = Notes::of(process);
-        let mut agent = self.agents.agent(serial, local, &notes);
+        let mut agent = self.context.agent(serial, local, &notes);
         agent.tell_end(ended);
         let over = Over::of(&agent, serial);
         drop(agent);
@@ -176,23 +176,23 @@ impl<'a, H: Host> Admitted<'a, H> {
     pub(crate) fn begin(self) -> Result<Beginning<'a, H>, Over>
         ensures own { IfOk result (λ begun. begun.1.serial ≡ self.entry.serial) }
         ensures child { IfOk result (λ begun. IsDecidedChild
-            (IsFoundFor H.Places.met (H.Rules.gives self.entry.server.now.agents.rules.now) H.Handle.opened self.entry.serial)
-            H.File.honest H.File.sound self.entry.peer self.entry.local self.entry.server.now.agents.plan.now
+            (IsFoundFor H.Places.met (H.Rules.gives self.entry.server.now.context.rules.now) H.Handle.opened self.entry.serial)
+            H.File.honest H.File.sound self.entry.peer self.entry.local self.entry.server.now.context.plan.now
             (H.Job.program (job_of begun.1.running)) (H.Job.environment (job_of begun.1.running))) }
         ensures over { IfErr result (λ over. over.serial ≡ self.entry.serial) }
         ensures reason { IfErr result (λ over. EndsWithReason
-            (IsFoundFor H.Places.met (H.Rules.gives self.entry.server.now.agents.rules.now) H.Handle.opened self.entry.serial)
-            H.File.honest H.File.sound self.entry.peer self.entry.local self.entry.server.now.agents.plan.now
+            (IsFoundFor H.Places.met (H.Rules.gives self.entry.server.now.context.rules.now) H.Handle.opened self.entry.serial)
+            H.File.honest H.File.sound self.entry.peer self.entry.local self.entry.server.now.context.plan.now
             (MayRefuse (H.Starter.refuses self.entry.server.now.starter.now self.entry.streams.shut)) self.entry.serial
             (asked over.last.value)
             ⊎ IsEndedByForce (IsDecidedChild
-            (IsFoundFor H.Places.met (H.Rules.gives self.entry.server.now.agents.rules.now) H.Handle.opened self.entry.serial)
-            H.File.honest H.File.sound self.entry.peer self.entry.local self.entry.server.now.agents.plan.now)
+            (IsFoundFor H.Places.met (H.Rules.gives self.entry.server.now.context.rules.now) H.Handle.opened self.entry.serial)
+            H.File.honest H.File.sound self.entry.peer self.entry.local self.entry.server.now.context.plan.now)
             H.Job.program H.Job.environment H.Job.killed H.Job.refused_wait H.Job.ended self.entry.serial
             (asked over.last.value)) }
     {
         let server = self.server;
-        let Ok(chains) = chains_of(server.agents.alloc, server.service) else {
+        let Ok(chains) = chains_of(server.context.alloc, server.service) else {
             return Err(self.give_up(DropCause::Memory));
         };
         match self.serve() {
@@ -215,7 +215,7 @@ impl<'a, H: Host> Admitted<'a, H> {
             streams,
             made: _,
         } = self;
-        let over = server.agents.give_up(serial, place, &peer, &local, cause);
+        let over = server.context.give_up(serial, place, &peer, &local, cause);
         streams.end();
         drop(local);
         drop(peer);
@@ -223,17 +223,17 @@ impl<'a, H: Host> Admitted<'a, H> {
     }
 
     // It is served up to the start of its program, by `serve_one`.
-    fn serve(self) -> Result<(Started<'a, H>, ClientStreams<H::Stream>), Over>
+    fn serve(self) -> Result<(Started<'a, H>, ClientStreams<H::Holder>), Over>
         ensures own { IfOk result (λ started. (started.0.alive.serial ≡ self.entry.serial)
             × (place_of started.0.alive.running ≡ self.entry.place)) }
         ensures child { IfOk result (λ started. IsDecidedChild
-            (IsFoundFor H.Places.met (H.Rules.gives self.entry.server.now.agents.rules.now) H.Handle.opened self.entry.serial)
-            H.File.honest H.File.sound self.entry.peer self.entry.local self.entry.server.now.agents.plan.now
+            (IsFoundFor H.Places.met (H.Rules.gives self.entry.server.now.context.rules.now) H.Handle.opened self.entry.serial)
+            H.File.honest H.File.sound self.entry.peer self.entry.local self.entry.server.now.context.plan.now
             (H.Job.program (job_of started.0.alive.running)) (H.Job.environment (job_of started.0.alive.running))) }
         ensures over { IfErr result (λ over. over.serial ≡ self.entry.serial) }
         ensures reason { IfErr result (λ over. EndsWithReason
-            (IsFoundFor H.Places.met (H.Rules.gives self.entry.server.now.agents.rules.now) H.Handle.opened self.entry.serial)
-            H.File.honest H.File.sound self.entry.peer self.entry.local self.entry.server.now.agents.plan.now
+            (IsFoundFor H.Places.met (H.Rules.gives self.entry.server.now.context.rules.now) H.Handle.opened self.entry.serial)
+            H.File.honest H.File.sound self.entry.peer self.entry.local self.entry.server.now.context.plan.now
             (MayRefuse (H.Starter.refuses self.entry.server.now.starter.now self.entry.streams.shut)) self.entry.serial
             (asked over.last.value)) }
     {
@@ -288,7 +288,7 @@ impl<'a, H: Host> Started<'a, H> {
 // A connection goes on: its program holds it, or its streams are passed on from now on.
 fn go_on<H: Host>(
     alive: Alive<'_, H>,
-    streams: ClientStreams<H::Stream>,
+    streams: ClientStreams<H::Holder>,
     chains: Option<Chains>,
 ) -> Result<Beginning<'_, H>, Over>
     ensures own { IfOk result (λ begun. begun.1.serial ≡ alive.entry.serial) }
@@ -309,7 +309,7 @@ impl<'a, H: Host> Alive<'a, H> {
     // Its program's pipe ends are taken, and its streams are passed on from now on.
     fn pass_on(
         self,
-        streams: ClientStreams<H::Stream>,
+        streams: ClientStreams<H::Holder>,
         chains: Chains,
     ) -> Result<Beginning<'a, H>, Over>
         ensures own { IfOk result (λ begun. begun.1.serial ≡ self.entry.serial) }
@@ -330,9 +330,9 @@ impl<'a, H: Host> Alive<'a, H> {
         } = self;
         let Ok((to, from)) = running.ends() else {
             let _ = server
-                .agents
+                .context
                 .log
-                .lock(server.agents.rt)
+                .lock(server.context.rt)
                 .no_pipe_ends(serial);
             drop(chains);
             let shut = Some(streams.into_shut());

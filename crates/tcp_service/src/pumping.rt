@@ -1,6 +1,8 @@
 //! The streams of a connection whose bytes pass through the server.
+ghost use Rattle.std.specs.Prelude.{◌≡◌};
+
 use crate::host::{AgentGround, Host};
-use crate::server::{Agents, Server};
+use crate::server::{AgentContext, Server};
 use crate::wrappers::{Chains, Wrapper};
 use byte_streams::{Chain, NoTap, Recorder, Tap, Way, pump};
 use server_log::Log;
@@ -12,22 +14,26 @@ use tcp_connections::{Accepted, Follow, Patience, Shut};
 /// How many reads a pump makes at most.
 const MOST_READS: u64 = 1 << 40;
 
-/// The streams of a connection.
+/// The streams of a connection: three who hold one stream.
 #[derive(Drop)]
 pub(crate) struct ClientStreams<S> {
     /// The client's port.
     pub port: u16,
-    /// By it is read what the client sends.
+    /// Reads what the client sends.
     pub reader: S,
-    /// By it is written what is sent to the client.
+    /// Writes what the client is sent.
     pub writer: S,
-    /// By it the connection is ended both ways.
+    /// Ends the connection both ways.
     pub shut: S,
 }
 
 impl<S: Shut + Drop> ClientStreams<S> {
     /// Those of a connection that was accepted.
-    pub(crate) fn of(accepted: Accepted<S>) -> ClientStreams<S> {
+    pub(crate) fn of(accepted: Accepted<S>) -> ClientStreams<S>
+        ensures reads { result.reader ≡ accepted.reader }
+        ensures writes { result.writer ≡ accepted.writer }
+        ensures shuts { result.shut ≡ accepted.shut }
+    {
         ClientStreams {
             port: accepted.port,
             reader: accepted.reader,
@@ -36,13 +42,15 @@ impl<S: Shut + Drop> ClientStreams<S> {
         }
     }
 
-    /// Ends the connection both ways, and lets its streams go.
+    /// Lets its streams go, and ends the connection both ways.
     pub(crate) fn end(self) {
         self.into_shut().shut();
     }
 
     /// Lets its streams go but for what ends the connection.
-    pub(crate) fn into_shut(self) -> S {
+    pub(crate) fn into_shut(self) -> S
+        ensures shuts { result ≡ self.shut }
+    {
         let ClientStreams {
             port: _,
             reader,
@@ -64,6 +72,10 @@ impl<S: Shut + Drop> ClientStreams<S> {
     ) -> (Upward<S, I>, Downward<S, O>)
     where
         S: Follow<O>,
+        ensures reads { result.0.reader ≡ self.reader }
+        ensures input { result.0.chain ≡ chains.input }
+        ensures shuts { result.1.shut ≡ self.shut }
+        ensures output { result.1.chain ≡ chains.output }
     {
         let ClientStreams {
             port,
@@ -111,29 +123,29 @@ pub(crate) struct Downward<S, O> {
 
 impl<H: Host> Server<'_, H> {
     /// Passes on what the client sends, until the client ends its stream or the program reads no more.
-    pub(crate) fn pass_up(&self, upward: Upward<H::Stream, H::Input>) {
-        let agents = &self.agents;
+    pub(crate) fn pass_up(&self, upward: Upward<H::Holder, H::Input>) {
+        let context = &self.context;
         if self.service.recording {
-            let tap = agents.recorder(upward.port, Way::Input);
-            pump_up(agents.alloc, upward, tap);
+            let tap = context.recorder(upward.port, Way::Input);
+            pump_up(context.alloc, upward, tap);
         } else {
-            pump_up(agents.alloc, upward, NoTap);
+            pump_up(context.alloc, upward, NoTap);
         }
     }
 
     /// Passes on what the program writes until its output ends. The client's end of the connection is left.
-    pub(crate) fn pass_down(&self, downward: Downward<H::Stream, H::Output>) -> H::Stream {
-        let agents = &self.agents;
+    pub(crate) fn pass_down(&self, downward: Downward<H::Holder, H::Output>) -> H::Holder {
+        let context = &self.context;
         if self.service.recording {
-            let tap = agents.recorder(downward.port, Way::Output);
-            pump_down(agents.alloc, downward, tap)
+            let tap = context.recorder(downward.port, Way::Output);
+            pump_down(context.alloc, downward, tap)
         } else {
-            pump_down(agents.alloc, downward, NoTap)
+            pump_down(context.alloc, downward, NoTap)
         }
     }
 }
 
-impl<G: AgentGround> Agents<'_, G> {
+impl<G: AgentGround> AgentContext<'_, G> {
     // The recorder of one way of a connection, which writes to the log.
     fn recorder(
         &self,
@@ -167,7 +179,9 @@ fn pump_down<S: Write + Drop, O: Read + Drop, T: Tap + Drop>(
     alloc: Global,
     downward: Downward<S, O>,
     tap: T,
-) -> S {
+) -> S
+    ensures shuts { result ≡ downward.shut }
+{
     let Downward {
         port: _,
         mut from,

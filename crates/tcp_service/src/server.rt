@@ -7,9 +7,10 @@ use shared_site::{CallerOf, Site};
 use std::alloc::Global;
 use std::sync::Mutex;
 
-/// What the agents of all connections share: the site at which these are told, the rules, and the log.
+/// What the agents of all connections share: the site with the caller that tells it their events, the plan, the rules
+/// and the log.
 #[derive(Drop)]
-pub(crate) struct Agents<'a, G: AgentGround> {
+pub(crate) struct AgentContext<'a, G: AgentGround> {
     pub rt: &'a G::Runtime,
     pub alloc: Global,
     pub site: &'a Site<G>,
@@ -20,10 +21,10 @@ pub(crate) struct Agents<'a, G: AgentGround> {
     pub log: &'a Mutex<Log<G::Lines>>,
 }
 
-/// What all connections of a server share: their agents, and what serves them.
+/// What all connections of a server share: what their agents share, and what serves them.
 #[derive(Drop)]
 pub(crate) struct Server<'a, H: Host> {
-    pub agents: Agents<'a, H>,
+    pub context: AgentContext<'a, H>,
     pub starter: &'a H::Starter,
     pub service: &'a Service<'a>,
 }

@@ -14,11 +14,11 @@ pub struct Service<'a> {
     pub mode: Mode,
     /// How long a client whose connection is pumped may take nothing of what its program left for it.
     pub patience: Patience,
-    /// Whether what goes both ways is recorded (`-w recordio`), where bytes are passed on.
+    /// Where bytes are passed on: whether what goes both ways is recorded (`-w recordio`).
     pub recording: bool,
-    /// The line wrappers through which what a client sends passes then, the first one first (`-w`).
+    /// The line wrappers for what a client sends, the first one first (`-w`).
     pub input: &'a [LineWrapperName],
-    /// And those of what it is sent.
+    /// The same for what it is sent.
     pub output: &'a [LineWrapperName],
     /// What the system gives it for its connections.
     pub supply: Supply,

@@ -7,7 +7,7 @@ ghost use Rattle.tcp_connections.specs.declared.admission.ServeEnd.TheVariants.{
 
 use crate::entrance::{Entrance, Seen};
 use crate::host::Host;
-use crate::server::{Agents, Server};
+use crate::server::{AgentContext, Server};
 use crate::service::Service;
 use child_jobs::Plan;
 use server_events::Journal;
@@ -62,9 +62,10 @@ pub struct Unfinished<H: Host> {
 /// Serves connections until it comes to an end, waits until all that were let in are over, and closes the site.
 ///
 /// Of the two callers of the site the first lets connections in, and makes no other events; the second makes all
-/// others. `plan` is what each connection is served by. `starter` starts programs that have what the service's mode says as their standard input and output. Each connection
-/// opens `rules` for itself. Once no more connections are let in, the acceptor is closed. By faults of accepting the
-/// server ends only if the last hundred calls of the acceptor failed, or if there was too little for one connection.
+/// others. `plan` is what each connection is served by. `starter` starts programs that have what the service's mode
+/// says as their standard input and output. Each connection opens `rules` for itself. Once no more connections are let
+/// in, the acceptor is closed. By faults of accepting the server ends only if the last hundred calls of the acceptor
+/// failed, or if there was too little for one connection.
 ///
 /// # Errors
 /// A place is lost: its connection is alive, and no thread has it. The site is closed all the same.
@@ -92,7 +93,7 @@ where
     H::Rules: Sync,
     H::Lines: Send,
     H::Acceptor: Send,
-    H::Stream: Send,
+    H::Holder: Send,
     H::Starter: Sync,
     H::Job: Send,
     H::Input: Send,
@@ -112,7 +113,7 @@ where
     let (teller, admitter) = both(&mut callers);
     let teller = Mutex::new(teller);
     let server = Server::<H> {
-        agents: Agents {
+        context: AgentContext {
             rt,
             alloc,
             site: &site,

@@ -1,5 +1,6 @@
 //! The line wrappers of a connection whose bytes are passed on.
-ghost use Rattle.std.specs.Prelude.{◌≡◌, IfOk, IfSome, false};
+ghost use Rattle.std.specs.Prelude.{◌≡◌, ◌↔◌, IfOk, IfSome, false, is_some, true};
+ghost use Rattle.server_words.specs.declared.mode.Mode.TheVariants.{Pumped};
 ghost use Rattle.tcp_service.specs.Wrappers.{IsNewChain, WrapsBy, changed_by, told_by};
 ghost use Rattle.byte_streams.specs.Chains.{has_failed};
 
@@ -72,12 +73,13 @@ pub(crate) struct Chains {
     pub output: Chain<Wrapper>,
 }
 
-/// Those of one connection of a service, which are new: nothing of another connection's text has passed them. None where
-/// its program holds the connection itself.
+/// The line wrappers of one connection of a service, all new: nothing of another connection's text has passed them.
+/// `None` where its program holds the connection itself.
 ///
 /// # Errors
 /// There was no memory.
 pub(crate) fn chains_of(alloc: Global, service: &Service<'_>) -> Result<Option<Chains>, AllocError>
+    ensures pumped { IfOk result (λ chains. (is_some chains ≡ true) ↔ (service.now.mode ≡ Pumped)) }
     ensures input { IfOk result (λ chains. IfSome chains (λ both. IsNewChain
         ⟦<Wrapper as LineWrapper>⟧.rest ⟦<Wrapper as LineWrapper>⟧.whole service.now.input.now both.input)) }
     ensures output { IfOk result (λ chains. IfSome chains (λ both. IsNewChain

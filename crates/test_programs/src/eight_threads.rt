@@ -191,6 +191,8 @@ fn eight<
 /// # Errors
 /// A call did not succeed, the receipts of all callers are not the whole history, or the yard reports what its history
 /// does not come to.
-pub fn eight_callers_in_threads<R: Threads + Wait + Sync + AllocGlobal>(rt: &R) -> OrWrong<Report> {
+pub(crate) fn eight_callers_in_threads<R: Threads + Wait + Sync + AllocGlobal>(
+    rt: &R,
+) -> OrWrong<Report> {
     eight::<Brand, Brand, R>(rt, Blank::new(LIMIT), Blank::new(CALLERS))
 }

@@ -56,7 +56,7 @@ pub struct Clients {
 }
 
 impl Acceptor for Clients {
-    type Stream = Silent;
+    type Holder = Silent;
 
     ghost failed_last = { λ _ _. true };
 

@@ -128,7 +128,7 @@ where
 {
     type Acceptor = Clients;
 
-    type Stream = Silent;
+    type Holder = Silent;
 
     type Starter = Scripts<'s, R>;
 

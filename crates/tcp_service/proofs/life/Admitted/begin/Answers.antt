@@ -10,8 +10,8 @@ pub returns-in-Ok-serve : goal.returns-in-Ok-serve
 returns-in-Ok-serve g c =
     let job = g.H.Job.Job in
     let it = c.args.self in
-    let finds = IsFoundFor g.H.Places.Assumptions.met (g.H.Rules.Rules.gives it.server.now.agents.rules.now) g.H.Handle.RulesHandle.opened it.serial in
-    let such = IsDecidedChild finds g.H.File.RulesFile.honest g.H.File.RulesFile.sound it.peer it.local it.server.now.agents.plan.now in
+    let finds = IsFoundFor g.H.Places.Assumptions.met (g.H.Rules.Rules.gives it.server.now.context.rules.now) g.H.Handle.RulesHandle.opened it.serial in
+    let such = IsDecidedChild finds g.H.File.RulesFile.honest g.H.File.RulesFile.sound it.peer it.local it.server.now.context.plan.now in
     let refuses = MayRefuse (g.H.Starter.Starter.refuses it.server.now.starter.now it.streams.shut) in
     let serve = c.in-Ok-serve.ensures in
     let its = subst (λ alive. such (job.program (job_of alive.running)) (job.environment (job_of alive.running))) (sym c.go_on.ensures.same) serve.child in
@@ -22,7 +22,7 @@ returns-in-Ok-serve g c =
       child = runs_if such (λ begun. job_of begun.1.running) job.program job.environment first its went.result went.ensures.same;
       over = search rules;
       reason =
-          forced_if (λ over. EndsWithReason finds g.H.File.RulesFile.honest g.H.File.RulesFile.sound it.peer it.local it.server.now.agents.plan.now refuses it.serial (asked over.last.value))
+          forced_if (λ over. EndsWithReason finds g.H.File.RulesFile.honest g.H.File.RulesFile.sound it.peer it.local it.server.now.context.plan.now refuses it.serial (asked over.last.value))
           such (λ over. asked over.last.value) job.killed job.refused_wait job.ended job.program job.environment first
           c.go_on.result.serial it.serial (ap (λ alive. alive.serial) c.go_on.ensures.same ∙ serve.own.0) its went.result went.ensures.ended;
     }

@@ -13,9 +13,9 @@ returns-clause-reason g c =
     let last = asked c.of-over.result.last.value in
     let finds : _ → ℕ → _ → Type 0 = λ rules n. IsFoundFor g.H.Places.Assumptions.met (g.H.Rules.Rules.gives rules) g.H.Handle.RulesHandle.opened n in
     let refuses = MayRefuse (g.H.Starter.Starter.refuses c.args.self.now.starter.now c.args.streams.now.shut) in
-    let ends : _ → ℕ → Type 0 = λ rules n. EndsWithReason (finds rules n) g.H.File.RulesFile.honest g.H.File.RulesFile.sound c.args.peer.now c.args.local.now c.args.self.now.agents.plan.now refuses serial last in
+    let ends : _ → ℕ → Type 0 = λ rules n. EndsWithReason (finds rules n) g.H.File.RulesFile.honest g.H.File.RulesFile.sound c.args.peer.now c.args.local.now c.args.self.now.context.plan.now refuses serial last in
     subst (λ rules. ends rules serial) c.agent-agent.ensures.rules
-    (subst (λ n. ends agent.agents.now.rules.now n) c.agent-agent.ensures.own
-    (unserved_told (finds agent.agents.now.rules.now agent.serial) (kept_opening g.H.File.RulesFile.bytes c.serve_one.new.agent.found)
-    g.H.File.RulesFile.honest g.H.File.RulesFile.sound c.args.peer.now c.args.local.now c.args.self.now.agents.plan.now refuses serial c.serve_one.result last
+    (subst (λ n. ends agent.context.now.rules.now n) c.agent-agent.ensures.own
+    (unserved_told (finds agent.context.now.rules.now agent.serial) (kept_opening g.H.File.RulesFile.bytes c.serve_one.new.agent.found)
+    g.H.File.RulesFile.honest g.H.File.RulesFile.sound c.args.peer.now c.args.local.now c.args.self.now.context.plan.now refuses serial c.serve_one.result last
     c.in-Denied.is (ap asked c.of-over.ensures.last ∙ c.serve_one.ensures.told.told) c.serve_one.ensures.denied c.serve_one.ensures.start_failed c.serve_one.ensures.dropped))
