@@ -2,7 +2,6 @@
 ghost use Rattle.std.specs.Prelude.{◌≡◌};
 
 use std::alloc::{AllocError, Global};
-use std::cell::Cell;
 use std::io;
 use std::sync::Arc;
 use std::sync::atomic::{AtomicU32, Ordering};
@@ -18,6 +17,26 @@ pub enum FailedOn {
     Onto,
 }
 
+impl FailedOn {
+    // Its number, as notes keep it.
+    fn number(self) -> u32 {
+        match self {
+            FailedOn::Folder => 0,
+            FailedOn::Name => 1,
+            FailedOn::Onto => 2,
+        }
+    }
+
+    // The one with this number.
+    fn of_number(number: u32) -> FailedOn {
+        match number {
+            0 => FailedOn::Folder,
+            1 => FailedOn::Name,
+            _ => FailedOn::Onto,
+        }
+    }
+}
+
 /// A call of the system that failed.
 #[derive(Clone, Copy)]
 pub struct DiskFailure {
@@ -31,7 +50,7 @@ pub struct DiskFailure {
 /// known.
 #[derive(Drop)]
 pub(crate) struct Notes {
-    on: Cell<FailedOn>,
+    on: AtomicU32,
     error: Arc<AtomicU32, Global>,
 }
 
@@ -39,7 +58,7 @@ impl Notes {
     /// Notes of a disk whose calls have not failed.
     pub(crate) fn new(alloc: Global) -> Result<Notes, AllocError> {
         Ok(Notes {
-            on: Cell::new(FailedOn::Folder),
+            on: AtomicU32::new(FailedOn::Folder.number()),
             error: Arc::new(alloc, AtomicU32::new(0))?,
         })
     }
@@ -48,7 +67,7 @@ impl Notes {
     pub(crate) fn note<T>(&self, on: FailedOn, outcome: io::Result<T>) -> io::Result<T>
         ensures { result ≡ outcome }
     {
-        self.on.set(on);
+        self.on.store(on.number(), Ordering::SeqCst);
         store(&self.error, &outcome);
         outcome
     }
@@ -65,7 +84,7 @@ impl Notes {
 
     /// Notes for the reads of a file that is opened; `None` if too many files have them already.
     pub(crate) fn of_file(&self) -> Option<FileNotes> {
-        self.on.set(FailedOn::Name);
+        self.on.store(FailedOn::Name.number(), Ordering::SeqCst);
         let error = Arc::try_clone(&self.error).ok()?;
         Some(FileNotes { error })
     }
@@ -75,7 +94,7 @@ impl Notes {
         match self.error.load(Ordering::SeqCst) {
             0 => None,
             error => Some(DiskFailure {
-                on: self.on.get(),
+                on: FailedOn::of_number(self.on.load(Ordering::SeqCst)),
                 error: error.cast_signed(),
             }),
         }

@@ -16,8 +16,7 @@ pub mod Within
 pub mod Witness
 pub mod UnderWay
 pub mod Series
-pub mod Counts
-pub mod Full
+pub mod JournalParts
 pub mod Journals
 pub use Rattle.rule_lookup.specs.Decisions
 pub use Rattle.rule_lookup.specs.Peers

@@ -1,10 +1,10 @@
-//! Journals: where the events of a server are kept, or only counted.
-ghost use Rattle.std.specs.Prelude.{◌≡◌, ◌≤◌, ℕ, ◌+◌, [], ◌∷◌, ◌++◌, Bool, true, option_map, OnOk, OnErr};
-ghost use Rattle.server_events.specs.Journals.{Books, GoesOn, HasSameRoom, next_report, one_more, without_last};
+//! The journal of a server: its events, kept or only counted.
+ghost use Rattle.std.specs.Prelude.{◌≡◌, ◌≤◌, ℕ, ◌+◌, [], ◌∷◌, ◌++◌, true, option_map, option_copied, IfSome, OnOk, OnErr, vec_len, vec_capacity};
+ghost use Rattle.server_events.specs.Journals.{GoesOn, HasSameRoom, TellsOf, next_report, one_more, without_last};
 
 use crate::{Event, Report};
 use rule_lines::RuleList;
-use std::alloc::AllocError;
+use std::alloc::{AllocError, Global};
 
 /// An event, and the number of its caller.
 #[derive(Drop)]
@@ -15,72 +15,230 @@ pub struct Noted {
     pub caller: u64,
 }
 
-/// Where the events of a server are kept, or only counted.
+/// The report of the events of a server and their number. A journal that stores them has each event with its caller
+/// too, and the rules of each installation.
 ///
 /// Noting an event takes no memory: `reserve` takes its room before. No call takes or gives other room than it says.
-pub trait Journal: Drop {
-    /// What it tells of the noted events: their report, their number, and what it stores of them.
-    ghost books: { Self → Books };
+#[derive(Drop)]
+pub struct Journal {
+    report: Report,
+    events: u64,
+    // none if the events are only counted
+    stored: Option<Stored>,
+}
 
-    /// Whether there is room for this many events.
-    ghost has_room: { Self → ℕ → Bool };
+// What a journal stores.
+#[derive(Drop)]
+struct Stored {
+    notes: Vec<Noted>,
+    lists: Vec<RuleList>,
+    // for how many more events there is room
+    credit: usize,
+    ghost room: { vec_len notes + credit ≤ vec_capacity notes },
+}
+
+impl Journal {
+    ghost use Rattle.std.specs.Prelude.{None, Some};
+    ghost use Rattle.server_events.specs.JournalParts.{books_of_journal, has_room};
+
+    /// A journal without events, which only counts those to come. It takes no memory, ever.
+    pub fn counting() -> Journal
+        ensures told { TellsOf (books_of_journal result) [] }
+        ensures notes { (books_of_journal result).notes ≡ None }
+        ensures lists { (books_of_journal result).lists ≡ None }
+    {
+        Journal::new(None)
+    }
+
+    /// A journal without events, which stores those to come. It takes no memory yet.
+    pub fn storing(alloc: Global) -> Journal
+        ensures told { TellsOf (books_of_journal result) [] }
+        ensures notes { (books_of_journal result).notes ≡ Some [] }
+        ensures lists { (books_of_journal result).lists ≡ Some [] }
+    {
+        Journal::new(Some(Stored {
+            notes: Vec::new(alloc),
+            lists: Vec::new(alloc),
+            credit: 0,
+        }))
+    }
+
+    // One without events, which stores those to come there, if anywhere.
+    fn new(stored: Option<Stored>) -> Journal
+        requires empty { IfSome stored (λ s. (s.notes.items ≡ []) × (s.lists.items ≡ [])) }
+        ensures told { TellsOf (books_of_journal result) [] }
+        ensures notes { (books_of_journal result).notes ≡ option_map (λ _. []) stored }
+        ensures lists { (books_of_journal result).lists ≡ option_map (λ _. []) stored }
+    {
+        Journal {
+            report: Report {
+                admitted: 0,
+                live: 0,
+                retired: 0,
+                most: 0,
+            },
+            events: 0,
+            stored,
+        }
+    }
 
     /// The report of the events: how many connections were let in, are alive, are retired, and the most ever alive.
-    fn report(&self) -> Report
-        ensures { result ≡ (books self.now).report };
+    pub fn report(&self) -> Report
+        ensures { result ≡ (books_of_journal self.now).report }
+    {
+        self.report
+    }
 
     /// How many events were noted. The number stays at 2^64 - 1.
-    fn events(&self) -> u64
-        ensures { result ≡ (books self.now).count };
+    pub fn events(&self) -> u64
+        ensures { result ≡ (books_of_journal self.now).count }
+    {
+        self.events
+    }
+
+    /// The events with their callers, in order, if they are stored.
+    pub fn notes(&self) -> Option<&[Noted]>
+        ensures { option_copied result ≡ (books_of_journal self.now).notes }
+    {
+        match &self.stored {
+            Some(stored) => Some(stored.notes.as_slice()),
+            None => None,
+        }
+    }
 
     /// Takes room for more events, as for the five that a connection may have.
     ///
     /// # Errors
     /// There was no memory. All is as before.
-    fn reserve(&mut self, events: usize) -> Result<(), AllocError>
+    pub fn reserve(&mut self, events: usize) -> Result<(), AllocError>
         ensures room { OnOk result ((n : ℕ) → has_room self.new (n + events) ≡ has_room self.old n) }
         ensures err { OnErr result (HasSameRoom (has_room self.old) (has_room self.new)) }
-        ensures same { books self.new ≡ books self.old };
+        ensures same { books_of_journal self.new ≡ books_of_journal self.old }
+    {
+        match &mut self.stored {
+            Some(stored) => stored.reserve(events),
+            None => Ok(()),
+        }
+    }
 
     /// Gives room back that is not needed.
-    fn release(&mut self, events: usize)
+    pub fn release(&mut self, events: usize)
         requires { has_room self.old events ≡ true }
         ensures room { (n : ℕ) → has_room self.new n ≡ has_room self.old (n + events) }
-        ensures same { books self.new ≡ books self.old };
+        ensures same { books_of_journal self.new ≡ books_of_journal self.old }
+    {
+        if let Some(stored) = &mut self.stored {
+            stored.credit -= events;
+        }
+    }
 
     /// Notes an event and its caller, into room that was taken.
-    fn note(&mut self, event: Event, caller: u64)
+    pub fn note(&mut self, event: Event, caller: u64)
         requires { has_room self.old 1 ≡ true }
-        ensures report { (books self.new).report ≡ next_report (books self.old).report event }
-        ensures count { (books self.new).count ≡ one_more (books self.old).count }
-        ensures notes { (books self.new).notes
-            ≡ option_map (λ notes. notes ++ record { event = event; caller = caller } ∷ []) (books self.old).notes }
-        ensures lists { (books self.new).lists ≡ (books self.old).lists }
+        ensures report { (books_of_journal self.new).report ≡ next_report (books_of_journal self.old).report event }
+        ensures count { (books_of_journal self.new).count ≡ one_more (books_of_journal self.old).count }
+        ensures notes { (books_of_journal self.new).notes
+            ≡ option_map (λ notes. notes ++ record { event = event; caller = caller } ∷ []) (books_of_journal self.old).notes }
+        ensures lists { (books_of_journal self.new).lists ≡ (books_of_journal self.old).lists }
         ensures room { (n : ℕ) → has_room self.new n ≡ has_room self.old (n + 1) }
 
         // so the report and the number stay those of the history, as far as the table allows it
-        ensures goes_on { GoesOn (books self.old) event (books self.new) };
+        ensures goes_on { GoesOn (books_of_journal self.old) event (books_of_journal self.new) }
+    {
+        self.report = next(self.report, &event);
+        self.events = self.events.saturating_add(1);
+        if let Some(stored) = &mut self.stored {
+            stored.note(event, caller);
+        }
+    }
 
-    /// Keeps the rules of an installation that begins.
+    /// Keeps the rules of an installation that begins, if it stores them.
     ///
     /// # Errors
     /// There was no memory. All is as before.
-    fn keep_list(&mut self, list: &RuleList) -> Result<(), AllocError>
-        ensures kept { OnOk result (books self.new ≡ record (books self.old) {
-          lists = option_map (λ all. all ++ list.now ∷ []) (books self.old).lists;
+    pub fn keep_list(&mut self, list: &RuleList) -> Result<(), AllocError>
+        ensures kept { OnOk result (books_of_journal self.new ≡ record (books_of_journal self.old) {
+          lists = option_map (λ all. all ++ list.now ∷ []) (books_of_journal self.old).lists;
         }) }
-        ensures err { OnErr result (books self.new ≡ books self.old) }
-        ensures room { HasSameRoom (has_room self.old) (has_room self.new) };
+        ensures err { OnErr result (books_of_journal self.new ≡ books_of_journal self.old) }
+        ensures room { HasSameRoom (has_room self.old) (has_room self.new) }
+    {
+        if let Some(stored) = &mut self.stored {
+            stored.lists.push(list.copy()?)?;
+        }
+        Ok(())
+    }
 
     /// Takes the last list of rules back, if the first step of its installation was not made. It takes no memory.
-    fn forget_list(&mut self)
-        ensures forgotten { books self.new ≡ record (books self.old) { lists = option_map without_last (books self.old).lists } }
-        ensures room { HasSameRoom (has_room self.old) (has_room self.new) };
+    pub fn forget_list(&mut self)
+        ensures forgotten { books_of_journal self.new
+            ≡ record (books_of_journal self.old) { lists = option_map without_last (books_of_journal self.old).lists } }
+        ensures room { HasSameRoom (has_room self.old) (has_room self.new) }
+    {
+        if let Some(stored) = &mut self.stored {
+            stored.lists.pop();
+        }
+    }
+}
 
-    /// There is always room for no event.
-    ghost none_needed: { (journal : Self) → has_room journal 0 ≡ true };
+impl Stored {
+    ghost use Rattle.std.specs.Prelude.{◌-◌};
 
-    /// If there is room for some events, there is room for fewer.
-    ghost less_room: { (journal : Self) (fewer events : ℕ) → fewer ≤ events
-        → has_room journal events ≡ true → has_room journal fewer ≡ true };
+    // Takes room for more events.
+    fn reserve(&mut self, events: usize) -> Result<(), AllocError>
+        ensures room { OnOk result (self.new.credit ≡ self.old.credit + events) }
+        ensures err { OnErr result (self.new.credit ≡ self.old.credit) }
+        ensures same { (self.new.notes.items ≡ self.old.notes.items) × (self.new.lists ≡ self.old.lists) }
+    {
+        let wanted = self.credit.checked_add(events).ok_or(AllocError)?;
+        self.notes.reserve(wanted)?;
+        self.credit = wanted;
+        Ok(())
+    }
+
+    // Stores an event with its caller, into room that was taken.
+    fn note(&mut self, event: Event, caller: u64)
+        requires { 1 ≤ self.old.credit }
+        ensures notes { self.new.notes.items ≡ self.old.notes.items ++ record { event = event; caller = caller } ∷ [] }
+        ensures lists { self.new.lists ≡ self.old.lists }
+        ensures room { self.new.credit ≡ self.old.credit - 1 }
+    {
+        self.credit -= 1;
+        self.notes.push_reserved(Noted { event, caller });
+    }
+}
+
+// The report after one more event.
+fn next(report: Report, event: &Event) -> Report
+    ensures { result ≡ next_report report event.now }
+{
+    match event {
+        Event::Admitted { .. } => {
+            let live = report.live.saturating_add(1);
+            Report {
+                admitted: report.admitted.saturating_add(1),
+                live,
+                retired: report.retired,
+                most: live.max(report.most),
+            }
+        }
+        Event::StartFailed { .. } | Event::Ended { .. } | Event::Dropped { .. } => Report {
+            live: report.live.saturating_sub(1),
+            ..report
+        },
+        Event::Retired { .. } => Report {
+            retired: report.retired.saturating_add(1),
+            ..report
+        },
+        Event::Stop => Report {
+            live: 0,
+            retired: 0,
+            ..report
+        },
+        Event::Opened { .. }
+        | Event::Decided { .. }
+        | Event::Started { .. }
+        | Event::Stepped { .. }
+        | Event::StepFailed { .. } => report,
+    }
 }

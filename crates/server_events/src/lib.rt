@@ -7,15 +7,13 @@
 //! their eight effects (`specs/ServerState.antt`). `laws::taken`, `witness`, `older` and `refusals` show that the
 //! headline is not about nothing.
 //!
-//! The crates above use the trait `Journal`: its report and its number stay those of the history (`goes_on`).
-//! `tcpserver` uses `Counts`, which takes no memory. `Full` stores each event with its caller, and only tests and
-//! audits use it. Room is taken before an event is noted, so noting can't fail.
+//! The report and the number of a `Journal` stay those of the history (`goes_on`). That of `tcpserver` only counts, and
+//! takes no memory. One that stores each event with its caller is for tests and audits. Room is taken before an event
+//! is noted, so noting can't fail.
 #![tactic(auto)]
 
 mod addresses;
-pub mod counts;
 pub mod event;
-pub mod full;
 pub mod install_laws;
 pub mod journal;
 pub mod laws;
@@ -24,9 +22,7 @@ pub mod same;
 pub mod state;
 pub mod step;
 
-pub use counts::Counts;
 pub use event::{Event, Stage};
-pub use full::Full;
 pub use journal::{Journal, Noted};
 pub use report::{ReplayFault, Report, replay};
 pub use same::is_same_event;

@@ -11,7 +11,7 @@ const HEADER: u64 = 2048;
 
 /// Whether a rule of a compiled file (https://cr.yp.to/cdb/cdb.txt) has an address by a host's name, which has a `=`, or by a user's, which has a
 /// `@`, as far as that can be seen: records are looked through up to 16 MiB of the file, until one can't be read or finds no memory.
-pub fn has_named_rule<F: RulesFile>(alloc: Global, file: &F) -> bool {
+pub(crate) fn has_named_rule<F: RulesFile>(alloc: Global, file: &F) -> bool {
     let Some(end) = end_of_records(file) else {
         return false;
     };

@@ -2,14 +2,6 @@
 use Rattle.std.specs.Prelude.{◌≡◌, ℕ, Bool, IsTrue, List, Option, Some, None}
 use Rattle.std.specs.Borrow.{Bor}
 use Rattle.dir_calls.specs.Directory.{Directory, content}
-use Rattle.rules_tools.specs.Paths.{IsSplit, folder_path}
-
--- the path of a folder is that of the folder in which another path leads to a file
-pub record IsFolderOfPath (path folder : List ℕ) : Type 0 where
-  pub before : List ℕ
-  pub name : List ℕ
-  pub split : IsSplit path before name
-  pub same : folder ≡ folder_path before
 
 -- what stands under a name in a directory, as far as that is known; without a name there is nothing
 abbrev pub IsThere : {D : Type 0} (honest : Bool) → (D → Directory) → D → Option (Bor (List ℕ)) → Option (List ℕ) → Type 0

@@ -13,17 +13,17 @@ use tcp_service::{Acceptor, Closed, Host, ServeEnd, Unfinished};
 pub struct Finished(());
 
 // How the tool ends, by how its server did and the system's last error of accepting. The events of its site were a run.
-pub(crate) fn end_of<H: Host>(
-    served: Result<Closed<H>, Unfinished<H>>,
+pub(crate) fn end_of<H: Host, A: Acceptor + Drop>(
+    served: Result<Closed<H, A>, Unfinished<H>>,
 ) -> Result<Finished, ServerFailure>
     requires servers { H.is_servers ≡ true }
     requires new { H.Callers.before ≡ 0 }
     ensures ran { IfOk served (λ closed. HasRun closed.yard) }
     ensures ran_too { IfErr served (λ unfinished. HasRun unfinished.yard) }
     ensures finished { OnOk result (IfOk served (λ closed.
-        told_of closed.end (H.Acceptor.last_error closed.acceptor) ≡ Ok tt)) }
+        told_of closed.end (A.last_error closed.acceptor) ≡ Ok tt)) }
     ensures closed { IfErr result (λ failure. IfOk served (λ closed.
-        told_of closed.end (H.Acceptor.last_error closed.acceptor) ≡ Err failure)) }
+        told_of closed.end (A.last_error closed.acceptor) ≡ Err failure)) }
     ensures lost { OnErr served (result ≡ Err (record { fault = LostConnection; error = None })) }
 {
     match served {

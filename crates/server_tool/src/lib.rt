@@ -6,7 +6,6 @@
 //! real clients. `run_tcpserver` refuses words with a fault, and ends well only by a `Finished`.
 #![tactic(auto)]
 
-mod causes;
 pub mod ends;
 mod no_folder;
 mod rules;

@@ -2,8 +2,8 @@
 ghost use Rattle.std.specs.Prelude.{⊤, false};
 ghost use Rattle.dir_calls.specs.NoDirectory.{no_directory, not_honest};
 
-use crate::rules::RulesOnDisk;
 use dir_calls::{Dir, DirFault, Name};
+use server_parts::RulesOnDisk;
 use std::alloc::Global;
 
 /// No folder: a server installs nothing, and its connections open the rules by handles of their own. No call of it

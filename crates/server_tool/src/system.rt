@@ -3,13 +3,12 @@ ghost use Rattle.std.specs.Prelude.{◌≡◌, ⊤, ℕ, List, true, IfOk, IfErr
 ghost use Rattle.server_parts.specs.declared.fault.ServerFault.TheVariants.{CannotListen};
 
 use crate::no_folder::NoFolder;
-use crate::rules::{FolderHandle, FolderRules, RulesOnDisk};
+use crate::rules::{FolderHandle, FolderRules};
 use dir_disk::SystemDisk;
-use server_events::Counts;
 use server_parts::opening::listen;
 use server_parts::programs::{ProgramInput, ServiceJob};
 use server_parts::sockets::Holder;
-use server_parts::{ProgramStarter, ServerFailure, SocketAcceptor};
+use server_parts::{ProgramStarter, RulesOnDisk, ServerFailure};
 use server_yard::Assumptions;
 use shared_site::{Callers, Ground};
 use std::fs::{File, Files};
@@ -120,8 +119,6 @@ impl<'a, P: System, L: Assumptions + Send + Sync, N: Callers + Send + Sync> Grou
 
     type Folder = NoFolder;
 
-    type Journal = Counts;
-
     ghost is_servers = { true };
 }
 
@@ -138,8 +135,6 @@ impl<'a, P: System, L: Assumptions + Send + Sync, N: Callers + Send + Sync> Agen
 
 impl<'a, P: System, L: Assumptions + Send + Sync, N: Callers + Send + Sync> Host
     for OnSystem<'a, P, L, N> {
-    type Acceptor = SocketAcceptor<'a, P::Runtime, P::Listener>;
-
     type Holder = Holder<'a, P::Runtime>;
 
     type Starter = ProgramStarter<'a, P::Runtime>;

@@ -13,20 +13,22 @@ ghost use Rattle.server_yard.specs.Yards.{yard_books, yard_rules, yard_server};
 ghost use Rattle.shared_site.specs.Callers.{total_share};
 ghost use Rattle.stream_tools.specs.Programs.{text_in, texts_of};
 
-use crate::causes::{tell_failure, tell_words};
 use crate::ends::{Finished, end_of};
 use crate::no_folder::NoFolder;
-use crate::rules::{FolderRules, RulesPath};
+use crate::rules::FolderRules;
 use crate::system::{OnSystem, System, SystemOf};
 use child_jobs::Plan;
 use dir_calls::Name;
 use fault_hints::Voice;
 use rule_lookup::WhenMissing;
-use server_events::Counts;
+use server_events::Journal;
+use server_parts::causes::{tell_failure, tell_words};
 use server_parts::limits::supply_for;
 use server_parts::opening::{end_of_listener, find_rules, names_of, plan_of, print_port, stand_in};
 use server_parts::signals::forgets_programs;
-use server_parts::{ProgramStarter, ServerFailure, ServerFault, SocketAcceptor, TcpserverFault};
+use server_parts::{
+    ProgramStarter, RulesPath, ServerFailure, ServerFault, SocketAcceptor, TcpserverFault,
+};
 use server_words::{Level, ServerWords, read_server_words};
 use server_yard::{Assumptions, Yard};
 use shared_site::{Caller, Callers, Site};
@@ -279,7 +281,7 @@ fn yard_of<L: Assumptions>(
     rules: Option<(Name, WhenMissing)>,
     words: &ServerWords<'_>,
     places: Blank,
-) -> Result<Yard<L, NoFolder, Counts>, ServerFault>
+) -> Result<Yard<L, NoFolder>, ServerFault>
     requires places { (places.name ≡ L.name) × (places.parts ≡ L.parts)
         × (places.parts ≡ words.now.limits.connections) }
     requires met { L.met ≡ false }
@@ -291,14 +293,14 @@ fn yard_of<L: Assumptions>(
     ensures refused { IfErr result (λ fault. fault ≡ OutOfMemory) }
 {
     let limits = words.limits();
-    let yard = Yard::<L, NoFolder, Counts>::with_address_limit(
+    let yard = Yard::<L, NoFolder>::with_address_limit(
         alloc,
         places,
         NoFolder,
         rules,
         limits.connections,
         limits.per_address,
-        Counts::new(),
+        Journal::counting(),
     );
     yard.map_err(|_| ServerFault::OutOfMemory)
 }
@@ -322,7 +324,7 @@ fn serve_on<'a, L: Assumptions + Send + Sync, N: Callers + Send + Sync, P: Syste
     requires starts { starts_in starter.now ≡ words.now.mode }
 {
     let rules = FolderRules::<L, P::Runtime>::new(at);
-    let served = serve::<OnSystem<'a, P, L, N>>(
+    let served = serve::<OnSystem<'a, P, L, N>, SocketAcceptor<'a, P::Runtime, P::Listener>>(
         rt,
         rt.alloc(),
         acceptor,

@@ -102,7 +102,7 @@ kept_on {b} {b'} {y} {y'} {e} {caller} own l same r i more k = record {
 }
 
 -- a yard that noted an event of a connection, and is the same beside
-pub goes_to : {L D J F : Type 0} {p : _} {l : _} {d : _} {j : _} (e : Event) (old new : Yard L D J F p l d j)
+pub goes_to : {L D F : Type 0} {p : _} {l : _} {d : _} (e : Event) (old new : Yard L D F p l d)
     → Notes e (yard_roll old) (yard_roll new) → IsSameBeside old new → GoesTo (yard_state old) (yard_state new) e
 goes_to {l = l} e old new noted same = record {
   may = noted.may;
@@ -113,7 +113,7 @@ goes_to {l = l} e old new noted same = record {
 }
 
 -- and so over any directory
-pub goes_over : {L D J F : Type 0} {p : _} {l : _} {d : _} {j : _} (directory : Directory) (e : Event) (old new : Yard L D J F p l d j)
+pub goes_over : {L D F : Type 0} {p : _} {l : _} {d : _} (directory : Directory) (e : Event) (old new : Yard L D F p l d)
     → Notes e (yard_roll old) (yard_roll new) → IsSameBeside old new → GoesTo (yard_over directory old) (yard_over directory new) e
 goes_over directory e old new noted same = record {
   may = noted.may;
@@ -124,7 +124,7 @@ goes_over directory e old new noted same = record {
 }
 
 -- a yard that is the same but for its directory is so over any directory
-pub same_over : {L D J F : Type 0} {p : _} {l : _} {d : _} {j : _} (directory : Directory) (old new : Yard L D J F p l d j)
+pub same_over : {L D F : Type 0} {p : _} {l : _} {d : _} (directory : Directory) (old new : Yard L D F p l d)
     → yard_roll new ≡ yard_roll old → IsSameButDirectory old new → yard_over directory new ≡ yard_over directory old
 same_over directory old new roll same = λ i.
     let y : YardState = record { directory = directory; rules = same.rules i; server = (roll i).server; installing = same.installing i } in y

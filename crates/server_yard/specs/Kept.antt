@@ -27,7 +27,7 @@ installing_of (UnderWay install) = Some (installing install)
 installing_of AtDone = None
 
 -- what a yard of these parts has of a world
-abbrev pub state_of : {L J : Type 0} {j : _} → Register L J j → Directory → Option (List ℕ × WhenMissing) → Installation → YardState
+abbrev pub state_of : {L : Type 0} → Register L → Directory → Option (List ℕ × WhenMissing) → Installation → YardState
 state_of register directory rules installation = record {
   directory = directory;
   rules = rules_of rules;

@@ -5,7 +5,7 @@ use Rattle.dir_calls.specs.Images.{IsImage}
 use Rattle.dir_calls.specs.declared.dir.Dir as dir
 use Rattle.dir_calls.specs.declared.rules_file.RulesFile as file
 use Rattle.server_events.specs.Journals.{Books}
-use Rattle.server_events.specs.declared.journal.Journal as journal
+use Rattle.server_events.specs.declared.journal.Journal.{Journal}
 use Rattle.rules_install.specs.Installing.{Installing}
 use Rattle.server_events.specs.ServerState.{ServerState, start}
 use Rattle.server_events.specs.Steps.{MayLeave}
@@ -25,80 +25,80 @@ abbrev pub name_of : Option RulesName → Option (List ℕ)
 name_of rules = option_map (λ r. r.name) rules
 
 -- a yard with this ledger, this directory, this journal and these files, and what their traits tell of them
-module _ {L D J F : Type 0} {p : assumptions.Ghosts L} {d : dir.Ghosts D F} {f : file.Ghosts F} {j : journal.Ghosts J} where
+module _ {L D F : Type 0} {p : assumptions.Ghosts L} {d : dir.Ghosts D F} {f : file.Ghosts F} where
   -- what a yard has of a world over a directory, as others left it
-  abbrev pub yard_over : Directory → Yard L D J F p d f j → YardState
+  abbrev pub yard_over : Directory → Yard L D F p d f → YardState
   yard_over directory y = state_of y.register directory y.rules y.installation
 
   -- the same over the yard's own directory
-  abbrev pub yard_state : Yard L D J F p d f j → YardState
+  abbrev pub yard_state : Yard L D F p d f → YardState
   yard_state y = yard_over (d.state y.dir) y
 
   -- what its events change
-  abbrev pub yard_roll : Yard L D J F p d f j → Roll
+  abbrev pub yard_roll : Yard L D F p d f → Roll
   yard_roll y = roll_of y.register
 
   -- its journal
-  abbrev pub yard_journal : Yard L D J F p d f j → J
+  abbrev pub yard_journal : Yard L D F p d f → Journal
   yard_journal y = journal_of y.register
 
   -- what its journal tells
-  abbrev pub yard_books : Yard L D J F p d f j → Books
+  abbrev pub yard_books : Yard L D F p d f → Books
   yard_books y = books_of y.register
 
   -- the state that they led to
-  abbrev pub yard_server : Yard L D J F p d f j → ServerState
+  abbrev pub yard_server : Yard L D F p d f → ServerState
   yard_server y = (yard_roll y).server
 
   -- its directory
-  abbrev pub yard_directory : Yard L D J F p d f j → D
+  abbrev pub yard_directory : Yard L D F p d f → D
   yard_directory y = y.dir
 
   -- its rules name, with what is decided if no file stands there
-  abbrev pub yard_rules : Yard L D J F p d f j → Option RulesName
+  abbrev pub yard_rules : Yard L D F p d f → Option RulesName
   yard_rules y = rules_of y.rules
 
   -- these events are a run of a server that has this yard
-  abbrev pub IsRunOf : List Event → Yard L D J F p d f j → Type 0
+  abbrev pub IsRunOf : List Event → Yard L D F p d f → Type 0
   IsRunOf events y = IsRun (yard_books y) (yard_server y) events
 
   -- there is one
-  abbrev pub HasRun : Yard L D J F p d f j → Type 0
+  abbrev pub HasRun : Yard L D F p d f → Type 0
   HasRun y = ∥ ((events : List Event) × IsRunOf events y) ∥₁
 
   -- the serial that the place of an index was last given to
-  abbrev pub yard_seat : Yard L D J F p d f j → ℕ → Option ℕ
+  abbrev pub yard_seat : Yard L D F p d f → ℕ → Option ℕ
   yard_seat y index = seat_of y.register index
 
   -- the serial of the connection that has this place, if it is alive; that serial, or 0; and the connection's stage
-  abbrev pub serial_of : Yard L D J F p d f j → ℕ → Option ℕ
+  abbrev pub serial_of : Yard L D F p d f → ℕ → Option ℕ
   serial_of y place = serial_at (yard_seat y place) (yard_server y)
 
-  abbrev pub number_of : Yard L D J F p d f j → ℕ → ℕ
+  abbrev pub number_of : Yard L D F p d f → ℕ → ℕ
   number_of y place = number_at (yard_seat y place)
 
-  abbrev pub stage_of_place : Yard L D J F p d f j → ℕ → Option Stage
+  abbrev pub stage_of_place : Yard L D F p d f → ℕ → Option Stage
   stage_of_place y place = stage_at (yard_seat y place) (yard_server y)
 
   -- the number of the last installation, and that of the one that is kept: under way, or done
-  abbrev pub last_begun : Yard L D J F p d f j → ℕ
+  abbrev pub last_begun : Yard L D F p d f → ℕ
   last_begun y = y.begun
 
-  abbrev pub kept_number : Yard L D J F p d f j → Option ℕ
+  abbrev pub kept_number : Yard L D F p d f → Option ℕ
   kept_number y = if is_kept y.installation then Some y.begun else None
 
-  abbrev pub yard_installing : Yard L D J F p d f j → Option Installing
+  abbrev pub yard_installing : Yard L D F p d f → Option Installing
   yard_installing y = installing_of y.installation
 
   -- A stop at any moment since left what a stop may leave of a world that was the yard's before the call, or an image
   -- of the directory after it.
-  abbrev pub LeavesNothingElse : (old new : Yard L D J F p d f j) → Type 0
+  abbrev pub LeavesNothingElse : (old new : Yard L D F p d f) → Type 0
   LeavesNothingElse old new =
       (files : List KeptFile) (w : World) (image : Directory) → Matches (yard_state old) files w
       → d.left_since (yard_directory new) (d.moment (yard_directory old)) image → MayLeave w image ⊎ IsImage (yard_state new).directory image
 
   -- a yard is as before, but for what its events change and where they are noted
-  pub record IsSameBeside (old new : Yard L D J F p d f j) : Type 0 where
+  pub record IsSameBeside (old new : Yard L D F p d f) : Type 0 where
     pub directory : yard_directory new ≡ yard_directory old
     pub rules : yard_rules new ≡ yard_rules old
     pub installing : yard_installing new ≡ yard_installing old
@@ -107,14 +107,14 @@ module _ {L D J F : Type 0} {p : assumptions.Ghosts L} {d : dir.Ghosts D F} {f :
     pub lists_same : (yard_roll new).books.lists ≡ (yard_roll old).books.lists
 
   -- an installation may begin: none of its steps was made, it is for the rules name, and a number is left
-  pub record MayBegin (y : Yard L D J F p d f j) (s : Installing) : Type 0 where
+  pub record MayBegin (y : Yard L D F p d f) (s : Installing) : Type 0 where
     pub unbegun : s.reached ≡ None
     pub is_open : s.over ≡ false
     pub for_rules : name_of (yard_rules y) ≡ Some s.names.cdb
     pub numbers_left : last_begun y < 2 ^ 64 - 1
 
   -- a yard that was just made of these
-  pub record IsMade (directory : D) (rules : Option RulesName) (limit per_address : ℕ) (journal : J) (y : Yard L D J F p d f j) : Type 0 where
+  pub record IsMade (directory : D) (rules : Option RulesName) (limit per_address : ℕ) (journal : Journal) (y : Yard L D F p d f) : Type 0 where
     pub has_limits : (0 < limit) × (0 < per_address)
     pub empty : yard_server y ≡ start limit per_address
     pub has_journal : yard_journal y ≡ journal
@@ -126,7 +126,7 @@ module _ {L D J F : Type 0} {p : assumptions.Ghosts L} {d : dir.Ghosts D F} {f :
     pub none_begun : last_begun y ≡ 0
 
   -- a yard is as before, but for what its events change and its directory
-  pub record IsSameButDirectory (old new : Yard L D J F p d f j) : Type 0 where
+  pub record IsSameButDirectory (old new : Yard L D F p d f) : Type 0 where
     pub rules : yard_rules new ≡ yard_rules old
     pub installing : yard_installing new ≡ yard_installing old
     pub kept : kept_number new ≡ kept_number old
@@ -134,5 +134,5 @@ module _ {L D J F : Type 0} {p : assumptions.Ghosts L} {d : dir.Ghosts D F} {f :
     pub lists_same : (yard_roll new).books.lists ≡ (yard_roll old).books.lists
 
   -- the installation that is under way with this number
-  abbrev pub kept_under : Yard L D J F p d f j → ℕ → Option Installing
+  abbrev pub kept_under : Yard L D F p d f → ℕ → Option Installing
   kept_under y number = if y.begun == number then yard_installing y else None

@@ -6,6 +6,7 @@ ghost use Rattle.std.specs.Ordering.{nat_cmp};
 ghost use Rattle.child_jobs.specs.Runs.{place_of};
 ghost use Rattle.child_jobs.specs.PlacesOut.{is_used, live_at, live_of, OneMoreAt, RefusesLimits, with_place};
 ghost use Rattle.child_jobs.specs.declared.table.TableFault.{TableFault};
+ghost use Rattle.server_events.specs.JournalParts.{books_of_journal, has_room};
 ghost use Rattle.server_events.specs.Journals.{HasOneMore, HasSameRoom, TellsOf, without_last};
 ghost use Rattle.server_events.specs.Processes.{is_installations};
 ghost use Rattle.server_events.specs.ServerState.{after, count_from, is_retired, may_admit, may_happen, stage_of, start};
@@ -55,14 +56,14 @@ const EVENTS: usize = 5;
 
 /// The connections of a server, each with its place, and the journal of all events.
 #[derive(Drop)]
-pub(crate) struct Register<L: Ledger, J: Journal> {
+pub(crate) struct Register<L: Ledger> {
     state: State,
     table: PlaceTable<L>,
     // for each index the serial of the connection that last got its place
     seats: BTreeMap<usize, u64>,
-    journal: J,
+    journal: Journal,
     speaker: u64,
-    pub ghost history: { HasHistory (J.books journal) state },
+    pub ghost history: { HasHistory (books_of_journal journal) state },
     ghost small: { state.limit < 2 ^ 64 },
     pub ghost live: { live_of table ≡ length state.connections },
     pub ghost at_each_address: { (ip : List ℕ) → live_at ip table ≡ count_from ip state.connections },
@@ -70,10 +71,10 @@ pub(crate) struct Register<L: Ledger, J: Journal> {
     pub ghost limit: { table.limit ≡ state.limit },
     pub ghost per_address: { table.per_address ≡ state.per_address },
     pub ghost seated: { HasSeats (get nat_cmp seats) table state },
-    pub ghost room: { J.has_room journal (room_needed state.connections) ≡ true },
+    pub ghost room: { has_room journal (room_needed state.connections) ≡ true },
 }
 
-impl<L: Ledger, J: Journal> Register<L, J> {
+impl<L: Ledger> Register<L> {
     ghost use Rattle.server_yard.specs.Registers.{journal_of, roll_of, seat_of};
 
     /// A register without connections.
@@ -82,12 +83,12 @@ impl<L: Ledger, J: Journal> Register<L, J> {
         blank: Blank,
         limit: u64,
         per_address: u64,
-        journal: J,
-    ) -> Result<Register<L, J>, TableFault>
+        journal: Journal,
+    ) -> Result<Register<L>, TableFault>
         requires name { blank.name ≡ L.name }
         requires parts { (blank.parts ≡ L.parts) × (blank.parts ≡ limit) }
-        requires journal { TellsOf (J.books journal) [] }
-        requires stores { StoresNothing (J.books journal) }
+        requires journal { TellsOf (books_of_journal journal) [] }
+        requires stores { StoresNothing (books_of_journal journal) }
         ensures empty { IfOk result (λ register. (roll_of register).server ≡ start limit per_address) }
         ensures journal { IfOk result (λ register. journal_of register ≡ journal) }
         ensures nobody_speaks { IfOk result (λ register. (roll_of register).speaker ≡ 0) }
@@ -119,7 +120,7 @@ impl<L: Ledger, J: Journal> Register<L, J> {
     }
 
     /// The journal.
-    pub(crate) fn journal(&self) -> &J
+    pub(crate) fn journal(&self) -> &Journal
         ensures { result.now ≡ journal_of self.now }
     {
         &self.journal

@@ -19,9 +19,9 @@ use std::sync::ledger::Ledger;
 
 /// Makes the next step of an installation, and notes it. The installation has not begun, or it is in the phase that the
 /// register has.
-pub(crate) fn step_noted<L: Ledger, D: Dir, J: Journal>(
+pub(crate) fn step_noted<L: Ledger, D: Dir>(
     alloc: Global,
-    register: &mut Register<L, J>,
+    register: &mut Register<L>,
     dir: &mut D,
     install: &mut Install,
 ) -> Result<Phase, InstallFault>
@@ -60,7 +60,7 @@ pub(crate) fn step_noted<L: Ledger, D: Dir, J: Journal>(
 }
 
 // Notes a step that met a fault. If the fault is not the directory's, there is no event.
-fn note_fault<L: Ledger, J: Journal>(register: &mut Register<L, J>, fault: InstallFault)
+fn note_fault<L: Ledger>(register: &mut Register<L>, fault: InstallFault)
     requires may { MayFail (roll_of register.old).server fault }
     requires room { HasSpareRoom (roll_of register.old) }
     ensures noted { NotesSome (fault_event fault) (roll_of register.old) (roll_of register.new) }
@@ -75,9 +75,9 @@ fn note_fault<L: Ledger, J: Journal>(register: &mut Register<L, J>, fault: Insta
 }
 
 /// Makes the first step of an installation, and notes it. Its rules are kept if it was made.
-pub(crate) fn begin_noted<L: Ledger, D: Dir, J: Journal>(
+pub(crate) fn begin_noted<L: Ledger, D: Dir>(
     alloc: Global,
-    register: &mut Register<L, J>,
+    register: &mut Register<L>,
     dir: &mut D,
     install: &mut Install,
 ) -> Result<Phase, InstallFault>

@@ -4,6 +4,7 @@ ghost use Rattle.child_jobs.specs.Runs.{place_of};
 ghost use Rattle.child_jobs.specs.PlacesOut.{RefusesLimits};
 ghost use Rattle.dir_calls.specs.Directory.{Directory};
 ghost use Rattle.dir_calls.specs.Moments.{CountsFault};
+ghost use Rattle.server_events.specs.JournalParts.{books_of_journal};
 ghost use Rattle.server_events.specs.Journals.{HasSameRoom};
 ghost use Rattle.rules_install.specs.Installs.{installing};
 ghost use Rattle.rules_install.specs.Steps.{BlamesDevice, BlamesFault, IsOfDevice};
@@ -57,8 +58,8 @@ enum Installation {
 /// A place, a running child or a pass that a call takes has the yard's ledger, by its type. `serial_of`, `stage` and
 /// `is_peer` tell whether its event may happen.
 #[derive(Drop)]
-pub struct Yard<L: Assumptions, D: Dir + Drop, J: Journal> {
-    register: Register<L, J>,
+pub struct Yard<L: Assumptions, D: Dir + Drop> {
+    register: Register<L>,
     dir: D,
     rules: Option<(Name, WhenMissing)>,
     installation: Installation,
@@ -76,7 +77,7 @@ pub struct Yard<L: Assumptions, D: Dir + Drop, J: Journal> {
         → ∥ KeepsHistory (books_of register) (state_of register (D.state dir) rules installation) ∥₁ },
 }
 
-impl<L: Assumptions, D: Dir + Drop, J: Journal> Yard<L, D, J> {
+impl<L: Assumptions, D: Dir + Drop> Yard<L, D> {
     ghost use Rattle.server_yard.specs.Yards.{HasRun, IsMade, IsSameBeside, IsSameButDirectory, LeavesNothingElse, MayBegin, kept_number, kept_under, last_begun, name_of, number_of, serial_of, stage_of_place, yard_books, yard_directory, yard_installing, yard_journal, yard_over, yard_roll, yard_rules, yard_seat, yard_server, yard_state};
 
     /// A yard over a directory, without connections and without an installation under way.
@@ -93,11 +94,11 @@ impl<L: Assumptions, D: Dir + Drop, J: Journal> Yard<L, D, J> {
         dir: D,
         rules: Option<(Name, WhenMissing)>,
         limit: u64,
-        journal: J,
-    ) -> Result<Yard<L, D, J>, TableFault>
+        journal: Journal,
+    ) -> Result<Yard<L, D>, TableFault>
         requires name { blank.name ≡ L.name }
         requires parts { (blank.parts ≡ L.parts) × (blank.parts ≡ limit) }
-        requires journal { HasNoEvents (J.books journal) }
+        requires journal { HasNoEvents (books_of_journal journal) }
         requires begins { IsTrue L.met → BeginsWell D.honest (D.state dir) (rules_of rules) }
         ensures made { IfOk result (IsMade dir (rules_of rules) limit limit journal) }
         ensures refused { IfErr result (RefusesLimits limit limit) }
@@ -116,11 +117,11 @@ impl<L: Assumptions, D: Dir + Drop, J: Journal> Yard<L, D, J> {
         rules: Option<(Name, WhenMissing)>,
         limit: u64,
         per_address: u64,
-        journal: J,
-    ) -> Result<Yard<L, D, J>, TableFault>
+        journal: Journal,
+    ) -> Result<Yard<L, D>, TableFault>
         requires name { blank.name ≡ L.name }
         requires parts { (blank.parts ≡ L.parts) × (blank.parts ≡ limit) }
-        requires journal { HasNoEvents (J.books journal) }
+        requires journal { HasNoEvents (books_of_journal journal) }
         requires begins { IsTrue L.met → BeginsWell D.honest (D.state dir) (rules_of rules) }
         ensures made { IfOk result (IsMade dir (rules_of rules) limit per_address journal) }
         ensures refused { IfErr result (RefusesLimits limit per_address) }
@@ -166,7 +167,7 @@ impl<L: Assumptions, D: Dir + Drop, J: Journal> Yard<L, D, J> {
     }
 
     /// The journal.
-    pub fn journal(&self) -> &J
+    pub fn journal(&self) -> &Journal
         ensures { result.now ≡ yard_journal self.now }
     {
         self.register.journal()

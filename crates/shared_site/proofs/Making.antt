@@ -5,7 +5,6 @@ use Rattle.dir_calls.specs.Directory.{Directory}
 use Rattle.dir_calls.specs.declared.dir.Dir as dir
 use Rattle.dir_calls.specs.declared.rules_file.RulesFile as file
 use Rattle.server_events.specs.Journals.{one_more}
-use Rattle.server_events.specs.declared.journal.Journal as journal
 use Rattle.rule_lines.specs.declared.instr.Verdict.TheVariants as verdict
 use Rattle.server_events.specs.ServerState.{is_allowed, is_started}
 use Rattle.server_events.specs.declared.event.Event.{Event}
@@ -42,7 +41,7 @@ last_own who event n serial shown old mid new own speaks noted same =
     last_of who (event serial) shown old mid new speaks (subst (λ (m : ℕ). Notes (event m) mid new) own noted) same
 
 -- the same beside the events of both
-beside_then : {L D J F : Type 0} {p : _} {l : _} {d : _} {j : _} (old mid new : Yard L D J F p l d j)
+beside_then : {L D F : Type 0} {p : _} {l : _} {d : _} (old mid new : Yard L D F p l d)
     → IsSameBeside old mid → IsSameBeside mid new → IsSameBeside old new
 beside_then old mid new spoken same = record {
   directory = same.directory ∙ spoken.directory;
@@ -54,9 +53,9 @@ beside_then old mid new spoken same = record {
 }
 
 -- in turn: the caller spoke, and the yard made its call
-pub made_by : {L D J F : Type 0} {p : assumptions.Ghosts L} {d : dir.Ghosts D F} {f : file.Ghosts F} {j : journal.Ghosts J}
+pub made_by : {L D F : Type 0} {p : assumptions.Ghosts L} {d : dir.Ghosts D F} {f : file.Ghosts F}
     (who : ℕ) (event : Event) (leads : YardState → YardState → Type 0) (needs : Type 0)
-    (old mid new : Yard L D J F p d f j)
+    (old mid new : Yard L D F p d f)
     → IsPassedOver who old mid → Notes event (yard_roll mid) (yard_roll new)
     → (IsTrue d.honest → leads (yard_state mid) (yard_state new))
     → ((left : Directory) → needs → leads (yard_over left mid) (yard_over left new))
@@ -72,8 +71,8 @@ made_by who event leads needs old mid new spoken noted step beside same seats = 
 }
 
 -- the same of a call for the connection that a place was last given to
-pub made_own : {L D J F : Type 0} {p : assumptions.Ghosts L} {d : dir.Ghosts D F} {f : file.Ghosts F} {j : journal.Ghosts J}
-    (who : ℕ) (event : ℕ → Event) (n serial : ℕ) (old mid new : Yard L D J F p d f j)
+pub made_own : {L D F : Type 0} {p : assumptions.Ghosts L} {d : dir.Ghosts D F} {f : file.Ghosts F}
+    (who : ℕ) (event : ℕ → Event) (n serial : ℕ) (old mid new : Yard L D F p d f)
     → n ≡ serial → IsPassedOver who old mid → Notes (event n) (yard_roll mid) (yard_roll new)
     → (IsTrue d.honest → LeadsOn (event n) (yard_state mid) (yard_state new))
     → ((left : Directory) → LeadsOn (event n) (yard_over left mid) (yard_over left new))
@@ -85,8 +84,8 @@ made_own who event n serial old mid new own spoken noted step beside same seats 
     (λ left _. subst (λ (m : ℕ). LeadsOn (event m) (yard_over left mid) (yard_over left new)) own (beside left)) same seats
 
 -- out of turn
-pub passed : {L D J F : Type 0} {p : assumptions.Ghosts L} {d : dir.Ghosts D F} {f : file.Ghosts F} {j : journal.Ghosts J}
-    (who : ℕ) (event : Event) (leads : YardState → YardState → Type 0) (needs : Type 0) (old new : Yard L D J F p d f j)
+pub passed : {L D F : Type 0} {p : assumptions.Ghosts L} {d : dir.Ghosts D F} {f : file.Ghosts F}
+    (who : ℕ) (event : Event) (leads : YardState → YardState → Type 0) (needs : Type 0) (old new : Yard L D F p d f)
     → IsPassedOver who old new → MakesBy who event leads needs false old new
 passed who event leads needs old new spoken = record {
   noted = tt;
@@ -108,8 +107,8 @@ stays who old new spoken = record {
 }
 
 -- a connection stands at its place as before its caller spoke
-pub at_after : {L D J F : Type 0} {p : assumptions.Ghosts L} {d : dir.Ghosts D F} {f : file.Ghosts F} {j : journal.Ghosts J}
-    (who : ℕ) (passes : Option Stage → Bool) (serial place : ℕ) (old mid : Yard L D J F p d f j)
+pub at_after : {L D F : Type 0} {p : assumptions.Ghosts L} {d : dir.Ghosts D F} {f : file.Ghosts F}
+    (who : ℕ) (passes : Option Stage → Bool) (serial place : ℕ) (old mid : Yard L D F p d f)
     → IsPassedOver who old mid → IsAt passes serial old place → IsAt passes serial mid place
 at_after who passes serial place old mid spoken at =
     let stays : stage_of_place mid place ≡ stage_of_place old place = λ i. stage_at (spoken.seats place i) ((spoken.roll i).server) in record {

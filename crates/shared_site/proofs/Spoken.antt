@@ -8,15 +8,15 @@ use Rattle.server_yard.specs.declared.yard.Yard.{Yard}
 use Rattle.shared_site.specs.Turns.{spoken_by}
 
 -- who speaks is nothing that worlds see
-pub spoken_state : {L D J F : Type 0} {p : _} {l : _} {d : _} {j : _} (who : ℕ)
-    (old mid : Yard L D J F p l d j) → yard_roll mid ≡ spoken_by who (yard_roll old) → IsSameBeside old mid
+pub spoken_state : {L D F : Type 0} {p : _} {l : _} {d : _} (who : ℕ)
+    (old mid : Yard L D F p l d) → yard_roll mid ≡ spoken_by who (yard_roll old) → IsSameBeside old mid
     → yard_state mid ≡ yard_state old
 spoken_state {l = l} who old mid speaks same =
     λ i. record { directory = l.state (same.directory i); rules = same.rules i; server = (speaks i).server; installing = same.installing i }
 
 -- the same over whatever directory others left
-pub spoken_over : {L D J F : Type 0} {p : _} {l : _} {d : _} {j : _} (who : ℕ) (left : Directory)
-    (old mid : Yard L D J F p l d j) → yard_roll mid ≡ spoken_by who (yard_roll old) → IsSameBeside old mid
+pub spoken_over : {L D F : Type 0} {p : _} {l : _} {d : _} (who : ℕ) (left : Directory)
+    (old mid : Yard L D F p l d) → yard_roll mid ≡ spoken_by who (yard_roll old) → IsSameBeside old mid
     → yard_over left mid ≡ yard_over left old
 spoken_over who left old mid speaks same =
     λ i. record { directory = left; rules = same.rules i; server = (speaks i).server; installing = same.installing i }

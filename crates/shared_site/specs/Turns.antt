@@ -5,7 +5,6 @@ use Rattle.dir_calls.specs.Directory.{Directory}
 use Rattle.dir_calls.specs.declared.dir.Dir as dir
 use Rattle.dir_calls.specs.declared.rules_file.RulesFile as file
 use Rattle.server_events.specs.Journals.{one_more}
-use Rattle.server_events.specs.declared.journal.Journal as journal
 use Rattle.rule_lookup.specs.Peers.{Client}
 use Rattle.server_events.specs.Processes.{is_connections}
 use Rattle.server_events.specs.ServerState.{stage_of}
@@ -50,20 +49,20 @@ abbrev pub LeadsFound : ℕ → Option (List ℕ) → (old new : YardState) → 
 LeadsFound serial bytes old new = bytes ≡ standing_of old → LeadsOpened serial bytes old new
 
 -- a yard with this ledger, this directory, this journal and these files, and what their traits tell of them
-module _ {L D J F : Type 0} {p : assumptions.Ghosts L} {d : dir.Ghosts D F} {f : file.Ghosts F} {j : journal.Ghosts J} where
+module _ {L D F : Type 0} {p : assumptions.Ghosts L} {d : dir.Ghosts D F} {f : file.Ghosts F} where
   -- no place is free, but one may become free
-  pub record IsFullForNow (y : Yard L D J F p d f j) : Type 0 where
+  pub record IsFullForNow (y : Yard L D F p d f) : Type 0 where
     pub full : (yard_server y).limit ≤ length (yard_server y).connections
     pub not_all_retired : (yard_books y).report.retired < (yard_server y).limit
 
   -- a turn of a caller gave this answer between these states of a yard, as it may by the numbers of events before and
   -- after it
   abbrev pub Answers : {A : Type 0} → (answers : ℕ → ℕ → A → ℕ → Type 0) → (who : ℕ) → A
-      → (old new : Yard L D J F p d f j) → Type 0
+      → (old new : Yard L D F p d f) → Type 0
   Answers answers who answer old new = answers who (yard_books old).count answer (yard_books new).count
 
   -- a yard is as before, but for the speaker
-  pub record IsPassedOver (who : ℕ) (old new : Yard L D J F p d f j) : Type 0 where
+  pub record IsPassedOver (who : ℕ) (old new : Yard L D F p d f) : Type 0 where
     pub roll : yard_roll new ≡ spoken_by who (yard_roll old)
     pub beside : IsSameBeside old new
     pub seats : KeepsSeats (yard_seat old) (yard_seat new)
@@ -73,7 +72,7 @@ module _ {L D J F : Type 0} {p : assumptions.Ghosts L} {d : dir.Ghosts D F} {f :
   -- whatever directory other processes left. Out of turn nothing changed but the speaker. In turn or not, the yard is
   -- the same beside its events, and so are all seats.
   pub record MakesBy (who : ℕ) (event : Event) (leads : (old new : YardState) → Type 0) (needs : Type 0)
-      (was_made : Bool) (old new : Yard L D J F p d f j) : Type 0 where
+      (was_made : Bool) (old new : Yard L D F p d f) : Type 0 where
     pub noted : OnTrue was_made (NotesBy who event (yard_roll old) (yard_roll new))
     pub step : IsTrue d.honest → OnTrue was_made (leads (yard_state old) (yard_state new))
     pub beside : (left : Directory) → needs → OnTrue was_made (leads (yard_over left old) (yard_over left new))
@@ -82,18 +81,18 @@ module _ {L D J F : Type 0} {p : assumptions.Ghosts L} {d : dir.Ghosts D F} {f :
     pub seats : KeepsSeats (yard_seat old) (yard_seat new)
 
   -- the same of an event that leads on whatever files connections keep, and needs nothing
-  abbrev pub Makes : (who : ℕ) → Event → (was_made : Bool) → (old new : Yard L D J F p d f j) → Type 0
+  abbrev pub Makes : (who : ℕ) → Event → (was_made : Bool) → (old new : Yard L D F p d f) → Type 0
   Makes who event was_made old new = MakesBy who event (LeadsOn event) ⊤ was_made old new
 
   -- the connection at a place has this serial, and is in a stage that passes a test
-  pub record IsAt (passes : Option Stage → Bool) (serial : ℕ) (yard : Yard L D J F p d f j) (place : ℕ) : Type 0 where
+  pub record IsAt (passes : Option Stage → Bool) (serial : ℕ) (yard : Yard L D F p d f) (place : ℕ) : Type 0 where
     pub has_serial : number_of yard place ≡ serial
     pub has_stage : passes (stage_of_place yard place) ≡ true
 
 -- the connection of a pass may be decided: it opened the rules, this is its peer, and the pass has what the yard
 -- decides without a file
-pub record MayBeDecided {L D J F G : Type 0} {p : _} {l : _} {d : _} {j : _} {q : _} {m : _} {f : _}
-    (yard : Yard L D J F p l d j) (pass : Pass L G q m f) (peer : Client) : Type 0 where
+pub record MayBeDecided {L D F G : Type 0} {p : _} {l : _} {d : _} {q : _} {m : _} {f : _}
+    (yard : Yard L D F p l d) (pass : Pass L G q m f) (peer : Client) : Type 0 where
   pub is_opened : stage_of (pass_serial pass) (yard_server yard).connections ≡ Some stage.Opened
   pub missing : pass_missing pass ≡ missing_by (yard_rules yard)
   pub its_peer : peer_of (pass_serial pass) (yard_server yard).connections ≡ Some peer

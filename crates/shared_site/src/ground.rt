@@ -3,7 +3,6 @@ ghost use Rattle.std.specs.Prelude.{Bool};
 
 use crate::caller::{Caller, Callers};
 use dir_calls::{Dir, RulesFile};
-use server_events::Journal;
 use server_yard::{Assumptions, Yard};
 
 /// What a site stands on: a type for each thing that its yard has, and for its callers. A ground is a name for these
@@ -21,15 +20,12 @@ pub trait Ground {
     /// The folder of the rules, as the yard has it.
     type Folder: Dir<File = Self::File> + Drop;
 
-    /// Where the yard keeps its events, or only counts them.
-    type Journal: Journal;
-
     /// Whether the yard is a server's: it installs nothing, and its connections open the rules by handles of their own.
     ghost is_servers: { Bool };
 }
 
 /// The yard of a site.
-pub type YardOf<G> = Yard<<G as Ground>::Places, <G as Ground>::Folder, <G as Ground>::Journal>;
+pub type YardOf<G> = Yard<<G as Ground>::Places, <G as Ground>::Folder>;
 
 /// Who makes events at a site.
 pub type CallerOf<G> = Caller<<G as Ground>::Callers>;

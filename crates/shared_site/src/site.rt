@@ -8,7 +8,6 @@ ghost use Rattle.shared_site.specs.Turns.{IsFullForNow, told_then};
 use crate::caller::{Caller, Callers};
 use crate::ground::{CallerOf, Ground, YardOf};
 use crate::turn::Turn;
-use server_events::Journal;
 use server_yard::Assumptions;
 use std::alloc::{AllocError, Global};
 use std::marker::PhantomData;

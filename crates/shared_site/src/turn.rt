@@ -7,7 +7,6 @@ ghost use Rattle.shared_site.specs.Turns.{IsLastOf, NotesAs};
 
 use crate::ground::{Ground, YardOf};
 use crate::receipt::{EventSnapshot, Made};
-use server_events::Journal;
 
 /// A turn: a value that asks a yard for one event, and makes one or none.
 pub trait Turn<G: Ground> {

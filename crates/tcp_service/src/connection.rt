@@ -15,7 +15,6 @@ where
     H::Callers: Send + Sync,
     H::File: Send,
     H::Folder: Send,
-    H::Journal: Send,
     H::Handle: Send,
     H::Rules: Sync,
     H::Lines: Send,

@@ -81,21 +81,21 @@ type Counted<G> = AdmitOutcome<AdmittedBy<G>, Refusal>;
 /// Lets the connections of an acceptor in, by a caller of a site that makes no other events: its share is how many were
 /// let in.
 #[derive(Drop)]
-pub(crate) struct Entrance<'a, H: Host> {
+pub(crate) struct Entrance<'a, H: Host, A> {
     pub server: &'a Server<'a, H>,
-    pub acceptor: H::Acceptor,
+    pub acceptor: A,
     pub admitter: CallerOf<H>,
     pub seen: Seen<H::Places>,
 }
 
-impl<'a, H: Host> Admission for Entrance<'a, H> {
+impl<'a, H: Host, A: Acceptor<Holder = H::Holder>> Admission for Entrance<'a, H, A> {
     type Work = Admitted<'a, H>;
 
     type Refusal = Refused;
 
     ghost let_in = { λ entrance. caller_share entrance.admitter };
 
-    ghost failed_last = { λ entrance. H.Acceptor.failed_last entrance.acceptor };
+    ghost failed_last = { λ entrance. A.failed_last entrance.acceptor };
 
     ghost all_retired = { λ entrance. is_some entrance.seen.retired };
 

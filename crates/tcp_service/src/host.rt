@@ -4,7 +4,7 @@ use child_jobs::Job;
 use shared_site::Ground;
 use std::io::{Read, Write};
 use std::sync::Wait;
-use tcp_connections::{Acceptor, Follow, Shut, Starter};
+use tcp_connections::{Follow, Shut, Starter};
 
 /// What the agents of a server's connections stand on: the runtime, the rules and the log, beside the ground of their
 /// site. It is a name for these types together, and has no values.
@@ -22,17 +22,15 @@ pub trait AgentGround: Ground {
     type Lines: Write;
 }
 
-/// What a server stands on: a type for each thing that it is lent, beside what the agents of its connections stand on.
-/// A host is a name for these types together, and has no values.
+/// What a server stands on: a type for each thing that its connections are served with, beside what their agents stand
+/// on. A host is a name for these types together, and has no values. Where connections come from is a
+/// parameter beside it.
 ///
 /// Each type costs the check of each function over a host some time. So what agents need is a trait of its own.
 ///
 /// Which of these things threads share (`Sync`) and give one another (`Send`) is said where threads are started, and
 /// not here: the check does not take a call in a method of a trait where what is called says so in its bounds.
 pub trait Host: AgentGround {
-    /// Where connections come from.
-    type Acceptor: Acceptor<Holder = Self::Holder> + Drop;
-
     /// One of those who hold the stream of a connection.
     type Holder: Read + Write + Follow<Self::Output> + Shut + Drop;
 

@@ -1,8 +1,9 @@
 //! The service of TCP connections: who is let in, the calls of each connection by one caller of a site, and when the
 //! lines of the log are written. A line that can't be written is left out.
 //!
-//! The server uses `serve`. What it stands on is one type, a `Host`: its types are the ground of its site, the runtime,
-//! the rules, the log, and the streams and programs of connections. An agent stands on the first four (`AgentGround`).
+//! The server uses `serve`. What it stands on is one type, a `Host`, and where connections come from: a host's types are
+//! the ground of the site, the runtime, the rules, the log, and the streams and programs of connections. An agent stands
+//! on the first four (`AgentGround`).
 //! At the end both callers are back and as many connections are alive as are retired; `serve` looks at the last, and
 //! answers `Unfinished` if it is not so. The events of its site are a run, which `whole_yard::laws::service_run` is
 //! about. The life of a connection is one value after another: `Admitted`, `Started`, `Alive`, `Over`. None of the first

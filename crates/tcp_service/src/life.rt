@@ -1,7 +1,7 @@
 //! The life of a connection at a site, from its admission to its end: each value of it is made of the one before, and
 //! none can be let go.
 ghost use Rattle.std.specs.Prelude.{◌≡◌, ◌⊎◌, None, Some, IfOk, IfErr, true, false};
-ghost use Rattle.child_jobs.specs.Runs.{IsSameChild, IsSameRun, job_of, place_of};
+ghost use Rattle.child_jobs.specs.Runs.{IsSameChild, job_of, place_of};
 ghost use Rattle.one_connection.specs.Openings.{kept_opening};
 ghost use Rattle.server_events.specs.declared.event.Event.TheVariants.{Admitted as AdmittedEvent, Dropped as DroppedEvent};
 ghost use Rattle.shared_site.specs.Receipts.{made_event};
@@ -9,10 +9,10 @@ ghost use Rattle.tcp_service.specs.Agents.{IsFoundFor, asked};
 ghost use Rattle.tcp_service.specs.Lives.{EndsWithReason, IsDecidedChild, IsEndOfChild, IsEndedByForce, IsOwnChild, MayRefuse, OfSameChild};
 
 use crate::agent::FoundBy;
-use crate::host::{AgentGround, Host};
+use crate::host::Host;
 use crate::over::Over;
 use crate::pumping::{ClientStreams, Downward, Upward};
-use crate::server::{AgentContext, Server};
+use crate::server::Server;
 use crate::wrappers::{Chains, chains_of};
 use child_jobs::{DropCause, Local, Place, Running};
 use one_connection::{Agent, Served, serve_one};
@@ -70,28 +70,6 @@ type Ran<H> = (
     FoundBy<H>,
     Option<Process>,
 );
-
-impl<G: AgentGround> AgentContext<'_, G> {
-    // A connection is given up before its program was started.
-    fn give_up(
-        &self,
-        serial: u64,
-        place: Place<G::Places>,
-        peer: &Peer,
-        local: &Local,
-        cause: DropCause,
-    ) -> Over
-        ensures own { result.serial ≡ serial }
-        ensures told { asked result.last.value ≡ Some (DroppedEvent serial cause) }
-    {
-        let notes = Notes::of(None);
-        let mut agent = self.agent(serial, local, &notes);
-        agent.dropped(place, serial, peer, cause);
-        let over = Over::of(&agent, serial);
-        drop(agent);
-        over
-    }
-}
 
 impl<H: Host> Server<'_, H> {
     // Serves a connection up to the start of its program.
@@ -196,7 +174,7 @@ impl<'a, H: Host> Admitted<'a, H> {
             return Err(self.give_up(DropCause::Memory));
         };
         match self.serve() {
-            Ok((started, streams)) => go_on(started.go_on(), streams, chains),
+            Ok((started, streams)) => started.go_on().pass_on(streams, chains),
             Err(over) => Err(over),
         }
     }
@@ -215,7 +193,11 @@ impl<'a, H: Host> Admitted<'a, H> {
             streams,
             made: _,
         } = self;
-        let over = server.context.give_up(serial, place, &peer, &local, cause);
+        let notes = Notes::of(None);
+        let mut agent = server.context.agent(serial, &local, &notes);
+        agent.dropped(place, serial, &peer, cause);
+        let over = Over::of(&agent, serial);
+        drop(agent);
         streams.end();
         drop(local);
         drop(peer);
@@ -285,41 +267,26 @@ impl<'a, H: Host> Started<'a, H> {
     }
 }
 
-// A connection goes on: its program holds it, or its streams are passed on from now on.
-fn go_on<H: Host>(
-    alive: Alive<'_, H>,
-    streams: ClientStreams<H::Holder>,
-    chains: Option<Chains>,
-) -> Result<Beginning<'_, H>, Over>
-    ensures own { IfOk result (λ begun. begun.1.serial ≡ alive.entry.serial) }
-    ensures same { IfOk result (λ begun. IsSameChild H.Job.program H.Job.environment
-        (job_of alive.entry.running) (job_of begun.1.running)) }
-    ensures over { IfErr result (λ over. over.serial ≡ alive.entry.serial) }
-    ensures ended { IfErr result (λ over. OfSameChild H.Job.program H.Job.environment (job_of alive.entry.running)
-        (λ job. IsEndOfChild H.Job.killed H.Job.refused_wait H.Job.ended true job
-        (asked over.last.value) alive.entry.serial)) }
-{
-    match chains {
-        None => Ok((None, alive)),
-        Some(chains) => alive.pass_on(streams, chains),
-    }
-}
-
 impl<'a, H: Host> Alive<'a, H> {
-    // Its program's pipe ends are taken, and its streams are passed on from now on.
+    // Without chains its program holds it. Otherwise its program's pipe ends are taken, and its streams are passed on
+    // from now on.
     fn pass_on(
         self,
         streams: ClientStreams<H::Holder>,
-        chains: Chains,
+        chains: Option<Chains>,
     ) -> Result<Beginning<'a, H>, Over>
         ensures own { IfOk result (λ begun. begun.1.serial ≡ self.entry.serial) }
-        ensures same { IfOk result (λ begun.
-            IsSameRun H.Job.program H.Job.environment self.entry.running begun.1.running) }
+        ensures same { IfOk result (λ begun. IsSameChild H.Job.program H.Job.environment
+            (job_of self.entry.running) (job_of begun.1.running)) }
         ensures over { IfErr result (λ over. over.serial ≡ self.entry.serial) }
         ensures ended { IfErr result (λ over. OfSameChild H.Job.program H.Job.environment (job_of self.entry.running)
             (λ job. IsEndOfChild H.Job.killed H.Job.refused_wait H.Job.ended true job
             (asked over.last.value) self.entry.serial)) }
     {
+        let Some(chains) = chains else {
+            drop(streams);
+            return Ok((None, self));
+        };
         let Alive {
             server,
             serial,

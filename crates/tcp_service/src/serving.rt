@@ -10,7 +10,6 @@ use crate::host::Host;
 use crate::server::{AgentContext, Server};
 use crate::service::Service;
 use child_jobs::Plan;
-use server_events::Journal;
 use server_log::Log;
 use shared_site::{Caller, CallerOf, Callers, Site, YardOf};
 use std::alloc::Global;
@@ -18,19 +17,19 @@ use std::snapshot::Snapshot;
 use std::sync::Mutex;
 use std::thread::Threads;
 use std::time::Clock;
-use tcp_connections::{ServeEnd, serve_through};
+use tcp_connections::{Acceptor, ServeEnd, serve_through};
 
 /// A server that has come to its end: nobody is let in any more and its threads have ended, both callers of its site
 /// are back and the site is closed. Each connection that is alive still is a retired one. For want of places it ended
 /// only if its site has said that all are retired, and for want of numbers only if it has said that none is left.
 #[derive(Drop)]
-pub struct Closed<H: Host> {
+pub struct Closed<H: Host, A> {
     /// How it ended.
     pub end: ServeEnd,
     /// What its site was made of, with all that happened.
     pub yard: YardOf<H>,
     /// Where its connections came from, closed.
-    pub acceptor: H::Acceptor,
+    pub acceptor: A,
     // what its site has said of all connections that would have followed
     seen: Seen<H::Places>,
     // the caller that let connections in, and the one that made all other events
@@ -69,10 +68,10 @@ pub struct Unfinished<H: Host> {
 ///
 /// # Errors
 /// A place is lost: its connection is alive, and no thread has it. The site is closed all the same.
-pub fn serve<'a, H>(
+pub fn serve<'a, H, A>(
     rt: &'a H::Runtime,
     alloc: Global,
-    acceptor: H::Acceptor,
+    acceptor: A,
     site: Site<H>,
     callers: Vec<CallerOf<H>>,
     rules: &'a H::Rules,
@@ -80,7 +79,7 @@ pub fn serve<'a, H>(
     plan: &'a Plan,
     service: &'a Service<'a>,
     log: &'a Mutex<Log<H::Lines>>,
-) -> Result<Closed<H>, Unfinished<H>>
+) -> Result<Closed<H, A>, Unfinished<H>>
 where
     H: Host + Send + Sync,
     H::Runtime: Threads + Clock + Sync,
@@ -88,22 +87,21 @@ where
     H::Callers: Send + Sync,
     H::File: Send,
     H::Folder: Send,
-    H::Journal: Send,
     H::Handle: Send,
     H::Rules: Sync,
     H::Lines: Send,
-    H::Acceptor: Send,
     H::Holder: Send,
     H::Starter: Sync,
     H::Job: Send,
     H::Input: Send,
     H::Output: Send,
+    A: Acceptor<Holder = H::Holder> + Send + Drop,
     requires callers { (H.Callers.all ≡ 2) × (H.Callers.parts ≡ 2)
         × (vec_len callers ≡ 2) × (total_share callers.items ≡ 0) }
     ensures count { IfOk result (λ closed.
         IsServed closed.end service.now.limits.count 0 (caller_share closed.admitter.value)) }
     ensures faults { IfOk result (λ closed. closed.end ≡ AcceptFaults
-        → FailedToAccept (suffices service.now.supply) (H.Acceptor.failed_last closed.acceptor)) }
+        → FailedToAccept (suffices service.now.supply) (A.failed_last closed.acceptor)) }
     ensures then_too { IfErr result (λ unfinished.
         IsServed unfinished.end service.now.limits.count 0 (caller_share unfinished.admitter.value)) }
 {
@@ -168,15 +166,15 @@ fn both<N: Callers>(callers: &mut Vec<Caller<N>>) -> (Caller<N>, Caller<N>)
 
 // Closes a site with both of its callers, and looks whether each connection that is alive still is retired.
 #[tactic(auto, using(crate::proofs::Shares::of_both))]
-fn close<H: Host>(
+fn close<H: Host, A: Drop>(
     end: ServeEnd,
-    acceptor: H::Acceptor,
+    acceptor: A,
     seen: Seen<H::Places>,
     site: Site<H>,
     callers: Vec<CallerOf<H>>,
     admitter: CallerOf<H>,
     teller: CallerOf<H>,
-) -> Result<Closed<H>, Unfinished<H>>
+) -> Result<Closed<H, A>, Unfinished<H>>
     requires places { end ≡ NoPlaces → IsTrue (is_some seen.retired) }
     requires spent { end ≡ Spent → IsTrue (is_some seen.spent) }
     requires all { (H.Callers.all ≡ 2) × (H.Callers.parts ≡ 2) }

@@ -10,7 +10,7 @@ use child_jobs::DropCause;
 use dir_calls::MemDir;
 use rule_lines::Verdict;
 use rule_lookup::WhenMissing;
-use server_events::{Event, Full, Journal, Report, replay};
+use server_events::{Event, Report, replay};
 use server_yard::{Assumptions, Yard};
 use shared_site::{Caller, Callers, Receipt, Site};
 use std::alloc::{AllocError, Global};
@@ -147,7 +147,7 @@ fn in_order(alloc: Global, mut receipts: Vec<Receipt>) -> Result<Vec<Event>, All
 // What a yard reports, which has to be what its history comes to.
 fn report_of<L: Assumptions>(
     alloc: Global,
-    yard: &Yard<L, MemDir, Full>,
+    yard: &Yard<L, MemDir>,
     receipts: Vec<Receipt>,
 ) -> OrWrong<Report> {
     let report = yard.journal().report();

@@ -1,16 +1,15 @@
 //! Sites over a directory in memory, from the start to the audit.
-ghost use Rattle.std.specs.Prelude.{◌≡◌, false, ◌<◌, IfOk, IsPermutation, IsTrue, map};
+ghost use Rattle.std.specs.Prelude.{◌≡◌, false, ◌<◌, IfOk, IsTrue};
 ghost use Rattle.dir_calls.specs.MemDir.{mem_state};
-ghost use Rattle.server_events.specs.Full.{full_notes};
 ghost use Rattle.server_yard.specs.Kept.{rules_of};
 ghost use Rattle.server_yard.specs.Standing.{Begins};
-ghost use Rattle.server_yard.specs.Yards.{yard_journal};
-ghost use Rattle.whole_yard.specs.Audits.{note_of};
+ghost use Rattle.server_yard.specs.Yards.{yard_books};
+ghost use Rattle.whole_yard.specs.Closings.{IsWhole};
 
 use crate::calls::{OrWrong, Wrong};
 use dir_calls::{MemDir, MemFile, Name};
 use rule_lookup::WhenMissing;
-use server_events::Full;
+use server_events::Journal;
 use server_yard::{Assumptions, Yard};
 use shared_site::{Caller, Callers, Ground, Receipt, Site};
 use std::alloc::Global;
@@ -30,8 +29,6 @@ impl<L: Assumptions, N: Callers> Ground for InMemory<L, N> {
 
     type Folder = MemDir;
 
-    type Journal = Full;
-
     ghost is_servers = { false };
 }
 
@@ -50,8 +47,8 @@ pub(crate) fn new_site<L: Assumptions, N: Callers>(
     requires parts { (parts.name ≡ N.name) × (parts.parts ≡ N.parts) × (parts.parts ≡ callers) }
     requires callers { (N.all ≡ callers) × (N.before ≡ 0) × (0 < callers) }
 {
-    let journal = Full::new(alloc);
-    let Ok(yard) = Yard::<L, MemDir, Full>::new(alloc, places, dir, rules, limit, journal) else {
+    let journal = Journal::storing(alloc);
+    let Ok(yard) = Yard::<L, MemDir>::new(alloc, places, dir, rules, limit, journal) else {
         return Err(Wrong);
     };
     match Site::<InMemory<L, N>>::new(alloc, parts, yard, callers) {
@@ -65,9 +62,9 @@ pub(crate) fn close<L: Assumptions, N: Callers>(
     site: Site<InMemory<L, N>>,
     callers: Vec<Caller<N>>,
     receipts: &[Receipt],
-) -> OrWrong<Yard<L, MemDir, Full>>
+) -> OrWrong<Yard<L, MemDir>>
     requires { N.all ≡ N.parts }
-    ensures { IfOk result (λ yard. IsPermutation (map note_of receipts.now) (full_notes (yard_journal yard))) }
+    ensures { IfOk result (λ yard. IsWhole (yard_books yard).notes receipts.now) }
 {
     match close_and_audit(site, callers, receipts) {
         Ok((yard, Ok(()))) => Ok(yard),

@@ -3,13 +3,13 @@ ghost use Rattle.std.specs.Prelude.{◌≡◌, ◌<◌, true, false, IfOk, None,
 ghost use Rattle.shared_site.specs.Callers.{total_share};
 
 use crate::answer::Answer;
-use crate::history::Lists;
+use crate::history::add_history;
 use crate::scripts::{Clients, ScriptedJob, Scripts, ServedTally, Silent};
 use child_jobs::{Environment, Plan, Program};
 use dir_calls::{Dir, DirFault, MemDir, MemFile};
 use fault_hints::Voice;
 use rule_lookup::Peer;
-use server_events::{Full, Journal};
+use server_events::Journal;
 use server_words::Level;
 use server_yard::{Assumptions, Finding, Yard};
 use shared_site::{CallerOf, Callers, Ground, Site};
@@ -100,8 +100,6 @@ where
 
     type Folder = MemDir;
 
-    type Journal = Full;
-
     ghost is_servers = { true };
 }
 
@@ -126,8 +124,6 @@ where
     L: Assumptions + Send + Sync,
     N: Callers + Send + Sync,
 {
-    type Acceptor = Clients;
-
     type Holder = Silent;
 
     type Starter = Scripts<'s, R>;
@@ -199,7 +195,7 @@ where
         left: asked.clients,
         addresses: asked.addresses,
     };
-    let served = serve::<InMemory<'a, 'w, R, L, N>>(
+    let served = serve::<InMemory<'a, 'w, R, L, N>, Clients>(
         rt, alloc, acceptor, site, callers, &NoRules, launcher, plan, service, log,
     );
     match served {
@@ -212,9 +208,9 @@ where
 }
 
 /// Adds how a server ended that left this yard, with the rest of that line, and its history.
-fn add_end<L: Assumptions, D: Dir + Drop, J: Journal + Lists>(
+fn add_end<L: Assumptions, D: Dir + Drop>(
     end: &ServeEnd,
-    yard: &Yard<L, D, J>,
+    yard: &Yard<L, D>,
     rest: &str,
     tally: &ServedTally,
     out: &mut Answer,
@@ -224,12 +220,12 @@ fn add_end<L: Assumptions, D: Dir + Drop, J: Journal + Lists>(
     out.count(" alive, ", tally.kills.load(Ordering::SeqCst));
     out.text(" kills");
     out.line(rest);
-    yard.journal().add_history(out);
+    add_history(yard.journal(), out);
     out.end_line();
 }
 
 /// A site over an empty directory, and its callers.
-fn site_of<G: Ground<File = MemFile, Folder = MemDir, Journal = Full>>(
+fn site_of<G: Ground<File = MemFile, Folder = MemDir>>(
     alloc: Global,
     asked: Asked,
     places: Blank,
@@ -242,14 +238,14 @@ fn site_of<G: Ground<File = MemFile, Folder = MemDir, Journal = Full>>(
     requires callers { (G.Callers.all ≡ 2) × (G.Callers.before ≡ 0) }
     ensures new { IfOk result (λ made. (vec_len made.1 ≡ 2) × (total_share made.1.items ≡ 0)) }
 {
-    let yard = Yard::<G::Places, MemDir, Full>::with_address_limit(
+    let yard = Yard::<G::Places, MemDir>::with_address_limit(
         alloc,
         places,
         MemDir::new(alloc),
         None,
         asked.limit,
         asked.per_address,
-        Full::new(alloc),
+        Journal::storing(alloc),
     );
     let Ok(yard) = yard else {
         return Err(io::Error::from(io::ErrorKind::OutOfMemory));

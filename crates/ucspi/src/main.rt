@@ -1,18 +1,16 @@
 //! The program `ucspi`: the name by which it was called, or its first word, names a tool; `rulesim` where there is
 //! none.
 //!
-//! `main` and `run_system` lend the system's streams, files, sockets and programs to `ucspi_tools::run_program`. What
-//! they lend is a premise, which their lines state: `docs/internals/PROOFS.md` lists them.
+//! `main` lends the system, and the tools that start threads, to `ucspi_tools::run_system`. What it lends is a premise,
+//! which its lines state: `docs/internals/PROOFS.md` lists them.
 #![tactic(auto)]
-
-mod system;
 
 use byte_streams::Patient;
 use fault_hints::Voice;
 use server_tool::run_tcpserver;
 use std::process::ExitCode;
 use stream_tools::{run_fixcrio, run_recordio};
-use system::run_system;
+use ucspi_tools::run_system;
 
 fn main(rt: HostRuntime) -> ExitCode {
     let serve = |voice: Voice, words: &[Vec<u8>], causes: &mut Vec<u8>| {

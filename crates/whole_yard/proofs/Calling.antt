@@ -16,7 +16,7 @@ use Rattle.shared_site.proofs.Counts.{one_counted, quiet_counted}
 use Rattle.shared_site.proofs.Making.{last_of}
 
 -- what a call keeps is as it was before its caller spoke
-pub same_from : {L D J F : Type 0} {p : _} {l : _} {d : _} {j : _} (old mid new : Yard L D J F p l d j)
+pub same_from : {L D F : Type 0} {p : _} {l : _} {d : _} (old mid new : Yard L D F p l d)
     → IsSameBeside old mid → IsSameButDirectory mid new → IsSameButDirectory old new
 same_from old mid new spoken same = record {
   rules = same.rules ∙ spoken.rules;
@@ -27,7 +27,7 @@ same_from old mid new spoken same = record {
 }
 
 -- an installation that may begin may still
-pub may_begin_from : {L D J F : Type 0} {p : _} {l : _} {d : _} {j : _} (y x : Yard L D J F p l d j) (s : Installing)
+pub may_begin_from : {L D F : Type 0} {p : _} {l : _} {d : _} (y x : Yard L D F p l d) (s : Installing)
     → yard_rules x ≡ yard_rules y → last_begun x ≡ last_begun y → MayBegin y s → MayBegin x s
 may_begin_from y x s rules begun may = record {
   unbegun = may.unbegun;
@@ -37,7 +37,7 @@ may_begin_from y x s rules begun may = record {
 }
 
 -- and the one that is kept is as far as it was
-pub spoken_kept : {L D J F : Type 0} {p : _} {l : _} {d : _} {j : _} (old mid : Yard L D J F p l d j) (number : ℕ)
+pub spoken_kept : {L D F : Type 0} {p : _} {l : _} {d : _} (old mid : Yard L D F p l d) (number : ℕ)
     → IsSameBeside old mid → kept_under mid number ≡ kept_under old number
 spoken_kept old mid number same = λ i. if same.begun i == number then same.installing i else None
 

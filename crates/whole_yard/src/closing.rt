@@ -1,16 +1,13 @@
 //! The end of a site: its receipts are its whole history.
-ghost use Rattle.std.specs.Prelude.{◌≡◌, ◌≢◌, ◌+◌, ◌↔◌, Err, IsOk, IfOk, IfErr, IsPermutation, OnOk, length, map, vec_len};
-ghost use Rattle.server_events.specs.Full.{full_notes};
-ghost use Rattle.server_yard.specs.Yards.{yard_journal};
+ghost use Rattle.std.specs.Prelude.{◌≡◌, ◌≢◌, ◌+◌, ◌↔◌, Err, IsOk, IfOk, IfErr, OnOk, length, vec_len};
+ghost use Rattle.server_yard.specs.Yards.{yard_books};
 ghost use Rattle.shared_site.specs.Callers.{total_share};
-ghost use Rattle.whole_yard.specs.Closings.{IsNotWhole};
+ghost use Rattle.whole_yard.specs.Closings.{IsNotWhole, IsWhole};
 ghost use Rattle.whole_yard.specs.declared.closing.NotWhole.TheVariants.{Missing};
-ghost use Rattle.whole_yard.specs.Audits.{note_of};
 
 use crate::audit::{Mismatch, audit};
 use crate::laws::whole;
 use dir_calls::Dir;
-use server_events::{Full, Journal};
 use server_yard::{Assumptions, Yard};
 use shared_site::{CallerOf, Ground, Receipt, Site, YardOf};
 use thiserror::Error;
@@ -24,24 +21,33 @@ pub enum NotWhole {
     /// Each receipt is right, but some event has none.
     #[error("receipts are missing")]
     Missing,
+    /// The journal stores no events.
+    #[error("events are only counted")]
+    OnlyCounted,
 }
 
 /// Checks that receipts are the whole history of a yard: each event with its caller, once. It takes no memory.
 ///
 /// # Errors
-/// `Wrong` with the first receipt that is wrong, otherwise `Missing`.
+/// `OnlyCounted` if the journal of the yard stores no events; `Wrong` with the first receipt that is wrong; otherwise
+/// `Missing`.
 pub fn audit_whole<L: Assumptions, D: Dir + Drop>(
-    yard: &Yard<L, D, Full>,
+    yard: &Yard<L, D>,
     receipts: &[Receipt],
 ) -> Result<(), NotWhole>
-    ensures whole { OnOk result (IsPermutation (map note_of receipts.now) (full_notes (yard_journal yard.now))) }
-    ensures refused { IfErr result (IsNotWhole (full_notes (yard_journal yard.now)) receipts.now) }
+    ensures whole { OnOk result (IsWhole (yard_books yard.now).notes receipts.now) }
+    ensures refused { IfErr result (IsNotWhole (yard_books yard.now).notes receipts.now) }
+    ensures missing { result ≡ Err Missing → length receipts.now ≢ (yard_books yard.now).count }
 {
     whole();
-    if let Err(mismatch) = audit(yard, receipts) {
+    yard.history();
+    let Some(notes) = yard.journal().notes() else {
+        return Err(NotWhole::OnlyCounted);
+    };
+    if let Err(mismatch) = audit(notes, receipts) {
         return Err(NotWhole::Wrong(mismatch));
     }
-    if receipts.len() as u64 == yard.journal().events() {
+    if receipts.len() == notes.len() {
         Ok(())
     } else {
         Err(NotWhole::Missing)
@@ -54,16 +60,15 @@ pub fn audit_whole<L: Assumptions, D: Dir + Drop>(
 ///
 /// # Errors
 /// Some caller is lacking. The site and the callers are handed back.
-pub fn close_and_audit<G: Ground<Journal = Full>>(
+pub fn close_and_audit<G: Ground>(
     site: Site<G>,
     callers: Vec<CallerOf<G>>,
     receipts: &[Receipt],
 ) -> Result<(YardOf<G>, Result<(), NotWhole>), (Site<G>, Vec<CallerOf<G>>)>
     requires parts { G.Callers.all ≡ G.Callers.parts }
     ensures all { IsOk result ↔ (vec_len callers ≡ G.Callers.all) }
-    ensures whole { IfOk result (λ r. OnOk r.1
-        (IsPermutation (map note_of receipts.now) (full_notes (yard_journal r.0)))) }
-    ensures refused { IfOk result (λ r. IfErr r.1 (IsNotWhole (full_notes (yard_journal r.0)) receipts.now)) }
+    ensures whole { IfOk result (λ r. OnOk r.1 (IsWhole (yard_books r.0).notes receipts.now)) }
+    ensures refused { IfOk result (λ r. IfErr r.1 (IsNotWhole (yard_books r.0).notes receipts.now)) }
     ensures complete { G.Callers.before + total_share callers.items ≡ length receipts.now
         → IfOk result (λ r. r.1 ≢ Err Missing) }
     ensures back { IfErr result (λ r. (r.0 ≡ site) × (r.1 ≡ callers)) }

@@ -8,15 +8,15 @@ use child_jobs::{DropCause, Job, Place, Running, StartFault};
 use dir_calls::Dir;
 use one_connection::{Agent, cause_of_open, decide_by_pass};
 use rule_lookup::{DecideFault, Decision, Peer};
-use server_events::{Journal, Stage};
+use server_events::Stage;
 use server_yard::{Assumptions, Pass, Yard};
 use std::alloc::Global;
 use std::snapshot::Snapshot;
 
 /// Whether a place belongs to a connection with this serial and this peer, which was let in and has no later event.
 /// `serve_one` over a yard requires this. It takes no memory.
-pub fn is_admitted<L: Assumptions, D: Dir + Drop, J: Journal>(
-    yard: &Yard<L, D, J>,
+pub fn is_admitted<L: Assumptions, D: Dir + Drop>(
+    yard: &Yard<L, D>,
     place: &Place<L>,
     serial: u64,
     peer: &Peer,
@@ -29,8 +29,8 @@ pub fn is_admitted<L: Assumptions, D: Dir + Drop, J: Journal>(
 }
 
 // Whether a place belongs to the connection with this serial, and that is alive.
-fn has_serial<L: Assumptions, D: Dir + Drop, J: Journal>(
-    yard: &Yard<L, D, J>,
+fn has_serial<L: Assumptions, D: Dir + Drop>(
+    yard: &Yard<L, D>,
     place: &Place<L>,
     serial: u64,
 ) -> bool
@@ -41,22 +41,22 @@ fn has_serial<L: Assumptions, D: Dir + Drop, J: Journal>(
 
 /// A yard that nobody else uses, as the agent of one connection. It keeps what the connection found.
 #[derive(Drop)]
-pub struct YardAgent<L: Assumptions, D: Dir + Drop, J: Journal> {
+pub struct YardAgent<L: Assumptions, D: Dir + Drop> {
     /// The yard.
-    pub yard: Yard<L, D, J>,
+    pub yard: Yard<L, D>,
     found: Option<Snapshot<Pass<L, D::File>>>,
 }
 
-impl<L: Assumptions, D: Dir + Drop, J: Journal> YardAgent<L, D, J> {
+impl<L: Assumptions, D: Dir + Drop> YardAgent<L, D> {
     /// The agent of a connection that this yard let in and that has not opened the rules.
-    pub fn new(yard: Yard<L, D, J>) -> YardAgent<L, D, J>
+    pub fn new(yard: Yard<L, D>) -> YardAgent<L, D>
         ensures { result.yard ≡ yard }
     {
         YardAgent { yard, found: None }
     }
 }
 
-impl<L: Assumptions, D: Dir + Drop, J: Journal> Agent<L> for YardAgent<L, D, J> {
+impl<L: Assumptions, D: Dir + Drop> Agent<L> for YardAgent<L, D> {
     ghost use Rattle.std.specs.Prelude.{◌≡◌, false, IfErr, IfOk, OnErr, OnOk};
     ghost use Rattle.rule_lines.specs.declared.instr.Verdict.TheVariants.{Allow};
     ghost use Rattle.server_events.specs.declared.event.Event.TheVariants.{Decided, Dropped, StartFailed};

@@ -14,7 +14,6 @@ use child_jobs::{Launcher, Local, Place, Plan};
 use dir_calls::Dir;
 use one_connection::{Served, serve_one};
 use rule_lookup::Peer;
-use server_events::Journal;
 use server_yard::Assumptions;
 use std::alloc::Global;
 use std::io::Write;
@@ -22,9 +21,9 @@ use std::io::Write;
 /// Serves a connection that a yard let in, up to the start of its child, as `serve_one` does. Over an honest directory
 /// its calls are those that serve one connection (`server_yard::laws::served`), and the last of them is the answer. So
 /// their events prolong each history of the headline that led to the yard before, and it leads to the yard afterwards.
-pub fn serve_by_yard<L: Assumptions, D: Dir + Drop, J: Journal, S: Launcher + Drop, W: Write>(
+pub fn serve_by_yard<L: Assumptions, D: Dir + Drop, S: Launcher + Drop, W: Write>(
     alloc: Global,
-    agent: &mut YardAgent<L, D, J>,
+    agent: &mut YardAgent<L, D>,
     place: Place<L>,
     serial: u64,
     peer: &Peer,

@@ -1,3 +1,4 @@
+use Rattle.server_events.specs.JournalParts.{has_room, less_room}
 use Rattle.std.proofs.Common.{◌≡◌, ◌<◌, ◌+◌, ◌^◌, ℕ, true, sym, ap, subst, ◌∙◌, arith}
 use Rattle.std.specs.BTreeMap.{get}
 use Rattle.std.specs.Ordering.{nat_cmp}
@@ -14,7 +15,7 @@ pub note-requires : goal.note-requires
 note-requires g c =
     let old = c.args.self.now in
     let less = room_goes_on old.state c.args.event c.requires.kind c.requires.may in
-    g.met.J.Journal.less_room old.journal 1 (room_needed old.state.connections) (omega (arith, less)) old.room
+    less_room old.journal 1 (room_needed old.state.connections) (omega (arith, less)) old.room
 
 pub invariant_of-self : goal.invariant_of-self
 invariant_of-self g c =
@@ -34,7 +35,7 @@ invariant_of-self g c =
       limit = old.limit ∙ sym stays.limit;
       per_address = old.per_address ∙ sym stays.per_address;
       seated = seats_stay (get nat_cmp old.seats) old.table old.state s stays old.seated;
-      room = c.note.ensures.room (room_needed s.connections) ∙ subst (λ (n : ℕ). g.J.Journal.has_room old.journal n ≡ true) (sym less) old.room;
+      room = c.note.ensures.room (room_needed s.connections) ∙ subst (λ (n : ℕ). has_room old.journal n ≡ true) (sym less) old.room;
     }
 
 pub returns-clause-room : goal.returns-clause-room
@@ -43,4 +44,4 @@ returns-clause-room g c = λ n.
     let s = c.apply.new.self in
     let less = ap (λ (u : ServerState). room_needed u.connections + 1) c.in-Ok.ensures.applied ∙ room_goes_on old.state c.args.event c.requires.kind c.requires.may in
     let all : n + room_needed s.connections + 1 ≡ n + room_needed old.state.connections = omega (arith, less) in
-    c.note.ensures.room (n + room_needed s.connections) ∙ ap (λ (k : ℕ). g.J.Journal.has_room old.journal k) all
+    c.note.ensures.room (n + room_needed s.connections) ∙ ap (λ (k : ℕ). has_room old.journal k) all

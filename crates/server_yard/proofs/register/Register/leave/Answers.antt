@@ -1,3 +1,4 @@
+use Rattle.server_events.specs.JournalParts.{has_room, less_room}
 use Rattle.std.proofs.Common.{◌≡◌, ◌<◌, ◌+◌, ◌^◌, ℕ, length, true, sym, ap, subst, ◌∙◌, arith}
 use Rattle.std.specs.Prelude.{is_some}
 use Rattle.std.specs.BTreeMap.{get}
@@ -28,7 +29,7 @@ note-requires g c =
     let old = c.args.self.now in
     let off = goes_off old.state c.args.event c.args.serial c.requires.kind c.requires.may in
     let sums = room-without c.args.serial off.at old.state.connections off.has_stage in
-    g.met.J.Journal.less_room old.journal 1 (room_needed old.state.connections) (omega (arith, sums, off.some_left)) old.room
+    less_room old.journal 1 (room_needed old.state.connections) (omega (arith, sums, off.some_left)) old.room
 
 pub release-requires : goal.release-requires
 release-requires g c =
@@ -37,7 +38,7 @@ release-requires g c =
     let sums = room-without c.args.serial off.at old.state.connections off.has_stage in
     let spare = c.spare-spare.ensures ∙ spare_is old.state c.args.serial off.at off.has_stage in
     c.note.ensures.room c.spare-spare.result
-    ∙ g.met.J.Journal.less_room old.journal (c.spare-spare.result + 1) (room_needed old.state.connections) (omega (arith, sums, spare, off.some_left)) old.room
+    ∙ less_room old.journal (c.spare-spare.result + 1) (room_needed old.state.connections) (omega (arith, sums, spare, off.some_left)) old.room
 
 pub invariant_of-self : goal.invariant_of-self
 invariant_of-self g c =
@@ -75,7 +76,7 @@ invariant_of-self g c =
       room =
           c.release.ensures.room (room_needed c.apply.new.self.connections)
           ∙ c.note.ensures.room (room_needed c.apply.new.self.connections + c.spare-spare.result)
-          ∙ subst (λ (k : ℕ). g.J.Journal.has_room old.journal k ≡ true) (omega (arith, sums, spare, less, off.some_left)) old.room;
+          ∙ subst (λ (k : ℕ). has_room old.journal k ≡ true) (omega (arith, sums, spare, less, off.some_left)) old.room;
     }
 
 pub returns-clause-gone : goal.returns-clause-gone
@@ -96,4 +97,4 @@ returns-clause-room g c = λ m.
     let spare = c.spare-spare.ensures ∙ spare_is old.state n off.at off.has_stage in
     let less = ap (λ (u : ServerState). room_needed u.connections) (c.in-Ok.ensures.applied ∙ off.is_without) in
     let all : m + room_needed s.connections + c.spare-spare.result + 1 ≡ m + room_needed old.state.connections = omega (arith, sums, spare, less, off.some_left) in
-    c.release.ensures.room (m + room_needed s.connections) ∙ c.note.ensures.room (m + room_needed s.connections + c.spare-spare.result) ∙ ap (λ (k : ℕ). g.J.Journal.has_room old.journal k) all
+    c.release.ensures.room (m + room_needed s.connections) ∙ c.note.ensures.room (m + room_needed s.connections + c.spare-spare.result) ∙ ap (λ (k : ℕ). has_room old.journal k) all

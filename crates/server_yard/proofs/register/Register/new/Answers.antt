@@ -1,3 +1,4 @@
+use Rattle.server_events.specs.JournalParts.{has_room, none_needed}
 use Rattle.std.proofs.Common.{◌≡◌, ◌<◌, ◌^◌, ℕ, List, [], length, true, refl, sym, ap, subst, ◌∙◌, arith}
 use Rattle.std.specs.FinMap as map
 use Rattle.std.specs.BTreeMap.{is_at}
@@ -32,5 +33,5 @@ invariant_of-result g c =
         up_to_last = λ i n is. absurd (let gone = ap (λ es. lookup (is_at (nat_cmp i)) es) c.new-2.ensures.empty in cc);
         for_its_peer = λ i n p is its. absurd (let gone = ap (λ es. lookup (is_at (nat_cmp i)) es) c.new-2.ensures.empty in cc);
       };
-      room = subst (λ (n : ℕ). g.J.Journal.has_room c.args.journal n ≡ true) (sym (ap room_needed none)) (g.met.J.Journal.none_needed c.args.journal);
+      room = subst (λ (n : ℕ). has_room c.args.journal n ≡ true) (sym (ap room_needed none)) (none_needed c.args.journal);
     }

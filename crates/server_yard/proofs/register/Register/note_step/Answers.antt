@@ -1,3 +1,4 @@
+use Rattle.server_events.specs.JournalParts.{has_room, less_room}
 use Rattle.std.proofs.Common.{◌≡◌, ◌<◌, ◌+◌, ◌^◌, ℕ, true, sym, ap, subst, ◌∙◌, arith}
 use Rattle.std.specs.BTreeMap.{get}
 use Rattle.std.specs.Ordering.{nat_cmp}
@@ -12,7 +13,7 @@ use Rattle.server_yard.proofs.register.Register.note_step.Goals as goal
 pub note-requires : goal.note-requires
 note-requires g c =
     let old = c.args.self.now in
-    g.met.J.Journal.less_room old.journal 1 (room_needed old.state.connections + 1) (omega arith) c.requires.room
+    less_room old.journal 1 (room_needed old.state.connections + 1) (omega arith) c.requires.room
 
 pub invariant_of-self : goal.invariant_of-self
 invariant_of-self g c =
@@ -33,7 +34,7 @@ invariant_of-self g c =
       seated = seats_stay (get nat_cmp old.seats) old.table old.state s stays old.seated;
       room =
           c.note.ensures.room (room_needed s.connections)
-          ∙ subst (λ (n : ℕ). g.J.Journal.has_room old.journal (n + 1) ≡ true) (sym (ap room_needed same)) c.requires.room;
+          ∙ subst (λ (n : ℕ). has_room old.journal (n + 1) ≡ true) (sym (ap room_needed same)) c.requires.room;
     }
 
 pub returns-clause-one_less : goal.returns-clause-one_less

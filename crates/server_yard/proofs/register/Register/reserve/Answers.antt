@@ -1,3 +1,4 @@
+use Rattle.server_events.specs.JournalParts.{has_room, less_room}
 use Rattle.std.proofs.Common.{refl}
 use Rattle.server_yard.specs.Rooms.{room_needed}
 use Rattle.server_yard.proofs.Histories.{has_history_kept}
@@ -18,5 +19,5 @@ invariant_of-self g c =
       limit = old.limit;
       per_address = old.per_address;
       seated = old.seated;
-      room = kept_room (g.J.Journal.has_room old.journal) (g.J.Journal.has_room c.reserve.new.self) needed 1 c.reserve.result (λ n m l r. g.met.J.Journal.less_room c.reserve.new.self n m l r) c.reserve.ensures.room c.reserve.ensures.err old.room;
+      room = kept_room (has_room old.journal) (has_room c.reserve.new.self) needed 1 c.reserve.result (λ n m l r. less_room c.reserve.new.self n m l r) c.reserve.ensures.room c.reserve.ensures.err old.room;
     }

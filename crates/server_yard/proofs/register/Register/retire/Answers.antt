@@ -1,3 +1,4 @@
+use Rattle.server_events.specs.JournalParts.{has_room, less_room}
 use Rattle.std.proofs.Common.{◌≡◌, ◌<◌, ◌+◌, ◌^◌, ℕ, true, refl, sym, ap, subst, ◌∙◌, arith}
 use Rattle.std.specs.Prelude.{is_some}
 use Rattle.std.specs.BTreeMap.{get}
@@ -28,7 +29,7 @@ note-requires g c =
     let old = c.args.self.now in
     let at = seat_at (get nat_cmp old.seats (place_of c.args.running)) old.state _ c.requires.started in
     let less = room_retired old.state at.0 at.2 in
-    g.met.J.Journal.less_room old.journal 1 (room_needed old.state.connections) (omega (arith, less)) old.room
+    less_room old.journal 1 (room_needed old.state.connections) (omega (arith, less)) old.room
 
 pub invariant_of-self : goal.invariant_of-self
 invariant_of-self g c =
@@ -55,7 +56,7 @@ invariant_of-self g c =
       limit = ap (λ (t : PlacesOut). t.limit) table ∙ old.limit ∙ sym stays.limit;
       per_address = ap (λ (t : PlacesOut). t.per_address) table ∙ old.per_address ∙ sym stays.per_address;
       seated = seats_same (get nat_cmp old.seats) (get nat_cmp old.seats) old.table c.retire.new.table s (λ i. refl) (ap (λ (t : PlacesOut). t.places) table) (seats_stay (get nat_cmp old.seats) old.table old.state s stays old.seated);
-      room = c.note.ensures.room (room_needed s.connections) ∙ subst (λ (k : ℕ). g.J.Journal.has_room old.journal k ≡ true) (sym less) old.room;
+      room = c.note.ensures.room (room_needed s.connections) ∙ subst (λ (k : ℕ). has_room old.journal k ≡ true) (sym less) old.room;
     }
 
 pub returns-clause-room : goal.returns-clause-room
@@ -69,4 +70,4 @@ returns-clause-room g c = λ m.
     let staged = ap (λ (k : ℕ). stage_of k old.state.connections) serial ∙ at.2 in
     let less = ap (λ (u : ServerState). room_needed u.connections + 1) c.in-Ok.ensures.applied ∙ room_retired old.state n staged in
     let all : m + room_needed s.connections + 1 ≡ m + room_needed old.state.connections = omega (arith, less) in
-    c.note.ensures.room (m + room_needed s.connections) ∙ ap (λ (k : ℕ). g.J.Journal.has_room old.journal k) all
+    c.note.ensures.room (m + room_needed s.connections) ∙ ap (λ (k : ℕ). has_room old.journal k) all

@@ -1,3 +1,4 @@
+use Rattle.server_events.specs.JournalParts.{books_of_journal, has_room}
 use Rattle.std.proofs.Common.{◌≡◌, ◌<◌, ◌+◌, ◌^◌, ◌++◌, ◌∷◌, [], ℕ, length, true, refl, sym, ap, subst, ◌∙◌, arith}
 use Rattle.std.specs.BTreeMap.{get}
 use Rattle.std.specs.Ordering.{nat_cmp}
@@ -81,7 +82,7 @@ invariant_of-self-in-Ok g c =
       seated = subst (λ (t : PlacesOut). HasSeats (get nat_cmp c.give_place.new.seats) t s) (sym table) (subst (λ (u : ServerState). HasSeats (get nat_cmp c.give_place.new.seats) (with_place c.in-Ok.place peer.ip old.table) u) (sym now) (seats_come (get nat_cmp old.seats) (get nat_cmp c.give_place.new.seats) old.table old.state n c.in-Ok.place peer room.next apart c.in-Ok.ensures.seated old.seated));
       room =
           c.note.ensures.room (room_needed s.connections)
-          ∙ subst (λ (k : ℕ). g.J.Journal.has_room c.reserve.new.self k ≡ true) (omega (arith, needed)) taken;
+          ∙ subst (λ (k : ℕ). has_room c.reserve.new.self k ≡ true) (omega (arith, needed)) taken;
     }
 
 pub invariant_of-self-in-Err : goal.invariant_of-self-in-Err
@@ -101,7 +102,7 @@ invariant_of-self-in-Err g c =
       limit = ap (λ (t : PlacesOut). t.limit) err.0 ∙ old.limit ∙ sym (ap (λ (u : ServerState). u.limit) err.1);
       per_address = ap (λ (t : PlacesOut). t.per_address) err.0 ∙ old.per_address ∙ sym (ap (λ (u : ServerState). u.per_address) err.1);
       seated = subst (λ (t : PlacesOut). HasSeats (get nat_cmp c.give_place.new.seats) t s) (sym err.0) (subst (λ (u : ServerState). HasSeats (get nat_cmp c.give_place.new.seats) old.table u) (sym err.1) (seats_lost (get nat_cmp old.seats) (get nat_cmp c.give_place.new.seats) old.table old.state c.in-Err.ensures.err_seats old.seated));
-      room = subst (λ (u : ServerState). g.J.Journal.has_room c.release.new.self (room_needed u.connections) ≡ true) (sym err.1) (c.release.ensures.room (room_needed old.state.connections) ∙ taken);
+      room = subst (λ (u : ServerState). has_room c.release.new.self (room_needed u.connections) ≡ true) (sym err.1) (c.release.ensures.room (room_needed old.state.connections) ∙ taken);
     }
 
 pub returns-in-Err-clause-same_seats : goal.returns-in-Err-clause-same_seats
@@ -127,10 +128,10 @@ returns-in-Ok-clause-noted g c =
       happens = c.in-Ok.ensures.admitted;
       speaks = refl;
       tells =
-          c.note.ensures.report ∙ ap (λ (p : Client). next_report (g.J.Journal.books c.reserve.new.self).report (event.Admitted n p)) copied
+          c.note.ensures.report ∙ ap (λ (p : Client). next_report (books_of_journal c.reserve.new.self).report (event.Admitted n p)) copied
           ∙ ap (λ (b : Books). next_report b.report (event.Admitted n peer)) same;
       counts = c.note.ensures.count ∙ ap (λ (b : Books). one_more b.count) same;
-      stores = c.note.ensures.notes ∙ ap (λ (p : Client). option_map (λ notes. notes ++ record { event = event.Admitted n p; caller = old.speaker } ∷ []) (g.J.Journal.books c.reserve.new.self).notes) copied ∙ ap (λ (b : Books). option_map (λ notes. notes ++ record { event = event.Admitted n peer; caller = old.speaker } ∷ []) b.notes) same;
+      stores = c.note.ensures.notes ∙ ap (λ (p : Client). option_map (λ notes. notes ++ record { event = event.Admitted n p; caller = old.speaker } ∷ []) (books_of_journal c.reserve.new.self).notes) copied ∙ ap (λ (b : Books). option_map (λ notes. notes ++ record { event = event.Admitted n peer; caller = old.speaker } ∷ []) b.notes) same;
     }
 
 pub returns-in-Err-clause-refused : goal.returns-in-Err-clause-refused
@@ -153,10 +154,10 @@ returns-in-Ok-clause-room g c = λ n.
     let s = c.give_place.new.state in
     let needed : room_needed s.connections ≡ room_needed old.state.connections + 4 = ap (λ (u : ServerState). room_needed u.connections) c.in-Ok.ensures.admitted ∙ room-push old.state.connections (newcomer c.args.serial c.args.peer.now) in
     let all : n + room_needed s.connections + 1 ≡ n + room_needed old.state.connections + 5 = omega (arith, needed) in
-    c.note.ensures.room (n + room_needed s.connections) ∙ ap (λ (k : ℕ). g.J.Journal.has_room c.reserve.new.self k) all ∙ c.in_ok-reserve.ensures.room (n + room_needed old.state.connections)
+    c.note.ensures.room (n + room_needed s.connections) ∙ ap (λ (k : ℕ). has_room c.reserve.new.self k) all ∙ c.in_ok-reserve.ensures.room (n + room_needed old.state.connections)
 
 pub returns-in-Err-clause-room : goal.returns-in-Err-clause-room
 returns-in-Err-clause-room g c = λ n.
     let needed = room_needed c.args.self.now.state.connections in
-    ap (λ (u : ServerState). g.J.Journal.has_room c.release.new.self (n + room_needed u.connections)) c.in-Err.ensures.err.1
+    ap (λ (u : ServerState). has_room c.release.new.self (n + room_needed u.connections)) c.in-Err.ensures.err.1
     ∙ c.release.ensures.room (n + needed) ∙ c.in_ok-reserve.ensures.room (n + needed)

@@ -1,10 +1,12 @@
-use Rattle.std.proofs.Common.{◌⊎◌, Bool, sym, subst, ◌∙◌}
+use Rattle.std.proofs.Common.{◌⊎◌, Bool, refl, sym, subst, ◌∙◌}
 use Rattle.std.specs.Prelude.{option_map}
 use Rattle.dir_calls.specs.Images.{IsImage}
 use Rattle.server_events.specs.Steps.{MayLeave}
 use Rattle.server_events.specs.declared.event.Event.TheVariants as event
+use Rattle.server_yard.specs.Rolls.{Roll}
+use Rattle.server_yard.specs.Rooms.{KeepsRoom}
 use Rattle.server_yard.specs.Standing.{YardState}
-use Rattle.server_yard.specs.Yards.{yard_over, yard_state}
+use Rattle.server_yard.specs.Yards.{yard_over, yard_roll, yard_state}
 use Rattle.server_yard.proofs.Keeping.{goes_over, goes_to, is_some-map, same_over}
 use Rattle.server_yard.proofs.Matching.{GoesTo, opened_leads}
 use Rattle.server_yard.proofs.yard.Yard.open.Goals as goal
@@ -38,3 +40,11 @@ returns-clause-stops g c = λ honest files w image at left.
     let same = c.advance.ensures.same.directory in
     subst (λ (now : _). MayLeave w image ⊎ IsImage (dir.state now) image) (sym same)
     (c.find.ensures.stops honest files w image at (subst (λ (now : _). dir.left_since now (dir.moment old.dir) image) same left))
+
+pub returns-in_err-file-clause-room : goal.returns-in_err-file-clause-room
+returns-in_err-file-clause-room g c =
+    subst (λ (r : Roll). KeepsRoom (yard_roll c.args.self.now) r) (sym c.find.ensures.roll) (λ n. refl)
+
+pub returns-clause-room : goal.returns-clause-room
+returns-clause-room g c =
+    subst (λ (r : Roll). KeepsRoom r (yard_roll c.advance.new.self)) c.find.ensures.roll c.advance.ensures.room

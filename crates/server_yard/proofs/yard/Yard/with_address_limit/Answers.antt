@@ -1,3 +1,4 @@
+use Rattle.server_events.specs.JournalParts.{books_of_journal}
 use Rattle.std.proofs.Common.{[], refl, sym, ap}
 use Rattle.server_events.specs.Journals.{Books}
 use Rattle.server_events.specs.ServerState.{ServerState}
@@ -9,9 +10,8 @@ use Rattle.server_yard.proofs.yard.Yard.with_address_limit.Goals as goal
 
 pub invariant_of-result : goal.invariant_of-result
 invariant_of-result g c =
-    let j = g.J.Journal in
     let server = c.in_ok-new.ensures.empty in
-    let books = ap j.books c.in_ok-new.ensures.journal in
+    let books = ap books_of_journal c.in_ok-new.ensures.journal in
     let none = c.requires.journal in
     record {
       honest = λ met. (c.requires.begins met).0;
@@ -21,6 +21,6 @@ invariant_of-result g c =
       installed = λ met. ∣ record {
         history = [];
         is_history = history_same (ap (λ (b : Books). b.report) books) (ap (λ (b : Books). b.count) books) (ap (λ (b : Books). b.notes) books) server [] (none_yet _ c.args.limit c.args.per_address none.tells none.stores);
-        installed = installed_same (ap (λ (b : Books). b.lists) books) refl refl (ap (λ (u : ServerState). u.phase) server) refl refl (none_installed (j.books c.args.journal).lists (g.D.Dir.state c.args.dir) (rules_of c.args.rules) c.args.limit c.args.per_address none.no_rules (c.requires.begins met).1);
+        installed = installed_same (ap (λ (b : Books). b.lists) books) refl refl (ap (λ (u : ServerState). u.phase) server) refl refl (none_installed (books_of_journal c.args.journal).lists (g.D.Dir.state c.args.dir) (rules_of c.args.rules) c.args.limit c.args.per_address none.no_rules (c.requires.begins met).1);
       } ∣₁;
     }

@@ -16,7 +16,7 @@ returns-in-Ok-serve g c =
     let serve = c.in-Ok-serve.ensures in
     let its = subst (λ alive. such (job.program (job_of alive.running)) (job.environment (job_of alive.running))) (sym c.go_on.ensures.same) serve.child in
     let first = job_of c.go_on.result.running in
-    let went = c.go_on-in-Ok-serve in
+    let went = c.pass_on in
     record {
       own = search rules;
       child = runs_if such (λ begun. job_of begun.1.running) job.program job.environment first its went.result went.ensures.same;

@@ -1,17 +1,17 @@
 //! The lines of causes, behind that of a fault with which the tool ends.
+use crate::fault::{ServerFailure, ServerFault};
+use crate::limits::{Counted, MemoryLimits, SmallLimit, small_limit};
 use byte_text::{append_os_cause, push_address, push_number, push_text, words_of_error};
 use fault_hints::{Detail, Voice, append_help};
 use rules_tools::path::{folder_path, split_path};
-use server_parts::limits::{Counted, MemoryLimits, SmallLimit, small_limit};
-use server_parts::{ServerFailure, ServerFault};
 use server_words::{Mode, Operands, ServerWords, ServerWordsFault};
 use std::alloc::{AllocError, Global};
 
 /// The tool's name, at the head of its lines.
 const TOOL: &str = "tcpserver";
 
-/// Leaves what is told behind the line of a fault of words.
-pub(crate) fn tell_words(
+/// Leaves what is told behind the line of a fault of words, where there is memory for it.
+pub fn tell_words(
     alloc: Global,
     voice: Voice,
     words: &[String],
@@ -21,8 +21,9 @@ pub(crate) fn tell_words(
     let _ = append_help(causes, alloc, voice, words, fault);
 }
 
-/// Leaves the line of the cause by which a server ends, where it is told and there is one.
-pub(crate) fn tell_failure(
+/// Leaves the line of the cause by which a server ends, where it is told and there is one; a part of it, where memory
+/// runs out.
+pub fn tell_failure(
     alloc: Global,
     voice: Voice,
     words: &ServerWords<'_>,

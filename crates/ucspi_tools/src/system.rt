@@ -1,6 +1,9 @@
 //! The tools over the system, and over the streams of the process.
 ghost use Rattle.ucspi_tools.specs.Runs.{IsWritten, telling};
 
+use crate::calls::Calls;
+use crate::fault::{ToolFault, write_fault};
+use crate::program::{Program, run_program};
 use byte_streams::Patient;
 use byte_text::NotingStream;
 use child_jobs::Status;
@@ -20,7 +23,6 @@ use std::rt::Env;
 use std::time::Clock;
 use stream_tools::BetweenFault;
 use stream_tools::started::SystemGiven;
-use ucspi_tools::{Calls, Program, ToolFault, run_program, write_fault};
 
 /// Runs the program over the system, and answers its exit code. `errors` is standard error. Those tools that start
 /// threads are lent as calls that may be made at any time, since the system has threads in `main` alone. A stream that
